@@ -125,7 +125,7 @@ def seconds(command, statuses):
 
 
 def measure_texts(program, folder, unit):
-    """Tells how fast the program checks and compiles sources, if it does."""
+    """Reports how fast the program checks and compiles sources, if it does."""
     hierarchy, module = folder / "hierarchy.txt", folder / "module.flob"
     hierarchy.write_text("principal Alice, Bob;")
     empty = folder / "empty.flow"
@@ -156,7 +156,7 @@ def measure_texts(program, folder, unit):
 
 
 def measure_modules(program, folder, unit):
-    """Tells how fast the program decodes and verifies a module file, and takes its steps."""
+    """Reports how fast the program decodes and verifies a module file, and takes its steps."""
     steps = 2 * PAIRS + 1
     file, world = folder / "long.flob", folder / "empty.txt"
     content = module(PAIRS)

@@ -6,6 +6,7 @@ use Rattle.labels.specs.Constraints.{Atom, Written, Unknown, is_written, holds, 
 use Rattle.labels.proofs.Constraints.{join_of-above, join_of-least}
 use Rattle.labels.proofs.FlowTests.{IsLattice-flows}
 use Rattle.principals.proofs.Closure.{Contains-later, Contains-first}
+use Rattle.labels.proofs.Gathered.{same-tests}
 use Rattle.resolved.specs.Program.{Program}
 use Rattle.resolved.specs.Labelled.{Unwritten, Demand, program_demands}
 use Rattle.resolved.specs.Flow.{AreLeast, IsProgramRefused}
@@ -16,26 +17,21 @@ same_found {X} test other (x ∷ xs) same =
     ap (λ b. if b then Some x else find test xs) (same x (Contains-first x xs))
     ∙ ap (λ found. if other x then Some x else found) (same_found test other xs (λ y h. same y (Contains-later x xs y h)))
 
-both_ways : (a b : Bool) → (a ≡ true → b ≡ true) → (b ≡ true → a ≡ true) → a ≡ b
-both_ways true b there back = sym (there refl)
-both_ways false true there back = back refl
-both_ways false false there back = refl
-
 module _ (program : Program) (labels others : Unwritten → Label) (one : AreLeast program labels) (other : AreLeast program others) where
   holds_too : (d : Demand) → Contains (program_demands program) d → (to : Label) → d.right ≡ Written to →
       IsTrue (holds (label_lattice program.hierarchy) others d) → IsTrue (holds (label_lattice program.hierarchy) labels d)
   holds_too d there to is held =
       let l = label_lattice program.hierarchy in
       let laws = IsLattice-flows program.hierarchy in
-      let below : (atom : Atom Unwritten Label) → Contains d.left atom → IsTrue (l.leq (value labels atom) (value others atom)) = λ atom h. by_atom atom h in
-      let left : IsTrue (l.leq (join_of l.join l.least labels d.left) (join_of l.join l.least others d.left)) =
+      let below : (atom : Atom Unwritten Label) → Contains d.left atom → IsTrue (l.lies_below (value labels atom) (value others atom)) = λ atom h. by_atom atom h in
+      let left : IsTrue (l.lies_below (join_of l.join l.least labels d.left) (join_of l.join l.least others d.left)) =
       join_of-least l laws labels d.left (join_of l.join l.least others d.left) (λ atom h.
       laws.transitive (value labels atom) (value others atom) (join_of l.join l.least others d.left) (below atom h) (join_of-above l laws others d.left atom h)) in
       let right : value others d.right ≡ value labels d.right = ap (value others) is ∙ sym (ap (value labels) is) in
       laws.transitive (join_of l.join l.least labels d.left) (join_of l.join l.least others d.left) (value labels d.right) left
-      (ap (λ v. l.leq (join_of l.join l.least others d.left) v) (sym right) ∙ held)
+      (ap (λ v. l.lies_below (join_of l.join l.least others d.left) v) (sym right) ∙ held)
     where
-      by_atom : (atom : Atom Unwritten Label) → Contains d.left atom → IsTrue ((label_lattice program.hierarchy).leq (value labels atom) (value others atom))
+      by_atom : (atom : Atom Unwritten Label) → Contains d.left atom → IsTrue ((label_lattice program.hierarchy).lies_below (value labels atom) (value others atom))
       by_atom (Written v) h = (IsLattice-flows program.hierarchy).reflexive v
       by_atom (Unknown u) h = one.below others other.fits u (d, there, inl h)
 
@@ -48,7 +44,7 @@ module _ (program : Program) (labels others : Unwritten → Label) (one : AreLea
           (is_written d.right && not (holds (label_lattice program.hierarchy) labels d)) ≡ (is_written d.right && not (holds (label_lattice program.hierarchy) others d))
       by_right (Unknown u) is = ap (λ r. is_written r && not (holds (label_lattice program.hierarchy) labels d)) is ∙ sym (ap (λ r. is_written r && not (holds (label_lattice program.hierarchy) others d)) is)
       by_right (Written to) is = ap (λ b. is_written d.right && not b)
-          (both_ways (holds (label_lattice program.hierarchy) labels d) (holds (label_lattice program.hierarchy) others d)
+          (same-tests (holds (label_lattice program.hierarchy) labels d) (holds (label_lattice program.hierarchy) others d)
           (holds_too program others labels other one d there to is) (holds_too program labels others one other d there to is))
 
 pub one_last : (program : Program) (policy other_policy : ReaderPolicy) (chain others : List Demand) (last other : Demand) →

@@ -1,4 +1,4 @@
 pub mod Demands
-pub mod KeptNames
+pub mod ProperNames
 pub mod Phases
 pub mod TreeNames

@@ -8,25 +8,23 @@ use Rattle.lexer.specs.Cut.{IsCut}
 use Rattle.lexer.specs.Cut as lexer
 use Rattle.lexer.specs.Terminal.{Terminal}
 use Rattle.lexer.specs.declared.fault.LexRefusal.{LexRefusal}
-use Rattle.lexer.specs.declared.fault.LexRefusal.TheVariants as lexical
 use Rattle.lexer.proofs.Cutting.{has_one_cut, not_cut_and_refused, has_one_refusal}
 use Rattle.lexer.proofs.Total.{is_cut_or_refused}
 use Rattle.lexer.proofs.Listed.{listed}
 use Rattle.parser.specs.Refusal as parser
 use Rattle.parser.specs.declared.fault.ParseRefusal.{ParseRefusal}
-use Rattle.parser.specs.declared.fault.ParseRefusal.TheVariants as syntactic
 use Rattle.parser.proofs.Programs.{one_tree}
 use Rattle.parser.proofs.Refusals.{spelled_or_refused, spelled_not_refused, one_refusal}
 use Rattle.principals.specs.ActsFor.{PrincipalHierarchy}
 use Rattle.principals.specs.HierarchyText.{IsRefusedText}
 use Rattle.principals.specs.declared.fault.HierarchyRefusal.{HierarchyRefusal}
-use Rattle.principals.specs.declared.fault.HierarchyRefusal.TheVariants as hierarchies
 use Rattle.principals.specs.Laws.{HasOneHierarchy, IsReadOrRefused, IsNotReadAndRefused, HasOneRefusal}
 use Rattle.syntax.specs.Grammar.{SpellsProgram}
 use Rattle.syntax.specs.Tree.{ProgramTree}
 use Rattle.labels.specs.Label.{ReaderPolicy}
 use Rattle.resolved.specs.Program.{Program}
-use Rattle.resolved.specs.EndFaults.{EndRefusal, end_faults}
+use Rattle.resolved.specs.EndFaults.{end_faults}
+use Rattle.resolved.specs.declared.fault.EndRefusal.{EndRefusal}
 use Rattle.resolved.specs.Labelled.{Demand, Labelled}
 use Rattle.resolved.specs.Flow as flow
 use Rattle.resolved.proofs.Flow.{labelled-or_refused, chain-refuses}
@@ -34,7 +32,7 @@ use Rattle.names.specs.Finding.{Finding}
 use Rattle.names.specs.declared.fault.NameRefusal.{NameRefusal}
 use Rattle.names.specs.Resolution.{resolution}
 use Rattle.acceptance.specs.Accepted.{IsText, IsTreeOf, IsResolvedFrom, IsAccepted, HasHierarchy, StandFor}
-use Rattle.acceptance.specs.Refused.{IsNoText, TooLong, NotUtf8, IsHierarchyRefused, Unreadable, Wrong, IsSourceRefused, NoText, NoTokens, NoTree, WrongName, WrongEnd, WrongFlow, AreTextsRefusedAt, Hierarchy, Source, hierarchy_cause, lexical_cause, parse_cause, cause_of_name, cause_of_end}
+use Rattle.acceptance.specs.Refused.{IsNoText, TooLong, NotUtf8, IsHierarchyRefused, Unreadable, Wrong, IsSourceRefused, NoText, NoTokens, NoTree, WrongName, WrongEnd, WrongFlow, AreTextsRefusedAt, Hierarchy, Source}
 use Rattle.acceptance.specs.Laws.{Verdict, Accepted, Refused, IsVerdict, HasVerdict, HasOneVerdict}
 use Rattle.acceptance.specs.declared.cause.Cause.{Cause}
 use Rattle.acceptance.specs.declared.cause.Cause.TheVariants as causes
@@ -46,11 +44,6 @@ use Rattle.common.specs.declared.limits.TheConstants.{MAX_TEXT}
 -- two causes at two bytes are the same
 abbrev pub Same : Cause → ℕ → Cause → ℕ → Type 0
 Same cause at other there = (cause ≡ other) × (at ≡ there)
-
-same_pair : (cause other : Cause) (at there : ℕ) (found : Cause × ℕ) → found ≡ (cause, at) → found ≡ (other, there) → Same cause at other there
-same_pair cause other at there found one two =
-    let same : (cause, at) ≡ (other, there) = sym one ∙ two in
-    (ap (λ (pair : Cause × ℕ). pair.0) same, ap (λ (pair : Cause × ℕ). pair.1) same)
 
 -- ---- bytes that are no text
 
@@ -122,47 +115,48 @@ module _ (h : PrincipalHierarchy) (source : List ℕ) where
 
   source_once : (cause other : Cause) (at there : ℕ) → IsSourceRefused h source cause at → IsSourceRefused h source other there → Same cause at other there
   source_once cause other at there (NoText _ _ one) (NoText _ _ two) = no_text_once source cause other at there one two
-  source_once cause other at there (NoText _ _ one) (NoTokens _ _ text _ _ _) = absurd (text_or_none source cause at one text)
-  source_once cause other at there (NoText _ _ one) (NoTree _ _ text _ _ _ _ _) = absurd (text_or_none source cause at one text)
+  source_once cause other at there (NoText _ _ one) (NoTokens text _ _) = absurd (text_or_none source cause at one text)
+  source_once cause other at there (NoText _ _ one) (NoTree text _ _ _ _) = absurd (text_or_none source cause at one text)
   source_once cause _ at _ (NoText _ _ one) (WrongName tree of refusal e) = absurd (text_or_none source cause at one of.text)
   source_once cause _ at _ (NoText _ _ one) (WrongEnd program from refusal others e) = absurd (text_or_none source cause at one from.tree_of.text)
   source_once cause _ at _ (NoText _ _ one) (WrongFlow program from ended policy chain last refused) = absurd (text_or_none source cause at one from.tree_of.text)
-  source_once cause other at there (NoTokens _ _ text _ _ _) (NoText _ _ two) = absurd (text_or_none source other there two text)
-  source_once cause other at there (NoTokens _ _ _ refusal refused named) (NoTokens _ _ _ again refused_too named_too) =
-      same_pair cause other at there (lexical_cause refusal) named (ap lexical_cause (has_one_refusal source refusal again refused refused_too) ∙ named_too)
-  source_once cause other at there (NoTokens _ _ _ refusal refused named) (NoTree _ _ _ tokens cut _ _ _) = absurd (cut_refused source tokens refusal cut refused)
-  source_once cause _ at _ (NoTokens _ _ _ refusal refused named) (WrongName tree of wrong e) = absurd (lexed_later refusal refused tree of)
-  source_once cause _ at _ (NoTokens _ _ _ refusal refused named) (WrongEnd program from wrong others e) = absurd (lexed_later refusal refused from.tree from.tree_of)
-  source_once cause _ at _ (NoTokens _ _ _ refusal refused named) (WrongFlow program from ended policy chain last unmet) = absurd (lexed_later refusal refused from.tree from.tree_of)
-  source_once cause other at there (NoTree _ _ text _ _ _ _ _) (NoText _ _ two) = absurd (text_or_none source other there two text)
-  source_once cause other at there (NoTree _ _ _ tokens cut _ _ _) (NoTokens _ _ _ refusal refused named) = absurd (cut_refused source tokens refusal cut refused)
-  source_once cause other at there (NoTree _ _ _ tokens cut refusal refused named) (NoTree _ _ _ others cut_too again refused_too named_too) =
-      let same : tokens ≡ others = has_one_cut source tokens others cut cut_too in
-      same_pair cause other at there (parse_cause refusal) named
-      (ap parse_cause (one_refusal others refusal again (subst (λ ts. parser.AreTokensRefused ts refusal) same refused) refused_too) ∙ named_too)
-  source_once cause _ at _ (NoTree _ _ _ tokens cut refusal refused named) (WrongName tree of wrong e) = absurd (tree_refused source tree tokens refusal of cut refused)
-  source_once cause _ at _ (NoTree _ _ _ tokens cut refusal refused named) (WrongEnd program from wrong others e) = absurd (tree_refused source from.tree tokens refusal from.tree_of cut refused)
-  source_once cause _ at _ (NoTree _ _ _ tokens cut refusal refused named) (WrongFlow program from ended policy chain last unmet) = absurd (tree_refused source from.tree tokens refusal from.tree_of cut refused)
+  source_once cause other at there (NoTokens text _ _) (NoText _ _ two) = absurd (text_or_none source other there two text)
+  source_once _ _ _ _ (NoTokens _ refusal refused) (NoTokens _ again refused_too) =
+      let same : refusal ≡ again = has_one_refusal source refusal again refused refused_too in
+      (ap (λ (r : LexRefusal). causes.Lex r.defect) same, ap (λ (r : LexRefusal). r.at) same)
+  source_once cause other at there (NoTokens _ refusal refused) (NoTree _ tokens cut _ _) = absurd (cut_refused source tokens refusal cut refused)
+  source_once cause _ at _ (NoTokens _ refusal refused) (WrongName tree of wrong e) = absurd (lexed_later refusal refused tree of)
+  source_once cause _ at _ (NoTokens _ refusal refused) (WrongEnd program from wrong others e) = absurd (lexed_later refusal refused from.tree from.tree_of)
+  source_once cause _ at _ (NoTokens _ refusal refused) (WrongFlow program from ended policy chain last unmet) = absurd (lexed_later refusal refused from.tree from.tree_of)
+  source_once cause other at there (NoTree text _ _ _ _) (NoText _ _ two) = absurd (text_or_none source other there two text)
+  source_once cause other at there (NoTree _ tokens cut _ _) (NoTokens _ refusal refused) = absurd (cut_refused source tokens refusal cut refused)
+  source_once _ _ _ _ (NoTree _ tokens cut refusal refused) (NoTree _ others cut_too again refused_too) =
+      let one : tokens ≡ others = has_one_cut source tokens others cut cut_too in
+      let same : refusal ≡ again = one_refusal others refusal again (subst (λ ts. parser.AreTokensRefused ts refusal) one refused) refused_too in
+      (ap (λ (r : ParseRefusal). causes.Parse r.defect) same, ap (λ (r : ParseRefusal). r.at) same)
+  source_once cause _ at _ (NoTree _ tokens cut refusal refused) (WrongName tree of wrong e) = absurd (tree_refused source tree tokens refusal of cut refused)
+  source_once cause _ at _ (NoTree _ tokens cut refusal refused) (WrongEnd program from wrong others e) = absurd (tree_refused source from.tree tokens refusal from.tree_of cut refused)
+  source_once cause _ at _ (NoTree _ tokens cut refusal refused) (WrongFlow program from ended policy chain last unmet) = absurd (tree_refused source from.tree tokens refusal from.tree_of cut refused)
   source_once _ other _ there (WrongName tree of wrong e) (NoText _ _ two) = absurd (text_or_none source other there two of.text)
-  source_once _ other _ there (WrongName tree of wrong e) (NoTokens _ _ _ refusal refused named) = absurd (lexed_later refusal refused tree of)
-  source_once _ other _ there (WrongName tree of wrong e) (NoTree _ _ _ tokens cut refusal refused named) = absurd (tree_refused source tree tokens refusal of cut refused)
+  source_once _ other _ there (WrongName tree of wrong e) (NoTokens _ refusal refused) = absurd (lexed_later refusal refused tree of)
+  source_once _ other _ there (WrongName tree of wrong e) (NoTree _ tokens cut refusal refused) = absurd (tree_refused source tree tokens refusal of cut refused)
   source_once _ _ _ _ (WrongName tree of wrong e) (WrongName other of_too again f) =
       let same : wrong ≡ again = same_refusal tree other wrong again of of_too e f in
-      (ap (λ (refusal : NameRefusal). cause_of_name refusal.defect) same, ap (λ (refusal : NameRefusal). refusal.at) same)
+      (ap (λ (refusal : NameRefusal). causes.Name refusal.defect) same, ap (λ (refusal : NameRefusal). refusal.at) same)
   source_once _ _ _ _ (WrongName tree of wrong e) (WrongEnd program from refusal others f) = absurd (named_refused tree wrong program of e from)
   source_once _ _ _ _ (WrongName tree of wrong e) (WrongFlow program from ended policy chain last unmet) = absurd (named_refused tree wrong program of e from)
   source_once _ other _ there (WrongEnd program from wrong others e) (NoText _ _ two) = absurd (text_or_none source other there two from.tree_of.text)
-  source_once _ other _ there (WrongEnd program from wrong others e) (NoTokens _ _ _ refusal refused named) = absurd (lexed_later refusal refused from.tree from.tree_of)
-  source_once _ other _ there (WrongEnd program from wrong others e) (NoTree _ _ _ tokens cut refusal refused named) = absurd (tree_refused source from.tree tokens refusal from.tree_of cut refused)
+  source_once _ other _ there (WrongEnd program from wrong others e) (NoTokens _ refusal refused) = absurd (lexed_later refusal refused from.tree from.tree_of)
+  source_once _ other _ there (WrongEnd program from wrong others e) (NoTree _ tokens cut refusal refused) = absurd (tree_refused source from.tree tokens refusal from.tree_of cut refused)
   source_once _ _ _ _ (WrongEnd program from wrong others e) (WrongName tree of refusal f) = absurd (named_refused tree refusal program of f from)
   source_once _ _ _ _ (WrongEnd program from wrong others e) (WrongEnd other from_too again more f) =
       let same : wrong ≡ again = same_end program other wrong again others more (same_program program other from from_too) e f in
-      (ap (λ (refusal : EndRefusal). cause_of_end refusal.defect) same, ap (λ (refusal : EndRefusal). refusal.at) same)
+      (ap (λ (refusal : EndRefusal). causes.End refusal.defect) same, ap (λ (refusal : EndRefusal). refusal.at) same)
   source_once _ _ _ _ (WrongEnd program from wrong others e) (WrongFlow other from_too ended policy chain last unmet) =
       absurd (ended_refused program other wrong others (same_program program other from from_too) e ended)
   source_once _ other _ there (WrongFlow program from ended policy chain last unmet) (NoText _ _ two) = absurd (text_or_none source other there two from.tree_of.text)
-  source_once _ other _ there (WrongFlow program from ended policy chain last unmet) (NoTokens _ _ _ refusal refused named) = absurd (lexed_later refusal refused from.tree from.tree_of)
-  source_once _ other _ there (WrongFlow program from ended policy chain last unmet) (NoTree _ _ _ tokens cut refusal refused named) = absurd (tree_refused source from.tree tokens refusal from.tree_of cut refused)
+  source_once _ other _ there (WrongFlow program from ended policy chain last unmet) (NoTokens _ refusal refused) = absurd (lexed_later refusal refused from.tree from.tree_of)
+  source_once _ other _ there (WrongFlow program from ended policy chain last unmet) (NoTree _ tokens cut refusal refused) = absurd (tree_refused source from.tree tokens refusal from.tree_of cut refused)
   source_once _ _ _ _ (WrongFlow program from ended policy chain last unmet) (WrongName tree of refusal f) = absurd (named_refused tree refusal program of f from)
   source_once _ _ _ _ (WrongFlow program from ended policy chain last unmet) (WrongEnd other from_too again more f) =
       absurd (ended_refused other program again more (same_program other program from_too from) f ended)
@@ -172,8 +166,8 @@ module _ (h : PrincipalHierarchy) (source : List ℕ) where
   -- an accepted source is not refused
   pub accepted_refused : (program : Program) (cause : Cause) (at : ℕ) → IsAccepted h source program → IsSourceRefused h source cause at → ⊥
   accepted_refused program cause at accepted (NoText _ _ no_text) = text_or_none source cause at no_text accepted.resolved.tree_of.text
-  accepted_refused program cause at accepted (NoTokens _ _ _ refusal refused named) = lexed_later refusal refused accepted.resolved.tree accepted.resolved.tree_of
-  accepted_refused program cause at accepted (NoTree _ _ _ tokens cut refusal refused named) = tree_refused source accepted.resolved.tree tokens refusal accepted.resolved.tree_of cut refused
+  accepted_refused program cause at accepted (NoTokens _ refusal refused) = lexed_later refusal refused accepted.resolved.tree accepted.resolved.tree_of
+  accepted_refused program cause at accepted (NoTree _ tokens cut refusal refused) = tree_refused source accepted.resolved.tree tokens refusal accepted.resolved.tree_of cut refused
   accepted_refused program _ _ accepted (WrongName tree of wrong e) = named_refused tree wrong program of e accepted.resolved
   accepted_refused program _ _ accepted (WrongEnd other from wrong others e) =
       ended_refused other program wrong others (same_program other program from accepted.resolved) e accepted.ended
@@ -189,7 +183,7 @@ module _ (h : PrincipalHierarchy) (source : List ℕ) where
   checked program from = by_ends (end_faults program) refl
     where
       by_ends : (faults : List EndRefusal) → end_faults program ≡ faults → ((found : Program) × IsAccepted h source found) ⊎ Refusal
-      by_ends (refusal ∷ others) e = inr (cause_of_end refusal.defect, refusal.at, WrongEnd program from refusal others e)
+      by_ends (refusal ∷ others) e = inr (causes.End refusal.defect, refusal.at, WrongEnd program from refusal others e)
       by_ends [] e =
           ⊎_elim
           (λ labelled. inl (program, record { resolved = from; ended = e; labelled = labelled }))
@@ -201,27 +195,21 @@ module _ (h : PrincipalHierarchy) (source : List ℕ) where
     where
       by_finding : (finding : Finding Program) → resolution h tree ≡ finding → ((found : Program) × IsAccepted h source found) ⊎ Refusal
       by_finding (Ok program) e = checked program (record { tree = tree; tree_of = of; resolved = e })
-      by_finding (Err refusal) e = inr (cause_of_name refusal.defect, refusal.at, WrongName tree of refusal e)
+      by_finding (Err refusal) e = inr (causes.Name refusal.defect, refusal.at, WrongName tree of refusal e)
 
   parsed : (text : IsText source) (tokens : List Terminal) → IsCut source tokens → ((found : Program) × IsAccepted h source found) ⊎ Refusal
   parsed text tokens cut =
       ⊎_elim
       (λ found. named found.0 (record { text = text; tokens = tokens; cut = cut; spelled = found.1 }))
-      (λ found. inr (by_refusal found.0 found.1))
+      (λ found. inr (causes.Parse found.0.defect, found.0.at, NoTree text tokens cut found.0 found.1))
       (spelled_or_refused tokens (listed source tokens (IsUtf8-from_is_utf8 source text.characters) cut).terminated)
-    where
-      by_refusal : (refusal : ParseRefusal) → parser.AreTokensRefused tokens refusal → Refusal
-      by_refusal (syntactic.Unexpected at) refused = (causes.UnexpectedToken, at, NoTree causes.UnexpectedToken at text tokens cut (syntactic.Unexpected at) refused refl)
-      by_refusal (syntactic.TooDeep at) refused = (causes.TooDeep, at, NoTree causes.TooDeep at text tokens cut (syntactic.TooDeep at) refused refl)
 
   lexed : IsText source → ((found : Program) × IsAccepted h source found) ⊎ Refusal
   lexed text =
-      ⊎_elim (λ found. parsed text found.0 found.1) (λ found. inr (by_refusal found.0 found.1)) (is_cut_or_refused source (IsUtf8-from_is_utf8 source text.characters))
-    where
-      by_refusal : (refusal : LexRefusal) → lexer.IsTextRefused source refusal → Refusal
-      by_refusal (lexical.NoToken at) refused = (causes.NoToken, at, NoTokens causes.NoToken at text (lexical.NoToken at) refused refl)
-      by_refusal (lexical.LiteralTooLarge at) refused = (causes.LiteralTooLarge, at, NoTokens causes.LiteralTooLarge at text (lexical.LiteralTooLarge at) refused refl)
-      by_refusal (lexical.UnclosedComment at) refused = (causes.OpenComment, at, NoTokens causes.OpenComment at text (lexical.UnclosedComment at) refused refl)
+      ⊎_elim
+      (λ found. parsed text found.0 found.1)
+      (λ found. inr (causes.Lex found.0.defect, found.0.at, NoTokens text found.0 found.1))
+      (is_cut_or_refused source (IsUtf8-from_is_utf8 source text.characters))
 
   read : ((found : Program) × IsAccepted h source found) ⊎ Refusal
   read = ⊎_elim lexed (λ none. inr (none.0, none.1, NoText none.0 none.1 none.2)) (readable source)
@@ -238,32 +226,25 @@ module _ (laws : HierarchyLaws) where
 
   hierarchy_once : (text : List ℕ) (cause other : Cause) (at there : ℕ) → IsHierarchyRefused text cause at → IsHierarchyRefused text other there → Same cause at other there
   hierarchy_once text cause other at there (Unreadable _ _ one) (Unreadable _ _ two) = no_text_once text cause other at there one two
-  hierarchy_once text cause other at there (Unreadable _ _ one) (Wrong _ _ is_text refusal refused named) = absurd (text_or_none text cause at one is_text)
-  hierarchy_once text cause other at there (Wrong _ _ is_text refusal refused named) (Unreadable _ _ two) = absurd (text_or_none text other there two is_text)
-  hierarchy_once text cause other at there (Wrong _ _ _ refusal refused named) (Wrong _ _ _ again refused_too named_too) =
+  hierarchy_once text cause other at there (Unreadable _ _ one) (Wrong is_text refusal refused) = absurd (text_or_none text cause at one is_text)
+  hierarchy_once text cause other at there (Wrong is_text refusal refused) (Unreadable _ _ two) = absurd (text_or_none text other there two is_text)
+  hierarchy_once text _ _ _ _ (Wrong _ refusal refused) (Wrong _ again refused_too) =
       let same : refusal ≡ again = laws.one_refusal text refusal again refused refused_too in
-      same_pair cause other at there (hierarchy_cause refusal) named (ap hierarchy_cause same ∙ named_too)
+      (ap (λ (r : HierarchyRefusal). causes.Hierarchy r.defect) same, ap (λ (r : HierarchyRefusal). r.at) same)
 
   hierarchy_or_refused : (text : List ℕ) (h : PrincipalHierarchy) (cause : Cause) (at : ℕ) → HasHierarchy text h → IsHierarchyRefused text cause at → ⊥
   hierarchy_or_refused text h cause at has (Unreadable _ _ no_text) =
-      text_or_none text cause at no_text (record { short = has.hierarchy_of.says.fits; characters = has.characters })
-  hierarchy_or_refused text h cause at has (Wrong _ _ is_text refusal refused named) = laws.not_both text h refusal has.hierarchy_of refused
+      text_or_none text cause at no_text (record { short = has.hierarchy_of.has_entries.fits; characters = has.characters })
+  hierarchy_or_refused text h cause at has (Wrong is_text refusal refused) = laws.not_both text h refusal has.hierarchy_of refused
 
   hierarchy_read : (text : List ℕ) → ((h : PrincipalHierarchy) × HasHierarchy text h) ⊎ ((cause : Cause) × (at : ℕ) × IsHierarchyRefused text cause at)
   hierarchy_read text = ⊎_elim reads (λ none. inr (none.0, none.1, Unreadable none.0 none.1 none.2)) (readable text)
     where
-      refused_by : (refusal : HierarchyRefusal) → IsText text → IsRefusedText text refusal → (cause : Cause) × (at : ℕ) × IsHierarchyRefused text cause at
-      refused_by hierarchies.TooLong is_text r = absurd (omega (arith, r, is_text.short))
-      refused_by (hierarchies.Syntax at) is_text r = (causes.Syntax, at, Wrong causes.Syntax at is_text (hierarchies.Syntax at) r refl)
-      refused_by (hierarchies.DeclaredTwice at) is_text r = (causes.PrincipalTwice, at, Wrong causes.PrincipalTwice at is_text (hierarchies.DeclaredTwice at) r refl)
-      refused_by (hierarchies.UnknownPrincipal at) is_text r = (causes.UnknownPrincipal, at, Wrong causes.UnknownPrincipal at is_text (hierarchies.UnknownPrincipal at) r refl)
-      refused_by (hierarchies.TooManyPrincipals at) is_text r = (causes.TooManyPrincipals, at, Wrong causes.TooManyPrincipals at is_text (hierarchies.TooManyPrincipals at) r refl)
-
       reads : IsText text → ((h : PrincipalHierarchy) × HasHierarchy text h) ⊎ ((cause : Cause) × (at : ℕ) × IsHierarchyRefused text cause at)
       reads is_text =
           ⊎_elim
           (λ found. inl (found.0, record { characters = is_text.characters; hierarchy_of = found.1 }))
-          (λ found. inr (refused_by found.0 is_text found.1))
+          (λ found. inr (causes.Hierarchy found.0.defect, found.0.at, Wrong is_text found.0 found.1))
           (laws.read_or_refused text (IsUtf8-from_is_utf8 text is_text.characters))
 
   -- ---- both texts

@@ -6,3 +6,8 @@ pub mod cause;
 pub mod laws;
 
 pub use cause::{Cause, Text};
+pub use lexer::LexDefect;
+pub use names::NameDefect;
+pub use parser::ParseDefect;
+pub use principals::HierarchyDefect;
+pub use resolved::EndDefect;

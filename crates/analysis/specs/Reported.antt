@@ -1,25 +1,31 @@
 -- What a refusal of an analysis reports of a source: why it is refused, and at which byte.
 -- Source: our own.
 use Rattle.std.specs.Prelude.{◌≢◌, ℕ, List}
+use Rattle.lexer.specs.declared.fault.LexRefusal.{LexRefusal}
 use Rattle.principals.specs.ActsFor.{PrincipalHierarchy}
+use Rattle.parser.specs.declared.fault.ParseRefusal.{ParseRefusal}
 use Rattle.names.specs.declared.fault.NameRefusal.{NameRefusal}
-use Rattle.path_map.specs.FirstFault.{defect_of}
-use Rattle.path_map.specs.declared.fault.EndRefusal.{EndRefusal}
+use Rattle.resolved.specs.declared.fault.EndRefusal.{EndRefusal}
 use Rattle.acceptance.specs.Refused as acceptance
-use Rattle.acceptance.specs.Refused.{cause_of_name, cause_of_end}
 use Rattle.acceptance.specs.declared.cause.Cause.{Cause}
 use Rattle.acceptance.specs.declared.cause.Cause.TheVariants as causes
 use Rattle.analysis.specs.declared.fault.SourceRefusal.{SourceRefusal}
 
--- the refusals of the phases, as those of an analysis
-abbrev pub of_cause : Cause × ℕ → SourceRefusal
-of_cause found = record { cause = found.0; at = found.1 }
+-- the refusals of the phases, as those of an analysis: bytes that are no text are refused at the first of them
+abbrev pub of_bytes : Cause → SourceRefusal
+of_bytes cause = record { cause = cause; at = 0 }
+
+abbrev pub of_lex : LexRefusal → SourceRefusal
+of_lex refusal = record { cause = causes.Lex refusal.defect; at = refusal.at }
+
+abbrev pub of_parse : ParseRefusal → SourceRefusal
+of_parse refusal = record { cause = causes.Parse refusal.defect; at = refusal.at }
 
 abbrev pub of_name : NameRefusal → SourceRefusal
-of_name refusal = record { cause = cause_of_name refusal.defect; at = refusal.at }
+of_name refusal = record { cause = causes.Name refusal.defect; at = refusal.at }
 
 abbrev pub of_end : EndRefusal → SourceRefusal
-of_end refusal = record { cause = cause_of_end (defect_of refusal.defect); at = refusal.at }
+of_end refusal = record { cause = causes.End refusal.defect; at = refusal.at }
 
 -- the source is refused so
 abbrev pub IsSourceRefusal : PrincipalHierarchy → (source : List ℕ) → SourceRefusal → Type 0

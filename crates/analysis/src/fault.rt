@@ -1,10 +1,8 @@
 //! Why a source was not analysed.
 
-ghost use Rattle.acceptance.specs.Refused.{lexical_cause, parse_cause};
-ghost use Rattle.analysis.specs.Reported.{of_cause, of_end, of_name};
+ghost use Rattle.analysis.specs.Reported.{of_end, of_lex, of_name, of_parse};
 ghost use Rattle.std.specs.Prelude.{◌≡◌};
 
-use crate::causes::{cause_of_end, cause_of_name};
 use acceptance::Cause;
 use common::OrNoMemory;
 use lexer::LexRefusal;
@@ -24,27 +22,24 @@ pub struct SourceRefusal {
 pub type SourceFault = OrNoMemory<SourceRefusal>;
 
 impl From<LexRefusal> for SourceRefusal {
-    ghost from_gives = { λ refusal given. given ≡ of_cause (lexical_cause refusal) };
+    ghost from_gives = { λ refusal given. given ≡ of_lex refusal };
 
     fn from(refusal: LexRefusal) -> SourceRefusal {
-        let (cause, at) = match refusal {
-            LexRefusal::NoToken(at) => (Cause::NoToken, at),
-            LexRefusal::LiteralTooLarge(at) => (Cause::LiteralTooLarge, at),
-            LexRefusal::UnclosedComment(at) => (Cause::OpenComment, at),
-        };
-        SourceRefusal { cause, at }
+        SourceRefusal {
+            cause: Cause::Lex(refusal.defect),
+            at: refusal.at,
+        }
     }
 }
 
 impl From<ParseRefusal> for SourceRefusal {
-    ghost from_gives = { λ refusal given. given ≡ of_cause (parse_cause refusal) };
+    ghost from_gives = { λ refusal given. given ≡ of_parse refusal };
 
     fn from(refusal: ParseRefusal) -> SourceRefusal {
-        let (cause, at) = match refusal {
-            ParseRefusal::Unexpected(at) => (Cause::UnexpectedToken, at),
-            ParseRefusal::TooDeep(at) => (Cause::TooDeep, at),
-        };
-        SourceRefusal { cause, at }
+        SourceRefusal {
+            cause: Cause::Parse(refusal.defect),
+            at: refusal.at,
+        }
     }
 }
 
@@ -53,7 +48,7 @@ impl From<NameRefusal> for SourceRefusal {
 
     fn from(refusal: NameRefusal) -> SourceRefusal {
         SourceRefusal {
-            cause: cause_of_name(refusal.defect),
+            cause: Cause::Name(refusal.defect),
             at: refusal.at,
         }
     }
@@ -64,7 +59,7 @@ impl From<EndRefusal> for SourceRefusal {
 
     fn from(refusal: EndRefusal) -> SourceRefusal {
         SourceRefusal {
-            cause: cause_of_end(refusal.defect),
+            cause: Cause::End(refusal.defect),
             at: refusal.at,
         }
     }

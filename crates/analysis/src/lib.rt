@@ -2,7 +2,6 @@
 //! possible ends of each statement, or the first fault of its text, tokens, tree, names, types, sizes and ends.
 #![tactic(auto)]
 
-mod causes;
 pub mod fault;
 pub mod phases;
 

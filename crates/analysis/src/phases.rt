@@ -2,7 +2,7 @@
 
 ghost use Rattle.acceptance.specs.Accepted.{IsResolvedFrom, IsText, IsTreeOf};
 ghost use Rattle.acceptance.specs.Refused.{IsNoText};
-ghost use Rattle.analysis.specs.Reported.{IsBeforeLabels, IsSourceRefusal, of_cause};
+ghost use Rattle.analysis.specs.Reported.{IsBeforeLabels, IsSourceRefusal, of_bytes};
 ghost use Rattle.common.specs.Answers.{IfRefused};
 ghost use Rattle.common.specs.declared.fault.OrNoMemory.TheVariants.{Refused};
 ghost use Rattle.path_map.specs.Exits.{exits_of};
@@ -62,7 +62,7 @@ pub fn analyse(alloc: Global, hierarchy: &Hierarchy, source: &[u8]) -> Result<An
 
 // The fault of bytes that are no text, which stands at the first of them.
 fn refuse_bytes(cause: Cause) -> SourceFault
-    ensures { result ≡ Refused (of_cause (cause, 0)) }
+    ensures { result ≡ Refused (of_bytes cause) }
 {
     OrNoMemory::Refused(SourceRefusal { cause, at: 0 })
 }

@@ -91,11 +91,8 @@ hierarchy =
 
 -- ---- exceptions and channels, which share one space of names
 
-abbrev pub built_in : List (List ℕ)
-built_in = built_in_names
-
 abbrev pub is_built_in : List ℕ → Bool
-is_built_in name = is_among built_in name
+is_built_in name = is_among built_in_names name
 
 unfoldable pub exceptions : Form (List (List ℕ))
 exceptions = Counted any (name_after is_built_in)

@@ -1,12 +1,10 @@
--- Isolation of modules and of bytes: what a principal can learn of the inputs that it may not read from what it sees of the outputs.
+-- Isolation of modules: what a principal can learn of the inputs that it may not read from what it sees of the outputs.
 -- Source: our own, for runs that may be stopped anywhere; noninterference after Volpano, Smith and Irvine 1996.
-use Rattle.std.specs.Prelude.{◌≡◌, ℕ, ◌⊎◌, List, [], slice_get, Option, Some, None, IsTrue, ℤ}
+use Rattle.std.specs.Prelude.{◌≡◌, ℕ, List, [], slice_get, Option, Some, None, IsTrue, ℤ}
 use Rattle.labels.specs.Label.{Label, may_read}
-use Rattle.labels.specs.Sent.{IsPrefix, pairs_for}
+use Rattle.labels.specs.Sent.{pairs_for, OneIsPrefix}
 use Rattle.labels.specs.declared.sent.Pair.{Pair}
 use Rattle.bytecode.specs.Contents.{ChannelContents, ModuleContents}
-use Rattle.bytecode.specs.Form.{Spells}
-use Rattle.bytecode.specs.Format.{module_file}
 use Rattle.bytecode.specs.Machine.{sent_after}
 use Rattle.common.specs.declared.direction.Direction.TheVariants.{Input}
 
@@ -19,8 +17,8 @@ abbrev pub channel_label : ModuleContents → ℕ → Label
 channel_label m k = label_in (slice_get m.channels k)
 
 -- what a principal sees of pairs that a module sent, under the module's own hierarchy and labels
-abbrev pub seen_of : ModuleContents → ℕ → List Pair → List Pair
-seen_of m p sent = pairs_for m.hierarchy (channel_label m) p sent
+abbrev pub module_view : ModuleContents → ℕ → List Pair → List Pair
+module_view m p sent = pairs_for m.hierarchy (channel_label m) p sent
 
 -- a channel is an input of a module that a principal may read
 pub record ReadsInput (m : ModuleContents) (p k : ℕ) : Type 0 where
@@ -33,17 +31,9 @@ pub record ReadsInput (m : ModuleContents) (p k : ℕ) : Type 0 where
 abbrev pub AgreeOnInputs : ModuleContents → (p : ℕ) → (first second : ℕ → List ℤ) → Type 0
 AgreeOnInputs m p first second = (k : ℕ) → ReadsInput m p k → first k ≡ second k
 
--- one of two lists is a prefix of the other
-abbrev pub OneIsPrefix : {X : Type 0} → List X → List X → Type 0
-OneIsPrefix xs ys = IsPrefix xs ys ⊎ IsPrefix ys xs
-
 -- an isolated module: for every principal, all worlds that agree for it and any two numbers of steps, one of the lists that it
 -- sees is a prefix of the other
 abbrev pub IsIsolated : ModuleContents → Type 0
 IsIsolated m =
     (p : ℕ) (first second : ℕ → List ℤ) → AgreeOnInputs m p first second → (i j : ℕ)
-    → OneIsPrefix (seen_of m p (sent_after m first i)) (seen_of m p (sent_after m second j))
-
--- isolated bytes: they spell an isolated module
-abbrev pub SpellsIsolated : List ℕ → Type 0
-SpellsIsolated bytes = (m : ModuleContents) × Spells module_file m bytes × IsIsolated m
+    → OneIsPrefix (module_view m p (sent_after m first i)) (module_view m p (sent_after m second j))

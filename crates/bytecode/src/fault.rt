@@ -1,6 +1,6 @@
 //! What is wrong with bytes that spell no module.
 
-ghost use Rattle.bytecode.specs.Faults.{module_defect_number, module_defect_words};
+ghost use Rattle.bytecode.specs.Defects.{module_defect_number, module_defect_words};
 ghost use Rattle.std.specs.Prelude.{◌≡◌};
 
 /// What is wrong with bytes that spell no module.

@@ -3,6 +3,7 @@
 #![tactic(auto)]
 
 pub mod channel;
+pub mod code;
 pub mod declaration;
 pub mod fault;
 pub mod instruction;
@@ -13,6 +14,7 @@ pub mod procedure;
 pub mod value;
 
 pub use channel::Channel;
+pub use code::code_length;
 pub use declaration::{Global, Handler, Slot};
 pub use fault::ModuleDefect;
 pub use instruction::{Arithmetic, Comparison, Instruction};

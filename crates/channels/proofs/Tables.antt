@@ -29,9 +29,6 @@ bytes_eq_sym xs ys = go (bytes_eq xs ys) (bytes_eq ys xs) (bytes_eq-Decides xs y
     go false true d e = d.1 (sym (e.0 refl))
     go false false d e = refl
 
-pub bytes_eq_self : (xs : List ℕ) → bytes_eq xs xs ≡ true
-bytes_eq_self xs = (bytes_eq-Decides xs xs).1 refl
-
 -- a line names a channel where the lines give something to it
 any_given : (lines : List (List (List ℕ))) (name : List ℕ) → list_any (λ line. gives_to name line) lines ≡ is_some (given_by lines name)
 any_given [] name = refl
@@ -111,7 +108,7 @@ given_numbers (line ∷ lines) name = go (gives_to name line) (given_numbers lin
     go false e = e
 
 known_here : (front : List (List ℕ)) (name : List ℕ) (rest : List (List ℕ)) → list_any (λ input. bytes_eq name input) (front ++ name ∷ rest) ≡ true
-known_here [] name rest = rw (bytes_eq_self name) refl
+known_here [] name rest = rw ((bytes_eq-Decides name name).1 refl) refl
 known_here (x ∷ front) name rest = go (bytes_eq name x) (known_here front name rest)
   where
     go : (b : Bool) → list_any (λ input. bytes_eq name input) (front ++ name ∷ rest) ≡ true → (b || list_any (λ input. bytes_eq name input) (front ++ name ∷ rest)) ≡ true

@@ -35,10 +35,6 @@ pub none_outside : (b : Bool) (z : ℤ) → cond b (Some z) None ≡ None → b 
 none_outside true z e = absurd (let no : Some z ≡ None = e in cc)
 none_outside false z e = refl
 
-pub some_inside : (b : Bool) (z n : ℤ) → cond b (Some z) None ≡ Some n → (b ≡ true) × (z ≡ n)
-some_inside true z n e = (refl, cc)
-some_inside false z n e = absurd (let no : None ≡ Some n = e in cc)
-
 pub numbers_more : (ws : List (Bor (List ℕ))) (k : ℕ) (d : Bor (List ℕ)) → k < length ws → map number_of (texts_of (take (k + 1) ws)) ≡ map number_of (texts_of (take k ws)) ++ number_of (get_or ws k d).now ∷ []
 numbers_more ws k d h =
     ap (λ (xs : List (Bor (List ℕ))). map number_of (texts_of xs)) (take_more ws k d h)

@@ -6,7 +6,7 @@ use Rattle.std.specs.Io.KnownBytes.{Appends}
 use Rattle.labels.specs.Label.{may_read}
 use Rattle.labels.specs.declared.sent.Pair.{Pair}
 use Rattle.bytecode.specs.Contents.{ModuleContents, ChannelContents}
-use Rattle.bytecode.specs.Isolated.{channel_label, seen_of}
+use Rattle.bytecode.specs.Isolated.{channel_label, module_view}
 use Rattle.channels.specs.Sink.{AppendsPrefix}
 
 -- the name of a channel of a list, by its number; a number that is not there has none
@@ -20,9 +20,9 @@ is_shown m None pair = true
 is_shown m (Some observer) pair = may_read m.hierarchy observer (channel_label m pair.channel)
 
 -- the view for an observer: the pairs that it sees; or all where there is none
-abbrev pub view_for : ModuleContents → Option ℕ → List Pair → List Pair
-view_for m None sent = sent
-view_for m (Some observer) sent = seen_of m observer sent
+abbrev pub observer_view : ModuleContents → Option ℕ → List Pair → List Pair
+observer_view m None sent = sent
+observer_view m (Some observer) sent = module_view m observer sent
 
 -- the line of a pair: the channel's name, a space, the number, and a line feed
 abbrev pub pair_line : ModuleContents → Pair → List ℕ
@@ -36,10 +36,10 @@ view_text m (pair ∷ pairs) = pair_line m pair ++ view_text m pairs
 
 -- what a sink holds grew by the text of what an observer is shown, or by a prefix of it
 abbrev pub ShowsAll : ModuleContents → (observer : Option ℕ) → (sent : List Pair) → (old new : Option (List ℕ)) → Type 0
-ShowsAll m observer sent old new = Appends old new (view_text m (view_for m observer sent))
+ShowsAll m observer sent old new = Appends old new (view_text m (observer_view m observer sent))
 
 abbrev pub ShowsPrefix : ModuleContents → (observer : Option ℕ) → (sent : List Pair) → (old new : Option (List ℕ)) → Type 0
-ShowsPrefix m observer sent old new = AppendsPrefix old new (view_text m (view_for m observer sent))
+ShowsPrefix m observer sent old new = AppendsPrefix old new (view_text m (observer_view m observer sent))
 
 -- for each channel of a module, by its number, whether an observer may read it
 abbrev pub readable : ModuleContents → (observer : ℕ) → List Bool

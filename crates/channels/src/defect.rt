@@ -1,4 +1,4 @@
-ghost use Rattle.channels.specs.Words.{world_number, world_words};
+ghost use Rattle.channels.specs.Defects.{world_number, world_words};
 ghost use Rattle.std.specs.Prelude.{◌≡◌, Some};
 
 use common::OrNoMemory;

@@ -29,10 +29,10 @@ impl Sent {
         }
     }
 
-    /// Adds a pair at the end, or changes nothing where memory is refused.
+    /// Adds a pair at the end, or changes nothing where memory runs out.
     pub fn push(&mut self, pair: Pair) -> Result<(), AllocError>
-        ensures ok { OnOk result (self.new ≡ self.old ++ pair ∷ []) }
-        ensures err { OnErr result (self.new ≡ self.old) }
+        ensures accepted { OnOk result (self.new ≡ self.old ++ pair ∷ []) }
+        ensures unchanged { OnErr result (self.new ≡ self.old) }
     {
         self.pairs.push(pair)?;
         Ok(())

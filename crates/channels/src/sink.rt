@@ -13,8 +13,8 @@ pub struct SinkFault;
 
 /// Where bytes go: a file, a stream, or memory.
 ///
-/// A sink fails for good with the first write that answers a fault, or that takes none of the
-/// bytes that there were. Nothing else makes it fail.
+/// A sink fails for good when a write returns a fault, or writes nothing of a nonempty buffer. Nothing else
+/// makes it fail.
 pub trait Sink {
     /// The bytes that the sink took so far, where they are known.
     ghost taken: { Self → Option (List ℕ) } = { λ _. None };

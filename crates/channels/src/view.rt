@@ -1,9 +1,9 @@
 //! What an observer is shown of the pairs that a run has sent.
 
-ghost use Rattle.bytecode.specs.Isolated.{seen_of};
+ghost use Rattle.bytecode.specs.Isolated.{module_view};
 ghost use Rattle.channels.specs.Sink.{AppendsPrefix};
 ghost use Rattle.channels.specs.View as view;
-ghost use Rattle.channels.specs.View.{ShowsAll, ShowsPrefix, answers_for, is_shown, name_in, pair_line, readable, view_for, view_text};
+ghost use Rattle.channels.specs.View.{ShowsAll, ShowsPrefix, answers_for, is_shown, name_in, pair_line, readable, observer_view, view_text};
 ghost use Rattle.std.specs.Io.KnownBytes.{Appends};
 ghost use Rattle.common.specs.Answers.{IfRefused};
 ghost use Rattle.std.specs.Prelude.{◌≡◌, IfErr, IfOk, IsTrue, OnErr, OnOk, filter, slice_get};
@@ -124,10 +124,10 @@ fn write_lines<S: Sink>(
 ) -> Result<(), ViewFault>
     ensures accepted { OnOk result (Appends (S.taken out.old) (S.taken out.new)
         (view_text observer.now.program.now
-        (view_for observer.now.program.now observer.now.principal pairs.now))) }
+        (observer_view observer.now.program.now observer.now.principal pairs.now))) }
     ensures prefix { OnErr result (AppendsPrefix (S.taken out.old) (S.taken out.new)
         (view_text observer.now.program.now
-        (view_for observer.now.program.now observer.now.principal pairs.now))) }
+        (observer_view observer.now.program.now observer.now.principal pairs.now))) }
     ensures rejected { IfErr result (IfRefused (λ _. IsTrue (S.has_failed out.new))) }
 {
     for pair in pairs {
@@ -184,7 +184,7 @@ pub fn pairs_for(
     program: &Module,
     principal: u32,
 ) -> Result<Vec<Pair>, AllocError>
-    ensures { IfOk result (λ pairs. pairs.items ≡ seen_of program.now principal sent.now) }
+    ensures { IfOk result (λ pairs. pairs.items ≡ module_view program.now principal sent.now) }
 {
     let observer = Observer::of(alloc, program, Some(principal))?;
     select_pairs(alloc, &observer, sent.pairs())

@@ -6,7 +6,7 @@ use Rattle.std.specs.declared.vec.Vec.{Vec}
 use Rattle.std.proofs.lemmas.List.Elements.{All-contains}
 use Rattle.std.proofs.lemmas.List.{get_or_read, take_more}
 use Rattle.std.proofs.lemmas.Grind.{flat_map-append}
-use Rattle.std.proofs.lemmas.Option.{slice_get_read, slice_get_within}
+use Rattle.std.proofs.lemmas.Option.{slice_get_read, slice_get_within, same_Some}
 use Rattle.principals.specs.ActsFor.{PrincipalHierarchy}
 use Rattle.labels.specs.Label.{ReaderPolicy, Label, Covers, flows}
 use Rattle.labels.specs.Constraints.{Lattice, Linked, label_lattice, report_some, reported_gathered, reported_steps}
@@ -24,10 +24,9 @@ use Rattle.solver.specs.declared.system.Atom.{Atom}
 use Rattle.solver.specs.declared.system.Atom.TheVariants.{Unknown, Written}
 use Rattle.solver.specs.declared.system.Constraint.{Constraint}
 use Rattle.solver.specs.declared.system.System.{System}
-use Rattle.solver.proofs.Meaning.{at-contains, at-map_only}
 use Rattle.checker.specs.declared.fault.Step.{Step}
 use Rattle.checker.specs.Reported.{ReportsFlow, report_at, report_of, reported_by, reported_of}
-use Rattle.common.proofs.Cases.{same_some}
+use Rattle.common.proofs.Cases.{contained_at, there_map_only}
 
 -- the last of some indices
 abbrev pub last_of : List ℕ → ℕ
@@ -59,7 +58,7 @@ picked-reported l table constraints [] [] picks = refl
 picked-reported l table constraints [] (c ∷ chain) picks = absurd picks
 picked-reported l table constraints (i ∷ indices) [] picks = absurd picks
 picked-reported {V} l table constraints (i ∷ indices) (c ∷ chain) picks =
-    let found = at-map_only (constraint_of l table) constraints i c picks.0 in
+    let found = there_map_only (constraint_of l table) constraints i c picks.0 in
     let here : report_at constraints i ≡ report_some reported_step c.at c.rule c.target =
     ap report_of found.1 ∙ ap (λ (d : formal.Constraint (Option Target) ℕ V). report_some reported_step d.at d.rule d.target) found.2 in
     ap (λ steps. steps ++ flat_map (report_at constraints) indices) here
@@ -102,13 +101,13 @@ pub record EndsAt {T V : Type 0} (l : Lattice V) (system : System V T) (refusal 
   pub at : slice_get system.constraints.items (last_of refusal.chain.items) ≡ Some last
   pub to : ℕ
   pub right : last.right ≡ Written to
-  pub not_below : IsFalse (l.leq (written_at l system.written.items refusal.from) (written_at l system.written.items to))
+  pub not_below : IsFalse (l.lies_below (written_at l system.written.items refusal.from) (written_at l system.written.items to))
 
 pub ends-at : {T V : Type 0} (l : Lattice V) (system : System V T) (refusal : SolveRefusal) → IsSolveRefusal l system refusal → EndsAt l system refusal
 ends-at {T} {V} l system refusal is =
     let chained = is.refused.chained in
     let picked = last-picked (constraints_of l system) (formal.Written (written_at l system.written.items refusal.from)) is.chain is.last chained.linked refusal.chain.items is.picked in
-    let found = at-map_only (constraint_of l system.written.items) system.constraints.items (last_of refusal.chain.items) is.last picked.1 in
+    let found = there_map_only (constraint_of l system.written.items) system.constraints.items (last_of refusal.chain.items) is.last picked.1 in
     let right = written-is l system.written.items found.0.right chained.to (ap (λ (c : formal.Constraint T ℕ V). c.right) found.2 ∙ chained.right_is) in
     record {
       some = picked.0;
@@ -116,7 +115,7 @@ ends-at {T} {V} l system refusal is =
       at = found.1;
       to = right.0;
       right = right.1;
-      not_below = subst (λ v. IsFalse (l.leq (written_at l system.written.items refusal.from) v)) (sym right.2) chained.not_below;
+      not_below = subst (λ v. IsFalse (l.lies_below (written_at l system.written.items refusal.from) v)) (sym right.2) chained.not_below;
     }
 
 -- what is read there
@@ -141,15 +140,15 @@ module _ {T V : Type 0} (l : Lattice V) (system : System V T) (refusal : SolveRe
 
   module _ (c : Constraint T) (at : slice_get system.constraints.items (last_of refusal.chain.items) ≡ Some c) where
     read-is : (ends-at l system refusal is).last ≡ c
-    read-is = same_some (ends-at l system refusal is).last c (sym (ends-at l system refusal is).at ∙ at)
+    read-is = same_Some (ends-at l system refusal is).last c (sym (ends-at l system refusal is).at ∙ at)
 
     pub right-written : c.right ≡ Written (ends-at l system refusal is).to
     right-written = ap (λ (d : Constraint T). d.right) (sym read-is) ∙ (ends-at l system refusal is).right
 
-    pub flow-fails : (to : ℕ) → c.right ≡ Written to → IsFalse (l.leq (written_at l system.written.items refusal.from) (written_at l system.written.items to))
+    pub flow-fails : (to : ℕ) → c.right ≡ Written to → IsFalse (l.lies_below (written_at l system.written.items refusal.from) (written_at l system.written.items to))
     flow-fails to right =
         let same : (ends-at l system refusal is).to ≡ to = ap number_or (sym right-written ∙ right) in
-        subst (λ n. IsFalse (l.leq (written_at l system.written.items refusal.from) (written_at l system.written.items n))) same (ends-at l system refusal is).not_below
+        subst (λ n. IsFalse (l.lies_below (written_at l system.written.items refusal.from) (written_at l system.written.items n))) same (ends-at l system refusal is).not_below
 
 -- a written right side of a constraint lies inside the table
 pub right-inside : {T V : Type 0} (system : System V T) → InRange (length system.written.items) system.unknowns system.constraints.items →
@@ -157,7 +156,7 @@ pub right-inside : {T V : Type 0} (system : System V T) → InRange (length syst
 right-inside {T} system range i c at to is =
     subst (IsBelow (length system.written.items) system.unknowns) is
     (All-contains (λ (c : Constraint T). AreBelow (length system.written.items) system.unknowns c.left.items × IsBelow (length system.written.items) system.unknowns c.right)
-    system.constraints.items c range (at-contains system.constraints.items i c at)).1
+    system.constraints.items c range (contained_at system.constraints.items i c at)).1
 
 -- ---- what is reported of a program that is refused
 pub flow-reported : (core : Core) (system : System Label (Option Target)) (refusal : SolveRefusal) →
@@ -172,8 +171,8 @@ flow-reported core system refusal gathered is c at to right policy contained unc
     let cs = constraints_of l system in
     let from = written_at l system.written.items refusal.from in
     let picked = last-picked cs (formal.Written from) is.chain is.last is.refused.chained.linked refusal.chain.items is.picked in
-    let found = at-map_only (constraint_of l system.written.items) system.constraints.items (last_of refusal.chain.items) is.last picked.1 in
-    let same : found.0 ≡ c = same_some found.0 c (sym found.1 ∙ at) in
+    let found = there_map_only (constraint_of l system.written.items) system.constraints.items (last_of refusal.chain.items) is.last picked.1 in
+    let same : found.0 ≡ c = same_Some found.0 c (sym found.1 ∙ at) in
     let last_is : constraint_of l system.written.items c ≡ is.last = ap (constraint_of l system.written.items) (sym same) ∙ found.2 in
     let right_is : atom_of l system.written.items (Written to) ≡ is.last.right =
     ap (atom_of l system.written.items) (sym right) ∙ ap (λ (d : formal.Constraint (Option Target) ℕ Label). d.right) last_is in

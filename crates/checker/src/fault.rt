@@ -29,7 +29,7 @@ pub struct RefusedFlow {
     pub at: usize,
     /// The policy that flows there, of a written label.
     pub policy: Policy,
-    /// The way from that label, step by step. Steps to the label of a loop are left out.
+    /// The chain from that label, step by step. Steps to the label of a loop are left out.
     pub steps: Vec<Step>,
 }
 

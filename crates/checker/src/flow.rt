@@ -89,13 +89,8 @@ fn steps_of(
 fn step_at(constraints: &[Constraint<Option<Target>>], index: usize) -> Option<Step>
     ensures { reported_of result ≡ report_at constraints.now index }
 {
-    match constraints.get(index) {
-        None => None,
-        Some(constraint) => match constraint.target {
-            None => None,
-            Some(target) => step_to(constraint.at, constraint.rule, target),
-        },
-    }
+    let constraint = constraints.get(index)?;
+    step_to(constraint.at, constraint.rule, constraint.target?)
 }
 
 // What is reported of a step to a target: nothing of one to the label of a loop, which has no name.

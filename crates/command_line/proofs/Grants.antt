@@ -4,6 +4,7 @@ use Rattle.std.specs.Prelude.{IfSome, unwrap_or}
 use Rattle.std.specs.Str.{bytes_eq}
 use Rattle.std.proofs.lemmas.Slice.Eq.{bytes_eq-Decides}
 use Rattle.std.specs.String.{string_bytes}
+use Rattle.std.proofs.lemmas.Option.{same_Some}
 use Rattle.clap.specs.Words.{Row, Text, fault_of, first_of, subcommand_of}
 use Rattle.command_line.specs.Command.{flowc_command}
 use Rattle.command_line.specs.Task.{AsksFor, IsTaskOf, steps_in}
@@ -16,9 +17,6 @@ use Rattle.common.specs.declared.fault.OrNoMemory.{OrNoMemory}
 use Rattle.common.proofs.Casting.{refused-weaker}
 use Rattle.command_line.proofs.Only.{spelled_so}
 use Rattle.command_line.proofs.Plain.{decimal_read, met_by, observer_rows, row, steps_rows, request_taken}
-
-found_word : {x y : Text} → Some x ≡ Some y → x ≡ y
-found_word e = cc
 
 abbrev run_rows : Text → Text → Option Text → Option ℕ → List Row
 run_rows file world observer steps = row (codes "MODULE") file ∷ row (codes "WORLD") world ∷ (observer_rows observer ++ steps_rows steps)
@@ -41,13 +39,13 @@ other_name : {X : Type 0} (a b : Text) → bytes_eq a b ≡ false → a ≡ b �
 other_name a b differ same = absurd (true≢false (sym ((bytes_eq-Decides a b).1 same) ∙ differ))
 
 grants : (request : Request) (task : Task) → IsPlainRequest request → AsksFor (met_by request).0 (met_by request).1 task → Grants request task
-grants (to_check hierarchy source) (Check h s) plain asks = check h s (ap₂ to_check (found_word asks.1) (found_word asks.2)) refl
+grants (to_check hierarchy source) (Check h s) plain asks = check h s (ap₂ to_check (same_Some _ _ asks.1) (same_Some _ _ asks.2)) refl
 grants (to_check hierarchy source) (Build h s o) plain asks = other_name _ _ refl asks.0
 grants (to_check hierarchy source) (Run f w o n) plain asks = other_name _ _ refl asks.0
 grants (to_check hierarchy source) (ListModule f) plain asks = other_name _ _ refl asks.0
 grants (to_check hierarchy source) (Explain h s) plain asks = other_name _ _ refl asks.0
 grants (to_build hierarchy source out) (Check h s) plain asks = other_name _ _ refl asks.0
-grants (to_build hierarchy source out) (Build h s o) plain asks = build h s o (rw (found_word asks.1, found_word asks.2, found_word asks.3) refl) refl
+grants (to_build hierarchy source out) (Build h s o) plain asks = build h s o (rw (same_Some _ _ asks.1, same_Some _ _ asks.2, same_Some _ _ asks.3) refl) refl
 grants (to_build hierarchy source out) (Run f w o n) plain asks = other_name _ _ refl asks.0
 grants (to_build hierarchy source out) (ListModule f) plain asks = other_name _ _ refl asks.0
 grants (to_build hierarchy source out) (Explain h s) plain asks = other_name _ _ refl asks.0
@@ -55,7 +53,7 @@ grants (to_run file world observer steps) (Check h s) plain asks = other_name _ 
 grants (to_run file world observer steps) (Build h s o) plain asks = other_name _ _ refl asks.0
 grants (to_run file world observer steps) (Run f w o n) plain asks =
     run f w o steps
-    (ap₂ (λ code text. to_run code text observer steps) (found_word asks.1) (found_word asks.2)
+    (ap₂ (λ code text. to_run code text observer steps) (same_Some _ _ asks.1) (same_Some _ _ asks.2)
     ∙ ap (λ name. to_run (string_bytes f) (string_bytes w) name steps) (sym (asks.3 ∙ observer_found file world observer steps)))
     (ap (Run f w o) (asks.4 ∙ steps_found file world observer steps plain.3))
 grants (to_run file world observer steps) (ListModule f) plain asks = other_name _ _ refl asks.0
@@ -63,13 +61,13 @@ grants (to_run file world observer steps) (Explain h s) plain asks = other_name 
 grants (to_list file) (Check h s) plain asks = other_name _ _ refl asks.0
 grants (to_list file) (Build h s o) plain asks = other_name _ _ refl asks.0
 grants (to_list file) (Run f w o n) plain asks = other_name _ _ refl asks.0
-grants (to_list file) (ListModule f) plain asks = list f (ap to_list (found_word asks.1)) refl
+grants (to_list file) (ListModule f) plain asks = list f (ap to_list (same_Some _ _ asks.1)) refl
 grants (to_list file) (Explain h s) plain asks = other_name _ _ refl asks.0
 grants (to_explain hierarchy source) (Check h s) plain asks = other_name _ _ refl asks.0
 grants (to_explain hierarchy source) (Build h s o) plain asks = other_name _ _ refl asks.0
 grants (to_explain hierarchy source) (Run f w o n) plain asks = other_name _ _ refl asks.0
 grants (to_explain hierarchy source) (ListModule f) plain asks = other_name _ _ refl asks.0
-grants (to_explain hierarchy source) (Explain h s) plain asks = explain h s (ap₂ to_explain (found_word asks.1) (found_word asks.2)) refl
+grants (to_explain hierarchy source) (Explain h s) plain asks = explain h s (ap₂ to_explain (same_Some _ _ asks.1) (same_Some _ _ asks.2)) refl
 
 -- what is answered to the words of a plain request
 pub request_granted : (r : Result Task (OrNoMemory TaskRefusal)) (words : List Text) → IfOk r (IsTaskOf (subcommand_of flowc_command words))

@@ -18,9 +18,9 @@ abbrev pub HasStepsInRange : List Row → Type 0
 HasStepsInRange rows = IfSome (first_of (codes "steps") rows) (Accepts false step_numbers)
     × (one_of (codes "steps") rows ≡ first_of (codes "steps") rows)
 
--- the words that `check` needs
-abbrev pub HasCheckWords : List Row → Type 0
-HasCheckWords rows = IsGiven (codes "HIER") rows × IsGiven (codes "SRC") rows
+-- the words that `check` and `explain` need: the paths of the two texts
+abbrev pub HasTextsWords : List Row → Type 0
+HasTextsWords rows = IsGiven (codes "HIER") rows × IsGiven (codes "SRC") rows
 
 -- the words that `build` needs
 abbrev pub HasBuildWords : List Row → Type 0
@@ -36,17 +36,13 @@ HasRunWords rows =
 abbrev pub HasListWords : List Row → Type 0
 HasListWords rows = IsGiven (codes "MODULE") rows
 
--- the words that `explain` needs
-abbrev pub HasExplainWords : List Row → Type 0
-HasExplainWords rows = IsGiven (codes "HIER") rows × IsGiven (codes "SRC") rows
-
 -- the subcommand is one of the five, with each word that it needs
 abbrev pub HasWords : Text → List Row → Type 0
-HasWords name rows = ((name ≡ codes "check") × HasCheckWords rows)
+HasWords name rows = ((name ≡ codes "check") × HasTextsWords rows)
     ⊎ (((name ≡ codes "build") × HasBuildWords rows)
     ⊎ (((name ≡ codes "run") × HasRunWords rows)
     ⊎ (((name ≡ codes "list") × HasListWords rows)
-    ⊎ ((name ≡ codes "explain") × HasExplainWords rows))))
+    ⊎ ((name ≡ codes "explain") × HasTextsWords rows))))
 
 -- a subcommand was met, with each word that it needs
 abbrev pub Enters : Option (Text × List Row) → Type 0

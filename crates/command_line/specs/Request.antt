@@ -6,7 +6,7 @@ use Rattle.std.specs.Fmt.{decimal}
 use Rattle.std.specs.String.{string_bytes}
 use Rattle.std.specs.declared.alloc.Global.{Global}
 use Rattle.std.specs.Str.Parse.{starts_with_minus}
-use Rattle.command_line.specs.declared.request.TheConstants.{MAX_STEPS, USUAL_STEPS}
+use Rattle.command_line.specs.declared.request.TheConstants.{MAX_STEPS, DEFAULT_STEPS}
 use Rattle.clap.specs.Words.{Text}
 use Rattle.command_line.specs.declared.request.Task.{Task}
 use Rattle.command_line.specs.declared.request.TaskRefusal.{TaskRefusal}
@@ -67,7 +67,7 @@ pub data Grants (request : Request) (task : Task) : Type 0 where
   run : (file world : String Global) (observer : Option (String Global)) (steps : Option ℕ)
       → request
       ≡ to_run (string_bytes file) (string_bytes world) (option_map string_bytes observer) steps
-      → task ≡ Run file world observer (unwrap_or steps USUAL_STEPS) → Grants request task
+      → task ≡ Run file world observer (unwrap_or steps DEFAULT_STEPS) → Grants request task
   list : (file : String Global) → request ≡ to_list (string_bytes file)
       → task ≡ ListModule file → Grants request task
   explain : (hierarchy source : String Global)

@@ -4,7 +4,7 @@ use Rattle.std.specs.Prelude.{◌≡◌, ℕ, List, [], ◌∷◌, Option, Some,
 use Rattle.std.specs.Option.{option_map_or}
 use Rattle.std.specs.String.{string_bytes}
 use Rattle.std.specs.Str.Parse.{digits_value, without_leading_plus}
-use Rattle.command_line.specs.declared.request.TheConstants.{USUAL_STEPS}
+use Rattle.command_line.specs.declared.request.TheConstants.{DEFAULT_STEPS}
 use Rattle.clap.specs.Words.{Row, Text, first_of}
 use Rattle.command_line.specs.declared.request.Task.{Task}
 use Rattle.command_line.specs.declared.request.Task.TheVariants.{Check, Build, Run, Explain, List as ListModule}
@@ -31,7 +31,7 @@ number_of word = digits_value 10 (without_leading_plus word)
 
 -- the steps that the word of `--steps` writes, or a million where there is none
 abbrev pub steps_in : List Row → ℕ
-steps_in rows = option_map_or number_of (first_of (codes "steps") rows) USUAL_STEPS
+steps_in rows = option_map_or number_of (first_of (codes "steps") rows) DEFAULT_STEPS
 
 -- the word that was given for the argument
 abbrev pub IsWordOf : List Row → Text → Text → Type 0

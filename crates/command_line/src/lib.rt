@@ -1,8 +1,9 @@
 //! What the words of a command line ask for.
 #![tactic(auto)]
 
+pub mod laws;
 mod request;
 mod words;
 
-pub use request::{MAX_STEPS, Task, TaskFault, TaskRefusal, USUAL_STEPS};
+pub use request::{DEFAULT_STEPS, MAX_STEPS, Task, TaskFault, TaskRefusal};
 pub use words::read_task;

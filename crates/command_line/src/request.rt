@@ -5,20 +5,20 @@ use thiserror::Error;
 pub const MAX_STEPS: u64 = 1_000_000_000_000;
 
 /// The steps that a run takes at most where `--steps` is not given.
-pub const USUAL_STEPS: u64 = 1_000_000;
+pub const DEFAULT_STEPS: u64 = 1_000_000;
 
 /// What a command line asks for. Files are named by their paths.
 #[derive(Debug, PartialEq, Eq, Drop)]
 pub enum Task {
     /// Check a source under a hierarchy.
     Check {
-        hier: String,
-        src: String,
+        hierarchy: String,
+        source: String,
     },
     /// Compile a source under a hierarchy, and write the module to the file `out`.
     Build {
-        hier: String,
-        src: String,
+        hierarchy: String,
+        source: String,
         out: String,
     },
     /// Run a module on a world for at most so many steps, and show what this principal may read, or all of it where none is
@@ -35,8 +35,8 @@ pub enum Task {
     },
     /// Explain the labels of a source under a hierarchy, or why a flow is refused.
     Explain {
-        hier: String,
-        src: String,
+        hierarchy: String,
+        source: String,
     },
 }
 
@@ -49,9 +49,13 @@ impl Task {
         ensures { option_map (λ path. path.now) result ≡ slice_get (paths_of self.now) index }
     {
         let (first, second) = match self {
-            Task::Check { hier, src }
-            | Task::Build { hier, src, .. }
-            | Task::Explain { hier, src } => (hier, Some(src)),
+            Task::Check { hierarchy, source }
+            | Task::Build {
+                hierarchy,
+                source,
+                ..
+            }
+            | Task::Explain { hierarchy, source } => (hierarchy, Some(source)),
             Task::Run { file, world, .. } => (file, Some(world)),
             Task::List { file } => (file, None),
         };

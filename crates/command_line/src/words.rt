@@ -2,7 +2,7 @@ ghost use Rattle.clap.specs.Words.{app_of, fault_of, first_of, kind_of, new_app,
 ghost use Rattle.clap.specs.Walk.{texts};
 ghost use Rattle.clap.specs.declared.builder.command.Command.TheViews.{out-Command};
 ghost use Rattle.command_line.specs.Command.{build_command, check_command, explain_command, file_rule, flowc_command, list_command, observer_rule, run_command, steps_rule};
-ghost use Rattle.command_line.specs.Matched.{Enters, HasBuildWords, HasCheckWords, HasExplainWords, HasListWords, HasRunWords, HasStepsInRange, IsGiven, rows_in};
+ghost use Rattle.command_line.specs.Matched.{Enters, HasBuildWords, HasListWords, HasRunWords, HasStepsInRange, HasTextsWords, IsGiven, rows_in};
 ghost use Rattle.command_line.specs.Task.{AsksFor, IsTaskOf, IsWordOf, steps_in, steps_of};
 ghost use Rattle.command_line.specs.Request.{GrantsPlainRequests, HasNoOption, IsSpelling};
 ghost use Rattle.common.specs.Answers.{IfRefused};
@@ -10,7 +10,7 @@ ghost use Rattle.common.specs.declared.fault.OrNoMemory.TheVariants.{NoMemory};
 ghost use Rattle.std.specs.String.{string_bytes};
 ghost use Rattle.std.specs.Prelude.{◌≡◌, ◌≢◌, ◌≤◌, ◌∷◌, ℕ, IfErr, IfOk, List, [], codes, false, option_map};
 
-use crate::request::{MAX_STEPS, Task, TaskFault, TaskRefusal, USUAL_STEPS};
+use crate::request::{DEFAULT_STEPS, MAX_STEPS, Task, TaskFault, TaskRefusal};
 use clap::error::ErrorKind;
 use clap::{Arg, ArgAction, ArgMatches, Command, value_parser};
 use common::OrNoMemory;
@@ -221,13 +221,13 @@ fn words_fault(alloc: Global, error: &clap::Error) -> TaskFault
 }
 
 fn read_check(alloc: Global, matches: &ArgMatches<'_>) -> Result<Task, AllocError>
-    requires given { HasCheckWords (rows_in matches.now) }
+    requires given { HasTextsWords (rows_in matches.now) }
     ensures matched { IfOk result (AsksFor (codes "check") (rows_in matches.now)) }
     ensures steps { IfOk result (λ task. steps_of task ≤ MAX_STEPS) }
 {
     Ok(Task::Check {
-        hier: read_word(alloc, matches, "HIER")?,
-        src: read_word(alloc, matches, "SRC")?,
+        hierarchy: read_word(alloc, matches, "HIER")?,
+        source: read_word(alloc, matches, "SRC")?,
     })
 }
 
@@ -237,8 +237,8 @@ fn read_build(alloc: Global, matches: &ArgMatches<'_>) -> Result<Task, AllocErro
     ensures steps { IfOk result (λ task. steps_of task ≤ MAX_STEPS) }
 {
     Ok(Task::Build {
-        hier: read_word(alloc, matches, "HIER")?,
-        src: read_word(alloc, matches, "SRC")?,
+        hierarchy: read_word(alloc, matches, "HIER")?,
+        source: read_word(alloc, matches, "SRC")?,
         out: read_word(alloc, matches, "OUT")?,
     })
 }
@@ -267,13 +267,13 @@ fn read_list(alloc: Global, matches: &ArgMatches<'_>) -> Result<Task, AllocError
 }
 
 fn read_explain(alloc: Global, matches: &ArgMatches<'_>) -> Result<Task, AllocError>
-    requires given { HasExplainWords (rows_in matches.now) }
+    requires given { HasTextsWords (rows_in matches.now) }
     ensures matched { IfOk result (AsksFor (codes "explain") (rows_in matches.now)) }
     ensures steps { IfOk result (λ task. steps_of task ≤ MAX_STEPS) }
 {
     Ok(Task::Explain {
-        hier: read_word(alloc, matches, "HIER")?,
-        src: read_word(alloc, matches, "SRC")?,
+        hierarchy: read_word(alloc, matches, "HIER")?,
+        source: read_word(alloc, matches, "SRC")?,
     })
 }
 
@@ -302,5 +302,5 @@ fn read_steps(matches: &ArgMatches<'_>) -> u64
     ensures number { result ≡ steps_in (rows_in matches.now) }
     ensures most { result ≤ MAX_STEPS }
 {
-    matches.get_one::<u64>("steps").unwrap_or(USUAL_STEPS)
+    matches.get_one::<u64>("steps").unwrap_or(DEFAULT_STEPS)
 }

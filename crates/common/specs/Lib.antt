@@ -1,3 +1,4 @@
 pub mod Answers
 pub mod Exceptions
+pub mod Functions
 pub mod Integers

@@ -1,15 +1,15 @@
 //! The exceptions that every program has, by their numbers and their names. The declared ones have the numbers behind.
 
-/// Raised by a division by zero.
+/// The number of the exception that a division by zero raises.
 pub const ARITH: u32 = 0;
 
-/// Raised by an index that is out of range.
+/// The number of the exception that an index out of range raises.
 pub const BOUNDS: u32 = 1;
 
-/// Raised where an input has no further number.
+/// The number of the exception that is raised where an input has no further number.
 pub const END: u32 = 2;
 
-/// How many there are.
+/// How many built-in exceptions there are.
 pub const BUILT_IN: u32 = 3;
 
 /// The name of `ARITH`.

@@ -10,8 +10,8 @@ use std::fmt;
 
 /// Why a call gave no result.
 ///
-/// A crate's `...Refusal` says what is wrong with the input, and its `...Fault` is this type of it. So `?` works on allocations
-/// everywhere, and what is said of a refusal need not speak of memory.
+/// The `...Refusal` of a crate says what is wrong with the input. Its `...Fault` is `OrNoMemory` of that refusal. So `?` works on
+/// allocations in every crate, and a definition of what is refused has no case for memory.
 #[derive(Clone, Copy, Debug, PartialEq, Eq, Drop)]
 pub enum OrNoMemory<R> {
     /// Memory ran out, which says nothing of the input.

@@ -5,6 +5,7 @@
 pub mod direction;
 pub mod exceptions;
 pub mod fault;
+pub mod laws;
 pub mod limits;
 
 pub use direction::Direction;

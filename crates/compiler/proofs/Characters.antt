@@ -4,7 +4,7 @@ use Rattle.std.specs.List.{count_by, prefix_len, take_while}
 use Rattle.std.specs.Prelude.{reverse}
 use Rattle.std.specs.Char.{encode_utf8}
 use Rattle.std.specs.Str.{chars, encode_utf8_all}
-use Rattle.std.proofs.lemmas.Bool.{lt-ltb, le-ltb, cases_lt}
+use Rattle.std.proofs.lemmas.Bool.{lt-ltb, le-ltb, cases_lt, cond-true, cond-false}
 use Rattle.std.proofs.lemmas.Bool.Decides.{nat_tests}
 use Rattle.std.proofs.lemmas.List.{reverse-append}
 use Rattle.std.proofs.lemmas.List.Sums.{sum_by-append, sum_by-cons, take_while-cons}
@@ -22,31 +22,25 @@ test_first c h = grind (arith, nat_tests)
 test_next : (c : ℕ) → 128 ≤ c → c < 192 → begins_character c ≡ false
 test_next c h k = grind (arith, nat_tests)
 
-taken : {X : Type 0} (y : Bool) (a b : X) → y ≡ true → cond y a b ≡ a
-taken y a b e = ap (λ z. cond z a b) e
-
-passed : {X : Type 0} (y : Bool) (a b : X) → y ≡ false → cond y a b ≡ b
-passed y a b e = ap (λ z. cond z a b) e
-
 -- ---- the bytes of one character
 
 one : (c : ℕ) → c < 128 → encode_utf8 c ≡ c ∷ []
 unfolding encode_utf8
-one c h = taken _ _ _ (lt-ltb c 128 h)
+one c h = cond-true _ _ _ (lt-ltb c 128 h)
 
 two : (c : ℕ) → 128 ≤ c → c < 2048 → encode_utf8 c ≡ (192 + c / 64) ∷ (128 + c % 64) ∷ []
 unfolding encode_utf8
-two c l h = passed _ _ _ (le-ltb c 128 l) ∙ taken _ _ _ (lt-ltb c 2048 h)
+two c l h = cond-false _ _ _ (le-ltb c 128 l) ∙ cond-true _ _ _ (lt-ltb c 2048 h)
 
 three : (c : ℕ) → 2048 ≤ c → c < 65536
     → encode_utf8 c ≡ (224 + c / 4096) ∷ (128 + (c / 64) % 64) ∷ (128 + c % 64) ∷ []
 unfolding encode_utf8
-three c l h = passed _ _ _ (le-ltb c 128 (omega arith)) ∙ passed _ _ _ (le-ltb c 2048 l) ∙ taken _ _ _ (lt-ltb c 65536 h)
+three c l h = cond-false _ _ _ (le-ltb c 128 (omega arith)) ∙ cond-false _ _ _ (le-ltb c 2048 l) ∙ cond-true _ _ _ (lt-ltb c 65536 h)
 
 four : (c : ℕ) → 65536 ≤ c
     → encode_utf8 c ≡ (240 + c / 262144) ∷ (128 + (c / 4096) % 64) ∷ (128 + (c / 64) % 64) ∷ (128 + c % 64) ∷ []
 unfolding encode_utf8
-four c l = passed _ _ _ (le-ltb c 128 (omega arith)) ∙ passed _ _ _ (le-ltb c 2048 (omega arith)) ∙ passed _ _ _ (le-ltb c 65536 l)
+four c l = cond-false _ _ _ (le-ltb c 128 (omega arith)) ∙ cond-false _ _ _ (le-ltb c 2048 (omega arith)) ∙ cond-false _ _ _ (le-ltb c 65536 l)
 
 -- bytes with which no character begins
 abbrev Inner : List ℕ → Type 0

@@ -15,7 +15,7 @@ use Rattle.layout.specs.Offsets.{laid_out}
 use Rattle.verifier.specs.Refusals.{HasNoDefect}
 use Rattle.verifier.specs.Safety.{IsNeverStuck}
 use Rattle.lowering.specs.Graphs.{graph_of}
-use Rattle.lowering.specs.Kept.{MeaningKept}
+use Rattle.lowering.specs.SameMeaning.{SameMeaning}
 use Rattle.lowering.proofs.Hierarchies.{pair_cmp-exact}
 use Rattle.compiler.specs.Compiled.{IsCodeOf, HasInterfaceOf}
 use Rattle.compiler.proofs.Isolating.{isolated-module}
@@ -36,7 +36,7 @@ same-interface program = record {
     same = ascending_set-SameSet pair_cmp-exact program.hierarchy.pairs
 
 pub code_of_module : (program : Program) (m : ModuleContents) (code : List ℕ) → m ≡ laid_out (graph_of program) → Spells module_file m code →
-    HasNoDefect (laid_out (graph_of program)) → IsNeverStuck (laid_out (graph_of program)) → MeaningKept program (after_steps (laid_out (graph_of program))) →
+    HasNoDefect (laid_out (graph_of program)) → IsNeverStuck (laid_out (graph_of program)) → SameMeaning program (after_steps (laid_out (graph_of program))) →
     Isolated program → IsCodeOf program code
 code_of_module program m code is spelled no_defect never_stuck kept isolated = record {
   not_refused = ap (refusal_of code) (module_again code m spelled);

@@ -13,7 +13,7 @@ use Rattle.resolved.specs.Labelled.{channel_label}
 use Rattle.resolved.specs.Program.{Program, ChannelEntry, channel_at}
 use Rattle.resolved.specs.SourceState.{World}
 use Rattle.bytecode.specs.Contents.{ChannelContents, ModuleContents}
-use Rattle.bytecode.specs.Isolated.{label_in, channel_label as module_label, seen_of, AgreeOnInputs}
+use Rattle.bytecode.specs.Isolated.{label_in, channel_label as module_label, module_view, AgreeOnInputs}
 use Rattle.lowering.specs.Interface.{channel_contents}
 use Rattle.compiler.specs.Compiled.{HasInterfaceOf}
 
@@ -45,7 +45,7 @@ module _ (program : Program) (m : ModuleContents) (same : HasInterfaceOf program
   label-module n = ap (λ (all : List ChannelContents). label_in (slice_get all n)) same.channels ∙ label_at program.channels n
 
   -- what a principal sees by the module's hierarchy and labels is what it sees by the program's
-  pub seen-module : (p : ℕ) (list : List Pair) → seen_of m p list ≡ pairs_for program.hierarchy (channel_label program) p list
+  pub seen-module : (p : ℕ) (list : List Pair) → module_view m p list ≡ pairs_for program.hierarchy (channel_label program) p list
   seen-module p list =
       (λ i. filter (λ pair. may_read-module p (module_label m pair.channel) i) list)
       ∙ (λ i. filter (λ pair. may_read program.hierarchy p (label-module pair.channel i)) list)

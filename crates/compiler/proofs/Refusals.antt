@@ -2,12 +2,10 @@
 use Rattle.std.proofs.Common.{◌≡◌, ℕ, List, refl, sym, subst}
 use Rattle.std.specs.Prelude.{◌↔◌, IfSome, IsSome}
 use Rattle.principals.specs.ActsFor.{PrincipalHierarchy}
-use Rattle.principals.specs.HierarchyText.{IsRefusedText}
-use Rattle.principals.specs.declared.fault.HierarchyRefusal.{HierarchyRefusal}
 use Rattle.resolved.specs.CoreOf.{program_of}
-use Rattle.acceptance.specs.Accepted.{HasHierarchy, IsText}
+use Rattle.acceptance.specs.Accepted.{HasHierarchy}
 use Rattle.acceptance.specs.Laws.{HasOneVerdict, Accepted, Refused}
-use Rattle.acceptance.specs.Refused.{IsHierarchyRefused, Wrong, IsSourceRefused, WrongFlow, Hierarchy, Source, hierarchy_cause}
+use Rattle.acceptance.specs.Refused.{IsHierarchyRefused, IsSourceRefused, WrongFlow, Hierarchy, Source}
 use Rattle.acceptance.specs.declared.cause.Cause.{Cause}
 use Rattle.acceptance.specs.declared.cause.Cause.TheVariants as causes
 use Rattle.acceptance.specs.declared.cause.Text.TheVariants as texts
@@ -33,11 +31,6 @@ in_source hierarchy source h cause at has refused = record {
   refused = Source h has cause at refused;
   place_of = refl;
 }
-
--- a text that its hierarchy refuses is refused for that cause
-pub refused_reading : (text : List ℕ) (refusal : HierarchyRefusal) → IsText text → IsRefusedText text refusal
-    → IsHierarchyRefused text (hierarchy_cause refusal).0 (hierarchy_cause refusal).1
-refused_reading text refusal is_text refused = Wrong (hierarchy_cause refusal).0 (hierarchy_cause refusal).1 is_text refusal refused refl
 
 -- a flow that is refused stands at the byte of the first demand that no labels meet
 pub refused_flow : (h : PrincipalHierarchy) (source : List ℕ) (flow : RefusedFlow) → RefusesFlow h source flow → IsSourceRefused h source causes.FlowNotAllowed flow.at

@@ -13,7 +13,7 @@ use Rattle.bytecode.specs.Machine.{after_steps}
 use Rattle.verifier.specs.Refusals.{HasNoDefect}
 use Rattle.verifier.specs.Safety.{IsNeverStuck}
 use Rattle.lowering.specs.Interface.{channel_contents}
-use Rattle.lowering.specs.Kept.{MeaningKept}
+use Rattle.lowering.specs.SameMeaning.{SameMeaning}
 use Rattle.acceptance.specs.Accepted.{StandFor}
 
 -- a module has the principals of a program with the same numbers, of whom the same act for each other, its channels with the same
@@ -34,7 +34,7 @@ pub record IsCodeOf (program : Program) (code : List ℕ) : Type 0 where
   pub no_defect : HasNoDefect contents
   pub never_stuck : IsNeverStuck contents
   pub interface : HasInterfaceOf program contents
-  pub kept : MeaningKept program (after_steps contents)
+  pub kept : SameMeaning program (after_steps contents)
   pub isolated : IsIsolated contents
 
 -- bytes are what a hierarchy text and a source are compiled to: they are code of the program that the two stand for

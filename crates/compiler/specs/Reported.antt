@@ -17,10 +17,10 @@ use Rattle.checker.specs.declared.fault.RefusedFlow.{RefusedFlow}
 use Rattle.compiler.specs.declared.fault.CompileRefusal.{CompileRefusal}
 use Rattle.compiler.specs.declared.fault.TextsRefusal.{TextsRefusal}
 
--- the bytes of one of the two texts
-abbrev pub bytes_of : (hierarchy source : List ℕ) → Text → List ℕ
-bytes_of hierarchy source texts.Hierarchy = hierarchy
-bytes_of hierarchy source texts.Source = source
+-- what the two texts have, their bytes or their paths, of one of them
+abbrev pub text_among : (hierarchy source : List ℕ) → Text → List ℕ
+text_among hierarchy source texts.Hierarchy = hierarchy
+text_among hierarchy source texts.Source = source
 
 -- the refusal of a text for a cause at one of its bytes
 abbrev pub refusal_at : Text → List ℕ → Cause → (at : ℕ) → CompileRefusal
@@ -30,7 +30,7 @@ refusal_at text bytes cause at = record { text = text; cause = cause; at = place
 pub record IsFirstFault (hierarchy source : List ℕ) (refusal : CompileRefusal) : Type 0 where
   pub at : ℕ
   pub refused : AreTextsRefusedAt hierarchy source refusal.text refusal.cause at
-  pub place_of : refusal.at ≡ place_at (bytes_of hierarchy source refusal.text) at
+  pub place_of : refusal.at ≡ place_at (text_among hierarchy source refusal.text) at
 
 -- two texts stand for no program
 abbrev pub StandForNone : (hierarchy source : List ℕ) → Type 0

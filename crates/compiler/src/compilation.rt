@@ -1,7 +1,6 @@
 //! The compiler: from a hierarchy text and a source to the bytes of a module.
 
 ghost use Rattle.acceptance.specs.Accepted.{HasHierarchy, StandFor};
-ghost use Rattle.acceptance.specs.Refused.{hierarchy_cause};
 ghost use Rattle.common.specs.Answers.{IfRefused};
 ghost use Rattle.compiler.specs.Compiled.{IsCodeOf, IsCompiled};
 ghost use Rattle.checker.specs.Least.{least_label};
@@ -24,7 +23,7 @@ use layout::emit;
 use lowering::laws::{modules_are_never_stuck, modules_have_no_defect, modules_keep_meaning};
 use lowering::lower;
 use module_file::encode;
-use principals::{Hierarchy, HierarchyRefusal};
+use principals::Hierarchy;
 use resolved::program::Core;
 use std::alloc::{AllocError, Global};
 
@@ -103,8 +102,8 @@ fn principals_of(alloc: Global, bytes: &[u8]) -> Result<Hierarchy, CompileFault>
         Ok(principals) => Ok(principals),
         Err(OrNoMemory::NoMemory) => Err(OrNoMemory::NoMemory),
         Err(OrNoMemory::Refused(refusal)) => {
-            let (cause, at) = hierarchy_cause(refusal);
-            Err(OrNoMemory::Refused(refusal_at(Text::Hierarchy, bytes, cause, at)))
+            let cause = Cause::Hierarchy(refusal.defect);
+            Err(OrNoMemory::Refused(refusal_at(Text::Hierarchy, bytes, cause, refusal.at)))
         }
     }
 }
@@ -150,18 +149,5 @@ fn refusal_at(text: Text, bytes: &[u8], cause: Cause, at: usize) -> CompileRefus
         text,
         cause,
         at: place_of(bytes, at),
-    }
-}
-
-// The cause of the refusal of a hierarchy text, and its byte.
-fn hierarchy_cause(refusal: HierarchyRefusal) -> (Cause, usize)
-    ensures { result ≡ hierarchy_cause refusal }
-{
-    match refusal {
-        HierarchyRefusal::TooLong => (Cause::TextTooLong, 0),
-        HierarchyRefusal::Syntax(at) => (Cause::Syntax, at),
-        HierarchyRefusal::DeclaredTwice(at) => (Cause::PrincipalTwice, at),
-        HierarchyRefusal::UnknownPrincipal(at) => (Cause::UnknownPrincipal, at),
-        HierarchyRefusal::TooManyPrincipals(at) => (Cause::TooManyPrincipals, at),
     }
 }

@@ -14,14 +14,14 @@ use Rattle.path_map.specs.declared.raises.Raises.{Raises}
 use Rattle.path_map.specs.Joins.{raised_list}
 use Rattle.path_map.specs.Sets.{AreRaised, is_one_of}
 use Rattle.solver.specs.declared.system.Atom.{Atom}
-use Rattle.constraints.specs.LeftSides.{part, parts}
+use Rattle.constraints.specs.LeftSides.{part, left_parts}
 use Rattle.constraints.specs.Added.{AreAdded, IsLeft, IsPart, PartConstraint, Stored, flow_if, stand_for, stands_for, wanted_constraint}
 
 pub added-none : (core : Core) (table : List Label) (old : List Stored) → AreAdded core table [] old old
 added-none core table old = sym (append-nil (stand_for table old))
 
 -- one more
-pub stands-made : (table : List Label) (c : Stored) (wanted : PartConstraint) → c.at ≡ wanted.at → c.rule ≡ wanted.rule → parts table c.left.items ≡ wanted.left
+pub stands-made : (table : List Label) (c : Stored) (wanted : PartConstraint) → c.at ≡ wanted.at → c.rule ≡ wanted.rule → left_parts table c.left.items ≡ wanted.left
     → c.target ≡ wanted.target → part table c.right ≡ wanted.right → stands_for table c ≡ wanted
 stands-made table c wanted at rule left target right = rw (at, rule, left, target, right) refl
 
@@ -81,7 +81,7 @@ raised-flows atoms takers found exceptions are =
 
 pub left-same : (core : Core) (table : List Label) (atoms : List NamedAtom) (given found : List Atom)
     → found ≡ given → IsLeft core table atoms given → IsLeft core table atoms found
-left-same core table atoms given found same is = ap (parts table) same ∙ is
+left-same core table atoms given found same is = ap (left_parts table) same ∙ is
 
 pub raised-added : (core : Core) (table : List Label) (atoms : List NamedAtom) (takers : walk.Takers) (found : Raises) (exceptions : List ℕ) (arith bounds : Option ℕ) (old middle new : List Stored)
     → AreRaised found exceptions → arith ≡ takers (Throw 0) → bounds ≡ takers (Throw 1)
@@ -101,4 +101,4 @@ flow-added core table atoms taker wanted old new is added = added-same core tabl
 -- the left side of the pc alone
 pub alone-left : (core : Core) (table : List Label) (named : NamedAtom) (pc : Atom) (left : List Atom)
     → left ≡ pc ∷ [] → IsPart core table named pc → IsLeft core table (named ∷ []) left
-alone-left core table named pc left is stands = ap (parts table) is ∙ ap (λ p. p ∷ []) stands
+alone-left core table named pc left is stands = ap (left_parts table) is ∙ ap (λ p. p ∷ []) stands

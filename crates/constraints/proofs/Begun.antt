@@ -1,5 +1,7 @@
 -- The pieces of a walk that go into no block.
 use Rattle.std.proofs.Common.{◌≡◌, refl, sym, ap, ◌∙◌, subst, ℕ, suc, ◌+◌, List, [], ◌∷◌, map, drop, get_or, length, arith, Bool, true, false}
+use Rattle.std.proofs.lemmas.List.{length-map}
+use Rattle.common.proofs.Cases.{same_heads, same_tails}
 use Rattle.labels.specs.Label.{Label}
 use Rattle.resolved.specs.declared.program.Core.{Core}
 use Rattle.resolved.specs.declared.statement.Exit.{Exit}
@@ -24,12 +26,6 @@ use Rattle.constraints.proofs.Added.{added-none, added-same}
 use Rattle.constraints.proofs.Passed.{alone-passed, alone-walked, passed-same}
 use Rattle.constraints.proofs.Taken.{numbers-same, try-levels, try-takers}
 
-pub heads : {A : Type 0} (x y : A) (xs ys : List A) → x ∷ xs ≡ y ∷ ys → x ≡ y
-heads x y xs ys same = ap (λ list. get_or list 0 x) same
-
-pub tails : {A : Type 0} (x y : A) (xs ys : List A) → x ∷ xs ≡ y ∷ ys → xs ≡ ys
-tails x y xs ys same = ap (λ list. drop 1 list) same
-
 module _ (core : Core) (table : List Label) (entries : List Exits) where
   -- the entry of a block or statement, and the flow of its pc
   pub begun : (pc : Atom) (takers : Takers) (exits : Exits) (thrown : List Entry) (ends : List Exit) (old middle new : Progress)
@@ -41,12 +37,12 @@ module _ (core : Core) (table : List Label) (entries : List Exits) where
       let both : exits ∷ drop middle.index entries ≡ exits_of ends ∷ left = sym found ∙ before in
       let from : IsGatheredAt core table pc (λ named. single (one_end ends) named (takers_of takers thrown) ends) old.constraints.items new.constraints.items =
       subst (λ cs. IsGatheredAt core table pc (λ named. single (one_end ends) named (takers_of takers thrown) ends) cs new.constraints.items)
-      (ap (λ (p : Progress). p.constraints.items) others) (added (heads exits (exits_of ends) (drop middle.index entries) left both)) in
+      (ap (λ (p : Progress). p.constraints.items) others) (added (same_heads exits (exits_of ends) (drop middle.index entries) left both)) in
       passed-same core table entries pc (λ named. single (one_end ends) named (takers_of takers old.thrown.items) ends) (λ named. single (one_end ends) named (takers_of takers thrown) ends) 0 0 left old new
       (λ named. ap (λ t. single (one_end ends) named (takers_of takers t) ends) (sym (lent ∙ ap (λ (p : Progress). p.thrown.items) others))) refl
       (record {
         added = from;
-        entries_left = ap (λ i. drop i entries) index ∙ tails exits (exits_of ends) (drop middle.index entries) left both;
+        entries_left = ap (λ i. drop i entries) index ∙ same_tails exits (exits_of ends) (drop middle.index entries) left both;
         number_is = number ∙ (ap (λ (p : Progress). p.number) others ∙ omega arith);
         thrown_is = thrown_is ∙ ap (λ (p : Progress). p.thrown.items) others;
       })
@@ -108,6 +104,7 @@ try-begun takers handlers thrown first level old middle new tried made first_is 
       };
       numbers_are = λ levelled. numbers_are ∙ (ap (λ list. map (λ (handler : Handler). (get_or list handler.exception no_entry).number) handlers) lent
           ∙ numbers-same takers handlers old.number old.thrown.items new.thrown.items levelled from handlers (λ x has. has));
+      count_is = ap length numbers_are ∙ length-map handlers (λ (handler : Handler). (get_or thrown handler.exception no_entry).number);
       saved_is = undone_is ∙ thrown_same;
       index_is = index ∙ ap (λ (p : Progress). p.index) made;
       constraints_are = constraints ∙ ap (λ (p : Progress). p.constraints) made;

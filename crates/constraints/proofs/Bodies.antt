@@ -1,7 +1,12 @@
 -- Walks past procedures, one after the other.
 use Rattle.std.proofs.Common.{◌≡◌, refl, sym, ap, ◌∙◌, subst, ℕ, zero, suc, ◌+◌, ◌<◌, ◌≤◌, List, [], ◌∷◌, ◌++◌, map, take, drop, length, get_or, replicate, flat_map, Bool, true, false, arith, append_assoc, append-nil, add-one}
-use Rattle.std.specs.Prelude.{if◌then◌else◌}
-use Rattle.std.proofs.lemmas.List.{get_or-map, length-map, length-take-le, map-append, take_all}
+use Rattle.std.specs.Prelude.{if◌then◌else◌, string_bytes, sum_by}
+use Rattle.std.proofs.lemmas.Bool.{leb-true}
+use Rattle.std.proofs.lemmas.List.{get_or-map, length-map, length-replicate, length-take-le, map-append, take_all}
+use Rattle.std.proofs.lemmas.List.Sums.{AllPass-from_list_all, sum_by-cons}
+use Rattle.common.proofs.Cases.{map_next}
+use Rattle.common.specs.declared.exceptions.TheConstants.{BUILT_IN}
+use Rattle.common.specs.declared.limits.TheConstants.{MAX_TEXT}
 use Rattle.labels.specs.Label.{Label}
 use Rattle.labels.specs.Constraints.{renamed}
 use Rattle.resolved.specs.CoreOf.{program_of}
@@ -10,6 +15,8 @@ use Rattle.resolved.specs.Program.{ProcedureEntry, Program, ThrownEntry}
 use Rattle.resolved.specs.ProgramOf.{procedure_entry, thrown_entry}
 use Rattle.resolved.specs.Tree.{Block}
 use Rattle.resolved.specs.TreeOf.{block_of}
+use Rattle.resolved.specs.WellFormed.{block_fits, block_nodes, procedure_fits, procedure_nodes, program_nodes, throws_fit}
+use Rattle.resolved.proofs.WellFormedParts.{procedure_parts, program_parts}
 use Rattle.resolved.specs.declared.program.Core.{Core}
 use Rattle.resolved.specs.declared.statement.Exit.{Exit}
 use Rattle.resolved.specs.declared.statement.Statement as S
@@ -21,19 +28,20 @@ use Rattle.path_map.specs.Paths.{block_paths, program_paths}
 use Rattle.path_map.specs.declared.exits.Exits.{Exits}
 use Rattle.path_map.proofs.Procedures.{next-procedure}
 use Rattle.gathering.specs.Names.{NamedAtom, NamedConstraint, Real}
-use Rattle.gathering.specs.Walk.{at_end, constraints_from, end_constraints, end_takers, ends_one_way, inner_atom, inner_block, made_by_block, made_by_procedure, made_from, nowhere, procedure_constraints, program_constraints, rule_constraint, thrown_constraints, thrown_number}
+use Rattle.gathering.specs.Walk.{at_end, constraints_from, end_constraints, end_takers, has_one_end, inner_atom, inner_block, made_by_block, made_by_procedure, made_from, nowhere, procedure_constraints, program_constraints, rule_constraint, thrown_constraints, thrown_number}
 use Rattle.solver.specs.declared.system.Atom.{Atom}
 use Rattle.constraints.specs.Added.{AreAdded, IsPart, Stored}
 use Rattle.constraints.specs.LeftSides.{scope_of}
 use Rattle.constraints.specs.Procedures.{AreDeclaredTakers, HasPassedProcedure, StaysInPlace, IsOf, IsProcedureWalked, end_takers_of, number_in}
+use Rattle.constraints.specs.Ready.{AreThrownInside, IsBlockReady, IsProcedureReady, exception_count}
 use Rattle.constraints.specs.Takers.{AreLevelled, AreWithin, no_entry, takers_of}
 use Rattle.constraints.specs.Walked.{HasPassed, IsBlockWalked}
 use Rattle.constraints.specs.declared.progress.Progress.{Progress}
 use Rattle.constraints.specs.declared.takers.Entry.{Entry}
 use Rattle.constraints.specs.declared.takers.Takers.{Takers}
 use Rattle.constraints.proofs.Added.{added-none, added-same, added-then}
+use Rattle.constraints.proofs.Ready.{thrown-inside}
 use Rattle.constraints.proofs.Declared.{taken-within, takers-at-end, thrown-numbers}
-use Rattle.constraints.proofs.Tables.{next-of}
 
 -- ---- a procedure
 levelled : (n barrier : ℕ) (only : Bool) (thrown : List Entry) → AreWithin (suc barrier) thrown
@@ -47,7 +55,7 @@ own_end_constraints scope n number =
     rule_constraint scope (here scope).at 13 (inner_atom n ∷ []) (ToEnd scope.number) ++ thrown_constraints scope number (here scope).throws
 
 pub ends-none : (core : Core) (table : List Label) (f n : ℕ) (only : Bool) (constraints : List Stored)
-    → only ≡ ends_one_way (scope_of core f) → only ≡ true → AreAdded core table (end_constraints (scope_of core f) n) constraints constraints
+    → only ≡ has_one_end (scope_of core f) → only ≡ true → AreAdded core table (end_constraints (scope_of core f) n) constraints constraints
 ends-none core table f n only constraints is one =
     let scope : Scope = scope_of core f in
     added-same core table (end_constraints scope n) [] constraints constraints
@@ -55,7 +63,7 @@ ends-none core table f n only constraints is one =
     (added-none core table constraints)
 
 pub ends-added : (core : Core) (table : List Label) (f n level : ℕ) (only : Bool) (procedure : Procedure) (throws : List Thrown) (had taken given : List Entry) (old middle new : List Stored)
-    → IsOf core f procedure → only ≡ ends_one_way (scope_of core f) → only ≡ false
+    → IsOf core f procedure → only ≡ has_one_end (scope_of core f) → only ≡ false
     → AreDeclaredTakers (here (scope_of core f)).throws (suc n) level had taken → throws ≡ procedure.throws.items → given ≡ taken
     → AreAdded core table (rule_constraint (scope_of core f) procedure.at 13 (inner_atom n ∷ []) (ToEnd f)) old middle
     → (procedure.at ≡ (here (scope_of core f)).at → AreAdded core table (thrown_constraints (scope_of core f) (number_in given) (map thrown_entry throws)) middle new)
@@ -81,18 +89,19 @@ pub procedure-passed : (core : Core) (table : List Label) (entries : List Exits)
     → AreWithin barrier old.thrown.items
     → level ≡ barrier + 1 → start ≡ old.number + 1 → count ≡ length procedure.throws.items
     → throws ≡ procedure.throws.items → block ≡ procedure.body.items
-    → only ≡ ends_one_way (scope_of core f)
+    → only ≡ has_one_end (scope_of core f)
     → takers ≡ end_takers_of old.number barrier level only
     → IsPart core table (renamed Real (label_of (program_of core) (ToBegin f))) pc
     → middle.index ≡ old.index → middle.number ≡ start + count → middle.constraints.items ≡ old.constraints.items
+    → length middle.thrown.items ≡ length old.thrown.items
     → ((b : ℕ) → b < level → AreWithin b old.thrown.items → AreDeclaredTakers (map thrown_entry throws) start level old.thrown.items middle.thrown.items)
     → IsBlockWalked core table entries f pc takers (block_of block) middle walked
     → StaysInPlace walked new
-    → ((l : ℕ) (had : List Entry) → IsOf core f procedure → only ≡ ends_one_way (scope_of core f)
+    → ((l : ℕ) (had : List Entry) → IsOf core f procedure → only ≡ has_one_end (scope_of core f)
     → AreDeclaredTakers (here (scope_of core f)).throws (suc old.number) l had walked.thrown.items
     → AreAdded core table (end_constraints (scope_of core f) old.number) walked.constraints.items new.constraints.items)
     → HasPassedProcedure core table entries f (suc barrier) left old new
-procedure-passed core table entries f barrier level start count procedure throws block pc takers only left old middle walked new is goes within level_is start_is count_is throws_are block_is one takers_are stands index_is number_is constraints_are takes walks kept ended =
+procedure-passed core table entries f barrier level start count procedure throws block pc takers only left old middle walked new is goes within level_is start_is count_is throws_are block_is one takers_are stands index_is number_is constraints_are wide takes walks kept ended =
     let program : Program = program_of core in
     let scope : Scope = scope_of core f in
     let declared : List ThrownEntry = (here scope).throws in
@@ -141,7 +150,45 @@ procedure-passed core table entries f barrier level start count procedure throws
       entries_left = ap (λ k. drop k entries) kept.index_is ∙ passed.entries_left;
       number_is = omega (arith, number_suc, made, walked_number, kept_number, own);
       within = subst (AreWithin (suc barrier)) (sym taken_is) inside;
+      wide = ap length taken_is ∙ wide;
     }
+
+-- what the walk past its body asks for, where its declared exceptions were taken
+pub body-ready : (core : Core) (entries : List Exits) (f barrier level start : ℕ) (procedure : Procedure) (throws : List Thrown) (block : List S.Statement) (takers : Takers) (only : Bool) (old middle : Progress)
+    → IsProcedureReady core entries f barrier procedure old
+    → level ≡ barrier + 1 → throws ≡ procedure.throws.items → block ≡ procedure.body.items
+    → takers ≡ end_takers_of old.number barrier level only
+    → middle.index ≡ old.index → length middle.thrown.items ≡ length old.thrown.items
+    → ((b : ℕ) → b < level → AreWithin b old.thrown.items → AreDeclaredTakers (map thrown_entry throws) start level old.thrown.items middle.thrown.items)
+    → IsBlockReady core entries f takers (block_of block) middle
+body-ready core entries f barrier level start procedure throws block takers only old middle ready level_is throws_are block_is takers_are index_is wide takes =
+    let program : Program = program_of core in
+    let entry : ProcedureEntry = here (scope_of core f) in
+    let body_is : block_of block ≡ entry.body = ap block_of block_is ∙ ap (λ (p : ProcedureEntry). p.body) (sym ready.is) in
+    let level_suc : level ≡ suc barrier = omega (arith, level_is) in
+    let below : barrier < level = omega (arith, level_is) in
+    let upto : barrier ≤ level = omega (arith, level_is) in
+    let inside : AreWithin level middle.thrown.items =
+    taken-within (map thrown_entry throws) start barrier level old.thrown.items middle.thrown.items upto ready.within (takes barrier below ready.within) in
+    let inside_suc : AreWithin (suc barrier) middle.thrown.items = subst (λ l. AreWithin l middle.thrown.items) level_suc inside in
+    let takers_suc : takers ≡ end_takers_of old.number barrier (suc barrier) only = takers_are ∙ ap (λ l. end_takers_of old.number barrier l only) level_suc in
+    record {
+      left = ready.left;
+      goes_on = ap (λ k. drop k entries) index_is ∙ (ready.goes_on ∙ ap (λ b. map exits_of (block_paths program b) ++ ready.left) (sym body_is));
+      levelled = subst (λ t. AreLevelled t middle.thrown.items) (sym takers_suc) (levelled old.number barrier only middle.thrown.items inside_suc);
+      wide = omega (arith, wide, ready.wide);
+      fitting = subst (λ b. block_fits program entry b ≡ true) (sym body_is) (procedure_parts program entry ready.fitting).body_fits;
+    }
+
+-- its declared exceptions have entries
+pub throws-inside : (core : Core) (entries : List Exits) (f barrier : ℕ) (procedure : Procedure) (throws : List Thrown) (now : Progress)
+    → IsProcedureReady core entries f barrier procedure now → throws ≡ procedure.throws.items → AreThrownInside throws now.thrown.items
+throws-inside core entries f barrier procedure throws now ready throws_are =
+    let program : Program = program_of core in
+    let entry : ProcedureEntry = here (scope_of core f) in
+    let same : entry.throws ≡ map thrown_entry throws = ap (λ (p : ProcedureEntry). p.throws) ready.is ∙ ap (map thrown_entry) (sym throws_are) in
+    thrown-inside program (length now.thrown.items) ready.wide throws
+    (subst (λ list. throws_fit program list ≡ true) same (procedure_parts program entry ready.fitting).throws_are)
 
 -- ---- procedures
 from-append : (program : Program) (f n : ℕ) (xs : List ProcedureEntry) (x : ProcedureEntry)
@@ -184,12 +231,30 @@ made-append program f (y ∷ xs) x =
 abbrev pub paths_of : Program → List ProcedureEntry → List (List Exit)
 paths_of program procedures = flat_map (λ (procedure : ProcedureEntry). block_paths program procedure.body) procedures
 
+-- a program is small, so that its procedures and exceptions have numbers
+few-procedures : (procedures : List ProcedureEntry) → length procedures ≤ sum_by procedure_nodes procedures
+few-procedures [] = omega arith
+few-procedures (procedure ∷ rest) =
+    let own : procedure_nodes procedure ≡ 1 + length procedure.slots + length procedure.throws + block_nodes procedure.body = refl in
+    omega (arith, few-procedures rest, sum_by-cons procedure_nodes procedure rest, own)
+
+program-small : (core : Core) → program_nodes (program_of core) ≤ MAX_TEXT
+program-small core = leb-true (program_nodes (program_of core)) MAX_TEXT (program_parts (program_of core) core.well_formed).nodes_fit
+
+pub procedures-numbered : (core : Core) → length core.procedures.items ≤ MAX_TEXT
+procedures-numbered core =
+    omega (arith, program-small core, few-procedures (program_of core).procedures, length-map core.procedures.items procedure_entry)
+
+pub exceptions-numbered : (core : Core) → length core.exceptions.items ≤ MAX_TEXT
+exceptions-numbered core = omega (arith, program-small core, length-map core.exceptions.items string_bytes)
+
 -- the first procedures were walked past
 pub record ArePassed (core : Core) (table : List Label) (entries : List Exits) (i : ℕ) (progress : Progress) : Type 0 where
   pub added : AreAdded core table (constraints_from (program_of core) 0 0 (map procedure_entry (take i core.procedures.items))) [] progress.constraints.items
   pub entries_left : drop progress.index entries ≡ map exits_of (paths_of (program_of core) (map procedure_entry (drop i core.procedures.items)))
   pub number_is : progress.number ≡ made_from (program_of core) 0 (map procedure_entry (take i core.procedures.items))
   pub within : AreWithin i progress.thrown.items
+  pub wide : exception_count core ≤ length progress.thrown.items
 
 -- no procedure yet, and all of them
 replicate-read : (n x : ℕ) → get_or (replicate n no_entry) x no_entry ≡ no_entry
@@ -199,12 +264,15 @@ replicate-read (suc n) (suc x) = replicate-read n x
 
 pub passed-none : (core : Core) (table : List Label) (entries : List Exits) (n : ℕ) (progress : Progress)
     → entries ≡ map exits_of (program_paths (program_of core)) → progress.index ≡ 0 → progress.number ≡ 0 → progress.constraints.items ≡ []
-    → progress.thrown.items ≡ replicate n no_entry → ArePassed core table entries 0 progress
-passed-none core table entries n progress mapped index number constraints thrown = record {
+    → progress.thrown.items ≡ replicate n no_entry → n ≡ length core.exceptions.items + BUILT_IN → ArePassed core table entries 0 progress
+passed-none core table entries n progress mapped index number constraints thrown count = record {
   added = subst (AreAdded core table [] []) (sym constraints) (added-none core table []);
   entries_left = ap (λ k. drop k entries) index ∙ mapped;
   number_is = number;
   within = λ x. subst (λ (e : Entry). e.level ≤ 0) (sym (ap (λ list. get_or list x no_entry) thrown ∙ replicate-read n x)) (omega arith);
+  wide =
+      let width : length progress.thrown.items ≡ n = ap length thrown ∙ length-replicate n no_entry in
+      omega (arith, width, count, length-map core.exceptions.items string_bytes);
 }
 
 pub passed-added : (core : Core) (table : List Label) (entries : List Exits) (i : ℕ) (progress : Progress) → length core.procedures.items ≤ i
@@ -217,6 +285,22 @@ pub passed-number : (core : Core) (table : List Label) (entries : List Exits) (i
     → ArePassed core table entries i progress → progress.number ≡ made_from (program_of core) 0 (program_of core).procedures
 passed-number core table entries i progress all passed =
     passed.number_is ∙ ap (λ list. made_from (program_of core) 0 (map procedure_entry list)) (take_all i core.procedures.items all)
+
+-- the path map goes on with the paths of the next procedure
+next-goes : (core : Core) (entries : List Exits) (i : ℕ) (procedure : Procedure) (index : ℕ)
+    → i < length core.procedures.items → procedure ≡ get_or core.procedures.items i procedure
+    → drop index entries ≡ map exits_of (paths_of (program_of core) (map procedure_entry (drop i core.procedures.items)))
+    → drop index entries ≡ map exits_of (block_paths (program_of core) (here (scope_of core i)).body)
+    ++ map exits_of (paths_of (program_of core) (map procedure_entry (drop (i + 1) core.procedures.items)))
+next-goes core entries i procedure index inside is entries_left =
+    let program : Program = program_of core in
+    let procedures : List Procedure = core.procedures.items in
+    let after : List ProcedureEntry = map procedure_entry (drop (i + 1) procedures) in
+    let own : here (scope_of core i) ≡ procedure_entry procedure = get_or-map procedure_entry procedures i procedure _ inside ∙ ap procedure_entry (sym is) in
+    entries_left
+    ∙ (ap (λ ps. map exits_of (paths_of program ps)) (next-procedure procedures i procedure inside is)
+    ∙ (map-append exits_of (block_paths program (procedure_entry procedure).body) (paths_of program after)
+    ∙ ap (λ (p : ProcedureEntry). map exits_of (block_paths program p.body) ++ map exits_of (paths_of program after)) (sym own)))
 
 pub passed-next : (core : Core) (table : List Label) (entries : List Exits) (i : ℕ) (procedure : Procedure) (old new : Progress)
     → i < length core.procedures.items → procedure ≡ get_or core.procedures.items i procedure
@@ -234,12 +318,9 @@ passed-next core table entries i procedure old new inside is walks had =
     let own : here scope ≡ procedure_entry procedure = get_or-map procedure_entry procedures i procedure _ inside ∙ ap procedure_entry (sym is) in
     let left : List Exits = map exits_of (paths_of program after) in
     let goes : drop old.index entries ≡ map exits_of (block_paths program (here scope).body) ++ left =
-    had.entries_left
-    ∙ (ap (λ ps. map exits_of (paths_of program ps)) (next-procedure procedures i procedure inside is)
-    ∙ (map-append exits_of (block_paths program (procedure_entry procedure).body) (paths_of program after)
-    ∙ ap (λ (p : ProcedureEntry). map exits_of (block_paths program p.body) ++ left) (sym own))) in
+    next-goes core entries i procedure old.index inside is had.entries_left in
     let passed = walks own left goes had.within in
-    let next : map procedure_entry (take (i + 1) procedures) ≡ before ++ procedure_entry procedure ∷ [] = next-of procedure_entry procedures i procedure inside is in
+    let next : map procedure_entry (take (i + 1) procedures) ≡ before ++ procedure_entry procedure ∷ [] = map_next procedure_entry procedures i procedure inside is in
     let made : made_from program 0 (map procedure_entry (take (i + 1) procedures)) ≡ made_from program 0 before + made_by_procedure scope =
     ap (made_from program 0) next ∙ (made-append program 0 before (procedure_entry procedure) ∙ ap (λ g. made_from program 0 before + made_by_procedure (record { program = program; number = g })) count') in
     let old_number : old.number ≡ made_from program 0 before = had.number_is in
@@ -256,4 +337,28 @@ passed-next core table entries i procedure old new inside is walks had =
       entries_left = passed.entries_left;
       number_is = omega (arith, made, old_number, new_number);
       within = subst (λ level. AreWithin level new.thrown.items) (sym (add-one i)) passed.within;
+      wide = omega (arith, passed.wide, had.wide);
+    }
+
+-- what the walk past the next procedure asks for
+pub next-ready : (core : Core) (table : List Label) (entries : List Exits) (i : ℕ) (procedure : Procedure) (now : Progress)
+    → i < length core.procedures.items → procedure ≡ get_or core.procedures.items i procedure
+    → ArePassed core table entries i now → IsProcedureReady core entries i i procedure now
+next-ready core table entries i procedure now inside is had =
+    let program : Program = program_of core in
+    let procedures : List Procedure = core.procedures.items in
+    let after : List ProcedureEntry = map procedure_entry (drop (i + 1) procedures) in
+    let own : here (scope_of core i) ≡ procedure_entry procedure = get_or-map procedure_entry procedures i procedure _ inside ∙ ap procedure_entry (sym is) in
+    let entries_of : List ProcedureEntry = map procedure_entry procedures in
+    let same : get_or entries_of i (procedure_entry procedure) ≡ here (scope_of core i) =
+    get_or-map procedure_entry procedures i procedure (procedure_entry procedure) inside ∙ ap procedure_entry (sym is) ∙ sym own in
+    record {
+      left = map exits_of (paths_of program after);
+      goes_on = next-goes core entries i procedure now.index inside is had.entries_left;
+      within = had.within;
+      wide = had.wide;
+      is = own;
+      fitting = subst (λ entry. procedure_fits program entry ≡ true) same
+          (AllPass-from_list_all (procedure_fits program) entries_of (program_parts program core.well_formed).procedures_fit i (procedure_entry procedure)
+          (omega (arith, length-map procedures procedure_entry, inside)));
     }

@@ -1,6 +1,7 @@
 -- What is gathered of calls.
 use Rattle.std.proofs.Common.{map, ◌≡◌, refl, sym, ap, ◌∙◌, subst, List, [], ◌∷◌, ◌++◌, Bool, true, false, ℕ, suc, ◌+◌, ◌<◌, ◌≤◌, length, take, get_or, arith, append_assoc, append-nil}
 use Rattle.std.proofs.lemmas.List.{length-map, length-take-le}
+use Rattle.common.proofs.Cases.{map_next}
 use Rattle.labels.specs.Label.{Label}
 use Rattle.resolved.specs.CoreOf.{program_of}
 use Rattle.resolved.specs.Program.{Program}
@@ -25,7 +26,6 @@ use Rattle.constraints.specs.LeftSides.{IsJoined, joined, scope_of, wanted_part}
 use Rattle.constraints.specs.declared.rows.ThrownLabel.{ThrownLabel}
 use Rattle.constraints.proofs.Added.{added-then, added-same, raised-once}
 use Rattle.constraints.proofs.Joined.{joined-append}
-use Rattle.constraints.proofs.Tables.{next-of}
 use Rattle.resolved.proofs.Exits.{thrown-append}
 
 -- a left side to which a join was added
@@ -62,7 +62,7 @@ argument-next core table f at k callee parameter xs i x old middle new inside is
     let same : length before ≡ parameter = length-map (take i xs) expression_of ∙ (length-take-le i xs within ∙ sym counted) in
     let count : 0 + length before ≡ parameter = omega (arith, same) in
     added-same core table (argument_constraints scope at k callee 0 (map expression_of (take (i + 1) xs))) (argument_constraints scope at k callee 0 before ++ last parameter) old new
-    (ap (argument_constraints scope at k callee 0) (next-of expression_of xs i x inside is)
+    (ap (argument_constraints scope at k callee 0) (map_next expression_of xs i x inside is)
     ∙ (arguments-append scope at k callee 0 before (expression_of x) ∙ ap (λ n. argument_constraints scope at k callee 0 before ++ last n) count))
     (added-then core table (argument_constraints scope at k callee 0 before) (last parameter) old middle new first second)
 
@@ -87,7 +87,7 @@ declared-next core table callee k takers xs i x e old middle new inside is same 
     let before : List ℕ = map exception_of (take i xs) in
     let last : List NamedConstraint = flow (inner_atom k ∷ named_atoms (call_atoms program callee (Throw x.exception))) (takers (Throw x.exception)) in
     added-same core table (call_flows program callee k takers (thrown_ends (map exception_of (take (i + 1) xs)))) (call_flows program callee k takers (thrown_ends before) ++ last) old new
-    (ap (λ es. call_flows program callee k takers (thrown_ends es)) (next-of exception_of xs i x inside is)
+    (ap (λ es. call_flows program callee k takers (thrown_ends es)) (map_next exception_of xs i x inside is)
     ∙ (ap (call_flows program callee k takers) (thrown-append before (x.exception ∷ []))
     ∙ (flows-append program callee k takers (thrown_ends before) (Throw x.exception ∷ [])
     ∙ ap (λ cs. call_flows program callee k takers (thrown_ends before) ++ cs) (append-nil last))))

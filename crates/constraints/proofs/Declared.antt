@@ -3,6 +3,7 @@ use Rattle.std.proofs.Common.{◌≡◌, refl, sym, ap, ◌∙◌, subst, ℕ, s
 use Rattle.std.specs.Prelude.{Some, None, if◌then◌else◌, ◌==◌, ◌||◌}
 use Rattle.std.proofs.lemmas.Bool.{lt-ltb, le-ltb, or_right}
 use Rattle.std.proofs.lemmas.List.{length-map, length-take-le}
+use Rattle.common.proofs.Cases.{map_next}
 use Rattle.labels.specs.Label.{Label}
 use Rattle.resolved.specs.Labelled.{Scope, here}
 use Rattle.resolved.specs.Program.{ThrownEntry}
@@ -20,7 +21,6 @@ use Rattle.constraints.specs.Procedures.{AreDeclaredTakers, declared_entry, end_
 use Rattle.constraints.specs.Takers.{AreWithin, entry_after, no_entry, taker_of, takers_of}
 use Rattle.constraints.specs.declared.takers.Entry.{Entry}
 use Rattle.constraints.proofs.Added.{added-same, added-then}
-use Rattle.constraints.proofs.Tables.{next-of}
 
 abbrev entry_at : (n level : ℕ) → Entry
 entry_at n level = record { number = n; level = level }
@@ -69,7 +69,7 @@ declared-next throws i x n number level e before after old inside is counted fre
     taken ∙ (ap (entry_after x.exception (entry_at number level) e) was
     ∙ (ap (λ k. entry_after x.exception (entry_at k level) e (declared_entry xs n level e old)) (counted ∙ ap (λ k. n + k) (sym count))
     ∙ (sym (declared-append xs (thrown_entry x) n level e old free)
-    ∙ ap (λ list. declared_entry list n level e old) (sym (next-of thrown_entry throws i x inside is)))))
+    ∙ ap (λ list. declared_entry list n level e old) (sym (map_next thrown_entry throws i x inside is)))))
 
 -- a level that no entry has
 pub level-free : (barrier level : ℕ) (old : Entry) → barrier < level → old.level ≤ barrier → (old.level == level) ≡ false
@@ -174,6 +174,6 @@ demands-next core table f at number throws i x old middle new inside is stands f
     let before : List ThrownEntry = map thrown_entry (take i throws) in
     let last : ℕ → List NamedConstraint = λ a. rule_constraint scope a 13 (inner_atom (number x.exception) ∷ []) (ToThrown f x.exception) in
     added-same core table (thrown_constraints scope number (map thrown_entry (take (i + 1) throws))) (thrown_constraints scope number before ++ last at) old new
-    (ap (thrown_constraints scope number) (next-of thrown_entry throws i x inside is)
+    (ap (thrown_constraints scope number) (map_next thrown_entry throws i x inside is)
     ∙ (thrown-append scope number before (thrown_entry x) ∙ ap (λ a. thrown_constraints scope number before ++ last a) (sym stands)))
     (added-then core table (thrown_constraints scope number before) (last at) old middle new first second)

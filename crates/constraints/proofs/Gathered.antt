@@ -17,7 +17,7 @@ use Rattle.solver.specs.Links.{AreBelow, InRange, IsBelow}
 use Rattle.solver.specs.System.{atom_of, constraint_of}
 use Rattle.solver.specs.declared.system.Atom.{Atom}
 use Rattle.solver.specs.declared.system.Atom.TheVariants as stored
-use Rattle.constraints.specs.LeftSides.{part, parts, wanted}
+use Rattle.constraints.specs.LeftSides.{part, left_parts, wanted}
 use Rattle.constraints.specs.Added.{AreAdded, Stored, stand_for, stands_for, wanted_of}
 use Rattle.constraints.proofs.Tables.{map-map}
 
@@ -30,11 +30,11 @@ module _ (l : Lattice Label) (table : List Label) where
   atom-is (stored.Written n) (formal.Unknown w) is = absurd (cc)
   atom-is (stored.Unknown u) (formal.Written label) is = absurd (cc)
 
-  atoms-are : (xs : List Atom) (bs : List (formal.Atom ℕ Label)) → parts table xs ≡ map wanted bs → map (atom_of l table) xs ≡ bs
+  atoms-are : (xs : List Atom) (bs : List (formal.Atom ℕ Label)) → left_parts table xs ≡ map wanted bs → map (atom_of l table) xs ≡ bs
   atoms-are [] [] is = refl
   atoms-are (a ∷ xs) (b ∷ bs) is =
       let head : part table a ≡ wanted b = cc in
-      let tail : parts table xs ≡ map wanted bs = cc in
+      let tail : left_parts table xs ≡ map wanted bs = cc in
       ap (λ x. x ∷ map (atom_of l table) xs) (atom-is a b head) ∙ ap (λ ys. b ∷ ys) (atoms-are xs bs tail)
   atoms-are [] (b ∷ bs) is = absurd (cc)
   atoms-are (a ∷ xs) [] is = absurd (cc)
@@ -43,7 +43,7 @@ module _ (l : Lattice Label) (table : List Label) where
   constraint-is c g is =
       let at : c.at ≡ g.at = ap (λ x. x.at) is in
       let rule : c.rule ≡ g.rule = ap (λ x. x.rule) is in
-      let left : parts table c.left.items ≡ map wanted g.left = ap (λ x. x.left) is in
+      let left : left_parts table c.left.items ≡ map wanted g.left = ap (λ x. x.left) is in
       let target : c.target ≡ g.target = ap (λ x. x.target) is in
       let right : part table c.right ≡ wanted g.right = ap (λ x. x.right) is in
       rw (at, rule, atoms-are c.left.items g.left left, target, atom-is c.right g.right right) refl
@@ -66,12 +66,12 @@ module _ (table : List Label) (count : ℕ) where
   atom-below (stored.Written n) (formal.Unknown w) is below = absurd (cc)
   atom-below (stored.Unknown u) (formal.Written label) is below = absurd (cc)
 
-  atoms-below : (xs : List Atom) (bs : List (formal.Atom ℕ Label)) → parts table xs ≡ map wanted bs
+  atoms-below : (xs : List Atom) (bs : List (formal.Atom ℕ Label)) → left_parts table xs ≡ map wanted bs
       → ((b : formal.Atom ℕ Label) → Contains bs b → walk.IsUnknownBelow count b) → AreBelow (length table) count xs
   atoms-below [] [] is below = All-nil (IsBelow (length table) count)
   atoms-below (a ∷ xs) (b ∷ bs) is below =
       let head : part table a ≡ wanted b = cc in
-      let tail : parts table xs ≡ map wanted bs = cc in
+      let tail : left_parts table xs ≡ map wanted bs = cc in
       All-cons (IsBelow (length table) count) a xs (atom-below a b head (below b (Contains-first _ _))) (atoms-below xs bs tail (λ x there. below x (Contains-later _ _ x there)))
   atoms-below [] (b ∷ bs) is below = absurd (cc)
   atoms-below (a ∷ xs) [] is below = absurd (cc)
@@ -85,7 +85,7 @@ module _ (table : List Label) (count : ℕ) where
   constraints-in-range (c ∷ cs) (g ∷ gs) is below =
       let head : stands_for table c ≡ wanted_of g = cc in
       let tail : stand_for table cs ≡ map wanted_of gs = cc in
-      let left : parts table c.left.items ≡ map wanted g.left = ap (λ x. x.left) head in
+      let left : left_parts table c.left.items ≡ map wanted g.left = ap (λ x. x.left) head in
       let right : part table c.right ≡ wanted g.right = ap (λ x. x.right) head in
       let here = below g (Contains-first _ _) in
       All-cons fits c cs (atoms-below c.left.items g.left left here.0, atom-below c.right g.right right here.1)

@@ -2,6 +2,7 @@
 use Rattle.std.proofs.Common.{map, ◌≡◌, refl, sym, ap, ◌∙◌, List, [], ◌∷◌, ◌++◌, Bool, true, false, ◌||◌, ◌&&◌, ℕ, append_assoc, append-nil, take, length, get_or, ◌+◌, ◌<◌}
 use Rattle.std.proofs.Math.Bool.{or-true, or-false, or_assoc}
 use Rattle.std.specs.Prelude.{if◌then◌else◌}
+use Rattle.common.proofs.Cases.{map_next}
 use Rattle.labels.specs.Label.{Label}
 use Rattle.resolved.specs.declared.program.Core.{Core}
 use Rattle.resolved.specs.CoreOf.{program_of}
@@ -9,15 +10,14 @@ use Rattle.resolved.specs.Program.{Program}
 use Rattle.resolved.specs.declared.expression.Connective.{Connective}
 use Rattle.resolved.specs.declared.expression.Operator.{Operator}
 use Rattle.resolved.specs.Tree.{Expression, Binary, Short}
-use Rattle.resolved.specs.Value.{arith_exception}
+use Rattle.common.specs.declared.exceptions.TheConstants.{ARITH}
 use Rattle.resolved.specs.Ends.{divisor_can_raise, is_division, operator_raises, raises}
 use Rattle.resolved.specs.Labelled.{Join, Scope, any_of, value_label}
 use Rattle.gathering.specs.Walk.{raise_atoms, raise_atoms_all}
 use Rattle.solver.specs.declared.system.Atom.{Atom}
 use Rattle.resolved.specs.declared.expression.Expression as E
 use Rattle.resolved.specs.TreeOf.{expression_of}
-use Rattle.constraints.proofs.Tables.{next-of}
-use Rattle.constraints.specs.LeftSides.{IsJoined, scope_of, joined, parts}
+use Rattle.constraints.specs.LeftSides.{IsJoined, scope_of, joined, left_parts}
 use Rattle.constraints.specs.Added.{IsLeftFrom}
 
 pub joined-append : (program : Program) (a b : Join) → joined program (a ++ b) ≡ joined program a ++ joined program b
@@ -30,14 +30,14 @@ pub joined-then : (core : Core) (table : List Label) (a b : Join) (old middle ne
 joined-then core table a b old middle new first second =
     let program : Program = program_of core in
     second ∙ (ap (λ xs. xs ++ joined program b) first
-    ∙ (append_assoc (parts table old) (joined program a) (joined program b)
-    ∙ ap (λ xs. parts table old ++ xs) (sym (joined-append program a b))))
+    ∙ (append_assoc (left_parts table old) (joined program a) (joined program b)
+    ∙ ap (λ xs. left_parts table old ++ xs) (sym (joined-append program a b))))
 
 pub joined-none : (core : Core) (table : List Label) (old : List Atom) → IsJoined core table [] old old
-joined-none core table old = sym (append-nil (parts table old))
+joined-none core table old = sym (append-nil (left_parts table old))
 
 pub joined-same : (core : Core) (table : List Label) (a b : Join) (old new : List Atom) → a ≡ b → IsJoined core table b old new → IsJoined core table a old new
-joined-same core table a b old new same is = is ∙ ap (λ join. parts table old ++ joined (program_of core) join) (sym same)
+joined-same core table a b old new same is = is ∙ ap (λ join. left_parts table old ++ joined (program_of core) join) (sym same)
 
 -- whether there are any in lists that are put together
 pub any-append : {A : Type 0} (xs ys : List A) → any_of (xs ++ ys) ≡ (any_of xs || any_of ys)
@@ -71,7 +71,7 @@ binary-raises operator d e =
     any-append (raises d ++ raises e) (operator_raises operator e)
     ∙ (ap (λ b. b || any_of (operator_raises operator e)) (any-append (raises d) (raises e))
     ∙ (or_assoc (any_of (raises d)) (any_of (raises e)) (any_of (operator_raises operator e))
-    ∙ ap (λ b. any_of (raises d) || (any_of (raises e) || b)) (divides (is_division operator) (divisor_can_raise e) arith_exception)))
+    ∙ ap (λ b. any_of (raises d) || (any_of (raises e) || b)) (divides (is_division operator) (divisor_can_raise e) ARITH)))
 
 pub binary-true : (operator : Operator) (d e : Expression) → (is_division operator && divisor_can_raise e) ≡ true → true ≡ any_of (raises (Binary operator d e))
 binary-true operator d e is =
@@ -111,12 +111,12 @@ raise-next core table f xs i x old middle new inside is first second =
     let scope : Scope = scope_of core f in
     let before : List Expression = map expression_of (take i xs) in
     joined-same core table (raise_atoms_all scope (map expression_of (take (i + 1) xs))) (raise_atoms_all scope before ++ raise_atoms scope (expression_of x)) old new
-    (ap (raise_atoms_all scope) (next-of expression_of xs i x inside is) ∙ all-append scope before (expression_of x))
+    (ap (raise_atoms_all scope) (map_next expression_of xs i x inside is) ∙ all-append scope before (expression_of x))
     (joined-then core table (raise_atoms_all scope before) (raise_atoms scope (expression_of x)) old middle new first second)
 
 -- a left side that begins with the pc
 pub left-from : (core : Core) (table : List Label) (pc : Atom) (join : Join) (first left : List Atom)
     → first ≡ pc ∷ [] → IsJoined core table join first left → IsLeftFrom core table pc join left
 left-from core table pc join first left is joined-is named stands =
-    joined-is ∙ (ap (λ list. parts table list ++ joined (program_of core) join) is
+    joined-is ∙ (ap (λ list. left_parts table list ++ joined (program_of core) join) is
     ∙ ap (λ p. p ∷ joined (program_of core) join) stands)

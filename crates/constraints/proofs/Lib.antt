@@ -3,7 +3,7 @@ pub mod Joined
 pub mod Added
 pub mod Called
 pub mod Branched
-pub mod Undone
+pub mod SavedEntries
 pub mod Taken
 pub mod Passed
 pub mod Formed
@@ -12,4 +12,5 @@ pub mod Begun
 pub mod Measured
 pub mod Declared
 pub mod Bodies
+pub mod Ready
 mod Gathered

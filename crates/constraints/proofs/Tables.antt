@@ -1,9 +1,10 @@
 -- Tables of labels that grow, and what stands in them.
 use Rattle.std.proofs.Common.{◌≡◌, refl, sym, ap, ◌∙◌, subst, ℕ, suc, zero, ◌+◌, ◌<◌, ◌≤◌, List, [], ◌∷◌, ◌++◌, map, take, length, length-append, get_or, arith, append_assoc, append-nil}
 use Rattle.std.specs.Prelude.{Option, Some, None, Bool, true, false, sum_by, if◌then◌else◌, ◌==◌}
-use Rattle.std.proofs.lemmas.List.{get_or_append_left, map-append, map_more, length-map, length-take-le}
+use Rattle.std.proofs.lemmas.List.{get_or_append_left, map-append, length-map, length-take-le}
 use Rattle.std.proofs.lemmas.Option.{slice_get-get_or}
 use Rattle.std.proofs.lemmas.List.Sums.{sum_by-cons}
+use Rattle.common.proofs.Cases.{map_next}
 use Rattle.labels.specs.Label.{Label}
 use Rattle.labels.specs.Constraints.{renamed}
 use Rattle.labels.specs.Constraints as formal
@@ -24,9 +25,9 @@ use Rattle.resolved.specs.Tree.{Empty}
 use Rattle.gathering.specs.Names.{Real, own_unknowns, unknowns_before}
 use Rattle.solver.specs.declared.system.Atom.{Atom}
 use Rattle.solver.specs.declared.system.Atom.TheVariants as stored
-use Rattle.constraints.specs.LeftSides.{Part, Unknown, Written, part, part_of, parts, wanted_part}
+use Rattle.constraints.specs.LeftSides.{Part, Unknown, Written, part, part_of, left_parts, wanted_part}
 use Rattle.constraints.specs.Rows.{TableGrows, Mean, Means, AreProcedureRows, IsRow, IsTable, label_among, slot_parts, thrown_parts, written_atom, written_part}
-use Rattle.constraints.specs.declared.rows.Row.{Row}
+use Rattle.constraints.specs.declared.rows.ProcedureLabels.{ProcedureLabels}
 use Rattle.constraints.specs.declared.rows.ThrownLabel.{ThrownLabel}
 
 -- a table that grew
@@ -57,7 +58,7 @@ means-listed table n label inside listed = λ more.
 
 pub mean-more : (old new : List Label) (atoms : List Atom) (ms : List Part) → TableGrows old new → Mean old atoms ms → Mean new atoms ms
 mean-more old new atoms ms grown mean = λ more.
-    ap (λ t. parts t atoms) (behind old new more grown) ∙ mean (grown.added ++ more)
+    ap (λ t. left_parts t atoms) (behind old new more grown) ∙ mean (grown.added ++ more)
 
 pub mean-step : (old new : List Label) (atoms : List Atom) (atom : Atom) (ms : List Part) (m : Part)
     → TableGrows old new → Mean old atoms ms → Means new atom m → Mean new (atoms ++ atom ∷ []) (ms ++ m ∷ [])
@@ -66,20 +67,15 @@ mean-step old new atoms atom ms m grown mean means = λ more.
     ∙ (ap (λ xs. xs ++ (part (new ++ more) atom ∷ [])) (mean-more old new atoms ms grown mean more)
     ∙ ap (λ x. ms ++ (x ∷ [])) (means more))
 
--- one more of a list
-pub next-of : {A B : Type 0} (f : A → B) (xs : List A) (i : ℕ) (x : A) → i < length xs → x ≡ get_or xs i x
-    → map f (take (i + 1) xs) ≡ map f (take i xs) ++ f x ∷ []
-next-of f xs i x inside is = map_more f xs i x inside ∙ ap (λ y. map f (take i xs) ++ f y ∷ []) (sym is)
-
 -- written labels: one more
 pub written-next : {A : Type 0} (label : A → Label) (xs : List A) (i : ℕ) (x : A) (old new : List Label) (atoms atoms' : List Atom) (atom : Atom)
     → i < length xs → x ≡ get_or xs i x → atoms' ≡ atoms ++ atom ∷ [] → TableGrows old new
     → Mean old atoms (map (λ y. Written (label y)) (take i xs)) → Means new atom (Written (label x))
     → Mean new atoms' (map (λ y. Written (label y)) (take (i + 1) xs))
 written-next label xs i x old new atoms atoms' atom inside is pushed grown mean means = λ more.
-    ap (parts (new ++ more)) pushed
+    ap (left_parts (new ++ more)) pushed
     ∙ (mean-step old new atoms atom (map (λ y. Written (label y)) (take i xs)) (Written (label x)) grown mean means more
-    ∙ sym (next-of (λ y. Written (label y)) xs i x inside is))
+    ∙ sym (map_next (λ y. Written (label y)) xs i x inside is))
 
 -- declared exceptions
 pub exceptions-next : (throws : List Thrown) (i : ℕ) (x : Thrown) (labels labels' : List ThrownLabel) (label : Atom)
@@ -91,7 +87,7 @@ exceptions-next throws i x labels labels' label inside is pushed before =
     ∙ (map-append (λ (thrown : ThrownLabel). thrown.exception) labels (record { exception = x.exception; label = label } ∷ [])
     ∙ (ap (λ es. es ++ (x.exception ∷ [])) before
     ∙ (sym (map-append (λ (entry : ThrownEntry). entry.exception) (map thrown_entry (take i throws)) (thrown_entry x ∷ []))
-    ∙ ap declared_by (sym (next-of thrown_entry throws i x inside is)))))
+    ∙ ap declared_by (sym (map_next thrown_entry throws i x inside is)))))
 
 pub labels-next : (throws : List Thrown) (i : ℕ) (x : Thrown) (old new : List Label) (labels labels' : List ThrownLabel) (label : Atom)
     → i < length throws → x ≡ get_or throws i x → labels' ≡ labels ++ record { exception = x.exception; label = label } ∷ []
@@ -109,7 +105,7 @@ labels-next throws i x old new labels labels' label inside is pushed grown mean 
     (ap (λ table. thrown_parts table labels) (behind old new more grown) ∙ mean (grown.added ++ more))
     ∙ (ap (λ y. map written (map thrown_entry (take i throws)) ++ (y ∷ [])) (means more)
     ∙ (sym (map-append written (map thrown_entry (take i throws)) (thrown_entry x ∷ []))
-    ∙ ap (map written) (sym (next-of thrown_entry throws i x inside is))))))
+    ∙ ap (map written) (sym (map_next thrown_entry throws i x inside is))))))
 
 -- slots: one more
 pub slots-append : (first : ℕ) (xs : List SlotEntry) (x : SlotEntry)
@@ -127,19 +123,19 @@ pub slots-next : (slots : List Slot) (i : ℕ) (x : Slot) (first number : ℕ) (
 slots-next slots i x first number old new atoms atoms' atom inside is counted pushed grown mean means = λ more.
     let before : List SlotEntry = map slot_entry (take i slots) in
     let count : length before ≡ i = length-map (take i slots) slot_entry ∙ length-take-le i slots (let le : i ≤ length slots = omega (arith, inside) in le) in
-    ap (parts (new ++ more)) pushed
+    ap (left_parts (new ++ more)) pushed
     ∙ (mean-step old new atoms atom (slot_parts first before) (written_part x.written number) grown mean means more
     ∙ (ap (λ n. slot_parts first before ++ written_part x.written n ∷ []) (counted ∙ ap (λ k. first + k) (sym count))
     ∙ (sym (slots-append first before (slot_entry x))
-    ∙ ap (slot_parts first) (sym (next-of slot_entry slots i x inside is)))))
+    ∙ ap (slot_parts first) (sym (map_next slot_entry slots i x inside is)))))
 
 -- rows
-pub row-more : (old new more : List Label) (first : ℕ) (procedure : ProcedureEntry) (row : Row) → TableGrows old new
+pub row-more : (old new more : List Label) (first : ℕ) (procedure : ProcedureEntry) (row : ProcedureLabels) → TableGrows old new
     → ((more : List Label) → IsRow (old ++ more) first procedure row) → IsRow (new ++ more) first procedure row
 row-more old new more first procedure row grown each =
     subst (λ table. IsRow table first procedure row) (sym (behind old new more grown)) (each (grown.added ++ more))
 
-pub rows-more : (old new more : List Label) (first : ℕ) (procedures : List ProcedureEntry) (rows : List Row) → TableGrows old new
+pub rows-more : (old new more : List Label) (first : ℕ) (procedures : List ProcedureEntry) (rows : List ProcedureLabels) → TableGrows old new
     → ((more : List Label) → AreProcedureRows (old ++ more) first procedures rows) → AreProcedureRows (new ++ more) first procedures rows
 rows-more old new more first procedures rows grown each =
     subst (λ table. AreProcedureRows table first procedures rows) (sym (behind old new more grown)) (each (grown.added ++ more))
@@ -148,7 +144,7 @@ step-count : (first : ℕ) (p : ProcedureEntry) (procedures : List ProcedureEntr
     → first + sum_by own_unknowns (p ∷ procedures) ≡ (first + own_unknowns p) + sum_by own_unknowns procedures
 step-count first p procedures = omega (arith, sum_by-cons own_unknowns p procedures)
 
-pub rows-append : (table : List Label) (first : ℕ) (procedures : List ProcedureEntry) (procedure : ProcedureEntry) (rows : List Row) (row : Row)
+pub rows-append : (table : List Label) (first : ℕ) (procedures : List ProcedureEntry) (procedure : ProcedureEntry) (rows : List ProcedureLabels) (row : ProcedureLabels)
     → AreProcedureRows table first procedures rows → IsRow table (first + sum_by own_unknowns procedures) procedure row
     → AreProcedureRows table first (procedures ++ procedure ∷ []) (rows ++ row ∷ [])
 rows-append table first [] procedure [] row are is =
@@ -172,7 +168,7 @@ pub row-made : (procedure : Procedure) (first : ℕ) (t1 t2 t3 t4 t5 : List Labe
     ≡ map (λ (entry : ThrownEntry). Written entry.label) (map thrown_entry throws))
     → count ≡ length procedure.slots.items → loops ≡ first + count
     → (more : List Label)
-    → (row : Row) → row.begin ≡ begin → row.end ≡ end → row.value ≡ value → row.slots.items ≡ atoms → row.throws.items ≡ labels → row.first ≡ first → row.loops ≡ loops
+    → (row : ProcedureLabels) → row.begin ≡ begin → row.end ≡ end → row.value ≡ value → row.slots.items ≡ atoms → row.throws.items ≡ labels → row.first ≡ first → row.loops ≡ loops
     → IsRow (t5 ++ more) first (procedure_entry procedure) row
 row-made procedure first t1 t2 t3 t4 t5 begin end value slots atoms throws labels count loops g2 g3 g4 g5 b e v same-slots ss same-throws es ls counted summed more row rb re rv rs rt rf rl = record {
   begin_is = ap (part (t5 ++ more)) rb
@@ -181,7 +177,7 @@ row-made procedure first t1 t2 t3 t4 t5 begin end value slots atoms throws label
       ∙ means-more t2 t5 end (Written procedure.end_label) (grows-then t2 t3 t5 g3 (grows-then t3 t4 t5 g4 g5)) e more;
   value_is = ap (part (t5 ++ more)) rv
       ∙ means-more t3 t5 value (Written (result_label (result_entry procedure.result))) (grows-then t3 t4 t5 g4 g5) v more;
-  slots_are = ap (parts (t5 ++ more)) rs
+  slots_are = ap (left_parts (t5 ++ more)) rs
       ∙ (mean-more t4 t5 atoms (slot_parts first (map slot_entry slots)) g5 ss more
       ∙ ap (λ list. slot_parts first (map slot_entry list)) same-slots);
   exceptions_are = ap (map (λ (thrown : ThrownLabel). thrown.exception)) rt ∙ (es ∙ ap (λ list. declared_by (map thrown_entry list)) same-throws);
@@ -191,7 +187,7 @@ row-made procedure first t1 t2 t3 t4 t5 begin end value slots atoms throws label
   loops_is = rl ∙ (summed ∙ ap (λ n. first + n) (counted ∙ sym (length-map procedure.slots.items slot_entry)));
 }
 
-pub rows-next : (procedures : List Procedure) (i : ℕ) (p : Procedure) (old new : List Label) (rows rows' : List Row) (row : Row) (first : ℕ)
+pub rows-next : (procedures : List Procedure) (i : ℕ) (p : Procedure) (old new : List Label) (rows rows' : List ProcedureLabels) (row : ProcedureLabels) (first : ℕ)
     → i < length procedures → p ≡ get_or procedures i p → rows' ≡ rows ++ row ∷ [] → TableGrows old new
     → ((more : List Label) → AreProcedureRows (old ++ more) 0 (map procedure_entry (take i procedures)) rows)
     → ((more : List Label) → IsRow (new ++ more) first (procedure_entry p) row)
@@ -199,7 +195,7 @@ pub rows-next : (procedures : List Procedure) (i : ℕ) (p : Procedure) (old new
     → (more : List Label) → AreProcedureRows (new ++ more) 0 (map procedure_entry (take (i + 1) procedures)) rows'
 rows-next procedures i p old new rows rows' row first inside is pushed grown are each counted more =
     let before : List ProcedureEntry = map procedure_entry (take i procedures) in
-    subst (λ all. AreProcedureRows (new ++ more) 0 all rows') (sym (next-of procedure_entry procedures i p inside is))
+    subst (λ all. AreProcedureRows (new ++ more) 0 all rows') (sym (map_next procedure_entry procedures i p inside is))
     (subst (λ all. AreProcedureRows (new ++ more) 0 (before ++ procedure_entry p ∷ []) all) (sym pushed)
     (rows-append (new ++ more) 0 before (procedure_entry p) rows row
     (rows-more old new more 0 before rows grown (λ rest. are rest))
@@ -215,7 +211,7 @@ looked-up f g (x ∷ xs) [] n d e same default = absurd (cc)
 looked-up f g (x ∷ xs) (y ∷ ys) zero d e same default = cc
 looked-up f g (x ∷ xs) (y ∷ ys) (suc n) d e same default = looked-up f g xs ys n d e (let tails : map f xs ≡ map g ys = cc in tails) default
 
-pub row-at : (table : List Label) (first : ℕ) (procedures : List ProcedureEntry) (rows : List Row) (f : ℕ) (empty : ProcedureEntry) (outside : Row)
+pub row-at : (table : List Label) (first : ℕ) (procedures : List ProcedureEntry) (rows : List ProcedureLabels) (f : ℕ) (empty : ProcedureEntry) (outside : ProcedureLabels)
     → AreProcedureRows table first procedures rows → IsRow table (first + sum_by own_unknowns procedures) empty outside
     → IsRow table (first + sum_by own_unknowns (take f procedures)) (get_or procedures f empty) (get_or rows f outside)
 row-at table first [] [] zero empty outside are is = is
@@ -246,8 +242,8 @@ slot-at first (slot ∷ slots) (suc n) empty none =
     ∙ (slot-at (suc first) slots n empty none ∙ ap (written_part (get_or slots n empty).written) e)
 
 pub part-at : (table : List Label) (atoms : List Atom) (n : ℕ) (d : Atom)
-    → part table (get_or atoms n d) ≡ get_or (parts table atoms) n (part table d)
-part-at table atoms n d = looked-up (part table) (λ m. m) atoms (parts table atoms) n d (part table d) (sym (map-same (parts table atoms))) refl
+    → part table (get_or atoms n d) ≡ get_or (left_parts table atoms) n (part table d)
+part-at table atoms n d = looked-up (part table) (λ m. m) atoms (left_parts table atoms) n d (part table d) (sym (map-same (left_parts table atoms))) refl
   where
     map-same : {A : Type 0} (xs : List A) → map (λ x. x) xs ≡ xs
     map-same [] = refl
@@ -255,7 +251,7 @@ part-at table atoms n d = looked-up (part table) (λ m. m) atoms (parts table at
 
 -- the label of a parameter
 pub parameter-at : (table : List Label) (first : ℕ) (slots : List SlotEntry) (atoms : List Atom) (n : ℕ) (nothing : Atom) (empty : SlotEntry)
-    → empty.written ≡ None → part table nothing ≡ Written [] → parts table atoms ≡ slot_parts first slots
+    → empty.written ≡ None → part table nothing ≡ Written [] → left_parts table atoms ≡ slot_parts first slots
     → part table (written_atom (get_or atoms n nothing) nothing) ≡ Written (parameter_label (get_or slots n empty).written)
 parameter-at table first [] [] n nothing empty none is same = rw none (neither nothing is)
   where
@@ -271,7 +267,7 @@ parameter-at table first (slot ∷ slots) (atom ∷ atoms) zero nothing empty no
     go (Some label) (stored.Unknown u) e = absurd (cc)
     go None (stored.Written m) e = absurd (cc)
 parameter-at table first (slot ∷ slots) (atom ∷ atoms) (suc n) nothing empty none is same =
-    parameter-at table (suc first) slots atoms n nothing empty none is (let tails : parts table atoms ≡ slot_parts (suc first) slots = cc in tails)
+    parameter-at table (suc first) slots atoms n nothing empty none is (let tails : left_parts table atoms ≡ slot_parts (suc first) slots = cc in tails)
 parameter-at table first [] (atom ∷ atoms) n nothing empty none is same = absurd (cc)
 parameter-at table first (slot ∷ slots) [] n nothing empty none is same = absurd (cc)
 
@@ -305,7 +301,7 @@ named-part : (program : Program) (f n : ℕ) (written : Option Label)
 named-part program f n (Some label) = refl
 named-part program f n None = refl
 
-pub slot-named : (program : Program) (table : List Label) (f n : ℕ) (row : Row) (atoms : List Atom) (number : ℕ) (found : Atom)
+pub slot-named : (program : Program) (table : List Label) (f n : ℕ) (row : ProcedureLabels) (atoms : List Atom) (number : ℕ) (found : Atom)
     → IsRow table (unknowns_before program f) (procedure_at program f) row → atoms ≡ row.slots.items → number ≡ row.first + n
     → found ≡ get_or atoms n (stored.Unknown number)
     → part table found ≡ part_of program (ToVariable f (Local n))
@@ -315,12 +311,12 @@ slot-named program table f n row atoms number found is same counted found-is =
     let total : number ≡ first + n = counted ∙ ap (λ k. k + n) is.first_is in
     ap (part table) found-is
     ∙ (part-at table atoms n (stored.Unknown number)
-    ∙ (ap (λ list. get_or (parts table list) n (Unknown number)) same
+    ∙ (ap (λ list. get_or (left_parts table list) n (Unknown number)) same
     ∙ (ap (λ list. get_or list n (Unknown number)) is.slots_are
     ∙ (ap (λ k. get_or (slot_parts first procedure.slots) n (Unknown k)) total
     ∙ (slot-at first procedure.slots n _ refl ∙ named-part program f n (slot_at procedure n).written)))))
 
-pub parameter-named : (program : Program) (table : List Label) (f n : ℕ) (row : Row) (atoms : List Atom) (nothing found result : Atom)
+pub parameter-named : (program : Program) (table : List Label) (f n : ℕ) (row : ProcedureLabels) (atoms : List Atom) (nothing found result : Atom)
     → IsRow table (unknowns_before program f) (procedure_at program f) row → part table nothing ≡ Written []
     → atoms ≡ row.slots.items → found ≡ get_or atoms n nothing → result ≡ written_atom found nothing
     → part table result ≡ part_of program (ToParameter f n)
@@ -328,7 +324,7 @@ parameter-named program table f n row atoms nothing found result is none same fo
     ap (part table) (result-is ∙ ap (λ a. written_atom a nothing) (found-is ∙ ap (λ list. get_or list n nothing) same))
     ∙ parameter-at table (unknowns_before program f) (procedure_at program f).slots row.slots.items n nothing _ refl none is.slots_are
 
-pub thrown-named : (program : Program) (table : List Label) (f x : ℕ) (row : Row) (labels : List ThrownLabel) (nothing found : Atom)
+pub thrown-named : (program : Program) (table : List Label) (f x : ℕ) (row : ProcedureLabels) (labels : List ThrownLabel) (nothing found : Atom)
     → IsRow table (unknowns_before program f) (procedure_at program f) row → part table nothing ≡ Written []
     → labels ≡ row.throws.items → found ≡ label_among labels x nothing
     → part table found ≡ Written (thrown_label (procedure_at program f).throws x)
@@ -352,7 +348,7 @@ no_procedure = record {
 }
 
 -- the parts of a whole program
-pub table-made : (core : Core) (t1 t2 t3 t4 : List Label) (nothing : Atom) (channels globals : List Atom) (rows : List Row) (outside : Row)
+pub table-made : (core : Core) (t1 t2 t3 t4 : List Label) (nothing : Atom) (channels globals : List Atom) (rows : List ProcedureLabels) (outside : ProcedureLabels)
     (cs : List Channel) (gs : List GlobalVariable) (ps : List Procedure) (unknowns : ℕ)
     → TableGrows t1 t2 → TableGrows t2 t3 → TableGrows t3 t4
     → Means t1 nothing (Written []) → Mean t2 channels (map (λ (channel : Channel). Written channel.label) cs)
@@ -375,11 +371,11 @@ table-made core t1 t2 t3 t4 nothing channels globals rows outside cs gs ps unkno
     let all : 0 + sum_by own_unknowns program.procedures ≡ unknowns = omega (arith, total) in
     record {
       nothing_is = nothing-is;
-      channels_are = subst (λ t. parts t channels ≡ map (λ (entry : ChannelEntry). Written entry.label) program.channels) nil
+      channels_are = subst (λ t. left_parts t channels ≡ map (λ (entry : ChannelEntry). Written entry.label) program.channels) nil
           (mean-more t2 t4 channels (map (λ (channel : Channel). Written channel.label) cs) (grows-then t2 t3 t4 g3 g4) chans []
           ∙ (ap (map (λ (channel : Channel). Written channel.label)) same-cs
           ∙ map-map channel_entry (λ (entry : ChannelEntry). Written entry.label) core.channels.items));
-      globals_are = subst (λ t. parts t globals ≡ map (λ (entry : GlobalEntry). Written entry.label) program.globals) nil
+      globals_are = subst (λ t. left_parts t globals ≡ map (λ (entry : GlobalEntry). Written entry.label) program.globals) nil
           (mean-more t3 t4 globals (map (λ (variable : GlobalVariable). Written variable.label) gs) g4 globs []
           ∙ (ap (map (λ (variable : GlobalVariable). Written variable.label)) same-gs
           ∙ map-map global_entry (λ (entry : GlobalEntry). Written entry.label) core.globals.items));
@@ -391,7 +387,7 @@ table-made core t1 t2 t3 t4 nothing channels globals rows outside cs gs ps unkno
             begin_is = ap (part t4) ob ∙ nothing-is;
             end_is = ap (part t4) oe ∙ nothing-is;
             value_is = ap (part t4) ov ∙ nothing-is;
-            slots_are = ap (parts t4) os;
+            slots_are = ap (left_parts t4) os;
             exceptions_are = ap (map (λ (thrown : ThrownLabel). thrown.exception)) ot;
             labels_are = ap (thrown_parts t4) ot;
             first_is = off;

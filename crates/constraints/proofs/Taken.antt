@@ -2,7 +2,7 @@
 use Rattle.std.proofs.Common.{◌≡◌, refl, sym, ap, ◌∙◌, subst, ℕ, suc, ◌+◌, ◌≤◌, List, [], ◌∷◌, Bool, true, false, ◌||◌, map, arith, get_or, drop, length, ◌<◌}
 use Rattle.std.specs.Prelude.{◌==◌, if◌then◌else◌, Some, None}
 use Rattle.std.proofs.Math.Path.{fun_ext}
-use Rattle.std.proofs.lemmas.Bool.{lt-ltb, ne_eqb, eq-eqb}
+use Rattle.std.proofs.lemmas.Bool.{lt-ltb, ne_eqb}
 use Rattle.std.proofs.lemmas.List.{get_or-map}
 use Rattle.std.proofs.Math.Bool.{or-true}
 use Rattle.resolved.specs.Ends.{handles}
@@ -16,6 +16,7 @@ use Rattle.constraints.specs.declared.takers.Entry.{Entry}
 use Rattle.constraints.specs.declared.takers.Takers.{Takers}
 use Rattle.constraints.specs.Takers.{AreLevelled, entry_after, entry_in_try, no_entry, taker_of, takers_of}
 use Rattle.resolved.proofs.Views.{next-handler}
+use Rattle.path_map.proofs.Summary.{same-number}
 
 -- an entry that has the level stays
 after-same : (handled : ℕ) (entry old : Entry) (x : ℕ) → (old.level == entry.level) ≡ true → entry_after handled entry x old ≡ old
@@ -46,9 +47,6 @@ first-takes (Catch at handled body rest) n level x old differs same = go (x == h
         ∙ stays rest (suc n) level x (record { number = n; level = level }) same
     go false later = later
 
-equal-self : (n : ℕ) → (n == n) ≡ true
-equal-self n = eq-eqb n n refl
-
 above : (n level : ℕ) → n ≤ level → (n == level + 1) ≡ false
 above n level within = ne_eqb n (level + 1) (λ same. omega (arith, within, same))
 
@@ -58,7 +56,7 @@ module _ (takers : Takers) (handlers : Handlers) (n : ℕ) (old new : List Entry
   pub entry-is : (x : ℕ) → get_or new x no_entry
       ≡ (if handles handlers x then record { number = handler_number handlers n x; level = takers.level + 1 } else get_or old x no_entry)
   entry-is x = taken x ∙ first-takes handlers n (takers.level + 1) x (get_or old x no_entry)
-      (above (get_or old x no_entry).level takers.level (levelled.entries_are_within x)) (equal-self (takers.level + 1))
+      (above (get_or old x no_entry).level takers.level (levelled.entries_are_within x)) (same-number (takers.level + 1))
 
   pub try-takers : takers_of (record takers { level = takers.level + 1 }) new ≡ in_try (handler_number handlers n) handlers (takers_of takers old)
   try-takers = fun_ext each
@@ -97,7 +95,7 @@ numbers-same takers all n old new levelled taken (h ∷ rest) within =
     (numbers-same takers all n old new levelled taken rest (λ x has. within x (ap (λ b. (x == h.exception) || b) has ∙ or-true (x == h.exception))))
   where
     there : handles (handlers_of all) h.exception ≡ true
-    there = within h.exception (ap (λ b. b || handles (handlers_of rest) h.exception) (equal-self h.exception))
+    there = within h.exception (ap (λ b. b || handles (handlers_of rest) h.exception) (same-number h.exception))
 
     first : (get_or new h.exception no_entry).number ≡ handler_number (handlers_of all) n h.exception
     first = ap (λ (e : Entry). e.number) (entry-is takers (handlers_of all) n old new levelled taken h.exception

@@ -13,7 +13,7 @@ use Rattle.gathering.specs.Names.{NamedAtom, NamedConstraint, named_atoms, numbe
 use Rattle.gathering.specs.Walk.{flow}
 use Rattle.solver.specs.declared.system.Atom.{Atom}
 use Rattle.solver.specs.declared.system.Constraint.{Constraint}
-use Rattle.constraints.specs.LeftSides.{part, parts, wanted, wanted_part}
+use Rattle.constraints.specs.LeftSides.{part, left_parts, wanted, wanted_part}
 
 abbrev pub Stored : Type 0
 Stored = Constraint (Option Target)
@@ -27,7 +27,7 @@ abbrev pub stands_for : (table : List Label) → Stored → PartConstraint
 stands_for table c = record {
   at = c.at;
   rule = c.rule;
-  left = parts table c.left.items;
+  left = left_parts table c.left.items;
   target = c.target;
   right = part table c.right;
 }
@@ -49,7 +49,7 @@ wanted_constraint program c = wanted_of (numbered program c)
 
 -- a left side stands for these parts
 abbrev pub IsLeft : Core → (table : List Label) → List NamedAtom → List Atom → Type 0
-IsLeft core table named left = parts table left ≡ map (wanted_part (program_of core)) named
+IsLeft core table named left = left_parts table left ≡ map (wanted_part (program_of core)) named
 
 -- an atom stands for this part; and a left side for what begins with the part of the pc and goes on with a join
 abbrev pub IsPart : Core → (table : List Label) → NamedAtom → Atom → Type 0

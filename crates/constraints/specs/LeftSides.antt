@@ -31,8 +31,8 @@ abbrev pub part : (table : List Label) → Atom → Part
 part table (stored.Written n) = formal.Written (slice_get table n)
 part table (stored.Unknown u) = Unknown u
 
-abbrev pub parts : (table : List Label) → List Atom → List Part
-parts table atoms = map (part table) atoms
+abbrev pub left_parts : (table : List Label) → List Atom → List Part
+left_parts table atoms = map (part table) atoms
 
 -- the part that an atom is to stand for
 abbrev pub wanted : formal.Atom ℕ Label → Part
@@ -56,7 +56,7 @@ scope_of core procedure = record { program = program_of core; number = procedure
 -- the labels of a join were added to a left side
 abbrev pub IsJoined : Core → (table : List Label) → Join → (old new : List Atom) → Type 0
 IsJoined core table join old new =
-    parts table new ≡ parts table old ++ joined (program_of core) join
+    left_parts table new ≡ left_parts table old ++ joined (program_of core) join
 
 -- what decides whether the index of an array of this length raises an exception
 abbrev pub index_atoms : Scope → (length : ℕ) → Expression → Join

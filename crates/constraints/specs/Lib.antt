@@ -5,3 +5,4 @@ pub mod Takers
 pub mod Walks
 pub mod Walked
 pub mod Procedures
+pub mod Ready

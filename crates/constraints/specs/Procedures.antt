@@ -1,6 +1,6 @@
 -- The takers of a procedure's ends as a table, and a walk past a procedure.
 -- Source: our own.
-use Rattle.std.specs.Prelude.{◌≡◌, ℕ, suc, ◌+◌, ◌==◌, List, [], ◌∷◌, ◌++◌, drop, map, if◌then◌else◌, Some, None, Bool, true, false, slice_index_or}
+use Rattle.std.specs.Prelude.{◌≡◌, ℕ, suc, ◌+◌, ◌==◌, List, [], ◌∷◌, ◌++◌, drop, length, map, if◌then◌else◌, Some, None, Bool, true, false, slice_index_or}
 use Rattle.labels.specs.Label.{Label}
 use Rattle.resolved.specs.declared.program.Core.{Core}
 use Rattle.resolved.specs.declared.tables.Procedure.{Procedure}
@@ -56,6 +56,7 @@ pub record HasPassedProcedure (core : Core) (table : List Label) (entries : List
   pub entries_left : drop new.index entries ≡ left
   pub number_is : new.number ≡ old.number + made_by_procedure (scope_of core f)
   pub within : AreWithin level new.thrown.items
+  pub wide : length new.thrown.items ≡ length old.thrown.items
 
 -- a walk past a procedure, where the path map goes on with its paths, and no taker's level is above a barrier
 abbrev pub IsProcedureWalked : Core → (table : List Label) → (entries : List Exits) → (f barrier : ℕ) → (old new : Progress) → Type 0

@@ -10,8 +10,8 @@ use Rattle.resolved.specs.Labelled.{result_label}
 use Rattle.gathering.specs.Names.{own_unknowns, unknowns_before}
 use Rattle.solver.specs.declared.system.Atom.{Atom}
 use Rattle.solver.specs.declared.system.Atom.TheVariants as stored
-use Rattle.constraints.specs.LeftSides.{Part, Unknown, Written, part, parts}
-use Rattle.constraints.specs.declared.rows.Row.{Row}
+use Rattle.constraints.specs.LeftSides.{Part, Unknown, Written, part, left_parts}
+use Rattle.constraints.specs.declared.rows.ProcedureLabels.{ProcedureLabels}
 use Rattle.constraints.specs.declared.rows.ThrownLabel.{ThrownLabel}
 
 -- a label that is written, or an unknown
@@ -29,11 +29,11 @@ abbrev pub thrown_parts : (table : List Label) → List ThrownLabel → List Par
 thrown_parts table labels = map (λ (thrown : ThrownLabel). part table thrown.label) labels
 
 -- a row stands for a procedure whose own unknowns have numbers from the first on
-pub record IsRow (table : List Label) (first : ℕ) (procedure : ProcedureEntry) (row : Row) : Type 0 where
+pub record IsRow (table : List Label) (first : ℕ) (procedure : ProcedureEntry) (row : ProcedureLabels) : Type 0 where
   pub begin_is : part table row.begin ≡ Written procedure.begin_label
   pub end_is : part table row.end ≡ Written procedure.end_label
   pub value_is : part table row.value ≡ Written (result_label procedure.result)
-  pub slots_are : parts table row.slots.items ≡ slot_parts first procedure.slots
+  pub slots_are : left_parts table row.slots.items ≡ slot_parts first procedure.slots
   pub exceptions_are : map (λ (thrown : ThrownLabel). thrown.exception) row.throws.items ≡ declared_by procedure.throws
   pub labels_are : thrown_parts table row.throws.items
       ≡ map (λ (entry : ThrownEntry). Written entry.label) procedure.throws
@@ -41,7 +41,7 @@ pub record IsRow (table : List Label) (first : ℕ) (procedure : ProcedureEntry)
   pub loops_is : row.loops ≡ first + length procedure.slots
 
 -- rows for procedures in order
-abbrev pub AreProcedureRows : (table : List Label) → (first : ℕ) → List ProcedureEntry → List Row → Type 0
+abbrev pub AreProcedureRows : (table : List Label) → (first : ℕ) → List ProcedureEntry → List ProcedureLabels → Type 0
 AreProcedureRows table first [] [] = Unit {0}
 AreProcedureRows table first [] (row ∷ rows) = ⊥
 AreProcedureRows table first (procedure ∷ rest) [] = ⊥
@@ -63,7 +63,7 @@ abbrev pub Means : (table : List Label) → Atom → Part → Type 0
 Means table atom meaning = (more : List Label) → part (table ++ more) atom ≡ meaning
 
 abbrev pub Mean : (table : List Label) → List Atom → List Part → Type 0
-Mean table atoms meanings = (more : List Label) → parts (table ++ more) atoms ≡ meanings
+Mean table atoms meanings = (more : List Label) → left_parts (table ++ more) atoms ≡ meanings
 
 -- a table of written labels that grew
 pub record TableGrows (old new : List Label) : Type 0 where
@@ -71,11 +71,11 @@ pub record TableGrows (old new : List Label) : Type 0 where
   pub is : new ≡ old ++ added
 
 -- the parts of a whole program
-pub record IsTable (core : Core) (table : List Label) (nothing : Atom) (channels globals : List Atom) (rows : List Row) (outside : Row) : Type 0 where
+pub record IsTable (core : Core) (table : List Label) (nothing : Atom) (channels globals : List Atom) (rows : List ProcedureLabels) (outside : ProcedureLabels) : Type 0 where
   pub nothing_is : part table nothing ≡ Written []
-  pub channels_are : parts table channels
+  pub channels_are : left_parts table channels
       ≡ map (λ (entry : ChannelEntry). Written entry.label) (program_of core).channels
-  pub globals_are : parts table globals
+  pub globals_are : left_parts table globals
       ≡ map (λ (entry : GlobalEntry). Written entry.label) (program_of core).globals
   pub rows_are : (f : ℕ) → IsRow table (unknowns_before (program_of core) f) (procedure_at (program_of core) f)
       (slice_index_or rows f outside)

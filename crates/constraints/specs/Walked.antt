@@ -1,6 +1,6 @@
 -- What a walk along blocks, statements and handlers does, where the path map has their ends from an entry on.
 -- Source: our own.
-use Rattle.std.specs.Prelude.{◌≡◌, ℕ, ◌+◌, List, ◌∷◌, ◌++◌, drop, map, true, Some, None}
+use Rattle.std.specs.Prelude.{◌≡◌, ℕ, ◌+◌, List, ◌∷◌, ◌++◌, drop, length, map, true, Some, None}
 use Rattle.labels.specs.Label.{Label}
 use Rattle.resolved.specs.declared.program.Core.{Core}
 use Rattle.resolved.specs.declared.statement.Exit.{Exit}
@@ -94,6 +94,7 @@ pub record IsTried (takers : Takers) (handlers : List Handler) (old new : Progre
   pub taken : AreLevelled takers old.thrown.items → AreTaken takers (handlers_of handlers) old new tried
   pub numbers_are : AreLevelled takers old.thrown.items → tried.numbers.items
       ≡ map (λ (handler : Handler). handler_number (handlers_of handlers) old.number handler.exception) handlers
+  pub count_is : length tried.numbers.items ≡ length handlers
   pub saved_is : undone tried.saved.items new.thrown.items ≡ old.thrown.items
   pub index_is : new.index ≡ old.index
   pub constraints_are : new.constraints ≡ old.constraints

@@ -12,7 +12,7 @@ ghost use Rattle.resolved.specs.declared.tables.GlobalVariable.{GlobalVariable};
 ghost use Rattle.constraints.specs.declared.rows.ThrownLabel.{ThrownLabel};
 ghost use Rattle.std.specs.Prelude.{IfOk, List, OnOk, [], map, sum_by, ℕ, ◌++◌, ◌∷◌, ◌≡◌};
 
-use crate::rows::{Row, ThrownLabel};
+use crate::rows::{ProcedureLabels, ThrownLabel};
 use crate::written::{Labels, add};
 use gathering::unknowns::{first_after, number_after};
 use labels::Label;
@@ -131,12 +131,12 @@ fn row_of(
     written: &mut Labels,
     procedure: &Procedure,
     first: u32,
-) -> Result<Row, AllocError>
+) -> Result<ProcedureLabels, AllocError>
     ensures grown { OnOk result (TableGrows written.old.list.items written.new.list.items) }
     ensures row { IfOk result (λ row. (more : List Label) →
         IsRow (written.new.list.items ++ more) first (procedure_entry procedure.now) row) }
 {
-    Ok(Row {
+    Ok(ProcedureLabels {
         begin: add(written, &procedure.begin_label)?,
         end: add(written, &procedure.end_label)?,
         value: value_part(alloc, written, &procedure.result)?,
@@ -152,7 +152,7 @@ pub(crate) fn rows_of(
     alloc: Global,
     written: &mut Labels,
     procedures: &[Procedure],
-) -> Result<(Vec<Row>, u32), AllocError>
+) -> Result<(Vec<ProcedureLabels>, u32), AllocError>
     ensures grown { OnOk result (TableGrows written.old.list.items written.new.list.items) }
     ensures rows { IfOk result (λ found. (more : List Label) →
         AreProcedureRows (written.new.list.items ++ more) 0

@@ -1,6 +1,7 @@
 //! The pieces of a walk along blocks, statements and handlers that go into no block.
 ghost use Rattle.constraints.specs.Added.{IsPart};
 ghost use Rattle.constraints.specs.LeftSides.{scope_of};
+ghost use Rattle.constraints.specs.Ready.{AreHandledInside};
 ghost use Rattle.constraints.specs.Takers.{AreLevelled, no_entry, takers_of, undone};
 ghost use Rattle.constraints.specs.Walked.{IsTried, IsWalked, branch_constraints};
 ghost use Rattle.constraints.specs.Walks.{loop_head_constraints};
@@ -13,7 +14,7 @@ ghost use Rattle.resolved.specs.Tree.{Empty};
 ghost use Rattle.resolved.specs.TreeOf.{expression_of, handlers_of};
 ghost use Rattle.resolved.specs.declared.statement.Exit.{Exit};
 ghost use Rattle.resolved.specs.declared.target.Target.TheVariants.{ToLoop};
-ghost use Rattle.std.specs.Prelude.{IfOk, List, OnOk, [], drop, map, ℕ, ◌+◌, ◌∷◌, ◌≡◌};
+ghost use Rattle.std.specs.Prelude.{IfOk, List, OnOk, [], drop, length, map, ℕ, ◌+◌, ◌<◌, ◌∷◌, ◌≡◌};
 
 use crate::lefts::left_of_pc;
 use crate::progress::Progress;
@@ -35,20 +36,16 @@ pub(crate) struct Tried {
 }
 
 impl<'a> Walk<'a> {
-    // The possible ends of the next block or statement, or out of memory where the path map has none.
-    fn next_exits(&self, progress: &mut Progress) -> Result<Exits, AllocError>
-        ensures found { IfOk result (λ exits. drop progress.old.index self.now.map.now.entries.items
-            ≡ exits ∷ drop progress.new.index self.now.map.now.entries.items) }
-        ensures others { OnOk result (progress.new
-            ≡ record progress.old { index = progress.new.index }) }
+    // The possible ends of the next block or statement.
+    fn next_exits(&self, progress: &mut Progress) -> Exits
+        requires { progress.old.index < length self.now.map.now.entries.items }
+        ensures found { drop progress.old.index self.now.map.now.entries.items
+            ≡ result ∷ drop progress.new.index self.now.map.now.entries.items }
+        ensures others { progress.new ≡ record progress.old { index = progress.new.index } }
     {
-        match self.map.entries.get(progress.index) {
-            None => Err(AllocError),
-            Some(exits) => {
-                progress.index += 1;
-                Ok(*exits)
-            }
-        }
+        let exits = self.map.entries[progress.index];
+        progress.index += 1;
+        exits
     }
 
     // Comes to a block or statement: gives its possible ends, and adds the flow of the pc where there is one only.
@@ -58,6 +55,7 @@ impl<'a> Walk<'a> {
         takers: Takers,
         progress: &mut Progress,
     ) -> Result<Exits, AllocError>
+        requires { progress.old.index < length self.now.map.now.entries.items }
         ensures exits { IfOk result (λ exits. (first : Exits) (left : List Exits) →
             drop progress.old.index self.now.map.now.entries.items ≡ first ∷ left →
             exits ≡ first) }
@@ -68,7 +66,7 @@ impl<'a> Walk<'a> {
             single (one_end ends) named (takers_of takers progress.old.thrown.items) ends) 0
             progress.old progress.new) }
     {
-        let exits = self.next_exits(progress)?;
+        let exits = self.next_exits(progress);
         self.add_single(
             exits,
             pc,
@@ -212,6 +210,7 @@ impl<'a> Walk<'a> {
         takers: Takers,
         progress: &mut Progress,
     ) -> Result<Tried, AllocError>
+        requires { AreHandledInside handlers.now progress.old.thrown.items }
         ensures { IfOk result (λ tried. IsTried takers handlers.now
             progress.old progress.new tried) }
     {

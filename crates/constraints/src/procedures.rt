@@ -2,14 +2,15 @@
 ghost use Rattle.constraints.specs.Added.{AreAdded};
 ghost use Rattle.constraints.specs.LeftSides.{scope_of};
 ghost use Rattle.constraints.specs.Procedures.{AreDeclaredTakers, StaysInPlace, IsOf, IsProcedureWalked, end_takers_of, number_in};
+ghost use Rattle.constraints.specs.Ready.{AreThrownInside, IsProcedureReady};
 ghost use Rattle.constraints.specs.Takers.{AreWithin};
-ghost use Rattle.gathering.specs.Walk.{end_constraints, ends_one_way, made_from, program_constraints, thrown_constraints};
+ghost use Rattle.gathering.specs.Walk.{end_constraints, has_one_end, made_from, program_constraints, thrown_constraints};
 ghost use Rattle.path_map.specs.Exits.{exits_of};
 ghost use Rattle.path_map.specs.Paths.{program_paths};
 ghost use Rattle.resolved.specs.CoreOf.{program_of};
 ghost use Rattle.resolved.specs.ProgramOf.{thrown_entry};
 ghost use Rattle.resolved.specs.Labelled.{here};
-ghost use Rattle.std.specs.Prelude.{IfOk, List, OnOk, [], map, suc, ℕ, ◌<◌, ◌≡◌};
+ghost use Rattle.std.specs.Prelude.{IfOk, List, OnOk, [], length, map, suc, ℕ, ◌<◌, ◌≡◌};
 ghost use Rattle.constraints.specs.declared.takers.Entry.{Entry};
 
 use crate::lefts::left_of_pc;
@@ -34,9 +35,11 @@ fn take_declared(
     level: u32,
     thrown: &mut Vec<Entry>,
 ) -> Result<(), AllocError>
-    ensures { OnOk result ((barrier : ℕ) → barrier < level → AreWithin barrier thrown.old.items →
-        AreDeclaredTakers (map thrown_entry throws.now) number level thrown.old.items
-        thrown.new.items) }
+    requires { AreThrownInside throws.now thrown.old.items }
+    ensures wide { OnOk result (length thrown.new.items ≡ length thrown.old.items) }
+    ensures taken { OnOk result ((barrier : ℕ) → barrier < level →
+        AreWithin barrier thrown.old.items → AreDeclaredTakers (map thrown_entry throws.now)
+        number level thrown.old.items thrown.new.items) }
 {
     // What was there is not put back: its level is not above the barrier of this procedure.
     let mut saved = Vec::new(alloc);
@@ -84,10 +87,10 @@ impl<'a> Walk<'a> {
         only: bool,
         progress: &mut Progress,
     ) -> Result<(), AllocError>
-        ensures kept { OnOk result (StaysInPlace progress.old progress.new) }
+        ensures unchanged { OnOk result (StaysInPlace progress.old progress.new) }
         ensures added { OnOk result ((level : ℕ) (had : List Entry) →
             IsOf self.now.table.now.core.now self.now.procedure procedure.now →
-            only ≡ ends_one_way (scope_of self.now.table.now.core.now self.now.procedure) →
+            only ≡ has_one_end (scope_of self.now.table.now.core.now self.now.procedure) →
             AreDeclaredTakers (here (scope_of self.now.table.now.core.now
             self.now.procedure)).throws (suc number) level had progress.old.thrown.items →
             AreAdded self.now.table.now.core.now self.now.table.now.written.items
@@ -118,6 +121,8 @@ impl<'a> Walk<'a> {
         barrier: u32,
         progress: &mut Progress,
     ) -> Result<(), AllocError>
+        requires { IsProcedureReady self.now.table.now.core.now self.now.map.now.entries.items
+            self.now.procedure barrier procedure.now progress.old }
         ensures { OnOk result (IsOf self.now.table.now.core.now self.now.procedure procedure.now →
             IsProcedureWalked self.now.table.now.core.now self.now.table.now.written.items
             self.now.map.now.entries.items self.now.procedure barrier progress.old progress.new) }
@@ -184,9 +189,7 @@ pub(crate) fn walk_procedures(
         number: 0,
         level: 0,
     };
-    let Some(exceptions) = table.core.exceptions.len().checked_add(BUILT_IN as usize) else {
-        return Err(AllocError);
-    };
+    let exceptions = table.core.exceptions.len() + BUILT_IN as usize;
     let mut progress = Progress {
         index: 0,
         number: 0,
@@ -194,9 +197,7 @@ pub(crate) fn walk_procedures(
         thrown: vec![in alloc; none; exceptions]?,
     };
     for (i, procedure) in table.core.procedures.iter().enumerate() {
-        let Ok(number) = u32::try_from(i) else {
-            return Err(AllocError);
-        };
+        let number = i as u32;
         let walk = Walk {
             alloc,
             table,

@@ -18,8 +18,8 @@ use resolved::target::Target;
 use solver::System;
 use std::alloc::{AllocError, Global};
 
-/// What a program asks of labels: constraints with numbers for the labels that are not written, or out of memory. It is a precondition
-/// that the path map is that of the program.
+/// Gathers the label constraints of a program, with numbers for the labels that are not written. Fails only for out of memory.
+/// Precondition: the path map is that of the program.
 ///
 /// It takes time and memory in proportion to the program, and for each call to the exceptions that its callee declares.
 pub fn gather(

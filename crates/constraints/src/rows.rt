@@ -11,7 +11,7 @@ pub struct ThrownLabel {
 /// The labels of a procedure. A slot without a written label is an unknown, and so is each loop: those of the slots have the numbers
 /// from `first` on, those of the loops the numbers from `loops` on.
 #[derive(Drop)]
-pub struct Row {
+pub struct ProcedureLabels {
     pub begin: Atom,
     pub end: Atom,
     pub value: Atom,

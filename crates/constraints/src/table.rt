@@ -10,7 +10,7 @@ ghost use Rattle.resolved.specs.declared.target.Target.TheVariants.{ToParameter,
 ghost use Rattle.std.specs.Prelude.{IfOk, slice_index_or, ◌≡◌};
 
 use crate::building::{channel_parts, global_parts, rows_of};
-use crate::rows::{Row, ThrownLabel};
+use crate::rows::{ProcedureLabels, ThrownLabel};
 use crate::written::{Labels, add};
 use gathering::unknowns::number_after;
 use labels::Label;
@@ -30,8 +30,8 @@ pub struct Table<'a> {
     nothing: Atom,
     channels: Vec<Atom>,
     globals: Vec<Atom>,
-    rows: Vec<Row>,
-    outside: Row,
+    rows: Vec<ProcedureLabels>,
+    outside: ProcedureLabels,
     ghost are: { IsTable core.now written.items nothing channels.items globals.items rows.items
         outside },
     ghost count: { unknowns ≡ real_unknowns (program_of core.now) },
@@ -79,7 +79,7 @@ impl<'a> Table<'a> {
         let channels = channel_parts(alloc, &mut written, &core.channels)?;
         let globals = global_parts(alloc, &mut written, &core.globals)?;
         let (rows, unknowns) = rows_of(alloc, &mut written, &core.procedures)?;
-        let outside = Row {
+        let outside = ProcedureLabels {
             begin: nothing,
             end: nothing,
             value: nothing,
@@ -117,7 +117,7 @@ impl<'a> Table<'a> {
     }
 
     // The row of a procedure.
-    pub(crate) fn row(&self, procedure: u32) -> &Row
+    pub(crate) fn row(&self, procedure: u32) -> &ProcedureLabels
         ensures { IsRow self.now.written.items
             (unknowns_before (program_of self.now.core.now) procedure)
             (procedure_at (program_of self.now.core.now) procedure) result.now }

@@ -1,9 +1,10 @@
 //! Where the label of each end flows.
+ghost use Rattle.constraints.specs.Ready.{AreHandledInside};
 ghost use Rattle.constraints.specs.Takers.{AreLevelled, AreWithin, entry_after, entry_in_try, no_entry, taker_of, takers_of, undone};
 ghost use Rattle.gathering.specs.Walk.{in_loop, with_normal, within_single};
 ghost use Rattle.resolved.specs.TreeOf.{handlers_of};
 ghost use Rattle.resolved.specs.declared.statement.Handler.{Handler};
-ghost use Rattle.std.specs.Prelude.{IfOk, List, OnOk, map, set, slice_index_or, ℕ, ◌+◌, ◌≡◌};
+ghost use Rattle.std.specs.Prelude.{IfOk, List, OnOk, length, map, set, slice_index_or, ℕ, ◌+◌, ◌<◌, ◌≡◌};
 ghost use Rattle.constraints.specs.declared.takers.Entry.{Entry};
 
 use gathering::unknowns::number_after;
@@ -59,14 +60,14 @@ fn taker_in(barrier: u32, entry: Entry) -> Option<u32>
     None
 }
 
-/// Sets the taker of an exception, unless there is one of the same level already, and saves the entry that was there. An exception
-/// behind the last entry has no place, and is answered as out of memory.
-pub fn take(
+/// Sets the taker of an exception, unless there is one of the same level already, and saves the entry that was there.
+pub(crate) fn take(
     exception: u32,
     entry: Entry,
     thrown: &mut Vec<Entry>,
     saved: &mut Vec<Saved>,
 ) -> Result<(), AllocError>
+    requires { exception < length thrown.old.items }
     ensures undone { OnOk result (undone saved.new.items thrown.new.items
         ≡ undone saved.old.items thrown.old.items) }
     ensures taken { OnOk result ((x : ℕ) → slice_index_or thrown.new.items x no_entry
@@ -76,15 +77,11 @@ pub fn take(
     if old.level == entry.level {
         return Ok(());
     }
-    let at = exception as usize;
-    if at >= thrown.len() {
-        return Err(AllocError);
-    }
     saved.push(Saved {
         exception,
         entry: old,
     })?;
-    thrown[at] = entry;
+    thrown[exception as usize] = entry;
     Ok(())
 }
 
@@ -116,6 +113,7 @@ pub(crate) fn take_handled(
     thrown: &mut Vec<Entry>,
     saved: &mut Vec<Saved>,
 ) -> Result<(), AllocError>
+    requires { AreHandledInside handlers.now thrown.old.items }
     ensures undone { OnOk result (undone saved.new.items thrown.new.items
         ≡ undone saved.old.items thrown.old.items) }
     ensures taken { OnOk result ((x : ℕ) → slice_index_or thrown.new.items x no_entry

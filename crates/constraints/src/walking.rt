@@ -1,10 +1,11 @@
 //! The walk along blocks, statements and handlers that adds what is gathered of them.
+ghost use Rattle.constraints.specs.Ready.{AreHandlersReady, AreStatementsReady, IsBlockReady, IsFormReady, IsStatementReady};
 ghost use Rattle.constraints.specs.Walked.{AreHandlersWalked, AreStatementsWalked, IsBlockWalked, IsStatementWalked, IsFormWalked};
 ghost use Rattle.path_map.specs.declared.exits.Exits.{Exits};
 ghost use Rattle.resolved.specs.Tree.{If, Try, While};
 ghost use Rattle.resolved.specs.TreeOf.{block_of, expression_of, handlers_of, statement_of};
 ghost use Rattle.resolved.specs.declared.statement.Handler.{Handler};
-ghost use Rattle.std.specs.Prelude.{IfOk, List, OnOk, drop, map, ℕ, ◌∷◌, ◌≡◌};
+ghost use Rattle.std.specs.Prelude.{IfOk, List, OnOk, drop, length, map, ℕ, ◌∷◌, ◌≡◌};
 
 use crate::progress::Progress;
 use crate::statements::Walk;
@@ -15,17 +16,19 @@ use resolved::statement::{Handler, Statement};
 use solver::Atom;
 use std::alloc::AllocError;
 
-/// Adds what is gathered of a block of its own that is reached at this pc, or answers out of memory, also where the path map has
-/// no entry for it or the numbers do not suffice. It takes the block's entries of the path map and its inner unknowns from the
-/// progress on, and leaves the takers of exceptions as they are.
+/// Adds what is gathered of a block of its own that is reached at this pc, or answers out of memory, also where the numbers do not
+/// suffice. It takes the block's entries of the path map and its inner unknowns from the progress on, and leaves the takers of
+/// exceptions as they are. It is a precondition that the block is of the program, and that the path map goes on with its entries.
 #[cycle(walk)]
-pub fn walk_block(
+pub(crate) fn walk_block(
     walk: &Walk,
     block: &[Statement],
     pc: Atom,
     takers: Takers,
     progress: &mut Progress,
 ) -> Result<(), AllocError>
+    requires { IsBlockReady walk.now.table.now.core.now walk.now.map.now.entries.items
+        walk.now.procedure takers (block_of block.now) progress.old }
     ensures { OnOk result (IsBlockWalked walk.now.table.now.core.now
         walk.now.table.now.written.items walk.now.map.now.entries.items walk.now.procedure
         pc takers (block_of block.now) progress.old progress.new) }
@@ -45,6 +48,8 @@ fn walk_statements(
     takers: Takers,
     progress: &mut Progress,
 ) -> Result<(), AllocError>
+    requires { AreStatementsReady walk.now.table.now.core.now walk.now.map.now.entries.items
+        walk.now.procedure takers (block_of block.now) progress.old }
     ensures { OnOk result (AreStatementsWalked walk.now.table.now.core.now
         walk.now.table.now.written.items walk.now.map.now.entries.items walk.now.procedure
         pc takers (block_of block.now) progress.old progress.new) }
@@ -71,6 +76,8 @@ fn walk_statement(
     takers: Takers,
     progress: &mut Progress,
 ) -> Result<Exits, AllocError>
+    requires { IsStatementReady walk.now.table.now.core.now walk.now.map.now.entries.items
+        walk.now.procedure takers (statement_of statement.now) progress.old }
     ensures exits { IfOk result (λ exits. (first : Exits) (left : List Exits) →
         drop progress.old.index walk.now.map.now.entries.items ≡ first ∷ left → exits ≡ first) }
     ensures added { OnOk result (IsStatementWalked walk.now.table.now.core.now
@@ -95,6 +102,8 @@ fn walk_form(
     takers: Takers,
     progress: &mut Progress,
 ) -> Result<(), AllocError>
+    requires { IsFormReady walk.now.table.now.core.now walk.now.map.now.entries.items
+        walk.now.procedure takers (statement_of statement.now) progress.old }
     ensures { OnOk result (IsFormWalked walk.now.table.now.core.now
         walk.now.table.now.written.items walk.now.map.now.entries.items walk.now.procedure
         pc takers (statement_of statement.now) progress.old progress.new) }
@@ -142,6 +151,10 @@ fn walk_if(
     takers: Takers,
     progress: &mut Progress,
 ) -> Result<(), AllocError>
+    requires { IsFormReady walk.now.table.now.core.now walk.now.map.now.entries.items
+        walk.now.procedure takers
+        (If 0 (expression_of condition.now) (block_of yes_block.now) (block_of no_block.now))
+        progress.old }
     ensures { OnOk result ((at : ℕ) →
         IsFormWalked walk.now.table.now.core.now
         walk.now.table.now.written.items walk.now.map.now.entries.items walk.now.procedure
@@ -168,6 +181,9 @@ fn walk_while(
     takers: Takers,
     progress: &mut Progress,
 ) -> Result<(), AllocError>
+    requires { IsFormReady walk.now.table.now.core.now walk.now.map.now.entries.items
+        walk.now.procedure takers
+        (While at number (expression_of condition.now) (block_of body.now)) progress.old }
     ensures { OnOk result (IsFormWalked walk.now.table.now.core.now
         walk.now.table.now.written.items walk.now.map.now.entries.items walk.now.procedure
         pc takers (While at number (expression_of condition.now) (block_of body.now))
@@ -190,6 +206,9 @@ fn walk_try(
     takers: Takers,
     progress: &mut Progress,
 ) -> Result<(), AllocError>
+    requires { IsFormReady walk.now.table.now.core.now walk.now.map.now.entries.items
+        walk.now.procedure takers (Try 0 (block_of block.now) (handlers_of handlers.now))
+        progress.old }
     ensures { OnOk result ((at : ℕ) →
         IsFormWalked walk.now.table.now.core.now
         walk.now.table.now.written.items walk.now.map.now.entries.items walk.now.procedure
@@ -212,6 +231,9 @@ fn walk_handlers(
     takers: Takers,
     progress: &mut Progress,
 ) -> Result<(), AllocError>
+    requires numbered { length numbers.now ≡ length handlers.now }
+    requires ready { AreHandlersReady walk.now.table.now.core.now walk.now.map.now.entries.items
+        walk.now.procedure takers (handlers_of handlers.now) progress.old }
     ensures { OnOk result ((number : ℕ → ℕ) (pc : Atom) →
         numbers.now ≡ map (λ (handler : Handler). number handler.exception) handlers.now →
         AreHandlersWalked walk.now.table.now.core.now
@@ -219,10 +241,7 @@ fn walk_handlers(
         pc takers number (handlers_of handlers.now) progress.old progress.new) }
 {
     for (i, handler) in handlers.iter().enumerate() {
-        let Some(number) = numbers.get(i) else {
-            return Err(AllocError);
-        };
-        let pc = walk.table.inner(*number)?;
+        let pc = walk.table.inner(numbers[i])?;
         walk_block(walk, &handler.body, pc, takers, progress)?;
     }
     Ok(())

@@ -1,3 +1,3 @@
 pub mod Texts
-mod Kept
+mod Canonical
 mod Lists

@@ -15,7 +15,7 @@ use Rattle.resolved.specs.declared.tables.Slot.{Slot}
 use Rattle.channels.specs.Sink.{AppendsPrefix}
 use Rattle.checker.specs.Least.{least_label}
 use Rattle.checker.specs.declared.checked.Checked.{Checked}
-use Rattle.explaining.proofs.Kept.{kept, kept-above, kept-below, kept-canonical}
+use Rattle.explaining.proofs.Canonical.{canonical, canonical-above, canonical-below, IsCanonicalLabel-canonical}
 use Rattle.explaining.specs.Text.{Writes, WritesPrefix}
 use Rattle.explaining.specs.Locals.{AreLines, IsLocalLine, LocalEntry, if_unlabelled, local_line, local_of, locals_from, locals_in}
 use Rattle.explaining.specs.Locals.AreLines.{none, one_more}
@@ -107,11 +107,11 @@ module _ (source : List ℕ) (checked : Checked) where
   lines-there (local ∷ locals) =
       let h = (program_of checked.core).hierarchy in
       let least = least_label checked (OfLocal local.procedure local.number) in
-      let line = local_line source h local (kept least) in
+      let line = local_line source h local (canonical least) in
       let rest = lines-there locals in (
         line ++ rest.0,
         one_more local locals line rest.0
-            (kept least, kept-canonical least, record { to = kept-above h least; from = kept-below h least }, refl) rest.1,
+            (canonical least, IsCanonicalLabel-canonical least, record { to = canonical-above h least; from = canonical-below h least }, refl) rest.1,
       )
 
   -- the line of a local that has no written label

@@ -4,7 +4,9 @@ use Rattle.std.proofs.KnownBytes.{Appends-nil, Appends-trans}
 use Rattle.std.proofs.lemmas.List.{append-nil, take-append-drop, take_all, take_more}
 use Rattle.std.specs.Io.KnownBytes.{Appends}
 use Rattle.std.specs.Prelude.{flat_map}
+use Rattle.std.proofs.lemmas.Grind.{flat_map-append}
 use Rattle.channels.specs.Sink.{AppendsPrefix}
+use Rattle.channels.proofs.Sinks.{cut_front}
 
 -- what was written is a prefix of what was to be written, where nothing or a part of the rest was
 module _ (old mid new : Option (List ℕ)) (front back : List ℕ) where
@@ -17,15 +19,6 @@ module _ (old mid new : Option (List ℕ)) (front back : List ℕ) where
     (part.1.0, append_assoc front part.0 part.1.0 ∙ ap (λ text. front ++ text) part.1.1),
     Appends-trans old mid new front part.0 before part.2,
   )
-
--- a prefix of a front is a prefix of all
-pub cut_front : (old new : Option (List ℕ)) (front back line : List ℕ) → line ≡ front → AppendsPrefix old new line
-    → AppendsPrefix old new (front ++ back)
-cut_front old new front back line is part = (
-  part.0,
-  (part.1.0 ++ back, sym (append_assoc part.0 part.1.0 back) ∙ ap (λ text. text ++ back) (part.1.1 ∙ is)),
-  part.2,
-)
 
 -- the front was written, and then the rest, if a call was done
 module _ {X Y : Type 0} (old mid new : Option (List ℕ)) (front back line rest : List ℕ) where
@@ -49,20 +42,16 @@ cut_first old text = ([], (text, refl), Appends-nil old)
 
 -- ---- a text that is made of pieces, one for each of a list
 module _ {X : Type 0} (f : X → List ℕ) where
-  pub flat_map-append : (xs ys : List X) → flat_map f (xs ++ ys) ≡ flat_map f xs ++ flat_map f ys
-  flat_map-append [] ys = refl
-  flat_map-append (x ∷ xs) ys = ap (λ text. f x ++ text) (flat_map-append xs ys) ∙ sym (append_assoc (f x) (flat_map f xs) (flat_map f ys))
-
   -- the pieces of one more
   pub flat_map-more : (xs : List X) (i : ℕ) (d : X) → i < length xs → flat_map f (take i xs) ++ f (get_or xs i d) ≡ flat_map f (take (i + 1) xs)
   flat_map-more xs i d within =
       ap (λ text. flat_map f (take i xs) ++ text) (sym (append-nil (f (get_or xs i d))))
-      ∙ sym (flat_map-append (take i xs) (get_or xs i d ∷ []))
+      ∙ sym (flat_map-append f (take i xs) (get_or xs i d ∷ []))
       ∙ ap (flat_map f) (sym (take_more xs i d within))
 
   -- and those of the rest
   pub flat_map-rest : (xs : List X) (i : ℕ) → flat_map f (take i xs) ++ flat_map f (drop i xs) ≡ flat_map f xs
-  flat_map-rest xs i = sym (flat_map-append (take i xs) (drop i xs)) ∙ ap (flat_map f) (take-append-drop i xs)
+  flat_map-rest xs i = sym (flat_map-append f (take i xs) (drop i xs)) ∙ ap (flat_map f) (take-append-drop i xs)
 
   module _ (old : Option (List ℕ)) (xs : List X) (i : ℕ) where
     pub one_more : (d : X) (mid new : Option (List ℕ)) (line : List ℕ) → i < length xs → line ≡ f (get_or xs i d)

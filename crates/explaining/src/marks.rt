@@ -9,7 +9,7 @@ use lexer::Place;
 use std::alloc::{AllocError, Global};
 
 /// How many bytes lie between two marks.
-const STRIDE: usize = 256;
+pub const STRIDE: usize = 256;
 
 /// A text with marks: the places of its first byte and of every 256th after it. From a mark it is never far to a byte.
 #[derive(Drop)]

@@ -21,7 +21,7 @@ use Rattle.flowc.specs.Stdout.{CanRun, ShowsRun, ShowsSome, numbers_in, text_sho
 use Rattle.flowc.specs.Task.{reported_status}
 use Rattle.flowc.specs.declared.fault.PerformFault.{PerformFault}
 use Rattle.flowc.specs.declared.ended.Ended.{Ended}
-use Rattle.flowc.specs.View.{IsObserver, view_for, view_text}
+use Rattle.flowc.specs.View.{IsObserver, observer_view, view_text}
 
 -- what was written to its end was written as a prefix
 pub appended_all : (old new : Option (List ℕ)) (text : List ℕ) → Appends old new text → AppendsPrefix old new text
@@ -36,18 +36,18 @@ can_run code text name m principal h spelled no_defect encoded right observed is
   no_defect = no_defect;
   encoded = encoded;
   right = right;
-  observed = subst (λ (people : PrincipalHierarchy). IsObserver people name principal) is observed;
+  observed = subst (λ (hierarchy : PrincipalHierarchy). IsObserver hierarchy name principal) is observed;
 }
 
 -- a prefix of what is shown of a run was written
 pub cut_off : (code text : List ℕ) (name : Option (List ℕ)) (steps : ℕ) (old new : Option (List ℕ)) (m program : ModuleContents) (principal : Option ℕ) (taken : ℕ)
     (pairs : List Pair) (before after : Machine) → CanRun code text name m principal → taken ≤ steps → program ≡ m
     → before ≡ Running (first_state m (numbers_in m text)) → after ≡ exec (machine_code m) taken before → pairs ≡ sent_of after
-    → AppendsPrefix old new (view_text program (view_for program principal pairs)) → ShowsSome code text name steps old new
+    → AppendsPrefix old new (view_text program (observer_view program principal pairs)) → ShowsSome code text name steps old new
 cut_off code text name steps old new m program principal taken pairs before after can within is first reached sent part =
-    let all : view_text program (view_for program principal pairs) ≡ text_shown m text principal taken =
-    ap (λ (w : ModuleContents). view_text w (view_for w principal pairs)) is
-    ∙ ap (λ (list : List Pair). view_text m (view_for m principal list)) (sent ∙ ap sent_of reached ∙ ap (λ (x : Machine). sent_of (exec (machine_code m) taken x)) first) in
+    let all : view_text program (observer_view program principal pairs) ≡ text_shown m text principal taken =
+    ap (λ (w : ModuleContents). view_text w (observer_view w principal pairs)) is
+    ∙ ap (λ (list : List Pair). view_text m (observer_view m principal list)) (sent ∙ ap sent_of reached ∙ ap (λ (x : Machine). sent_of (exec (machine_code m) taken x)) first) in
     let cut = subst (λ (t : List ℕ). AppendsPrefix old new t) all part in
     inr (cut.0, record { program = m; principal = principal; taken = taken; can_run = can; within = within; prefix = cut.1 }, cut.2)
 
@@ -61,14 +61,14 @@ module _ (code text : List ℕ) (name : Option (List ℕ)) (steps : ℕ) (m prog
 
   -- it was shown, with the status that reports how it then stands
   pub shows_run : (old new : Option (List ℕ)) (pairs : List Pair) (result : Result Ended PerformFault) → pairs ≡ sent_of after
-      → Appends old new (view_text program (view_for program principal pairs))
+      → Appends old new (view_text program (observer_view program principal pairs))
       → IfOk result (λ ended. ended.status ≡ reported_status principal end)
       → IfOk result (λ ended. ShowsRun code text name steps ended.status old new)
   shows_run old new pairs (Err fault) sent view status = tt
   shows_run old new pairs (Ok ended) sent view status =
-      let all : view_text program (view_for program principal pairs) ≡ text_shown m text principal taken =
-      ap (λ (w : ModuleContents). view_text w (view_for w principal pairs)) is
-      ∙ ap (λ (list : List Pair). view_text m (view_for m principal list)) (sent ∙ ap sent_of there) in
+      let all : view_text program (observer_view program principal pairs) ≡ text_shown m text principal taken =
+      ap (λ (w : ModuleContents). view_text w (observer_view w principal pairs)) is
+      ∙ ap (λ (list : List Pair). view_text m (observer_view m principal list)) (sent ∙ ap sent_of there) in
       record {
         program = m;
         principal = principal;

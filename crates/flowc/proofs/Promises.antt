@@ -6,7 +6,7 @@ use Rattle.std.specs.String.{string_bytes}
 use Rattle.principals.specs.ActsFor.{PrincipalHierarchy, AllDifferent, HasName}
 use Rattle.principals.proofs.Names.{one_number}
 use Rattle.labels.specs.declared.sent.Pair.{Pair}
-use Rattle.labels.specs.Sent.{IsPrefix, pairs_for}
+use Rattle.labels.specs.Sent.{IsPrefix, pairs_for, OneIsPrefix}
 use Rattle.labels.proofs.Prefixes.{prefix-itself, prefixes-of-two, prefix-through, seen-prefix}
 use Rattle.resolved.specs.Labelled as labels
 use Rattle.resolved.specs.Meaning.{sent_by}
@@ -15,7 +15,7 @@ use Rattle.bytecode.specs.Contents.{ModuleContents}
 use Rattle.module_file.specs.Decoded.{first_refusal}
 use Rattle.bytecode.specs.Form.{Fits, Spells}
 use Rattle.bytecode.specs.Format.{contents, hierarchy, module_file}
-use Rattle.bytecode.specs.Isolated.{AgreeOnInputs, IsIsolated, OneIsPrefix, channel_label, seen_of}
+use Rattle.bytecode.specs.Isolated.{AgreeOnInputs, IsIsolated, channel_label, module_view}
 use Rattle.module_file.proofs.Facts.{principals-different}
 use Rattle.bytecode.specs.Machine.{Machine, Ending, after_steps, machine_code, sent_after, sent_of}
 use Rattle.channels.specs.World.{InputNumbers, input_names, numbers_of_channel}
@@ -35,7 +35,7 @@ use Rattle.host.specs.Meaning.{CanOpen}
 use Rattle.host.proofs.Ends.{end_of_status, same_at}
 use Rattle.flowc.specs.Compiled.{bytes_at}
 use Rattle.flowc.specs.Lines.{end_line}
-use Rattle.flowc.specs.Promises.{RunsAreIsolated, RunsEndAsTheSource, RunsShowThemselves, SessionsAreIsolated, SessionsEndAsTheSource, SessionsShowNoLess, SessionsShowNoMore, SilentModulesShowLess, SomeSessionsShowAll, StandardErrorIsFixed, module_in, program_in, seen_by}
+use Rattle.flowc.specs.Promises.{RunsAreIsolated, RunsEndAsTheSource, RunsShowThemselves, SessionsAreIsolated, SessionsEndAsTheSource, SessionsShowNoLess, SessionsShowNoMore, SilentModulesShowLess, SomeSessionsShowAll, StandardErrorIsFixed, module_in, program_in, program_view}
 use Rattle.flowc.specs.Stdout.{CanRun, numbers_in, text_shown}
 use Rattle.flowc.specs.Task.{reported_status}
 use Rattle.flowc.specs.Messages.{IsObserverLine, IsRefusedLine, IsWorldLine, reported_line}
@@ -63,8 +63,8 @@ no_more fresh said source code compiled world p pairs shows =
     let numbers = numbers_of_channel m world in
     let n = sessions.steps_of code world p pairs shows in
     let sees = seen-module program m compiled.code_of.interface p (sent_by program numbers n) in
-    subst (λ (list : List Pair). IsPrefix list (seen_by program p numbers n)) (sym (fresh code world p pairs m compiled.code_of.spelled shows))
-    (subst (λ (list : List Pair). IsPrefix (seen_of m p (sent_after m numbers n)) list) sees
+    subst (λ (list : List Pair). IsPrefix list (program_view program p numbers n)) (sym (fresh code world p pairs m compiled.code_of.spelled shows))
+    (subst (λ (list : List Pair). IsPrefix (module_view m p (sent_after m numbers n)) list) sees
     (seen-prefix m.hierarchy (channel_label m) p (sent_after m numbers n) (sent_by program numbers n) (compiled.code_of.kept.no_more numbers n)))
 
 -- a run that has ended sends no more
@@ -84,7 +84,7 @@ shown-by fresh said source code compiled world p sent pairs shows later =
     let n = sessions.steps_of code world p pairs shows in
     subst (λ (list : List Pair). IsPrefix (pairs_for (program_in compiled).hierarchy (labels.channel_label (program_in compiled)) p sent) list)
     (sym (fresh code world p pairs m compiled.code_of.spelled shows))
-    (subst (λ (list : List Pair). IsPrefix list (seen_of m p (sent_after m numbers n)))
+    (subst (λ (list : List Pair). IsPrefix list (module_view m p (sent_after m numbers n)))
     (seen-module (program_in compiled) m compiled.code_of.interface p sent)
     (seen-prefix m.hierarchy (channel_label m) p sent (sent_after m numbers n) later))
 
@@ -119,7 +119,7 @@ ends_as_the_source fresh ends said source code compiled world p pairs shows endi
     let source_ends = compiled.code_of.kept.ends_so numbers n ending (sent_after m numbers n) over in (
       source_ends.0,
       fresh code world p pairs m compiled.code_of.spelled shows
-          ∙ ap (λ (list : List Pair). seen_of m p list) (sym source_ends.1)
+          ∙ ap (λ (list : List Pair). module_view m p list) (sym source_ends.1)
           ∙ seen-module program m compiled.code_of.interface p (sent_by program numbers n),
     )
 
@@ -140,9 +140,9 @@ pub silent_show_less : SilentModulesShowLess
 silent_show_less program m code world p turns can never_stuck there silent some less =
     let law = less world p turns in
     let session = opened_for code world m can never_stuck p there law.0 in
-    let nothing : session.pairs ≡ [] = session.sees ∙ ap (λ (list : List Pair). seen_of m p list) (silent session.taken) in
-    some (prefix_of_nothing (seen_by program p (numbers_of_channel m world) turns)
-    (subst (λ (list : List Pair). IsPrefix (seen_by program p (numbers_of_channel m world) turns) list) nothing
+    let nothing : session.pairs ≡ [] = session.sees ∙ ap (λ (list : List Pair). module_view m p list) (silent session.taken) in
+    some (prefix_of_nothing (program_view program p (numbers_of_channel m world) turns)
+    (subst (λ (list : List Pair). IsPrefix (program_view program p (numbers_of_channel m world) turns) list) nothing
     (law.1 session.pairs session.shows session.has_run)))
 
 pub isolated : sessions.SessionsAreIsolated → SessionsAreIsolated
@@ -192,7 +192,7 @@ texts_prefix m fits isolated_module name first second agree w v e f (Some p) (So
     subst (λ (x : ModuleContents). OneIsPrefix (text_shown x first (Some p) i) (text_shown v second (Some q) j)) (sym e)
     (subst (λ (x : ModuleContents). OneIsPrefix (text_shown m first (Some p) i) (text_shown x second (Some q) j)) (sym f)
     (subst (λ (n : ℕ). OneIsPrefix (text_shown m first (Some p) i) (text_shown m second (Some n) j)) same
-    (views-prefix m (seen_of m p (sent_after m (numbers_in m first) i)) (seen_of m p (sent_after m (numbers_in m second) j))
+    (views-prefix m (module_view m p (sent_after m (numbers_in m first) i)) (module_view m p (sent_after m (numbers_in m second) j))
     (isolated_module p (numbers_in m first) (numbers_in m second) (agree p called) i j))))
 
 pub shows_itself : RunsShowThemselves

@@ -69,7 +69,7 @@ pub observer_message : {X : Type 0} (outcome : Result X PerformFault) (m : Modul
     → IfErr outcome (IsPerformFault (IsRefusedLine code_path text_path code text observer) failed)
 observer_message outcome m h code_path text_path code text observer failed fault spelled no_defect encoded right is =
     passed_on outcome (IsObserverLine h observer) (IsRefusedLine code_path text_path code text observer) failed fault
-    (λ line unknown. of_observer m spelled no_defect encoded right (subst (λ (people : PrincipalHierarchy). IsObserverLine people observer line) is unknown))
+    (λ line unknown. of_observer m spelled no_defect encoded right (subst (λ (hierarchy : PrincipalHierarchy). IsObserverLine hierarchy observer line) is unknown))
 
 -- ---- refusals
 

@@ -2,7 +2,7 @@
 use Rattle.std.proofs.Common.{◌≡◌, ℕ, zero, suc, ◌≤◌, ◌<◌, ◌⊎◌, List, [], ◌∷◌, length, Some, refl, sym, ap, ◌∙◌, subst, inl, inr, ⊎_elim, arith}
 use Rattle.labels.specs.declared.sent.Pair.{Pair}
 use Rattle.bytecode.specs.Contents.{ModuleContents}
-use Rattle.bytecode.specs.Isolated.{seen_of}
+use Rattle.bytecode.specs.Isolated.{module_view}
 use Rattle.bytecode.specs.Machine as machine
 use Rattle.bytecode.specs.Machine.{Machine, Running, Ended, Stuck, Ending, MachineCode, exec, machine_code, sent_after, sent_of, step}
 use Rattle.channels.specs.World.{InputNumbers, numbers_of_channel}
@@ -11,7 +11,7 @@ use Rattle.machine.specs.Run.{IsRunning, ReportsStatus, WasRunning}
 use Rattle.machine.specs.declared.status.Status.{Status}
 use Rattle.machine.specs.declared.status.Status.TheVariants as status
 use Rattle.host.specs.Laws.{Shows, ending_of}
-use Rattle.host.specs.Meaning.{Answered, CanOpen, HostAnswer, HostContents, HostEvent, Open, Opened, SessionContents, Turn, Turned, View, Viewed, first_machine, view_of, with_opened}
+use Rattle.host.specs.Meaning.{Answered, CanOpen, HostAnswer, HostContents, HostEvent, Open, Opened, SessionContents, Turn, Turned, View, Viewed, first_machine, session_view, with_opened}
 use Rattle.flowc.specs.Promises.{HasRun}
 
 -- ---- a run for at most so many steps
@@ -104,7 +104,7 @@ pub record Session (code : List ℕ) (world : List InputNumbers) (m : ModuleCont
   pub shows : Shows code world p pairs
   pub has_run : HasRun shows steps
   pub taken : ℕ
-  pub sees : pairs ≡ seen_of m p (sent_after m (numbers_of_channel m world) taken)
+  pub sees : pairs ≡ module_view m p (sent_after m (numbers_of_channel m world) taken)
 
 module _ (code : List ℕ) (world : List InputNumbers) (m : ModuleContents) (can : CanOpen code world m) (never_stuck : IsNeverStuck m)
     (p : ℕ) (there : p < length m.hierarchy.names) (n : ℕ) where
@@ -133,7 +133,7 @@ module _ (code : List ℕ) (world : List InputNumbers) (m : ModuleContents) (can
   events = Open code world ∷ Turn 0 n ∷ View 0 p ∷ []
 
   abbrev answers : List HostAnswer
-  answers = Opened 0 ∷ Turned run.taken run.stands ∷ Viewed (view_of moved p) ∷ []
+  answers = Opened 0 ∷ Turned run.taken run.stands ∷ Viewed (session_view moved p) ∷ []
 
   answered : Answered 1 empty events answers turned
   unfolding after
@@ -147,7 +147,7 @@ module _ (code : List ℕ) (world : List InputNumbers) (m : ModuleContents) (can
     ),
   )
 
-  shows : Shows code world p (view_of moved p)
+  shows : Shows code world p (session_view moved p)
   shows = record {
     limit = 1;
     old = empty;
@@ -188,4 +188,4 @@ module _ (code : List ℕ) (world : List InputNumbers) (m : ModuleContents) (can
 
   pub opened_for : Session code world m p n
   unfolding after
-  opened_for = record { pairs = view_of moved p; shows = shows; has_run = has_run; taken = run.taken; sees = refl }
+  opened_for = record { pairs = session_view moved p; shows = shows; has_run = has_run; taken = run.taken; sees = refl }

@@ -3,15 +3,16 @@
 use Rattle.std.specs.Prelude.{ℕ, List, ◌++◌, codes, Bool, IsTrue}
 use Rattle.std.specs.Fmt.{decimal}
 use Rattle.std.specs.String.{string_bytes}
-use Rattle.bytecode.specs.Faults.{module_defect_number, module_defect_words}
+use Rattle.bytecode.specs.Defects.{module_defect_number, module_defect_words}
 use Rattle.channels.specs.declared.defect.WorldRefusal.{WorldRefusal}
-use Rattle.channels.specs.Words.{world_number, world_words}
+use Rattle.channels.specs.Defects.{world_number, world_words}
 use Rattle.acceptance.specs.Causes.{cause_number, cause_words}
+use Rattle.acceptance.specs.declared.cause.Cause.TheVariants.{NotUtf8}
 use Rattle.compiler.specs.declared.fault.CompileRefusal.{CompileRefusal}
 use Rattle.resolved.specs.Exceptions.{exception_name}
 use Rattle.machine.specs.declared.status.Status.{Status}
 use Rattle.machine.specs.declared.status.Status.TheVariants as status
-use Rattle.verifier.specs.Words.{code_defect_number, code_defect_words}
+use Rattle.verifier.specs.Defects.{code_defect_number, code_defect_words}
 use Rattle.verifier.specs.declared.loading.LoadRefusal.{LoadRefusal}
 use Rattle.verifier.specs.declared.loading.LoadRefusal.TheVariants.{Bytes, Code}
 use Rattle.flowc.specs.declared.fault.PerformFault.{PerformFault}
@@ -40,7 +41,7 @@ module_line path (Code refusal) =
 
 -- bytes that are to be the text of a world and are no text
 abbrev pub encoding_line : (path : List ℕ) → List ℕ
-encoding_line path = at_one path 1 (saying 100 (codes "not UTF-8"))
+encoding_line path = at_one path 1 (saying (cause_number NotUtf8) (cause_words NotUtf8))
 
 -- what is wrong with the text of a world, at a line
 abbrev pub world_line : (path : List ℕ) → WorldRefusal → List ℕ

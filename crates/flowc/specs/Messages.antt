@@ -14,9 +14,7 @@ use Rattle.channels.specs.Sink.{AppendsPrefix}
 use Rattle.channels.specs.World.{input_names}
 use Rattle.channels.specs.WorldText.{IsWorldRefusal, IsWorldText, lines_of}
 use Rattle.channels.specs.declared.defect.WorldRefusal.{WorldRefusal}
-use Rattle.acceptance.specs.declared.cause.Text.{Text}
-use Rattle.acceptance.specs.declared.cause.Text.TheVariants.{Hierarchy, Source}
-use Rattle.compiler.specs.Reported.{IsFirstFault}
+use Rattle.compiler.specs.Reported.{IsFirstFault, text_among}
 use Rattle.compiler.specs.declared.fault.CompileRefusal.{CompileRefusal}
 use Rattle.machine.specs.Run.{ReportsStatus}
 use Rattle.machine.specs.declared.status.Status.{Status}
@@ -36,16 +34,11 @@ WroteLine line old new failed = Appends old new line ⊎ (IsTrue failed × Appen
 
 -- ---- lines of refusals
 
--- the path of one of the two texts that a module is compiled from
-abbrev pub path_of : (hierarchy source : List ℕ) → Text → List ℕ
-path_of hierarchy source Hierarchy = hierarchy
-path_of hierarchy source Source = source
-
 -- the line reports the first fault of two texts, with the path of the text that it is in
 pub record IsTextsLine (hierarchy_path source_path hierarchy source line : List ℕ) : Type 0 where
   pub refusal : CompileRefusal
   pub first : IsFirstFault hierarchy source refusal
-  pub says : line ≡ text_line (path_of hierarchy_path source_path refusal.text) refusal
+  pub says : line ≡ text_line (text_among hierarchy_path source_path refusal.text) refusal
 
 -- the line reports why the bytes of a module cannot be loaded: their first refusal, or a refusal of the code of the module that
 -- they spell

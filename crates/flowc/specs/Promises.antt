@@ -7,18 +7,18 @@ use Rattle.std.specs.declared.alloc.Global.{Global}
 use Rattle.std.specs.declared.vec.Vec.{Vec}
 use Rattle.principals.specs.ActsFor.{HasName}
 use Rattle.labels.specs.declared.sent.Pair.{Pair}
-use Rattle.labels.specs.Sent.{IsPrefix, pairs_for}
+use Rattle.labels.specs.Sent.{IsPrefix, pairs_for, OneIsPrefix}
 use Rattle.resolved.specs.Labelled.{channel_label}
 use Rattle.resolved.specs.Meaning.{frame_limit, run_within, sent_by}
 use Rattle.resolved.specs.Program.{Program}
 use Rattle.resolved.specs.SourceState.{World}
 use Rattle.bytecode.specs.Contents.{ModuleContents}
-use Rattle.bytecode.specs.Isolated.{AgreeOnInputs, OneIsPrefix}
+use Rattle.bytecode.specs.Isolated.{AgreeOnInputs}
 use Rattle.bytecode.specs.Machine.{Ending, sent_after}
 use Rattle.channels.specs.World.{InputNumbers, input_names, numbers_of_channel}
 use Rattle.verifier.specs.Safety.{IsNeverStuck}
 use Rattle.machine.specs.Run.{names_of}
-use Rattle.lowering.specs.Kept.{ending_of}
+use Rattle.lowering.specs.SameMeaning.{ending_of}
 use Rattle.compiler.specs.Compiled.{IsCompiled}
 use Rattle.host.specs.Laws as sessions
 use Rattle.host.specs.Meaning.{CanOpen}
@@ -29,8 +29,8 @@ use Rattle.flowc.specs.Lines.{end_line}
 use Rattle.flowc.specs.Messages.{IsEndLine, IsTaskLine, IsFailureLine}
 
 -- what a principal sees of what a program sends on a world with so many turns, by the program's own hierarchy and labels
-abbrev pub seen_by : Program → (p : ℕ) → World → (turns : ℕ) → List Pair
-seen_by program p world turns = pairs_for program.hierarchy (channel_label program) p (sent_by program world turns)
+abbrev pub program_view : Program → (p : ℕ) → World → (turns : ℕ) → List Pair
+program_view program p world turns = pairs_for program.hierarchy (channel_label program) p (sent_by program world turns)
 
 -- the program that two compiled texts stand for, and the module that their bytes spell
 abbrev pub program_in : {hierarchy source code : List ℕ} → IsCompiled hierarchy source code → Program
@@ -47,7 +47,7 @@ abbrev pub SessionsShowNoMore : Type 0
 SessionsShowNoMore =
     (hierarchy source code : List ℕ) (compiled : IsCompiled hierarchy source code) (world : List InputNumbers) (p : ℕ)
     (pairs : List Pair) (shows : sessions.Shows code world p pairs)
-    → IsPrefix pairs (seen_by (program_in compiled) p (numbers_of_channel (module_in compiled) world) (sessions.steps_of code world p pairs shows))
+    → IsPrefix pairs (program_view (program_in compiled) p (numbers_of_channel (module_in compiled) world) (sessions.steps_of code world p pairs shows))
 
 -- before its view a session has taken so many steps, or has answered that its run has ended
 abbrev pub HasRun : {code : List ℕ} {world : List InputNumbers} {p : ℕ} {pairs : List Pair}
@@ -61,7 +61,7 @@ abbrev pub ShowNoLess : Program → ModuleContents → (code : List ℕ) → Typ
 ShowNoLess program m code =
     (world : List InputNumbers) (p turns : ℕ)
     → (enough : ℕ) × ((pairs : List Pair) (shows : sessions.Shows code world p pairs) → HasRun shows enough
-    → IsPrefix (seen_by program p (numbers_of_channel m world) turns) pairs)
+    → IsPrefix (program_view program p (numbers_of_channel m world) turns) pairs)
 
 abbrev pub SessionsShowNoLess : Type 0
 SessionsShowNoLess =
@@ -75,7 +75,7 @@ SomeSessionsShowAll =
     (hierarchy source code : List ℕ) (compiled : IsCompiled hierarchy source code) (world : List InputNumbers) (p turns : ℕ)
     → names_of world ≡ input_names (module_in compiled) → p < length (module_in compiled).hierarchy.names
     → (pairs : List Pair) × sessions.Shows code world p pairs
-    × IsPrefix (seen_by (program_in compiled) p (numbers_of_channel (module_in compiled) world) turns) pairs
+    × IsPrefix (program_view (program_in compiled) p (numbers_of_channel (module_in compiled) world) turns) pairs
 
 -- a module that never sends anything shows less: it does not meet `ShowNoLess` for a program of which some principal sees something
 -- on a world on which its bytes can be opened
@@ -84,7 +84,7 @@ SilentModulesShowLess =
     (program : Program) (m : ModuleContents) (code : List ℕ) (world : List InputNumbers) (p turns : ℕ)
     → CanOpen code world m → IsNeverStuck m → p < length m.hierarchy.names
     → ((steps : ℕ) → sent_after m (numbers_of_channel m world) steps ≡ [])
-    → ¬ (seen_by program p (numbers_of_channel m world) turns ≡ []) → ¬ ShowNoLess program m code
+    → ¬ (program_view program p (numbers_of_channel m world) turns ≡ []) → ¬ ShowNoLess program m code
 
 -- where a session has answered that its run has ended, the source ends so with as many turns as the session has taken steps, and
 -- the session shows just what the principal sees of the source
@@ -95,7 +95,7 @@ SessionsEndAsTheSource =
     → let numbers = numbers_of_channel (module_in compiled) world in
     let steps = sessions.steps_of code world p pairs shows in
     (ending_of (run_within frame_limit (program_in compiled) numbers steps) ≡ Some ending)
-    × (pairs ≡ seen_by (program_in compiled) p numbers steps)
+    × (pairs ≡ program_view (program_in compiled) p numbers steps)
 
 -- isolation: two sessions of the bytes, opened by any hosts among any events, on worlds that agree for a principal, show it lists
 -- of which one is a prefix of the other

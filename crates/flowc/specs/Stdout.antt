@@ -22,7 +22,7 @@ use Rattle.command_line.specs.declared.request.Task.TheVariants.{Check, Build, R
 use Rattle.flowc.specs.Compiled.{bytes_at}
 use Rattle.flowc.specs.Explained.{Explains, ExplainsRefusal, ExplainsSome}
 use Rattle.flowc.specs.Task.{reported_status}
-use Rattle.flowc.specs.View.{IsObserver, view_for, view_text}
+use Rattle.flowc.specs.View.{IsObserver, observer_view, view_text}
 
 -- the numbers that the text of a world has for each channel of a module
 abbrev pub numbers_in : ModuleContents → List ℕ → ℕ → List ℤ
@@ -30,7 +30,7 @@ numbers_in program text = numbers_of_channel program (world_of (input_names prog
 
 -- the text of what is shown of a run on the world of a text after so many steps
 abbrev pub text_shown : ModuleContents → (world : List ℕ) → (principal : Option ℕ) → (taken : ℕ) → List ℕ
-text_shown program world principal taken = view_text program (view_for program principal (sent_after program (numbers_in program world) taken))
+text_shown program world principal taken = view_text program (observer_view program principal (sent_after program (numbers_in program world) taken))
 
 -- what can be run for an observer: the bytes of a module without a defect, a world for it, and one of its principals
 pub record CanRun (code text : List ℕ) (observer : Option (List ℕ)) (program : ModuleContents) (principal : Option ℕ) : Type 0 where

@@ -1,7 +1,7 @@
 -- Whom the name of an observer stands for. What is shown of the pairs that a run has sent, and the text that shows it, are the words
 -- of the crate of channels, and are passed on here.
 -- Source: our own; seeing the channels that one may read is the observer of Volpano, Smith and Irvine 1996.
-pub use Rattle.channels.specs.View.{name_in, is_shown, view_for, pair_line, view_text}
+pub use Rattle.channels.specs.View.{name_in, is_shown, observer_view, pair_line, view_text}
 use Rattle.std.specs.Prelude.{◌≡◌, ℕ, List, Option, Some, None}
 use Rattle.principals.specs.ActsFor.{PrincipalHierarchy, HasName}
 

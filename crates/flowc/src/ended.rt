@@ -13,7 +13,7 @@ pub struct Ended {
 }
 
 impl Ended {
-    /// The end of a task where all is well, of which nothing is reported.
+    /// A successful end: status 0 and no line.
     pub fn report_nothing(alloc: Global) -> Ended
         ensures status { result.status ≡ 0 }
         ensures line { string_bytes result.line ≡ [] }

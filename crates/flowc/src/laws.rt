@@ -15,8 +15,9 @@ pub fn sessions_mean_the_source()
     host::laws::sessions_are_fresh_runs();
 }
 
-/// A module that sends nothing does not show what a source means, if some principal sees anything of the source on a world on which
-/// the bytes can be opened: it does not meet what [`sessions_mean_the_source`] says with `no_less` of compiled bytes.
+/// A module of which no run is stuck, and which sends nothing on a world on which its bytes can be opened, does not show what a
+/// source means of which some principal of the module sees anything on that world: it does not meet what
+/// [`sessions_mean_the_source`] says with `no_less` of compiled bytes.
 pub fn silent_modules_show_less()
     ensures { SilentModulesShowLess }
 {}

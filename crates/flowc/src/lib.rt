@@ -12,16 +12,17 @@ mod running;
 mod tasks;
 mod texts;
 
-pub use acceptance::{Cause, Text};
+pub use acceptance::{Cause, EndDefect, HierarchyDefect, LexDefect, NameDefect, ParseDefect, Text};
 pub use bytecode::{Module, ModuleDefect};
 pub use channels::{
     Device, Pair, Sink, SinkFault, ViewFault, World, WorldDefect, WorldFault, WorldRefusal,
 };
-pub use checker::{CheckFault, CheckRefusal};
-pub use command_line::{MAX_STEPS, Task, TaskFault, TaskRefusal, USUAL_STEPS, read_task};
+pub use checker::{CheckFault, CheckRefusal, Checked, RefusedFlow};
+pub use command_line::{DEFAULT_STEPS, MAX_STEPS, Task, TaskFault, TaskRefusal, read_task};
 pub use common::OrNoMemory;
 pub use compiler::{CompileFault, CompileRefusal, TextsFault, TextsRefusal, check_texts, compile};
 pub use host::{Answer, Event, Host, HostFault, HostRefusal, Id, MAX_SESSIONS};
+pub use lexer::Place;
 pub use machine::{NewFault, NewRefusal, Status};
 pub use module_file::{ModuleFault, ModuleRefusal, decode};
 pub use tasks::{TaskResult, perform};

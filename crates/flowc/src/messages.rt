@@ -8,6 +8,7 @@ use acceptance::Cause;
 use channels::WorldRefusal;
 use compiler::CompileRefusal;
 use module_file::ModuleRefusal;
+use principals::{UNKNOWN_PRINCIPAL, UNKNOWN_PRINCIPAL_WORDS};
 use std::alloc::{AllocError, Global};
 use verifier::{CodeRefusal, LoadRefusal};
 
@@ -90,7 +91,6 @@ pub fn text_line(alloc: Global, path: &str, refusal: CompileRefusal) -> Result<S
 pub fn observer_line(alloc: Global, name: &str) -> Result<String, AllocError>
     ensures { IfOk result (λ line. string_bytes line ≡ lines.observer_line name.now) }
 {
-    let cause = Cause::UnknownPrincipal;
-    let (number, words) = (cause.number(), cause.words());
+    let (number, words) = (UNKNOWN_PRINCIPAL, UNKNOWN_PRINCIPAL_WORDS);
     format!(in alloc; "{name}: {number} {words}\n")
 }

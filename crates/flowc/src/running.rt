@@ -20,10 +20,10 @@ ghost use Rattle.verifier.specs.Loaded.{IsLoaded};
 
 use crate::ended::Ended;
 use crate::fault::PerformFault;
-use crate::messages::{observer_line, world_line};
+use crate::messages::observer_line;
 use crate::reading::{File, read_module, read_world};
 use bytecode::Module;
-use channels::{Sink, WorldDefect, WorldRefusal, write_view};
+use channels::{Sink, write_view};
 use common::OrNoMemory;
 use machine::{Machine, NewRefusal, Status};
 use principals::Hierarchy;
@@ -87,13 +87,8 @@ fn start(alloc: Global, code: File<'_>, world: File<'_>) -> Result<Machine, Perf
     match Machine::new(alloc, verified, numbers) {
         Ok(machine) => Ok(machine),
         Err(OrNoMemory::NoMemory) => Err(PerformFault::NoMemory),
-        Err(OrNoMemory::Refused(NewRefusal::UnknownChannel)) => {
-            let refusal = WorldRefusal {
-                line: 1,
-                defect: WorldDefect::UnknownChannel,
-            };
-            Err(PerformFault::Refused(world_line(alloc, world.path, refusal)?))
-        }
+        // The world was read for this module.
+        Err(OrNoMemory::Refused(NewRefusal::UnknownChannel)) => unreachable!(),
     }
 }
 

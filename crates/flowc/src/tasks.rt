@@ -52,12 +52,16 @@ pub fn perform<O: Sink, E: Sink>(
         (E.taken err.old) (E.taken err.new) (E.has_failed err.new) }
 {
     match task {
-        Task::Check { hier, src } => {
-            let (hierarchy, source) = (file_at(hier, files, 0), file_at(src, files, 1));
+        Task::Check { hierarchy, source } => {
+            let (hierarchy, source) = (file_at(hierarchy, files, 0), file_at(source, files, 1));
             finish(check(alloc, hierarchy, source, out), err)
         }
-        Task::Build { hier, src, .. } => {
-            let (hierarchy, source) = (file_at(hier, files, 0), file_at(src, files, 1));
+        Task::Build {
+            hierarchy,
+            source,
+            ..
+        } => {
+            let (hierarchy, source) = (file_at(hierarchy, files, 0), file_at(source, files, 1));
             finish_build(build(alloc, hierarchy, source), err)
         }
         Task::Run {
@@ -70,8 +74,8 @@ pub fn perform<O: Sink, E: Sink>(
             finish(run(alloc, code, world, name_of(observer), *steps, out), err)
         }
         Task::List { file } => finish(list_module(alloc, file_at(file, files, 0), out), err),
-        Task::Explain { hier, src } => {
-            let (hierarchy, source) = (file_at(hier, files, 0), file_at(src, files, 1));
+        Task::Explain { hierarchy, source } => {
+            let (hierarchy, source) = (file_at(hierarchy, files, 0), file_at(source, files, 1));
             finish(explain(alloc, hierarchy, source, out), err)
         }
     }
@@ -81,10 +85,7 @@ pub fn perform<O: Sink, E: Sink>(
 fn name_of(observer: &Option<String>) -> Option<&str>
     ensures { option_map (λ name. name.now) result ≡ option_map string_bytes observer.now }
 {
-    match observer {
-        Some(name) => Some(name.as_str()),
-        None => None,
-    }
+    observer.as_ref().map(|name| name.as_str())
 }
 
 // One of the files that were read, by its path.

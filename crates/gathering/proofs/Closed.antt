@@ -13,16 +13,16 @@ use Rattle.resolved.specs.declared.target.Target.{Target}
 use Rattle.resolved.specs.declared.target.Target.TheVariants.{ToVariable, ToChannel, ToBegin, ToParameter, ToValue, ToLoop}
 use Rattle.resolved.specs.Tree.{Expression, Statement, Assign, Clear, Store, Receive, Send, Call, If, While, Leave, ReturnWith, Try, Nested, Block, Empty, Then, Handlers, NoMore, Catch}
 use Rattle.resolved.specs.Program.{Program, procedure_at}
-use Rattle.resolved.specs.Value.{end_exception}
+use Rattle.common.specs.declared.exceptions.TheConstants.{END}
 use Rattle.resolved.specs.Ends.{same_exit, has_end, one_end, index_raises, raises, raises_all, thrown_ends, declared_by, leaves_loop, handles, passes, statement_ends, block_ends, handlers_ends}
 use Rattle.resolved.specs.Labelled.{Scope, Join, LabelAtom, one, label_of, value_label, raise_label, raise_labels, label_if, call_exits, ExitLabels, at_ends, raised_exits, loop_exits, statement_rule, block_rule, handlers_rule, statement_exits, block_exits}
 use Rattle.gathering.specs.Names.{Real, Inner, NamedAtom, NamedConstraint, named_atoms}
 use Rattle.gathering.specs.Walk.{inner_atom, rule_constraint, target_constraint, inner_constraint, Takers, with_normal, in_loop, handler_count, handler_number, in_try, flow, flows, raised_once, raised_flows, single, within_single, by_ends, onward_pc, raise_atoms, raise_atoms_all, store_atoms, call_atoms, made_by_statement, made_by_block, argument_constraints, call_flows, call_ends, call_constraints, statement_constraints, block_constraints, handlers_constraints}
-use Rattle.gathering.proofs.Ends.{has-left, has-right, has-filter, then-other, then-rest, normal_or_other, exits-single, exits-many, taken_or_passed, in_try-taken, AmongTwo, same-thrown, raises-two, store-two, once-same, call-same}
+use Rattle.gathering.proofs.Ends.{has-left, has-right, has-filter, then-rest, normal_or_other, exits-single, exits-many, taken_or_passed, in_try-taken, AmongTwo, same-thrown, raises-two, store-two, once-same, call-same}
 use Rattle.gathering.proofs.Atoms.{Sub, sub-same, sub-left, sub-right, alike-raise, alike-value, alike-arguments, store_label, alike-store, alike-call}
 use Rattle.gathering.proofs.Reached.{Goes, Part, PartIn, PartBy, Agrees, AgreesIn, AgreesBy}
 use Rattle.common.proofs.Cases.{by_test}
-use Rattle.resolved.proofs.Exits.{same_exit-itself}
+use Rattle.resolved.proofs.Exits.{same_exit-itself, then-other}
 
 pub then-exits : (scope : Scope) (pc : Join) (s : Statement) (rest : Block) (e : Exit) → same_exit Normal e ≡ false →
     Sub (statement_exits scope pc s e) (block_rule scope pc (Then s rest) e)
@@ -281,13 +281,13 @@ module _ (m : ℕ → Join) where
           let label : Join = one (label_of scope.program (ToChannel channel)) in
           let q : List NamedAtom = p ∷ named_atoms label in
           let q_below : Below q (pc ++ label) = below-append (p ∷ []) (named_atoms label) pc label below (below-named label) in
-          closed-append (rule_constraint scope at 4 (p ∷ []) (ToChannel channel)) (target_constraint scope at 4 q target ++ (flow q (takers Normal) ++ flow q (takers (Throw end_exception))))
+          closed-append (rule_constraint scope at 4 (p ∷ []) (ToChannel channel)) (target_constraint scope at 4 q target ++ (flow q (takers Normal) ++ flow q (takers (Throw END))))
           (closed-rule_constraint scope at 4 (p ∷ []) (ToChannel channel))
-          (closed-append (target_constraint scope at 4 q target) (flow q (takers Normal) ++ flow q (takers (Throw end_exception)))
+          (closed-append (target_constraint scope at 4 q target) (flow q (takers Normal) ++ flow q (takers (Throw END)))
           (closed-target scope at 4 q target)
-          (closed-append (flow q (takers Normal)) (flow q (takers (Throw end_exception)))
+          (closed-append (flow q (takers Normal)) (flow q (takers (Throw END)))
           (closed-flow q (takers Normal) (λ k is. below-sub q (pc ++ label) (m k) q_below (take Normal k refl is)))
-          (closed-flow q (takers (Throw end_exception)) (λ k is. below-sub q (pc ++ label) (m k) q_below (take (Throw end_exception) k refl is)))))
+          (closed-flow q (takers (Throw END)) (λ k is. below-sub q (pc ++ label) (m k) q_below (take (Throw END) k refl is)))))
       closed-statement (Send at channel e) p pc takers n part agrees below take =
           closed-demanding at 5 (p ∷ named_atoms (value_label scope e)) (ToChannel channel) (p ∷ named_atoms (raise_atoms scope e)) (pc ++ raise_label scope e)
           takers Normal (raises e) (raises-two e) (pc-below p pc (raise_atoms scope e) (pc ++ raise_label scope e) below (alike-raise scope pc e).0) take

@@ -8,7 +8,7 @@ use Rattle.resolved.specs.Tree.{Statement, Assign, Clear, Store, Receive, Send, 
 use Rattle.resolved.specs.Program.{Program, ProcedureEntry}
 use Rattle.resolved.specs.Labelled.{Scope, here}
 use Rattle.resolved.specs.WellFormed.{statement_nodes, block_nodes, handlers_nodes, procedure_nodes, program_nodes, statement_loops, block_loops, handlers_loops, procedure_fits, well_formed}
-use Rattle.resolved.proofs.Parts.{ProcedureParts, procedure_parts, program_parts, procedure_at_is}
+use Rattle.resolved.proofs.WellFormedParts.{ProcedureParts, procedure_parts, program_parts, procedure_at_is}
 use Rattle.gathering.specs.Names.{own_unknowns, real_unknowns}
 use Rattle.gathering.specs.Walk.{handler_count, made_by_statement, made_by_block, made_by_handlers, made_by_procedure, made_from, unknown_count}
 use Rattle.gathering.proofs.Numbers.{total, total-sum}

@@ -10,7 +10,7 @@ use Rattle.resolved.specs.declared.statement.Exit.{Exit}
 use Rattle.resolved.specs.declared.statement.Exit.TheVariants.{Normal, Return, Break, Continue, Throw}
 use Rattle.resolved.specs.Tree.{Expression, Integer, Logical, Read, Element, Unary, Binary, Short, Handlers}
 use Rattle.resolved.specs.Program.{Program, procedure_at}
-use Rattle.resolved.specs.Value.{arith_exception, bounds_exception}
+use Rattle.common.specs.declared.exceptions.TheConstants.{ARITH, BOUNDS}
 use Rattle.resolved.specs.Ends.{same_exit, has_end, one_end, is_division, divisor_can_raise, index_can_raise, index_raises, operator_raises, raises, raises_all, thrown_ends, declared_by, then_ends, handles, passes}
 use Rattle.resolved.specs.Labelled.{Join, ExitLabels, at_ends}
 use Rattle.gathering.specs.Walk.{Takers, with_normal, in_try, raised_once, call_ends}
@@ -27,13 +27,6 @@ has-right (x ∷ xs) ys e h = or_right (same_exit e x) (has_end (xs ++ ys) e) (h
 
 pub has-filter : (p : Exit → Bool) (ends : List Exit) (e : Exit) → p e ≡ true → has_end ends e ≡ true → has_end (filter p ends) e ≡ true
 has-filter p ends e h k = any-filter_same (same_exit e) p (p e) (λ x s. sym (ap p (same-exit e x s))) ends ∙ rw (h, k) refl
-
-pub then-other : (first rest : List Exit) (e : Exit) → same_exit Normal e ≡ false → has_end first e ≡ true → has_end (then_ends first rest) e ≡ true
-then-other first rest e other h = go (has_end first Normal) refl
-  where
-    go : (b : Bool) → has_end first Normal ≡ b → has_end (then_ends first rest) e ≡ true
-    go true f = rw f (has-left (filter (λ x. not (same_exit Normal x)) first) rest e (has-filter (λ x. not (same_exit Normal x)) first e (rw other refl) h))
-    go false f = rw f h
 
 pub then-rest : (first rest : List Exit) (e : Exit) → has_end first Normal ≡ true → has_end rest e ≡ true → has_end (then_ends first rest) e ≡ true
 then-rest first rest e normal h = rw normal (has-right (filter (λ x. not (same_exit Normal x)) first) rest e h)
@@ -107,7 +100,7 @@ same-thrown xs ys same (Throw x) = thrown-has xs x ∙ same x ∙ sym (thrown-ha
 
 -- the exceptions that an expression can raise
 abbrev pub two : List ℕ
-two = arith_exception ∷ bounds_exception ∷ []
+two = ARITH ∷ BOUNDS ∷ []
 
 abbrev pub AmongTwo : List ℕ → Type 0
 AmongTwo xs = (x : ℕ) → is_in x xs ≡ true → is_in x two ≡ true
@@ -119,23 +112,23 @@ among-append xs ys f g x h =
 among-nil : AmongTwo []
 among-nil x h = let i : false ≡ true = h in absurd (cc)
 
-among-arith : AmongTwo (arith_exception ∷ [])
-among-arith x h = ⊎_elim (λ t. or_left (x == arith_exception) (is_in x (bounds_exception ∷ [])) t) (λ t. let i : false ≡ true = t in absurd (cc)) (or_cases (x == arith_exception) false h)
+among-arith : AmongTwo (ARITH ∷ [])
+among-arith x h = ⊎_elim (λ t. or_left (x == ARITH) (is_in x (BOUNDS ∷ [])) t) (λ t. let i : false ≡ true = t in absurd (cc)) (or_cases (x == ARITH) false h)
 
-among-bounds : AmongTwo (bounds_exception ∷ [])
-among-bounds x h = or_right (x == arith_exception) (is_in x (bounds_exception ∷ [])) h
+among-bounds : AmongTwo (BOUNDS ∷ [])
+among-bounds x h = or_right (x == ARITH) (is_in x (BOUNDS ∷ [])) h
 
 pub among-index : (index : Expression) (length : ℕ) → AmongTwo (index_raises index length)
 among-index index length = go (index_can_raise index length)
   where
-    go : (b : Bool) → AmongTwo (if b then bounds_exception ∷ [] else [])
+    go : (b : Bool) → AmongTwo (if b then BOUNDS ∷ [] else [])
     go true = among-bounds
     go false = among-nil
 
 among-operator : (operator : Operator) (e : Expression) → AmongTwo (operator_raises operator e)
 among-operator operator e = go (is_division operator) (divisor_can_raise e)
   where
-    go : (b c : Bool) → AmongTwo (if b then (if c then arith_exception ∷ [] else []) else [])
+    go : (b c : Bool) → AmongTwo (if b then (if c then ARITH ∷ [] else []) else [])
     go true true = among-arith
     go true false = among-nil
     go false c = among-nil

@@ -8,7 +8,9 @@ use Rattle.resolved.specs.declared.statement.Exit.TheVariants.{Normal, Throw}
 use Rattle.resolved.specs.Tree.{Statement, Assign, Clear, Store, Receive, Send, Call, If, While, Leave, ReturnWith, Try, Nested, Block, Empty, Then, Handlers, NoMore, Catch, place_of}
 use Rattle.resolved.specs.Program.{Program, ProcedureEntry}
 use Rattle.resolved.specs.Ends.{same_exit, has_end, statement_ends, block_ends}
-use Rattle.resolved.specs.EndFaults.{EndRefusal, OutsideLoop, Unreachable, NeverRaised, NoValueReturned, Undeclared, fault_unless, may_stand, may_end, inner_faults, block_faults, handlers_faults, procedure_faults, end_faults}
+use Rattle.resolved.specs.EndFaults.{fault_unless, may_stand, may_end, inner_faults, block_faults, handlers_faults, procedure_faults, end_faults}
+use Rattle.resolved.specs.declared.fault.EndDefect.TheVariants.{OutsideLoop, Unreachable, NeverRaised, NoValueReturned, Undeclared}
+use Rattle.resolved.specs.declared.fault.EndRefusal.{EndRefusal}
 use Rattle.resolved.specs.Labelled.{program_demands}
 use Rattle.gathering.specs.Walk.{program_constraints}
 use Rattle.gathering.proofs.Reached.{Goes, Part, PartIn, PartBy}

@@ -12,7 +12,7 @@ use Rattle.resolved.specs.declared.statement.Exit.TheVariants.{Normal, Return, B
 use Rattle.resolved.specs.declared.target.Target.TheVariants.{ToVariable, ToChannel, ToBegin, ToValue, ToLoop}
 use Rattle.resolved.specs.Tree.{Expression, Statement, Assign, Clear, Store, Receive, Send, Call, If, While, Leave, ReturnWith, Try, Nested, Block, Empty, Then, Handlers, NoMore, Catch}
 use Rattle.resolved.specs.Program.{Program}
-use Rattle.resolved.specs.Value.{end_exception}
+use Rattle.common.specs.declared.exceptions.TheConstants.{END}
 use Rattle.resolved.specs.Ends.{same_exit, has_end, one_end, index_raises, raises, thrown_ends, handles, passes, statement_ends, block_ends}
 use Rattle.resolved.specs.Labelled.{Scope, Join, LabelAtom, one, label_of, value_label, raise_label, raise_labels, label_if, call_exits, ExitLabels, at_ends, raised_exits, loop_exits, statement_rule, block_rule, handlers_rule, statement_exits, block_exits}
 use Rattle.gathering.specs.Names.{Real, Inner, is_inner_name, NamedAtom, NamedConstraint, named_atoms}
@@ -217,14 +217,14 @@ module _ (cs : List NamedConstraint) where
           let label : Join = one (label_of scope.program (ToChannel channel)) in
           let q : List NamedAtom = p ∷ named_atoms label in
           let out : List NamedConstraint = flow q (takers Normal) in
-          let end : List NamedConstraint = flow q (takers (Throw end_exception)) in
+          let end : List NamedConstraint = flow q (takers (Throw END)) in
           let q_fed : Fed q (pc ++ label) = fed-append (p ∷ []) (named_atoms label) pc label fed (fed-named label) in
           let last : Within (out ++ end) = within-right (target_constraint scope at 4 q target) (out ++ end)
           (within-right (rule_constraint scope at 4 (p ∷ []) (ToChannel channel)) (target_constraint scope at 4 q target ++ (out ++ end)) within) in
           ⊎_elim
           (λ same. fed-flow q (takers Normal) (pc ++ label) (within-left out end last) q_fed k (ap takers (sym (same-exit y Normal same)) ∙ is))
-          (λ h. fed-flow q (takers (Throw end_exception)) (pc ++ label) (within-right out end last) q_fed k (ap takers (sym (single-end (Throw end_exception) [] y refl h)) ∙ is))
-          (or_cases (same_exit y Normal) (has_end (Throw end_exception ∷ []) y) has)
+          (λ h. fed-flow q (takers (Throw END)) (pc ++ label) (within-right out end last) q_fed k (ap takers (sym (single-end (Throw END) [] y refl h)) ∙ is))
+          (or_cases (same_exit y Normal) (has_end (Throw END ∷ []) y) has)
       fed-statement (Send at channel e) p pc takers n part fed within y k has is =
           let q : List NamedAtom = p ∷ named_atoms (raise_atoms scope e) in
           fed-own q (pc ++ raise_label scope e) takers Normal (raises e) (raises-two e)

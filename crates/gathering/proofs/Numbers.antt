@@ -4,6 +4,7 @@ use Rattle.std.specs.Prelude.{IsTrue, Contains, if◌then◌else◌, nat_le, sum
 use Rattle.std.proofs.lemmas.Bool.{lt-ltb, le-ltb, le-leb, lt-leb}
 use Rattle.std.proofs.lemmas.List.Sums.{sum_by_more_le}
 use Rattle.std.proofs.lemmas.List.Recursion.{is_sum_by}
+use Rattle.common.proofs.Cases.{contained_map_only}
 use Rattle.labels.specs.Label.{Label}
 use Rattle.labels.specs.Constraints.{Atom, Written, Unknown, renamed, is_inner, label_lattice}
 use Rattle.labels.proofs.FlowTests.{IsLattice-flows}
@@ -19,7 +20,7 @@ use Rattle.gathering.proofs.Programs.{gathered_by}
 use Rattle.gathering.proofs.Faultless.{faultless-gathers}
 use Rattle.gathering.proofs.Ranged.{InRange, Ranged}
 use Rattle.gathering.proofs.RangedPrograms.{ranged-program}
-use Rattle.gathering.proofs.Renaming.{Stands, map-only, renamed-gathered, renamed-number}
+use Rattle.gathering.proofs.Renaming.{Stands, renamed-gathered, renamed-number}
 
 -- ---- back from a number
 abbrev name_in : ProcedureEntry → (f k : ℕ) → Unwritten
@@ -163,10 +164,10 @@ number-below program (Unknown (Inner k)) h = let below : k < made_from program 0
 
 pub numbers-below : (program : Program) → IsTrue (well_formed program) → AreUnknownsBelow (unknown_count program) (gathered_constraints program)
 numbers-below program formed c' h =
-    let found = map-only (numbered program) (program_constraints program) c' h in
+    let found = contained_map_only (numbered program) (program_constraints program) c' h in
     let range = ranged-program program formed found.0 found.1 in
     subst (λ (z : Gathered). ((atom : Atom ℕ Label) → Contains z.left atom → IsUnknownBelow (unknown_count program) atom) × IsUnknownBelow (unknown_count program) z.right) found.2
-    (λ atom there. part found.0.left atom (map-only (numbered_atom program) found.0.left atom there) range.0, number-below program found.0.right range.1)
+    (λ atom there. part found.0.left atom (contained_map_only (numbered_atom program) found.0.left atom there) range.0, number-below program found.0.right range.1)
   where
     part : (left : List NamedAtom) (atom : Atom ℕ Label) → ((a : NamedAtom) × Contains left a × (numbered_atom program a ≡ atom)) →
         ((a : NamedAtom) → Contains left a → InRange program (made_from program 0 program.procedures) a) → IsUnknownBelow (unknown_count program) atom

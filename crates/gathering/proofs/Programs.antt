@@ -11,7 +11,7 @@ use Rattle.resolved.specs.Program.{Program, ProcedureEntry, ThrownEntry, procedu
 use Rattle.resolved.specs.Ends.{one_end}
 use Rattle.resolved.specs.Labelled.{Unwritten, OfLoop, Scope, here, Join, one, label_of, ExitLabels, block_rule, block_exits, demand, block_demands, end_demands, procedure_demands, demands_from, program_demands}
 use Rattle.gathering.specs.Names.{Name, Real, Inner, is_inner_name, NamedAtom, NamedConstraint}
-use Rattle.gathering.specs.Walk.{inner_atom, rule_constraint, Takers, nowhere, single, within_single, inner_block, block_constraints, thrown_number, declares, at_end, body_ends, ends_one_way, end_takers, thrown_constraints, end_constraints, procedure_constraints, made_by_procedure, constraints_from, program_constraints}
+use Rattle.gathering.specs.Walk.{inner_atom, rule_constraint, Takers, nowhere, single, within_single, inner_block, block_constraints, thrown_number, declares, at_end, body_ends, has_one_end, end_takers, thrown_constraints, end_constraints, procedure_constraints, made_by_procedure, constraints_from, program_constraints}
 use Rattle.gathering.proofs.Atoms.{sub-same}
 use Rattle.gathering.proofs.Reached.{PartIn, AgreesIn}
 use Rattle.gathering.proofs.Closed.{Below, closed_by, Closed, Take, below-named, below-inner, closed-nil, closed-append, closed-rule_constraint, closed-block, closed-statements}
@@ -65,7 +65,7 @@ module _ (m : ℕ → Join) where
       go false e is = absurd (cc)
 
   end-take : (scope : Scope) (n : ℕ) → AgreesOf scope n → Take m (body_ends scope) (end_takers scope n) (exits_of scope)
-  end-take scope n agrees = go (ends_one_way scope)
+  end-take scope n agrees = go (has_one_end scope)
     where
       go : (b : Bool) → Take m (body_ends scope) (if b then nowhere else at_end n (here scope).throws) (exits_of scope)
       go true = λ e k h is a there. let i : None ≡ Some k = is in absurd (cc)
@@ -78,7 +78,7 @@ module _ (m : ℕ → Join) where
       (closed-rule_constraint m scope (here scope).at 13 (inner_atom (number entry.exception) ∷ []) (ToThrown scope.number entry.exception)) (closed-thrown scope number rest)
 
   closed-ends : (scope : Scope) (n : ℕ) → Closed m (end_constraints scope n)
-  closed-ends scope n = go (ends_one_way scope)
+  closed-ends scope n = go (has_one_end scope)
     where
       go : (b : Bool) → Closed m (if b then [] else (rule_constraint scope (here scope).at 13 (inner_atom n ∷ []) (ToEnd scope.number) ++ thrown_constraints scope (λ x. thrown_number (here scope).throws (suc n) x) (here scope).throws))
       go true = closed-nil m
@@ -116,7 +116,7 @@ module _ (m : ℕ → Join) where
         (one-thrown scope number x rest (λ y h. each y (or_right (y == entry.exception) (declares rest y) h)))
 
     one-ends : (scope : Scope) (n : ℕ) → AgreesOf scope n → GivesAll cs (end_takers scope n) (exits_of scope) → One cs (end_demands scope (body_ends scope) (exits_of scope)) (end_constraints scope n)
-    one-ends scope n agrees gives = go (ends_one_way scope) gives
+    one-ends scope n agrees gives = go (has_one_end scope) gives
       where
         go : (b : Bool) → GivesAll cs (if b then nowhere else at_end n (here scope).throws) (exits_of scope) →
             One cs (if b then [] else (demand scope.program (here scope).at 13 (exits_of scope Normal ++ exits_of scope Return) (ToEnd scope.number)

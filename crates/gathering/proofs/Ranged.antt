@@ -16,11 +16,12 @@ use Rattle.resolved.specs.declared.statement.Exit.TheVariants.{Normal, Return, B
 use Rattle.resolved.specs.declared.target.Target.{Target}
 use Rattle.resolved.specs.declared.target.Target.TheVariants.{ToVariable, ToChannel, ToBegin, ToParameter, ToValue, ToEnd, ToThrown, ToLoop}
 use Rattle.resolved.specs.Tree.{Expression, Integer, Logical, Read, Element, Unary, Binary, Short, Statement, Assign, Clear, Store, Receive, Send, Call, If, While, Leave, ReturnWith, Try, Nested, Block, Empty, Then, Handlers, NoMore, Catch}
-use Rattle.resolved.specs.Program.{Program, ProcedureEntry, SlotEntry, ResultEntry, ThrownEntry, procedure_at, slot_at}
-use Rattle.resolved.specs.Value.{end_exception}
+use Rattle.resolved.specs.Program.{Program, ProcedureEntry, SlotEntry, ThrownEntry, procedure_at, slot_at}
+use Rattle.common.specs.declared.exceptions.TheConstants.{END}
 use Rattle.resolved.specs.Ends.{has_end, one_end, index_can_raise, index_raises, handles, raises, thrown_ends, statement_ends, block_ends}
 use Rattle.resolved.specs.Labelled.{OfLocal, OfLoop, Scope, Join, LabelAtom, one, label_of, written_or, variable_label, value_label, label_if, any_of}
 use Rattle.resolved.specs.WellFormed.{VariableType, slot_type, variable_type, scalar_by, array_by, has_base, has_result, target_by, parameters_of, arguments_match, call_matches, is_array, same_base, prefix_base, operand_base, result_base, statement_fits, block_fits, handlers_fit, is_exception, statement_loops, block_loops, handlers_loops}
+use Rattle.resolved.proofs.WellFormedParts.{result_some}
 use Rattle.gathering.specs.Names.{Real, Inner, NamedAtom, NamedConstraint, named_atoms, IsUnwrittenOf}
 use Rattle.gathering.specs.Walk.{inner_atom, rule_constraint, target_constraint, inner_constraint, Takers, nowhere, with_normal, in_loop, handler_count, handler_number, in_try, at_end, thrown_number, declares, flow, flows, raised_once, raised_flows, single, within_single, by_ends, onward_pc, raise_atoms, raise_atoms_all, store_atoms, call_atoms, made_by_statement, made_by_block, made_by_handlers, argument_constraints, call_flows, call_ends, call_constraints, statement_constraints, block_constraints, handlers_constraints}
 use Rattle.gathering.proofs.Atoms.{Sub, raise-value, atoms-below}
@@ -55,10 +56,6 @@ scalar-some (Some type) test h = (type.base, (and_parts _ (test type.base) h).1)
 array-some : (o : Option VariableType) (len : ℕ) (test : Base → Bool) → array_by o len test ≡ true → (base : Base) × (test base ≡ true)
 array-some None len test h = let i : false ≡ true = h in absurd (cc)
 array-some (Some type) len test h = (type.base, (and_parts _ (test type.base) h).1)
-
-result-some : (o : Option ResultEntry) (test : Base → Bool) → has_result o test ≡ true → (base : Base) × (test base ≡ true)
-result-some None test h = let i : false ≡ true = h in absurd (cc)
-result-some (Some entry) test h = (entry.base, h)
 
 module _ (program : Program) (bound : ℕ) where
   abbrev pub InRange : NamedAtom → Type 0
@@ -368,13 +365,13 @@ module _ (program : Program) (bound : ℕ) where
           let label : Join = one (label_of program (ToChannel channel)) in
           let q : List NamedAtom = p ∷ named_atoms label in
           let q_ok : AllInRange q = pc-atoms p label ok (join-one (label_of program (ToChannel channel)) tt) in
-          let out : List NamedConstraint = flow q (takers Normal) ++ flow q (takers (Throw end_exception)) in
+          let out : List NamedConstraint = flow q (takers Normal) ++ flow q (takers (Throw END)) in
           ranged-append (rule_constraint own_scope at 4 (p ∷ []) (ToChannel channel)) (target_constraint own_scope at 4 q target ++ out)
           (ranged-rule at 4 (p ∷ []) (ToChannel channel) (alone p ok) tt)
           (ranged-append (target_constraint own_scope at 4 q target) out
           (ranged-target at 4 q target (same_base Int) q_ok (and_parts _ (target_by program own target (same_base Int)) fits).1)
-          (ranged-append (flow q (takers Normal)) (flow q (takers (Throw end_exception)))
-          (ranged-flow q (takers Normal) q_ok (fit Normal)) (ranged-flow q (takers (Throw end_exception)) q_ok (fit (Throw end_exception)))))
+          (ranged-append (flow q (takers Normal)) (flow q (takers (Throw END)))
+          (ranged-flow q (takers Normal) q_ok (fit Normal)) (ranged-flow q (takers (Throw END)) q_ok (fit (Throw END)))))
       ranged-statement (Send at channel e) p takers n fits loops ok fit h =
           let v : JoinInRange (value_label own_scope e) = value-ok Int e (and_parts _ (has_base program own Int e) fits).1 in
           ranged-demanding at 5 p (value_label own_scope e) (raise_atoms own_scope e) (ToChannel channel) takers Normal (raises e) ok v (raise-ok e v) tt fit
@@ -425,7 +422,7 @@ module _ (program : Program) (bound : ℕ) where
           (ranged-rule at 8 (inner_atom (suc n) ∷ []) (ToLoop f loop) (alone (inner_atom (suc n)) back) turn_ok)))))
       ranged-statement (Leave at exit) p takers n fits loops ok fit h = ranged-flow (p ∷ []) (takers exit) (alone p ok) (fit exit)
       ranged-statement (ReturnWith at (Some e)) p takers n fits loops ok fit h =
-          let base = result-some own.result (λ base. has_base program own base e) fits in
+          let base = result_some own.result (λ base. has_base program own base e) fits in
           let v : JoinInRange (value_label own_scope e) = value-ok base.0 e base.1 in
           ranged-demanding at 10 p (value_label own_scope e) (raise_atoms own_scope e) (ToValue f) takers Return (raises e) ok v (raise-ok e v) tt fit
       ranged-statement (ReturnWith at None) p takers n fits loops ok fit h = ranged-flow (p ∷ []) (takers Return) (alone p ok) (fit Return)

@@ -10,9 +10,9 @@ use Rattle.resolved.specs.Program.{Program, ProcedureEntry, ThrownEntry, procedu
 use Rattle.resolved.specs.Ends.{block_ends}
 use Rattle.resolved.specs.Labelled.{Scope, label_of}
 use Rattle.resolved.specs.WellFormed.{counts_from, block_loops, well_formed}
-use Rattle.resolved.proofs.Parts.{ProcedureParts, procedure_there}
+use Rattle.resolved.proofs.WellFormedParts.{ProcedureParts, procedure_there}
 use Rattle.gathering.specs.Names.{Real, NamedAtom, NamedConstraint}
-use Rattle.gathering.specs.Walk.{inner_atom, rule_constraint, nowhere, thrown_number, declares, at_end, ends_one_way, end_takers, inner_block, block_constraints, thrown_constraints, end_constraints, procedure_constraints, made_by_procedure, constraints_from, program_constraints, made_from}
+use Rattle.gathering.specs.Walk.{inner_atom, rule_constraint, nowhere, thrown_number, declares, at_end, has_one_end, end_takers, inner_block, block_constraints, thrown_constraints, end_constraints, procedure_constraints, made_by_procedure, constraints_from, program_constraints, made_from}
 use Rattle.gathering.proofs.Ranged.{Ranged, TakersInRange, nowhere-fits, end-fits, alone, ranged-nil, ranged-append, thrown-inside, own_scope, own, ranged-rule, ranged-by_ends, ranged-block}
 
 -- numbers that count up from n
@@ -45,7 +45,7 @@ module _ (program : Program) (bound : ℕ) where
         (ranged-thrown number rest (λ y k. h y (or_right (y == x) (declares rest y) k)))
 
     ranged-ends : (n : ℕ) → suc n + length (own program bound f there).throws ≤ bound → Ranged program bound (end_constraints (own_scope program bound f there) n)
-    ranged-ends n h = go (ends_one_way (own_scope program bound f there))
+    ranged-ends n h = go (has_one_end (own_scope program bound f there))
       where
         throws : List ThrownEntry
         throws = (own program bound f there).throws
@@ -62,7 +62,7 @@ module _ (program : Program) (bound : ℕ) where
             (λ x k. let i : thrown_number throws (suc n) x < suc n + length throws = thrown-inside program bound throws (suc n) x k in omega (arith, h, i)))
 
     end_takers-fit : (n : ℕ) → suc n + length (own program bound f there).throws ≤ bound → TakersInRange program bound (end_takers (own_scope program bound f there) n)
-    end_takers-fit n h = go (ends_one_way (own_scope program bound f there))
+    end_takers-fit n h = go (has_one_end (own_scope program bound f there))
       where
         go : (b : Bool) → TakersInRange program bound (if b then nowhere else at_end n (own program bound f there).throws)
         go true = nowhere-fits program bound

@@ -1,17 +1,10 @@
 -- What was gathered stays gathered when its unknowns get other names, different ones where they stand in the constraints.
-use Rattle.std.proofs.Common.{◌≡◌, refl, sym, ap, ◌∙◌, subst, Bool, true, false, List, [], ◌∷◌, ◌⊎◌, inl, inr, ⊎_elim}
+use Rattle.std.proofs.Common.{◌≡◌, refl, sym, ap, ◌∙◌, subst, Bool, true, false, List, [], ◌∷◌, ◌⊎◌, inl, inr}
 use Rattle.std.specs.Prelude.{IsTrue, Contains, Option, None, if◌then◌else◌, map}
-use Rattle.principals.proofs.Closure.{none_in_nil, Contains-cons_cases, Contains-later, Contains-first}
+use Rattle.principals.proofs.Closure.{Contains-later, Contains-first}
 use Rattle.labels.specs.Constraints.{Atom, Written, Unknown, Constraint, Occurs, renamed, is_inner, outer, Feeds, itself, through, StandsFor, OneByOne, IsGathered}
 use Rattle.labels.proofs.Gathered.{occurs-there, outer-only}
-use Rattle.common.proofs.Cases.{contained_map}
-
-pub map-only : {A B : Type 0} (f : A → B) (xs : List A) (b : B) → Contains (map f xs) b → (x : A) × Contains xs x × (f x ≡ b)
-map-only f [] b h = absurd (none_in_nil b h)
-map-only f (y ∷ ys) b h = ⊎_elim
-    (λ same. (y, Contains-first y ys, same))
-    (λ t. let found = map-only f ys b t in (found.0, Contains-later y ys found.0 found.1, found.2))
-    (Contains-cons_cases (f y) (map f ys) b h)
+use Rattle.common.proofs.Cases.{contained_map, contained_map_only}
 
 renamed-twice : {U W X V : Type 0} (f : W → X) (g : U → W) (a : Atom U V) → renamed f (renamed g a) ≡ renamed (λ u. f (g u)) a
 renamed-twice f g (Written v) = refl
@@ -46,8 +39,8 @@ module _ {N U W X V : Type 0} (ds : List (Constraint N U V)) (cs : List (Constra
     feeds-down from to' (itself _ e same) to there is =
         (to, itself to (sym (kept to there) ∙ ap (is_inner inner) (is ∙ sym same) ∙ e) refl, is ∙ sym same)
     feeds-down from to' (through c' part' _ fed h left at e) to there is =
-        let c = map-only other cs c' h in
-        let part = map-only (renamed f) c.0.left part' (subst (λ z. Contains z part') (sym (ap (λ (z : Constraint (Option N) X V). z.left) c.2)) left) in
+        let c = contained_map_only other cs c' h in
+        let part = contained_map_only (renamed f) c.0.left part' (subst (λ z. Contains z part') (sym (ap (λ (z : Constraint (Option N) X V). z.left) c.2)) left) in
         let found = feeds-down from part' fed part.0 (c.0, c.1, inl part.1) part.2 in
         let right : c.0.right ≡ to = distinct c.0.right to (c.0, c.1, inr refl) there (ap (λ (z : Constraint (Option N) X V). z.right) c.2 ∙ at ∙ sym is) in
         (found.0, through c.0 part.0 to found.1 c.1 part.1 right (sym (kept to there) ∙ ap (is_inner inner) is ∙ e), found.2)
@@ -68,7 +61,7 @@ module _ {N U W X V : Type 0} (ds : List (Constraint N U V)) (cs : List (Constra
           subst (λ z. Feeds inner (map other cs) z (renamed f found.0)) (renamed-twice f gathered.number a) (feeds-up (renamed gathered.number a) found.0 (c, h, inl found.1) found.2),
         );
         only = λ part' from there feeds.
-            let part = map-only (renamed f) c.left part' there in
+            let part = contained_map_only (renamed f) c.left part' there in
             let fed = feeds-down from part' feeds part.0 (c, h, inl part.1) part.2 in
             let found = stands.left.only part.0 fed.0 part.1 fed.1 in
             (found.0, found.1, sym (renamed-twice f gathered.number found.0) ∙ ap (renamed f) found.2 ∙ fed.2);
@@ -104,7 +97,7 @@ module _ {N U W X V : Type 0} (ds : List (Constraint N U V)) (cs : List (Constra
       named = λ u occurs. there u (occurs-there ds cs gathered u occurs) ∙ gathered.named u occurs;
       one_by_one = subst (λ z. OneByOne count inner (map other cs) ds z) (outer-same cs (λ c h. h))
           (one-same ds (outer gathered.inner cs) (λ c h. (outer-only gathered.inner cs c h).0) gathered.one_by_one);
-      no_target = λ c' h e. untargeted c' (map-only other cs c' h) e;
+      no_target = λ c' h e. untargeted c' (contained_map_only other cs c' h) e;
     }
       where
         there : (u : U) → Occurs cs (gathered.number u) → gathered.name (back (f (gathered.number u))) ≡ gathered.name (gathered.number u)

@@ -1,9 +1,10 @@
 -- What is gathered is no larger than the program, up to a factor, and the exceptions that callees declare.
 use Rattle.std.proofs.Common.{◌≡◌, refl, ap, subst, ℕ, zero, suc, ◌+◌, ◌*◌, ◌≤◌, length, length-append, Bool, true, false, ◌&&◌, List, [], ◌∷◌, ◌++◌, arith}
-use Rattle.std.specs.Prelude.{Option, Some, None, if◌then◌else◌, ◌==◌, filter, map, sum_by, slice_get}
+use Rattle.std.specs.Prelude.{Option, Some, None, if◌then◌else◌, ◌==◌, map, sum_by, slice_get}
 use Rattle.std.specs.List.{list_any}
 use Rattle.std.proofs.lemmas.List.{length-map}
 use Rattle.std.proofs.lemmas.List.Recursion.{is_sum_by}
+use Rattle.common.proofs.Cases.{filtered_length}
 use Rattle.labels.specs.Constraints.{renamed}
 use Rattle.resolved.specs.declared.expression.Variable.{Variable}
 use Rattle.resolved.specs.declared.statement.Exit.{Exit}
@@ -12,13 +13,13 @@ use Rattle.resolved.specs.declared.target.Target.{Target}
 use Rattle.resolved.specs.declared.target.Target.TheVariants.{ToVariable, ToChannel, ToBegin, ToValue, ToEnd, ToLoop}
 use Rattle.resolved.specs.Tree.{Expression, Integer, Logical, Read, Element, Unary, Binary, Short, Statement, Assign, Clear, Store, Receive, Send, Call, If, While, Leave, ReturnWith, Try, Nested, Block, Empty, Then, Handlers, NoMore, Catch}
 use Rattle.resolved.specs.Program.{Program, ProcedureEntry, ThrownEntry, procedure_at}
-use Rattle.resolved.specs.Value.{arith_exception, bounds_exception, end_exception}
+use Rattle.common.specs.declared.exceptions.TheConstants.{ARITH, BOUNDS, END}
 use Rattle.resolved.specs.Ends.{has_end, one_end, index_can_raise, divisor_can_raise, is_division, index_raises, raises, raises_all, thrown_ends, declared_by, statement_ends, block_ends}
 use Rattle.resolved.specs.Labelled.{Scope, here, Join, one, label_of, value_label, label_if, any_of}
 use Rattle.resolved.specs.WellFormed.{expression_nodes, statement_nodes, block_nodes, handlers_nodes, procedure_nodes, program_nodes}
-use Rattle.resolved.proofs.Parts.{procedure_at_is}
+use Rattle.resolved.proofs.WellFormedParts.{procedure_at_is}
 use Rattle.gathering.specs.Names.{Real, NamedAtom, NamedConstraint, named_atoms, numbered}
-use Rattle.gathering.specs.Walk.{inner_atom, rule_constraint, target_constraint, Takers, with_normal, in_loop, handler_count, handler_number, in_try, thrown_number, flow, flows, raised_once, raised_flows, single, within_single, by_ends, inner_block, onward_pc, raise_atoms, raise_atoms_all, store_atoms, call_atoms, made_by_statement, made_by_block, made_by_procedure, argument_constraints, call_flows, call_ends, call_constraints, statement_constraints, block_constraints, handlers_constraints, ends_one_way, end_takers, thrown_constraints, end_constraints, procedure_constraints, constraints_from, program_constraints, gathered_constraints}
+use Rattle.gathering.specs.Walk.{inner_atom, rule_constraint, target_constraint, Takers, with_normal, in_loop, handler_count, handler_number, in_try, thrown_number, flow, flows, raised_once, raised_flows, single, within_single, by_ends, inner_block, onward_pc, raise_atoms, raise_atoms_all, store_atoms, call_atoms, made_by_statement, made_by_block, made_by_procedure, argument_constraints, call_flows, call_ends, call_constraints, statement_constraints, block_constraints, handlers_constraints, has_one_end, end_takers, thrown_constraints, end_constraints, procedure_constraints, constraints_from, program_constraints, gathered_constraints}
 use Rattle.gathering.specs.Size.{size_of, declared_at, declared_in, declared_under, declared_at_calls}
 
 size-append : (xs ys : List NamedConstraint) → size_of (xs ++ ys) ≡ size_of xs + size_of ys
@@ -94,16 +95,8 @@ flows-size left takers (a ∷ b ∷ []) h =
     omega (arith, i, j, s, t)
 flows-size left takers (a ∷ b ∷ c ∷ rest) h = absurd (omega (arith, h))
 
-kept-length : (p : ℕ → Bool) (xs : List ℕ) → length (filter p xs) ≤ length xs
-kept-length p [] = omega arith
-kept-length p (x ∷ xs) = go (p x) (kept-length p xs)
-  where
-    go : (b : Bool) → length (filter p xs) ≤ length xs → length (if b then x ∷ filter p xs else filter p xs) ≤ suc (length xs)
-    go true h = omega (arith, h)
-    go false h = omega (arith, h)
-
 once-length : (raised : List ℕ) → length (raised_once raised) ≤ 2
-once-length raised = kept-length (λ x. list_any (λ y. x == y) raised) (arith_exception ∷ bounds_exception ∷ [])
+once-length raised = filtered_length (λ x. list_any (λ y. x == y) raised) (ARITH ∷ BOUNDS ∷ [])
 
 raised-size : (left : List NamedAtom) (takers : Takers) (raised : List ℕ) → size_of (raised_flows left takers raised) ≤ 2 * suc (length left)
 raised-size left takers raised =
@@ -255,11 +248,11 @@ module _ (scope : Scope) where
     statement-size (Receive at channel target) p takers n =
         let q : List NamedAtom = p ∷ named_atoms (one (label_of scope.program (ToChannel channel))) in
         let third : List NamedConstraint = flow q (takers Normal) in
-        let fourth : List NamedConstraint = flow q (takers (Throw end_exception)) in
+        let fourth : List NamedConstraint = flow q (takers (Throw END)) in
         let second : List NamedConstraint = target_constraint scope at 4 q target in
         let i : size_of second ≤ 3 = target-size at 4 q target in
         let j : size_of third ≤ 3 = flow-size q (takers Normal) in
-        let k : size_of fourth ≤ 3 = flow-size q (takers (Throw end_exception)) in
+        let k : size_of fourth ≤ 3 = flow-size q (takers (Throw END)) in
         let s : size_of (second ++ (third ++ fourth)) ≡ size_of second + size_of (third ++ fourth) = size-append second (third ++ fourth) in
         let t : size_of (third ++ fourth) ≡ size_of third + size_of fourth = size-append third fourth in
         omega (arith, i, j, k, s, t)
@@ -367,7 +360,7 @@ module _ (scope : Scope) where
   thrown-size number (entry ∷ rest) = let i : size_of (thrown_constraints scope number rest) ≡ 2 * length rest = thrown-size number rest in omega (arith, i)
 
   end-size : (n : ℕ) → size_of (end_constraints scope n) ≤ 2 + 2 * length (here scope).throws
-  end-size n = go (ends_one_way scope)
+  end-size n = go (has_one_end scope)
     where
       rest : List NamedConstraint
       rest = thrown_constraints scope (λ x. thrown_number (here scope).throws (suc n) x) (here scope).throws

@@ -13,7 +13,7 @@ use Rattle.resolved.specs.declared.target.Target.{Target}
 use Rattle.resolved.specs.declared.target.Target.TheVariants.{ToVariable, ToChannel, ToBegin, ToParameter, ToValue, ToLoop}
 use Rattle.resolved.specs.Tree.{Expression, Statement, Assign, Clear, Store, Receive, Send, Call, If, While, Leave, ReturnWith, Try, Nested, Block, Empty, Then, Handlers, NoMore, Catch}
 use Rattle.resolved.specs.Program.{Program}
-use Rattle.resolved.specs.Value.{end_exception}
+use Rattle.common.specs.declared.exceptions.TheConstants.{END}
 use Rattle.resolved.specs.Ends.{has_end, one_end, index_raises, raises, thrown_ends, handles, statement_ends, block_ends}
 use Rattle.resolved.specs.Labelled.{Scope, Join, LabelAtom, one, label_of, value_label, raise_label, raise_labels, call_exits, ExitLabels, statement_rule, block_rule, statement_exits, block_exits, argument_demands, Demand, demand, target_demand, statement_demands, block_demands, handlers_demands}
 use Rattle.gathering.specs.Names.{Real, Inner, is_inner_name, NamedAtom, NamedConstraint, named_atoms}
@@ -191,13 +191,13 @@ module _ (cs : List NamedConstraint) where
         one-statement (Receive at channel target) p pc takers n part agrees below fed within =
             let label : Join = one (label_of scope.program (ToChannel channel)) in
             let q : List NamedAtom = p ∷ named_atoms label in
-            let out : List NamedConstraint = flow q (takers Normal) ++ flow q (takers (Throw end_exception)) in
+            let out : List NamedConstraint = flow q (takers Normal) ++ flow q (takers (Throw END)) in
             one-append (demand scope.program at 4 pc (ToChannel channel)) (target_demand scope at 4 (pc ++ label) target) (rule_constraint scope at 4 (p ∷ []) (ToChannel channel))
             (target_constraint scope at 4 q target ++ out)
             (one-rule scope at 4 (p ∷ []) pc (ToChannel channel) below fed)
             (one-target_more scope at 4 q (pc ++ label) target out (pc-below m p pc label (pc ++ label) below (alike-itself (pc ++ label)).0)
             (pc-fed cs p pc label (pc ++ label) fed (alike-itself (pc ++ label)).1)
-            (one-append [] [] (flow q (takers Normal)) (flow q (takers (Throw end_exception))) (one-flow q (takers Normal)) (one-flow q (takers (Throw end_exception)))))
+            (one-append [] [] (flow q (takers Normal)) (flow q (takers (Throw END))) (one-flow q (takers Normal)) (one-flow q (takers (Throw END)))))
         one-statement (Send at channel e) p pc takers n part agrees below fed within =
             one-demanding scope at 5 p pc (value_label scope e) ((pc ++ raise_label scope e) ++ value_label scope e) (ToChannel channel)
             (flow (p ∷ named_atoms (raise_atoms scope e)) (takers Normal) ++ raised_flows (p ∷ named_atoms (raise_atoms scope e)) takers (raises e)) below fed (alike-value scope pc e)

@@ -15,7 +15,7 @@ use Rattle.resolved.specs.declared.target.Target.{Target}
 use Rattle.resolved.specs.declared.target.Target.TheVariants.{ToVariable, ToChannel, ToBegin, ToParameter, ToValue, ToEnd, ToThrown, ToLoop}
 use Rattle.resolved.specs.Tree.{Expression, Integer, Logical, Read, Element, Unary, Binary, Short, Statement, Assign, Clear, Store, Receive, Send, Call, If, While, Leave, ReturnWith, Try, Nested, Block, Empty, Then, Handlers, NoMore, Catch}
 use Rattle.resolved.specs.Program.{Program, ProcedureEntry, ThrownEntry, procedure_at}
-use Rattle.resolved.specs.Value.{arith_exception, bounds_exception, end_exception}
+use Rattle.common.specs.declared.exceptions.TheConstants.{ARITH, BOUNDS, END}
 use Rattle.resolved.specs.Ends.{has_end, one_end, index_can_raise, divisor_can_raise, is_division, index_raises, raises, raises_all, thrown_ends, declared_by, handles, statement_ends, block_ends}
 use Rattle.resolved.specs.Labelled.{Labelling, Scope, Unwritten, chosen, here, Join, one, label_of, program_demands, value_label, label_if, any_of, as_one_end}
 use Rattle.resolved.specs.Flow.{Gathered}
@@ -104,7 +104,7 @@ flows left takers (exit ∷ rest) = flow left (takers exit) ++ flows left takers
 
 -- the exceptions of expressions, each once
 abbrev pub raised_once : List ℕ → List ℕ
-raised_once exceptions = filter (λ x. list_any (λ y. x == y) exceptions) (arith_exception ∷ bounds_exception ∷ [])
+raised_once exceptions = filter (λ x. list_any (λ y. x == y) exceptions) (ARITH ∷ BOUNDS ∷ [])
 
 abbrev pub raised_flows : List NamedAtom → Takers → (raised : List ℕ) → List NamedConstraint
 raised_flows left takers raised = flows left takers (thrown_ends (raised_once raised))
@@ -228,7 +228,7 @@ abbrev mutual
   statement_constraints scope pc takers n (Receive at channel target) =
       let q : List NamedAtom = pc ∷ named_atoms (one (label_of scope.program (ToChannel channel))) in
       rule_constraint scope at 4 (pc ∷ []) (ToChannel channel)
-      ++ (target_constraint scope at 4 q target ++ (flow q (takers Normal) ++ flow q (takers (Throw end_exception))))
+      ++ (target_constraint scope at 4 q target ++ (flow q (takers Normal) ++ flow q (takers (Throw END))))
   statement_constraints scope pc takers n (Send at channel e) =
       let q : List NamedAtom = pc ∷ named_atoms (raise_atoms scope e) in
       rule_constraint scope at 5 (pc ∷ named_atoms (value_label scope e)) (ToChannel channel)
@@ -286,11 +286,11 @@ abbrev pub body_ends : Scope → List Exit
 body_ends scope = block_ends scope.program (here scope).body
 
 -- whether a procedure has one end only, where its normal end and its return are one
-abbrev pub ends_one_way : Scope → Bool
-ends_one_way scope = one_end (map as_one_end (body_ends scope))
+abbrev pub has_one_end : Scope → Bool
+has_one_end scope = one_end (map as_one_end (body_ends scope))
 
 abbrev pub end_takers : Scope → ℕ → Takers
-end_takers scope n = if ends_one_way scope then nowhere else at_end n (here scope).throws
+end_takers scope n = if has_one_end scope then nowhere else at_end n (here scope).throws
 
 -- the demands on the declared exceptions, of which the first has number n
 abbrev pub thrown_constraints : Scope → (number : ℕ → ℕ) → List ThrownEntry → List NamedConstraint
@@ -301,7 +301,7 @@ thrown_constraints scope number (entry ∷ rest) =
 
 abbrev pub end_constraints : Scope → ℕ → List NamedConstraint
 end_constraints scope n =
-    if ends_one_way scope then []
+    if has_one_end scope then []
     else (rule_constraint scope (here scope).at 13 (inner_atom n ∷ []) (ToEnd scope.number)
     ++ thrown_constraints scope (λ x. thrown_number (here scope).throws (suc n) x) (here scope).throws)
 

@@ -1,11 +1,12 @@
 -- Sessions of isolated bytes are isolated.
+use Rattle.labels.specs.Sent.{OneIsPrefix}
 use Rattle.std.proofs.Common.{◌≡◌, ℕ, List, sym, subst}
 use Rattle.bytecode.specs.Contents.{ModuleContents}
 use Rattle.bytecode.specs.Form.{Spells}
 use Rattle.bytecode.specs.Format.{module_file}
 use Rattle.bytecode.specs.Machine.{sent_after}
 use Rattle.channels.specs.World.{numbers_of_channel}
-use Rattle.bytecode.specs.Isolated.{seen_of, OneIsPrefix}
+use Rattle.bytecode.specs.Isolated.{module_view}
 use Rattle.host.specs.Laws.{SessionsAreFreshRuns, SessionsEndAsReported, SessionsAreIsolated, SessionsStandAsReported, SessionsGoOn, SessionsShowOn, TranscriptsJoin, StepsAddUp, IdsGoUp, steps_of}
 use Rattle.host.proofs.Lives.{shown_fresh, ended_fresh, stands, goes_on, shows_on, joined, steps_add_up, ids_go_up}
 
@@ -26,7 +27,7 @@ module _ (one : (m n : ModuleContents) (bytes : List ℕ) → Spells module_file
       let i = steps_of bytes first p pairs shown in
       let j = steps_of bytes second p others other_shown in
       subst (λ xs. OneIsPrefix xs others) (sym (fresh_runs bytes first p pairs m spelled shown))
-      (subst (λ ys. OneIsPrefix (seen_of m p (sent_after m (numbers_of_channel m first) i)) ys) (sym (fresh_runs bytes second p others m spelled other_shown))
+      (subst (λ ys. OneIsPrefix (module_view m p (sent_after m (numbers_of_channel m first) i)) ys) (sym (fresh_runs bytes second p others m spelled other_shown))
       (isolated_module p (numbers_of_channel m first) (numbers_of_channel m second) agree i j))
 
   pub stand_as_reported : SessionsStandAsReported

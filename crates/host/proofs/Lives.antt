@@ -1,21 +1,20 @@
 -- What becomes of a session while a host answers events.
 use Rattle.std.proofs.Common.{◌≡◌, ℕ, zero, suc, ◌+◌, ◌<◌, ◌≤◌, ◌⊎◌, ◌==◌, Bool, true, false, not, cond, List, [], ◌∷◌, ◌++◌, take, drop, None, Some, refl, sym, ap, ◌∙◌, subst, inl, inr, ⊎_elim, arith, eq-eqb, eqb-true, ne_eqb}
 use Rattle.std.specs.Prelude.{slice_get}
-use Rattle.std.proofs.lemmas.Option.{none-some}
+use Rattle.std.proofs.lemmas.Option.{none-some, same_Some}
 use Rattle.labels.specs.declared.sent.Pair.{Pair}
 use Rattle.bytecode.specs.Contents.{ModuleContents}
 use Rattle.bytecode.specs.Form.{Spells}
 use Rattle.bytecode.specs.Format.{module_file}
 use Rattle.bytecode.specs.Machine.{Machine, Ending, exec, machine_code, sent_of}
 use Rattle.channels.specs.World.{InputNumbers}
-use Rattle.bytecode.specs.Isolated.{seen_of}
+use Rattle.bytecode.specs.Isolated.{module_view}
 use Rattle.bytecode.proofs.Executing.{exec_more}
 use Rattle.host.specs.Meaning.{SessionContents, HostContents, HostEvent, Open, Turn, View, Close, HostAnswer, Opened, Turned, Viewed, Closed, Refused, MayAnswer, Answered, session_of, with_machine, without, IsOpen, IsNotOpen, first_machine, with_opened}
 use Rattle.machine.specs.Run.{HasEnded}
 use Rattle.machine.specs.declared.status.Status.{Status}
 use Rattle.host.specs.Laws.{ending_of, moved_by, reported_of, steps_reported}
 use Rattle.host.proofs.Ends.{still_ended_at, end_of_status}
-use Rattle.common.proofs.Cases.{same_some}
 
 -- the steps that a session takes, and then more
 steps_join : (s : SessionContents) (taken more : ℕ) → exec (machine_code s.program) more (exec (machine_code s.program) taken s.machine) ≡ exec (machine_code s.program) (taken + more) s.machine
@@ -181,7 +180,7 @@ closed_event limit id old new event answer by closed = absurd by
 known : (limit : ℕ) (old new : HostContents) (event event' : HostEvent) (answer answer' : HostAnswer) → Some event ≡ Some event' → Some answer ≡ Some answer'
     → MayAnswer limit old event answer new → MayAnswer limit old event' answer' new
 known limit old new event event' answer answer' e a by =
-    subst (λ y. MayAnswer limit old event' y new) (same_some answer answer' a) (subst (λ x. MayAnswer limit old x answer new) (same_some event event' e) by)
+    subst (λ y. MayAnswer limit old event' y new) (same_Some answer answer' a) (subst (λ x. MayAnswer limit old x answer new) (same_Some event event' e) by)
 
 module _ (limit id p : ℕ) (pairs : List Pair) where
   -- a session that is closed is not shown
@@ -199,18 +198,18 @@ module _ (limit id p : ℕ) (pairs : List Pair) where
   shown_moved : (events : List HostEvent) (answers : List HostAnswer) (old new : HostContents) (s : SessionContents)
       → Answered limit old events answers new → IsLive id s old
       → (k : ℕ) → slice_get events k ≡ Some (View id p) → slice_get answers k ≡ Some (Viewed pairs)
-      → pairs ≡ seen_of s.program p (sent_of (exec (machine_code s.program) (steps_reported id (take k events) (take k answers)) s.machine))
+      → pairs ≡ module_view s.program p (sent_of (exec (machine_code s.program) (steps_reported id (take k events) (take k answers)) s.machine))
   shown_moved [] answers old new s by live k asked reported = absurd (none-some (View id p) asked)
   shown_moved (event ∷ events) [] old new s by live k asked reported = absurd by
   shown_moved (event ∷ events) (answer ∷ answers) old new s by live zero asked reported =
       let shown = known limit old by.0 event (View id p) answer (Viewed pairs) asked reported by.1 in
       let same = one_session old id id shown.0 s refl shown.1 live.is_open in
-      shown.3 ∙ ap (λ (x : SessionContents). seen_of x.program p (sent_of x.machine)) same
+      shown.3 ∙ ap (λ (x : SessionContents). module_view x.program p (sent_of x.machine)) same
   shown_moved (event ∷ events) (answer ∷ answers) old new s by live (suc k) asked reported =
       ⊎_elim
       (λ next.
       shown_moved events answers by.0 new (moved_by s (reported_of id event answer)) by.2 next k asked reported
-      ∙ ap (λ m. seen_of s.program p (sent_of m)) (steps_join s (reported_of id event answer) (steps_reported id (take k events) (take k answers))))
+      ∙ ap (λ m. module_view s.program p (sent_of m)) (steps_join s (reported_of id event answer) (steps_reported id (take k events) (take k answers))))
       (λ closed. absurd (never_shown events answers by.0 new by.2 closed k asked reported))
       (live_event limit id s old by.0 event answer by.1 live)
 
@@ -250,7 +249,7 @@ module _ (limit id steps taken : ℕ) (reported : Status) (ending : Ending) (end
       let turned = known limit old by.0 event (Turn id steps) answer (Turned taken reported) asked said by.1 in
       let same = one_session old id id turned.0 s refl turned.1 live.is_open in
       let here : reported_of id event answer ≡ taken =
-      ap (λ e. reported_of id e answer) (same_some event (Turn id steps) asked) ∙ ap (reported_of id (Turn id steps)) (same_some answer (Turned taken reported) said)
+      ap (λ e. reported_of id e answer) (same_Some event (Turn id steps) asked) ∙ ap (reported_of id (Turn id steps)) (same_Some answer (Turned taken reported) said)
       ∙ ap (λ b. cond b taken 0) (eq-eqb id id refl) in
       let all : reported_of id event answer + 0 ≡ taken = omega (arith, here) in
       let after : HasEnded ending turned.2.0 = end_of_status (machine_code turned.0.program) steps taken reported turned.2.0 ending ends turned.2.1.reported in
@@ -283,7 +282,7 @@ module _ (limit id p : ℕ) (pairs : List Pair) (bytes : List ℕ) (world : List
       → (i j : ℕ) → i < j
       → slice_get events i ≡ Some (Open bytes world) → slice_get answers i ≡ Some (Opened id)
       → slice_get events j ≡ Some (View id p) → slice_get answers j ≡ Some (Viewed pairs)
-      → pairs ≡ seen_of m p (sent_of (exec (machine_code m) (steps_reported id (drop i (take j events)) (drop i (take j answers))) (first_machine m world)))
+      → pairs ≡ module_view m p (sent_of (exec (machine_code m) (steps_reported id (drop i (take j events)) (drop i (take j answers))) (first_machine m world)))
   shown_fresh events answers old new by i zero later opens opened views viewed = absurd (omega arith)
   shown_fresh [] answers old new by i (suc j) later opens opened views viewed = absurd (none-some (Open bytes world) opens)
   shown_fresh (event ∷ events) [] old new by i (suc j) later opens opened views viewed = absurd by
@@ -291,11 +290,11 @@ module _ (limit id p : ℕ) (pairs : List Pair) (bytes : List ℕ) (world : List
       let at = known limit old by.0 event (Open bytes world) answer (Opened id) opens opened by.1 in
       let n : ModuleContents = at.2.0 in
       let live = subst (λ h. IsLive id (record { id = old.next; program = n; machine = first_machine n world }) h) (sym at.2.2) (opened_live id old n world at.1) in
-      let first : reported_of id event answer ≡ 0 = ap (λ e. reported_of id e answer) (same_some event (Open bytes world) opens) ∙ ap (reported_of id (Open bytes world)) (same_some answer (Opened id) opened) in
+      let first : reported_of id event answer ≡ 0 = ap (λ e. reported_of id e answer) (same_Some event (Open bytes world) opens) ∙ ap (reported_of id (Open bytes world)) (same_Some answer (Opened id) opened) in
       let steps : steps_reported id (take j events) (take j answers) ≡ reported_of id event answer + steps_reported id (take j events) (take j answers) = omega (arith, first) in
       shown_moved limit id p pairs events answers by.0 new (record { id = old.next; program = n; machine = first_machine n world }) by.2 live j views viewed
-      ∙ ap (λ (x : ModuleContents). seen_of x p (sent_of (exec (machine_code x) (steps_reported id (take j events) (take j answers)) (first_machine x world)))) (unique n at.2.1.spelled)
-      ∙ ap (λ k. seen_of m p (sent_of (exec (machine_code m) k (first_machine m world)))) steps
+      ∙ ap (λ (x : ModuleContents). module_view x p (sent_of (exec (machine_code x) (steps_reported id (take j events) (take j answers)) (first_machine x world)))) (unique n at.2.1.spelled)
+      ∙ ap (λ k. module_view m p (sent_of (exec (machine_code m) k (first_machine m world)))) steps
   shown_fresh (event ∷ events) (answer ∷ answers) old new by (suc i) (suc j) later opens opened views viewed =
       shown_fresh events answers by.0 new by.2 i j (omega arith) opens opened views viewed
 
@@ -314,7 +313,7 @@ module _ (limit id steps taken : ℕ) (reported : Status) (ending : Ending) (end
       let at = known limit old by.0 event (Open bytes world) answer (Opened id) opens opened by.1 in
       let n : ModuleContents = at.2.0 in
       let live = subst (λ h. IsLive id (record { id = old.next; program = n; machine = first_machine n world }) h) (sym at.2.2) (opened_live id old n world at.1) in
-      let first : reported_of id event answer ≡ 0 = ap (λ e. reported_of id e answer) (same_some event (Open bytes world) opens) ∙ ap (reported_of id (Open bytes world)) (same_some answer (Opened id) opened) in
+      let first : reported_of id event answer ≡ 0 = ap (λ e. reported_of id e answer) (same_Some event (Open bytes world) opens) ∙ ap (reported_of id (Open bytes world)) (same_Some answer (Opened id) opened) in
       let total : steps_reported id (take j events) (take j answers) ≡ reported_of id event answer + steps_reported id (take j events) (take j answers) = omega (arith, first) in
       let ended = ended_moved limit id steps taken reported ending ends events answers by.0 new (record { id = old.next; program = n; machine = first_machine n world }) by.2 live k asked said in
       let grown = still_ended_at (machine_code n) (steps_reported id (take (suc k) events) (take (suc k) answers)) (steps_reported id (take j events) (take j answers)) ending
@@ -362,7 +361,7 @@ module _ (limit id : ℕ) (bytes : List ℕ) (world : List InputNumbers) (m : Mo
       let at = known limit old by.0 event (Open bytes world) answer (Opened id) opens opened by.1 in
       let n : ModuleContents = at.2.0 in
       let live = subst (λ h. IsLive id (record { id = old.next; program = n; machine = first_machine n world }) h) (sym at.2.2) (opened_live id old n world at.1) in
-      let first : reported_of id event answer ≡ 0 = ap (λ e. reported_of id e answer) (same_some event (Open bytes world) opens) ∙ ap (reported_of id (Open bytes world)) (same_some answer (Opened id) opened) in
+      let first : reported_of id event answer ≡ 0 = ap (λ e. reported_of id e answer) (same_Some event (Open bytes world) opens) ∙ ap (reported_of id (Open bytes world)) (same_Some answer (Opened id) opened) in
       let steps : steps_reported id events answers ≡ reported_of id event answer + steps_reported id events answers = omega (arith, first) in
       let same = unique n at.2.1.spelled in
       ⊎_elim
@@ -386,7 +385,7 @@ module _ (limit : ℕ) (events : List HostEvent) (answers : List HostAnswer) (ol
       (still_moved limit id events answers old new s by (record { given = given; is_open = is_open }))
 
   pub shows_on : (k p : ℕ) (pairs : List Pair) → slice_get events k ≡ Some (View id p) → slice_get answers k ≡ Some (Viewed pairs)
-      → pairs ≡ seen_of s.program p (sent_of (exec (machine_code s.program) (steps_reported id (take k events) (take k answers)) s.machine))
+      → pairs ≡ module_view s.program p (sent_of (exec (machine_code s.program) (steps_reported id (take k events) (take k answers)) s.machine))
   shows_on k p pairs views viewed =
       shown_moved limit id p pairs events answers old new s by (record { given = given; is_open = is_open }) k views viewed
 
@@ -443,7 +442,7 @@ next_grows limit old new event answer by = absurd by
 opened_by : (limit : ℕ) (old new : HostContents) (event : HostEvent) (answer : HostAnswer) (n : ℕ) → Some answer ≡ Some (Opened n)
     → MayAnswer limit old event answer new → (n ≡ old.next) × (new.next ≡ old.next + 1)
 opened_by limit old new event answer n e by =
-    opened_next limit old new event n (subst (λ y. MayAnswer limit old event y new) (same_some answer (Opened n) e) by)
+    opened_next limit old new event n (subst (λ y. MayAnswer limit old event y new) (same_Some answer (Opened n) e) by)
 
 ids_from : (limit : ℕ) (events : List HostEvent) (answers : List HostAnswer) (old new : HostContents) → Answered limit old events answers new
     → (j n : ℕ) → slice_get answers j ≡ Some (Opened n) → old.next ≤ n

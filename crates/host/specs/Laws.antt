@@ -2,6 +2,7 @@
 -- world, by as many steps as its own turns reported, and ends as they reported; one that was open before goes on so; lists of
 -- events and their answers are joined; sessions of isolated bytes are isolated; no id is given twice.
 -- Source: our own; noninterference after Volpano, Smith and Irvine 1996.
+use Rattle.labels.specs.Sent.{OneIsPrefix}
 use Rattle.std.specs.Prelude.{◌≡◌, ℕ, ◌+◌, ◌<◌, ◌==◌, if◌then◌else◌, List, [], ◌∷◌, ◌++◌, slice_get, take, drop, Option, Some, None}
 use Rattle.labels.specs.declared.sent.Pair.{Pair}
 use Rattle.bytecode.specs.Contents.{ModuleContents}
@@ -9,16 +10,19 @@ use Rattle.bytecode.specs.Form.{Spells}
 use Rattle.bytecode.specs.Format.{module_file}
 use Rattle.bytecode.specs.Machine.{Ending, Finished, Threw, Deep, after_steps, exec, machine_code, sent_after}
 use Rattle.channels.specs.World.{InputNumbers, numbers_of_channel}
-use Rattle.bytecode.specs.Isolated.{seen_of, AgreeOnInputs, OneIsPrefix, IsIsolated}
+use Rattle.bytecode.specs.Isolated.{module_view, AgreeOnInputs, IsIsolated}
 use Rattle.machine.specs.Run.{HasEnded}
 use Rattle.machine.specs.declared.status.Status.{Status}
 use Rattle.machine.specs.declared.status.Status.TheVariants as status
-use Rattle.host.specs.Meaning.{SessionContents, HostContents, HostEvent, Open, Turn, View, Close, HostAnswer, Opened, Turned, Viewed, Answered, IsOpen, view_of}
+use Rattle.host.specs.Meaning.{SessionContents, HostContents, HostEvent, Open, Turn, View, Close, HostAnswer, Opened, Turned, Viewed, Closed, Refused, Answered, IsOpen, session_view}
 
 -- the steps that an event's answer reports of the session of an id
 abbrev pub reported_of : ℕ → HostEvent → HostAnswer → ℕ
 reported_of id (Turn other n) (Turned taken status) = if other == id then taken else 0
-reported_of id (Turn other n) answer = 0
+reported_of id (Turn other n) (Opened new) = 0
+reported_of id (Turn other n) (Viewed pairs) = 0
+reported_of id (Turn other n) Closed = 0
+reported_of id (Turn other n) (Refused fault) = 0
 reported_of id (Open bytes world) answer = 0
 reported_of id (View other p) answer = 0
 reported_of id (Close other) answer = 0
@@ -58,7 +62,7 @@ abbrev pub SessionsAreFreshRuns : Type 0
 SessionsAreFreshRuns =
     (bytes : List ℕ) (world : List InputNumbers) (p : ℕ) (pairs : List Pair) (m : ModuleContents) → Spells module_file m bytes
     → (shows : Shows bytes world p pairs)
-    → pairs ≡ seen_of m p (sent_after m (numbers_of_channel m world) (steps_of bytes world p pairs shows))
+    → pairs ≡ module_view m p (sent_after m (numbers_of_channel m world) (steps_of bytes world p pairs shows))
 
 -- the end that a status reports; none where the run goes on, also where it waits for memory
 abbrev pub ending_of : Status → Option Ending
@@ -130,7 +134,7 @@ SessionsShowOn =
     → Answered limit old events answers new
     → (id : ℕ) (session : SessionContents) → id < old.next → IsOpen old id session
     → (viewed p : ℕ) (pairs : List Pair) → slice_get events viewed ≡ Some (View id p) → slice_get answers viewed ≡ Some (Viewed pairs)
-    → pairs ≡ view_of (moved_by session (steps_reported id (take viewed events) (take viewed answers))) p
+    → pairs ≡ session_view (moved_by session (steps_reported id (take viewed events) (take viewed answers))) p
 
 -- events that are answered after others: both lists in a row are answered by both lists of answers in a row
 abbrev pub TranscriptsJoin : Type 0

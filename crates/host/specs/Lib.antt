@@ -2,4 +2,4 @@ pub mod Meaning
 pub mod Values
 pub mod Laws
 pub mod Next
-pub mod Words
+pub mod Defects

@@ -1,4 +1,4 @@
--- The meaning of a host: how it may answer each event and what it then is. A relation, since memory may be refused, and since
+-- The meaning of a host: how it may answer each event and what it then is. A relation, since memory may run out, and since
 -- of several refusals of one module any may be reported that the verifier may report.
 -- Source: our own.
 use Rattle.std.specs.Prelude.{◌≡◌, ◌≢◌, ℕ, ◌+◌, ◌<◌, ◌≤◌, ◌^◌, ◌==◌, not, if◌then◌else◌, List, [], ◌∷◌, length, filter, Option, Some, None}
@@ -13,7 +13,7 @@ use Rattle.machine.specs.declared.status.Status.{Status}
 use Rattle.machine.specs.declared.fault.NewRefusal.TheVariants.{UnknownChannel}
 use Rattle.verifier.specs.Refusals.{HasNoDefect}
 use Rattle.verifier.specs.Loaded.{CannotLoad}
-use Rattle.bytecode.specs.Isolated.{seen_of}
+use Rattle.bytecode.specs.Isolated.{module_view}
 use Rattle.common.specs.declared.fault.OrNoMemory.{OrNoMemory}
 use Rattle.common.specs.declared.fault.OrNoMemory.TheVariants as faults
 use Rattle.host.specs.declared.fault.HostRefusal.{HostRefusal}
@@ -134,8 +134,8 @@ abbrev pub IsPrincipal : SessionContents → ℕ → Type 0
 IsPrincipal session p = p < length session.program.hierarchy.names
 
 -- what a principal sees of a session
-abbrev pub view_of : SessionContents → ℕ → List Pair
-view_of session p = seen_of session.program p (sent_of session.machine)
+abbrev pub session_view : SessionContents → ℕ → List Pair
+session_view session p = module_view session.program p (sent_of session.machine)
 
 -- a principal of a session's module can be shown what it sees
 abbrev pub CanView : HostContents → ℕ → ℕ → Type 0
@@ -166,7 +166,7 @@ MayAnswer limit old (Turn id n) (Turned taken status) new =
 MayAnswer limit old (Turn id n) (Refused fault) new = ReportsFault ⊥ (IdRefused old id) fault × (new ≡ old)
 -- what the principal sees, and nothing changes
 MayAnswer limit old (View id p) (Viewed pairs) new =
-    (session : SessionContents) × IsOpen old id session × IsPrincipal session p × (pairs ≡ view_of session p) × (new ≡ old)
+    (session : SessionContents) × IsOpen old id session × IsPrincipal session p × (pairs ≡ session_view session p) × (new ≡ old)
 MayAnswer limit old (View id p) (Refused fault) new =
     ReportsFault (CanView old id p) (ViewRefused old id p) fault × (new ≡ old)
 -- the session is there no more

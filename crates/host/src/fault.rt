@@ -1,4 +1,4 @@
-ghost use Rattle.host.specs.Words.{refusal_number, refusal_words};
+ghost use Rattle.host.specs.Defects.{refusal_number, refusal_words};
 ghost use Rattle.host.specs.declared.fault.HostRefusal.TheVariants.{Load, New};
 ghost use Rattle.std.specs.Prelude.{◌≡◌, Some};
 

@@ -1,6 +1,9 @@
 //! Laws of hosts, proved for every host and every list of events. They do nothing when they are called.
 
 ghost use Rattle.host.specs.Laws.{IdsGoUp, SessionsAreFreshRuns, SessionsAreIsolated, SessionsEndAsReported, SessionsGoOn, SessionsShowOn, SessionsStandAsReported, StepsAddUp, TranscriptsJoin};
+ghost use Rattle.std.specs.Prelude.{◌≡◌};
+
+use crate::hosts::MAX_SESSIONS;
 
 /// A session is a run of its module alone on its world. What is shown of it is what that run has sent after the steps that the
 /// session's own turns reported, it has ended where one of them reported an end, and after all events it stands where that run
@@ -37,4 +40,10 @@ pub fn transcripts_join()
 /// No id is given twice: of two sessions that a host opens, the later one has the greater id.
 pub fn ids_are_never_given_again()
     ensures { IdsGoUp }
+{}
+
+/// A host has at most 64 sessions open: a constant that is changed is refused here, while the contracts that cite it would follow the
+/// change.
+pub fn at_most_64_sessions_are_open()
+    ensures { MAX_SESSIONS ≡ 64 }
 {}

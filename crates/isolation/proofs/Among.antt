@@ -1,11 +1,10 @@
 -- Each end that the meaning gives is among the possible ends, and each exception of an expression among those that it can raise.
-use Rattle.std.proofs.Common.{arith, ◌≡◌, refl, sym, ap, ◌∙◌, ℕ, zero, suc, Bool, true, false, not, ◌&&◌, ◌||◌, List, [], ◌∷◌, ◌++◌, append_assoc, ⊎_elim, ℤ, pos, negsuc, neg_ℤ, ◌+ℤ◌}
+use Rattle.std.proofs.Common.{arith, ◌≡◌, refl, sym, ap, ◌∙◌, ℕ, zero, suc, Bool, true, false, not, ◌||◌, List, [], ◌∷◌, ◌++◌, append_assoc, ℤ, pos, negsuc, neg_ℤ, ◌+ℤ◌}
 use Rattle.std.specs.Prelude.{Option, Some, None, if◌then◌else◌, ◌==◌, filter}
 use Rattle.std.specs.List.{list_any, list_all}
 use Rattle.std.proofs.lemmas.List.Folds.{list_any-append}
 use Rattle.std.proofs.lemmas.List.{append-nil}
-use Rattle.std.proofs.lemmas.Bool.{or_left, or_right, or_cases, and_parts}
-use Rattle.std.proofs.lemmas.Map.Views.{any-filter_same}
+use Rattle.std.proofs.lemmas.Bool.{or_left, or_right}
 use Rattle.std.proofs.lemmas.Int.{int_wrap-add_right, int_wrap_fits, SFits-int_wrap}
 use Rattle.std.proofs.Math.IntN.{+ℤ_invr, +ℤ_idr}
 use Rattle.std.specs.Int.{int_wrap}
@@ -20,14 +19,15 @@ use Rattle.resolved.specs.declared.statement.Exit.{Exit}
 use Rattle.resolved.specs.declared.statement.Exit.TheVariants.{Normal, Return, Break, Continue, Throw}
 use Rattle.resolved.specs.Tree.{Expression, Integer, Logical, Read, Element, Unary, Binary, Short, Statement, Assign, Clear, Store, Receive, Send, Call, If, While, Leave, ReturnWith, Try, Nested, Block, Empty, Then, Handlers, NoMore, Catch}
 use Rattle.resolved.specs.Program.{Program, procedure_at}
-use Rattle.resolved.specs.Value.{Evaluated, Yields, Raises, then_with, truth_in, number_in, wrapped, literal_number, unless_zero, operator_value, decides, in_range, position_of, checked_index, arith_exception, bounds_exception, end_exception}
+use Rattle.resolved.specs.Value.{Evaluated, Yields, Raises, then_with, truth_in, number_in, wrapped, literal_number, unless_zero, operator_value, decides, in_range, position_of, checked_index}
 use Rattle.resolved.specs.SourceState.{SourceState, value_of, values_of, cells, cell_at, assigned, stored, cleared}
 use Rattle.resolved.specs.Meaning.{OutOfTurns, Outcome, Ended, Stopped, normally, thrown, after, evaluated, looped, turns, caught, leaving, returned_to, received, sending, Calls, statement_meaning, block_meaning, handlers_meaning, frame_of, calls_with}
 use Rattle.resolved.specs.Ends.{same_exit, has_end, index_can_raise, divisor_can_raise, index_raises, operator_raises, raises, raises_all, thrown_ends, declared_by, leaves_loop, handles, passes, then_ends, statement_ends, block_ends, handlers_ends}
 use Rattle.resolved.specs.EndFaults.{may_end}
 use Rattle.isolation.specs.Runs.{EndsAmong}
-use Rattle.resolved.proofs.Exits.{same-exit, same_exit-itself, thrown-append}
+use Rattle.resolved.proofs.Exits.{same_exit-itself, thrown-append, end-filter, all-has, then-other}
 use Rattle.common.specs.Integers.{is_zero}
+use Rattle.common.specs.declared.exceptions.TheConstants.{ARITH, BOUNDS, END}
 
 -- whether an exception is in a list
 abbrev pub raised_in : List ℕ → ℕ → Bool
@@ -46,10 +46,6 @@ thrown-is (y ∷ xs) x = ap (λ b. (x == y) || b) (thrown-is xs x)
 
 pub thrown-among : (xs : List ℕ) (x : ℕ) → raised_in xs x ≡ true → has_end (thrown_ends xs) (Throw x) ≡ true
 thrown-among xs x h = thrown-is xs x ∙ h
-
--- the ends of a list that pass a test
-pub end-filter : (p : Exit → Bool) (ends : List Exit) (exit : Exit) → has_end (filter p ends) exit ≡ (p exit && has_end ends exit)
-end-filter p ends exit = any-filter_same (same_exit exit) p (p exit) (λ e h. sym (ap p (same-exit exit e h))) ends
 
 -- the exceptions of what was evaluated are in a list
 pub record RaisesAmong {A : Type 0} (xs : List ℕ) (o : Evaluated A) : Type 0 where
@@ -115,17 +111,17 @@ raises-checked_index s index length v e = go (index_can_raise index length) refl
     go : (b : Bool) → index_can_raise index length ≡ b → (c : Bool) → in_range (number_in v) length ≡ c →
         RaisesAmong (index_raises index length) (checked_index v length)
     go b f true g = rw g (raises-none (index_raises index length) (position_of (number_in v)))
-    go true f false g = rw (f, g) (raises-this (bounds_exception ∷ []) bounds_exception refl)
+    go true f false g = rw (f, g) (raises-this (BOUNDS ∷ []) BOUNDS refl)
     go false f false g = let i : true ≡ false = sym (index-in_range s index length v f e) ∙ g in absurd (cc)
 
 raises-division : (s : SourceState) (e : Expression) (w : Value) (result : ℤ) → value_of s e ≡ Yields w →
-    RaisesAmong (if divisor_can_raise e then arith_exception ∷ [] else []) (unless_zero (number_in w) result)
+    RaisesAmong (if divisor_can_raise e then ARITH ∷ [] else []) (unless_zero (number_in w) result)
 raises-division s e w result f = go (divisor_can_raise e) refl (is_zero (number_in w)) refl
   where
     go : (b : Bool) → divisor_can_raise e ≡ b → (c : Bool) → is_zero (number_in w) ≡ c →
-        RaisesAmong (if divisor_can_raise e then arith_exception ∷ [] else []) (unless_zero (number_in w) result)
-    go b g false h = rw h (raises-none (if divisor_can_raise e then arith_exception ∷ [] else []) (Number result))
-    go true g true h = rw (g, h) (raises-this (arith_exception ∷ []) arith_exception refl)
+        RaisesAmong (if divisor_can_raise e then ARITH ∷ [] else []) (unless_zero (number_in w) result)
+    go b g false h = rw h (raises-none (if divisor_can_raise e then ARITH ∷ [] else []) (Number result))
+    go true g true h = rw (g, h) (raises-this (ARITH ∷ []) ARITH refl)
     go false g true h = let i : true ≡ false = sym h ∙ divisor-not_zero s e w g f in absurd (cc)
 
 raises-operator : (s : SourceState) (operator : Operator) (e : Expression) (v w : Value) → value_of s e ≡ Yields w →
@@ -211,16 +207,6 @@ among-evaluated xs ends (Raises x) s next h more rest = record { among = more (T
 among-if : (ends : List Exit) (b : Bool) (x y : Outcome) → Among ends x → Among ends y → Among ends (if b then x else y)
 among-if ends true x y h i = h
 among-if ends false x y h i = i
-
--- an end other than the normal one is an end of what follows too
-then-other : (first rest : List Exit) (exit : Exit) → same_exit Normal exit ≡ false → has_end first exit ≡ true →
-    has_end (then_ends first rest) exit ≡ true
-then-other first rest exit other h = go (has_end first Normal) refl
-  where
-    go : (b : Bool) → has_end first Normal ≡ b → has_end (then_ends first rest) exit ≡ true
-    go true e = rw e (any-left (same_exit exit) (filter (λ x. not (same_exit Normal x)) first) rest
-        (end-filter (λ x. not (same_exit Normal x)) first exit ∙ rw (other, h) refl))
-    go false e = rw e h
 
 then-normal : (first rest : List Exit) (o : Outcome) → has_end first Normal ≡ true → Among rest o → Among (then_ends first rest) o
 then-normal first rest o h among = rw h (among-right (filter (λ x. not (same_exit Normal x)) first) rest o among)
@@ -324,7 +310,7 @@ among-returned_to ends None (Ended (Throw e) r t) h = record { among = h.among }
 among-returned_to ends None (Stopped stop t) h = record { among = tt }
 
 among-received : (numbers : List ℤ) (channel : ℕ) (target : Option Variable) (s : SourceState) →
-    Among (Normal ∷ Throw end_exception ∷ []) (received numbers channel target s)
+    Among (Normal ∷ Throw END ∷ []) (received numbers channel target s)
 among-received [] channel target s = record { among = refl }
 among-received (z ∷ rest) channel target s = record { among = refl }
 
@@ -426,13 +412,6 @@ mutual
       (block-among body program calls k h s))
       (λ onward. handlers-among rest program calls k h ends x s onward
       (λ exit f. more exit (any-right (same_exit exit) (block_ends program body) (handlers_ends program rest) f)))
-
--- a procedure that may end so does
-pub all-has : (p : Exit → Bool) (ends : List Exit) (exit : Exit) → list_all p ends ≡ true → has_end ends exit ≡ true → p exit ≡ true
-all-has p [] exit h f = let e : true ≡ false = sym f in absurd (cc)
-all-has p (first ∷ rest) exit h f =
-    let parts = and_parts (p first) (list_all p rest) h in
-    ⊎_elim (λ g. rw (same-exit exit first g) parts.0) (all-has p rest exit parts.1) (or_cases (same_exit exit first) (has_end rest exit) f)
 
 -- each procedure ends only as it may
 abbrev pub EndsAsDeclared : Program → Type 0

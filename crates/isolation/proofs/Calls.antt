@@ -19,13 +19,13 @@ use Rattle.resolved.specs.EndFaults.{may_end}
 use Rattle.resolved.specs.declared.target.Target.TheVariants.{ToEnd, ToThrown}
 use Rattle.resolved.specs.Labelled.{Labelling, ExitLabels, Demand, demand, FitsDemands, label_if, any_of, one, label_of, join_under, Scope, here, as_one_end, end_demands, one}
 use Rattle.isolation.proofs.Grows.{Grows, grows-itself, grows-returned_to}
-use Rattle.isolation.proofs.Among.{Among, all-has, raised_in, thrown-is}
+use Rattle.isolation.proofs.Among.{Among, raised_in, thrown-is}
 use Rattle.isolation.proofs.Observer.{LabelReader, under, Reader, View, view_of, shown, AgreeFor, agree-back, agree-through, agree-unread, agree-with_cells, unread-left, unread-right}
-use Rattle.isolation.proofs.Kept.{Hidden, hidden_end, hidden_return, hidden_stop, Kept}
-use Rattle.isolation.proofs.Related.{Related, same_end, same_return, apart, first_stops, second_stops, both-kept, stopped-prefix, agree-prefix}
+use Rattle.isolation.proofs.Unseen.{Hidden, hidden_end, hidden_return, hidden_stop, Unseen}
+use Rattle.isolation.proofs.Related.{Related, same_end, same_return, apart, first_stops, second_stops, both-unseen, stopped-prefix, agree-prefix}
 use Rattle.isolation.proofs.Closed.{read_exits, one-same}
-use Rattle.isolation.proofs.Confined.{KeptCall, HiddenCall, call_end, call_thrown, call_stop, unread_exits, kept-returned_to, unread-label_if, fits-left, fits-right, unread-demand}
-use Rattle.resolved.proofs.Exits.{same-exit, same_exit-itself}
+use Rattle.isolation.proofs.Confined.{UnseenCall, HiddenCall, call_end, call_thrown, call_stop, unread_exits, unseen-returned_to, unread-label_if, fits-left, fits-right, unread-demand}
+use Rattle.resolved.proofs.Exits.{same-exit, same_exit-itself, all-has}
 
 -- two calls: they end in the same way, or the observer reads the label of neither end; and what is seen of a stopped one is a prefix
 pub data RelatedCall (view : View) (value : Bool) (exits : Exit → Bool) : Outcome → Outcome → Type 0 where
@@ -80,9 +80,9 @@ related-returned_to view result value exits more (Some x) o p (same_call r q s t
 related-returned_to view result value exits more None o p (same_thrown y s t h) weaker unread read = same_end (Throw y) s t h
 related-returned_to view result value exits more (Some x) o p (same_thrown y s t h) weaker unread read = same_end (Throw y) s t h
 related-returned_to view result value exits more target o p (apart_calls _ _ h i j) weaker unread read =
-    both-kept view value more (state_after o) (state_after p) (returned_to target o) (returned_to target p) j
-    (kept-returned_to view result value exits more target o h weaker unread)
-    (kept-returned_to view result value exits more target p i weaker unread)
+    both-unseen view value more (state_after o) (state_after p) (returned_to target o) (returned_to target p) j
+    (unseen-returned_to view result value exits more target o h weaker unread)
+    (unseen-returned_to view result value exits more target p i weaker unread)
 related-returned_to view result value exits more None o p (first_call_stops stop s _ h) weaker unread read =
     first_stops stop s (returned_to None p) (stopped-prefix view s p (returned_to None p) h (grown-returned_to None p))
 related-returned_to view result value exits more (Some x) o p (first_call_stops stop s _ h) weaker unread read =
@@ -309,11 +309,11 @@ prefix-outside : (inner outer : View) (xs ys : List Pair) → ((zs : List Pair) 
 prefix-outside inner outer xs ys same h = (h.0, ap (λ l. l ++ h.0) (sym (same xs)) ∙ h.1 ∙ same ys)
 
 -- one run of a body of which nothing is seen, for the caller
-pub kept-leaving : (callee : ProcedureEntry) (ends : List Exit) (inner outer : View) (value : Bool) (exits : Exit →
+pub unseen-leaving : (callee : ProcedureEntry) (ends : List Exit) (inner outer : View) (value : Bool) (exits : Exit →
     Bool) (s u : SourceState) (o : Outcome) → list_all (may_end callee) ends ≡ true →
-    ((t' : SourceState) → AgreeFor inner u t' → AgreeFor outer s (home s t')) → Among ends o → Kept inner value exits u o →
-    KeptCall outer value unread_exits s (leaving (home s) o)
-kept-leaving callee ends inner outer value exits s u o declared back among h = record {
+    ((t' : SourceState) → AgreeFor inner u t' → AgreeFor outer s (home s t')) → Among ends o → Unseen inner value exits u o →
+    UnseenCall outer value unread_exits s (leaving (home s) o)
+unseen-leaving callee ends inner outer value exits s u o declared back among h = record {
   agree = rw (after-leaving (home s) o) (back (state_after o) h.agree);
   hidden = hidden-shape callee ends declared (home s) value exits o among h.hidden;
 }

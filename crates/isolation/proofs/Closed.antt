@@ -9,11 +9,11 @@ use Rattle.resolved.specs.SourceState.{SourceState}
 use Rattle.resolved.specs.Meaning.{Outcome, state_after}
 use Rattle.resolved.specs.Ends.{same_exit, has_end, one_end}
 use Rattle.resolved.specs.Labelled.{ExitLabels, at_ends, Labelling, Join, one}
-use Rattle.isolation.proofs.Among.{Among, all-has}
+use Rattle.isolation.proofs.Among.{Among}
 use Rattle.isolation.proofs.Observer.{Reader, View, AgreeFor, agree-back}
-use Rattle.isolation.proofs.Kept.{Hidden, hidden_end, hidden_return, hidden_stop, Kept}
+use Rattle.isolation.proofs.Unseen.{Hidden, hidden_end, hidden_return, hidden_stop, Unseen}
 use Rattle.isolation.proofs.Related.{Related, same_end, same_return, apart, first_stops, second_stops, agree-prefix}
-use Rattle.resolved.proofs.Exits.{same-exit}
+use Rattle.resolved.proofs.Exits.{same-exit, all-has}
 
 -- which labels an observer reads
 abbrev pub read_exits : {h : PrincipalHierarchy} {labelling : Labelling} → Reader h labelling → ExitLabels → Exit → Bool
@@ -46,8 +46,8 @@ hidden-closed reader value ends pc exits o single among (hidden_return r t m non
     hidden_return r t (closed-unread reader ends pc exits Return single among.among m) none
 hidden-closed reader value ends pc exits o single among (hidden_stop stop t) = hidden_stop stop t
 
-pub kept-closed : {h : PrincipalHierarchy} {labelling : Labelling} (reader : Reader h labelling) (view : View) (value : Bool) (ends : List Exit) (pc : Join) (exits : ExitLabels) (s : SourceState) (o : Outcome) → reader.reads pc ≡ false → Among ends o → Kept view value (read_exits reader exits) s o → Kept view value (read_exits reader (at_ends ends pc exits)) s o
-kept-closed reader view value ends pc exits s o unread among h =
+pub unseen-closed : {h : PrincipalHierarchy} {labelling : Labelling} (reader : Reader h labelling) (view : View) (value : Bool) (ends : List Exit) (pc : Join) (exits : ExitLabels) (s : SourceState) (o : Outcome) → reader.reads pc ≡ false → Among ends o → Unseen view value (read_exits reader exits) s o → Unseen view value (read_exits reader (at_ends ends pc exits)) s o
+unseen-closed reader view value ends pc exits s o unread among h =
     record { agree = h.agree; hidden = hidden-closed reader value ends pc exits o (λ one. unread) among h.hidden }
 
 -- two hidden ends of a list of one

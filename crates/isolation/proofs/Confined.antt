@@ -15,7 +15,7 @@ use Rattle.resolved.specs.declared.statement.Exit.{Exit}
 use Rattle.resolved.specs.declared.statement.Exit.TheVariants.{Normal, Return, Break, Continue, Throw}
 use Rattle.resolved.specs.Tree.{Expression, Statement, Assign, Clear, Store, Receive, Send, Call, If, While, Leave, ReturnWith, Try, Nested, Block, Empty, Then, Handlers, NoMore, Catch}
 use Rattle.resolved.specs.Program.{Program, ProcedureEntry, procedure_at}
-use Rattle.resolved.specs.Value.{Raises, truth_in, checked_index, end_exception}
+use Rattle.resolved.specs.Value.{Raises, truth_in, checked_index}
 use Rattle.resolved.specs.SourceState.{SourceState, assigned, stored, cleared, value_of, values_of}
 use Rattle.resolved.specs.Meaning.{Stop, Outcome, Ended, Stopped, normally, after, caught, kept_in, received, sending, returned_to, Calls, statement_meaning, block_meaning, handlers_meaning, state_after}
 use Rattle.resolved.specs.Ends.{same_exit, has_end, raises, thrown_ends, leaves_loop, handles, passes, statement_ends, block_ends, index_can_raise}
@@ -25,8 +25,9 @@ use Rattle.resolved.specs.Labelled.{chosen, Scope, ExitLabels, Demand, demand, j
 use Rattle.labels.specs.Constraints.{holds, label_lattice}
 use Rattle.isolation.proofs.Among.{CallsAmong, expression-raises, thrown-among, statement-among, block-among}
 use Rattle.isolation.proofs.Observer.{Reader, View, view_of, AgreeFor, agree-itself, agree-through, agree-unread, agree-unread_input, agree-unread_sending, with_input, unread-left, unread-right, unread-flowing}
-use Rattle.isolation.proofs.Kept.{hidden_end, hidden_return, Kept, LoopExits, kept-weaker, kept-from, kept-end, kept-stop, kept-evaluated, kept-if, kept-after, kept-turns, kept-caught}
-use Rattle.isolation.proofs.Closed.{read_exits, kept-closed}
+use Rattle.isolation.proofs.Unseen.{hidden_end, hidden_return, Unseen, LoopExits, unseen-weaker, unseen-from, unseen-end, unseen-stop, unseen-evaluated, unseen-if, unseen-after, unseen-turns, unseen-caught}
+use Rattle.isolation.proofs.Closed.{read_exits, unseen-closed}
+use Rattle.common.specs.declared.exceptions.TheConstants.{END}
 
 -- demands that hold hold in both parts of their list
 pub fits-left : (h : PrincipalHierarchy) (labelling : Labelling) (xs ys : List Demand) → FitsDemands h labelling (xs ++ ys) → FitsDemands h labelling xs
@@ -74,7 +75,7 @@ pub data HiddenCall (value : Bool) (exits : Exit → Bool) : Outcome → Type 0 
   call_thrown : (x : ℕ) (t : SourceState) → exits (Throw x) ≡ false → HiddenCall value exits (Ended (Throw x) None t)
   call_stop : (stop : Stop) (t : SourceState) → HiddenCall value exits (Stopped stop t)
 
-pub record KeptCall (view : View) (value : Bool) (exits : Exit → Bool) (s : SourceState) (o : Outcome) : Type 0 where
+pub record UnseenCall (view : View) (value : Bool) (exits : Exit → Bool) (s : SourceState) (o : Outcome) : Type 0 where
   pub agree : AgreeFor view s (state_after o)
   pub hidden : HiddenCall value exits o
 
@@ -85,22 +86,22 @@ unread_exits exit = false
 -- what the calls of a program do: they end as declared, and at a begin label that the observer does not read nothing is seen
 pub record Confines {h : PrincipalHierarchy} {labelling : Labelling} (reader : Reader h labelling) (scope : Scope) (calls : Calls) : Type 0 where
   pub among : CallsAmong scope.program calls
-  pub kept : (f : ℕ) (vs : List Value) (s : SourceState) → reader.reads (one (label_of scope.program (ToBegin f))) ≡ false →
-      KeptCall (view_of reader scope) (reads_result reader (procedure_at scope.program f)) unread_exits s (calls f vs s)
+  pub unseen : (f : ℕ) (vs : List Value) (s : SourceState) → reader.reads (one (label_of scope.program (ToBegin f))) ≡ false →
+      UnseenCall (view_of reader scope) (reads_result reader (procedure_at scope.program f)) unread_exits s (calls f vs s)
 
 -- the value of such a call goes to a target that the observer does not read
-pub kept-returned_to : (view : View) (result value : Bool) (exits more : Exit → Bool) (target : Option Variable) (o : Outcome) →
+pub unseen-returned_to : (view : View) (result value : Bool) (exits more : Exit → Bool) (target : Option Variable) (o : Outcome) →
     HiddenCall result exits o → ((exit : Exit) → exits exit ≡ false → more exit ≡ false) →
     (exits Normal ≡ false → (x : Variable) → target ≡ Some x → view.variable x ≡ false) →
-    Kept view value more (state_after o) (returned_to target o)
-kept-returned_to view result value exits more None o (call_end r t m none) weaker unread = kept-end view value more t Normal (weaker Normal m)
-kept-returned_to view result value exits more None o (call_thrown x t m) weaker unread = kept-end view value more t (Throw x) (weaker (Throw x) m)
-kept-returned_to view result value exits more None o (call_stop stop t) weaker unread = kept-stop view value more t stop
-kept-returned_to view result value exits more (Some x) o (call_end None t m none) weaker unread = kept-end view value more t Normal (weaker Normal m)
-kept-returned_to view result value exits more (Some x) o (call_end (Some v) t m none) weaker unread =
+    Unseen view value more (state_after o) (returned_to target o)
+unseen-returned_to view result value exits more None o (call_end r t m none) weaker unread = unseen-end view value more t Normal (weaker Normal m)
+unseen-returned_to view result value exits more None o (call_thrown x t m) weaker unread = unseen-end view value more t (Throw x) (weaker (Throw x) m)
+unseen-returned_to view result value exits more None o (call_stop stop t) weaker unread = unseen-stop view value more t stop
+unseen-returned_to view result value exits more (Some x) o (call_end None t m none) weaker unread = unseen-end view value more t Normal (weaker Normal m)
+unseen-returned_to view result value exits more (Some x) o (call_end (Some v) t m none) weaker unread =
     record { agree = agree-unread view t x (v ∷ []) (unread m x refl); hidden = hidden_end Normal (assigned t x v) (weaker Normal m) }
-kept-returned_to view result value exits more (Some x) o (call_thrown y t m) weaker unread = kept-end view value more t (Throw y) (weaker (Throw y) m)
-kept-returned_to view result value exits more (Some x) o (call_stop stop t) weaker unread = kept-stop view value more t stop
+unseen-returned_to view result value exits more (Some x) o (call_thrown y t m) weaker unread = unseen-end view value more t (Throw y) (weaker (Throw y) m)
+unseen-returned_to view result value exits more (Some x) o (call_stop stop t) weaker unread = unseen-stop view value more t stop
 
 -- a target that is demanded to be above an unread label is not read
 pub unread-target : {h : PrincipalHierarchy} {labelling : Labelling} (reader : Reader h labelling) (scope : Scope) (at rule : ℕ) (left : Join) (target : Option Variable) →
@@ -110,22 +111,22 @@ unread-target reader scope at rule left None fits unread x e = absurd (cc)
 unread-target reader scope at rule left (Some y) fits unread x e =
     let same : y ≡ x = cc in rw (← same) (unread-demand reader scope.program at rule left (ToVariable scope.number y) fits unread)
 
-kept-kept_in : (view : View) (target : Option Variable) (v : Value) (s : SourceState) →
+unseen-kept_in : (view : View) (target : Option Variable) (v : Value) (s : SourceState) →
     ((x : Variable) → target ≡ Some x → view.variable x ≡ false) → AgreeFor view s (kept_in target v s)
-kept-kept_in view None v s unread = agree-itself view s
-kept-kept_in view (Some x) v s unread = agree-unread view s x (v ∷ []) (unread x refl)
+unseen-kept_in view None v s unread = agree-itself view s
+unseen-kept_in view (Some x) v s unread = agree-unread view s x (v ∷ []) (unread x refl)
 
-kept-received : (view : View) (value : Bool) (exits : Exit →
+unseen-received : (view : View) (value : Bool) (exits : Exit →
     Bool) (channel : ℕ) (target : Option Variable) (s : SourceState) (numbers : List ℤ) → ((exit : Exit) → exits exit ≡ false) →
     view.channel channel ≡ false → ((x : Variable) → target ≡ Some x → view.variable x ≡ false) →
-    Kept view value exits s (received numbers channel target s)
-kept-received view value exits channel target s [] unread unread_channel unread_target = kept-end view value exits s (Throw end_exception)
-    (unread (Throw end_exception))
-kept-received view value exits channel target s (z ∷ rest) unread unread_channel unread_target =
+    Unseen view value exits s (received numbers channel target s)
+unseen-received view value exits channel target s [] unread unread_channel unread_target = unseen-end view value exits s (Throw END)
+    (unread (Throw END))
+unseen-received view value exits channel target s (z ∷ rest) unread unread_channel unread_target =
     record {
       agree = agree-through view s (with_input s channel rest) (kept_in target (Number z) (with_input s channel rest))
           (agree-unread_input view s channel rest unread_channel)
-          (kept-kept_in view target (Number z) (with_input s channel rest) unread_target);
+          (unseen-kept_in view target (Number z) (with_input s channel rest) unread_target);
       hidden = hidden_end Normal (kept_in target (Number z) (with_input s channel rest)) (unread Normal);
     }
 
@@ -141,7 +142,7 @@ unread-above reader a b flow unread = go (reader.reads (one b)) refl
         let both : reader.reads (a ++ one b) ≡ true = reader.joined a (one b) ∙ rw (reader.flowing a b flow e, e) refl in
         let i : true ≡ false = sym both ∙ unread in absurd (cc)
 
--- where the label of the way to a statement is not read, neither is its own
+-- where the program-counter label of a statement is not read, neither is its own
 pub own-unread : {h : PrincipalHierarchy} {labelling : Labelling} (reader : Reader h labelling) (scope : Scope) (pc : Join) (statement : Statement) →
     FitsDemands h labelling (statement_demands scope pc statement) → reader.reads pc ≡ false → reader.reads (own_label scope pc statement) ≡ false
 own-unread reader scope pc (Assign at x e) fits unread = unread-left reader pc (raise_label scope e) unread
@@ -183,12 +184,12 @@ loop-read reader raised b x = record {
     leaving (Throw y) e m = unread-right reader (raised (Throw y)) (x (Throw y)) m
 
 -- one handler and those after it
-kept-handler : (view : View) (value : Bool) (more : Exit → Bool) (exception handled : ℕ) (s : SourceState) (x y : Outcome) →
-    (exception ≡ handled → Kept view value more s x) → ((exception == handled) ≡ false → Kept view value more s y) →
-    Kept view value more s (if exception == handled then x else y)
-kept-handler view value more exception handled s x y h i = go (exception == handled) refl
+unseen-handler : (view : View) (value : Bool) (more : Exit → Bool) (exception handled : ℕ) (s : SourceState) (x y : Outcome) →
+    (exception ≡ handled → Unseen view value more s x) → ((exception == handled) ≡ false → Unseen view value more s y) →
+    Unseen view value more s (if exception == handled then x else y)
+unseen-handler view value more exception handled s x y h i = go (exception == handled) refl
   where
-    go : (b : Bool) → (exception == handled) ≡ b → Kept view value more s (if exception == handled then x else y)
+    go : (b : Bool) → (exception == handled) ≡ b → Unseen view value more s (if exception == handled then x else y)
     go true e = let same : exception ≡ handled = grind (arith, e) in rw e (h same)
     go false e = rw e (i e)
 
@@ -204,25 +205,25 @@ unread-call reader program f q unread (Throw x) = unread-left reader q (one (lab
 
 module _ (h : PrincipalHierarchy) (labelling : Labelling) (reader : Reader h labelling) (scope : Scope) (calls : Calls) (k : ℕ) (confines : Confines reader scope calls) where
   mutual
-    pub statement-kept : (statement : Statement) (pc : Join) → FitsDemands h labelling (statement_demands scope pc statement) →
+    pub statement-unseen : (statement : Statement) (pc : Join) → FitsDemands h labelling (statement_demands scope pc statement) →
         reader.reads (own_label scope pc statement) ≡ false → (s : SourceState) →
-        Kept (view_of reader scope) (reads_result reader (here scope)) (read_exits reader (statement_rule scope pc statement)) s
+        Unseen (view_of reader scope) (reads_result reader (here scope)) (read_exits reader (statement_rule scope pc statement)) s
         (statement_meaning calls k statement s)
-    statement-kept (Assign at x e) pc fits unread s =
+    statement-unseen (Assign at x e) pc fits unread s =
         let view = view_of reader scope in
         let value = reads_result reader (here scope) in
         let q = own_label scope pc (Assign at x e) in
         let exits = read_exits reader (statement_rule scope pc (Assign at x e)) in
         let unread_x : reader.reads (variable_label scope x) ≡ false = unread-demand reader scope.program at 1 (q ++ value_label scope e)
         (ToVariable scope.number x) fits (unread-left reader q (value_label scope e) unread) in
-        kept-evaluated view value exits s (value_of s e) (λ v. normally (assigned s x v)) (λ y f. unread) (λ v f.
+        unseen-evaluated view value exits s (value_of s e) (λ v. normally (assigned s x v)) (λ y f. unread) (λ v f.
         record { agree = agree-unread view s x (v ∷ []) unread_x; hidden = hidden_end Normal (assigned s x v) unread })
-    statement-kept (Clear at slot) pc fits unread s =
+    statement-unseen (Clear at slot) pc fits unread s =
         record {
           agree = agree-unread (view_of reader scope) s (Local slot) _ (unread-demand reader scope.program at 2 pc (ToVariable scope.number (Local slot)) fits unread);
           hidden = hidden_end Normal (cleared s slot) unread;
         }
-    statement-kept (Store at array len index e) pc fits unread s =
+    statement-unseen (Store at array len index e) pc fits unread s =
         let view = view_of reader scope in
         let value = reads_result reader (here scope) in
         let q = own_label scope pc (Store at array len index e) in
@@ -230,28 +231,28 @@ module _ (h : PrincipalHierarchy) (labelling : Labelling) (reader : Reader h lab
         let unread_array : reader.reads (variable_label scope array) ≡ false = unread-demand reader scope.program at 3
         (q ++ value_label scope index ++ value_label scope e) (ToVariable scope.number array) fits
         (unread-left reader (q ++ value_label scope index) (value_label scope e) (unread-left reader q (value_label scope index) unread)) in
-        kept-evaluated view value exits s (value_of s index) _ (λ y f. unread) (λ v f.
-        kept-evaluated view value exits s (value_of s e) _ (λ y g. unread) (λ w g.
-        kept-evaluated view value exits s (checked_index v len) (λ i. normally (stored s array i w)) (λ y g. unread) (λ i j.
+        unseen-evaluated view value exits s (value_of s index) _ (λ y f. unread) (λ v f.
+        unseen-evaluated view value exits s (value_of s e) _ (λ y g. unread) (λ w g.
+        unseen-evaluated view value exits s (checked_index v len) (λ i. normally (stored s array i w)) (λ y g. unread) (λ i j.
         record { agree = agree-unread view s array _ unread_array; hidden = hidden_end Normal (stored s array i w) unread })))
-    statement-kept (Receive at channel target) pc fits unread s =
+    statement-unseen (Receive at channel target) pc fits unread s =
         let view = view_of reader scope in
         let value = reads_result reader (here scope) in
         let q = own_label scope pc (Receive at channel target) in
         let exits = read_exits reader (statement_rule scope pc (Receive at channel target)) in
-        kept-received view value exits channel target s (s.inputs channel) (λ exit. unread)
+        unseen-received view value exits channel target s (s.inputs channel) (λ exit. unread)
         (sym (reader.written (channel_label scope.program channel)) ∙ unread-above reader pc (label_of scope.program (ToChannel channel)) (fits-one h labelling scope.program at 4 pc (ToChannel channel) (fits-left h labelling (demand scope.program at 4 pc (ToChannel channel)) (target_demand scope at 4 q target) fits)) unread)
         (unread-target reader scope at 4 q target (fits-right h labelling (demand scope.program at 4 pc (ToChannel channel)) (target_demand scope at 4 q target) fits) unread)
-    statement-kept (Send at channel e) pc fits unread s =
+    statement-unseen (Send at channel e) pc fits unread s =
         let view = view_of reader scope in
         let value = reads_result reader (here scope) in
         let q = own_label scope pc (Send at channel e) in
         let exits = read_exits reader (statement_rule scope pc (Send at channel e)) in
         let unread_channel : reader.label (channel_label scope.program channel) ≡ false = sym (reader.written _) ∙ unread-demand reader scope.program at 5
         (q ++ value_label scope e) (ToChannel channel) fits (unread-left reader q (value_label scope e) unread) in
-        kept-evaluated view value exits s (value_of s e) (λ v. normally (sending channel v s)) (λ y f. unread) (λ v f.
+        unseen-evaluated view value exits s (value_of s e) (λ v. normally (sending channel v s)) (λ y f. unread) (λ v f.
         record { agree = agree-unread_sending view s channel v unread_channel; hidden = hidden_end Normal (sending channel v s) unread })
-    statement-kept (Call at f arguments target) pc fits unread s =
+    statement-unseen (Call at f arguments target) pc fits unread s =
         let view = view_of reader scope in
         let value = reads_result reader (here scope) in
         let q = own_label scope pc (Call at f arguments target) in
@@ -263,14 +264,14 @@ module _ (h : PrincipalHierarchy) (labelling : Labelling) (reader : Reader h lab
         let unread_begin : reader.reads (one (label_of scope.program (ToBegin f))) ≡ false = unread-demand reader scope.program at 6 q (ToBegin f)
         (fits-left h labelling (demand scope.program at 6 q (ToBegin f)) ds front) unread in
         let each : (exit : Exit) → exits exit ≡ false = unread-call reader scope.program f q unread in
-        kept-evaluated view value exits s (values_of s arguments) (λ vs. returned_to target (calls f vs s)) (λ y g. each (Throw y)) (λ vs g.
-        let call = confines.kept f vs s unread_begin in
-        kept-from view value exits s (state_after (calls f vs s)) (returned_to target (calls f vs s)) call.agree
-        (kept-returned_to view (reads_result reader callee) value unread_exits exits target (calls f vs s) call.hidden (λ exit m. each exit)
+        unseen-evaluated view value exits s (values_of s arguments) (λ vs. returned_to target (calls f vs s)) (λ y g. each (Throw y)) (λ vs g.
+        let call = confines.unseen f vs s unread_begin in
+        unseen-from view value exits s (state_after (calls f vs s)) (returned_to target (calls f vs s)) call.agree
+        (unseen-returned_to view (reads_result reader callee) value unread_exits exits target (calls f vs s) call.hidden (λ exit m. each exit)
         (λ m. unread-target reader scope at 6 (call_exits scope.program f q Normal ++ one (label_of scope.program (ToValue f))) target
         (fits-right h labelling (demand scope.program at 6 q (ToBegin f) ++ ds) ts fits)
         (unread-left reader (call_exits scope.program f q Normal) (one (label_of scope.program (ToValue f))) (each Normal)))))
-    statement-kept (If at e yes_block no_block) pc fits unread s =
+    statement-unseen (If at e yes_block no_block) pc fits unread s =
         let view = view_of reader scope in
         let value = reads_result reader (here scope) in
         let q : Join = own_label scope pc (If at e yes_block no_block) in
@@ -281,23 +282,23 @@ module _ (h : PrincipalHierarchy) (labelling : Labelling) (reader : Reader h lab
         let no_ends = block_ends scope.program no_block in
         let yes_exits : ExitLabels = at_ends yes_ends b (block_rule scope b yes_block) in
         let no_exits : ExitLabels = at_ends no_ends b (block_rule scope b no_block) in
-        kept-evaluated view value exits s (value_of s e)
+        unseen-evaluated view value exits s (value_of s e)
         (λ v. if truth_in v then block_meaning calls k yes_block s else block_meaning calls k no_block s)
         (λ y f. unread-left reader (raised_exits e q (Throw y) ++ yes_exits (Throw y)) (no_exits (Throw y))
         (unread-left reader (raised_exits e q (Throw y)) (yes_exits (Throw y)) (unread-raised reader s e q y f unread))) (λ v f.
-        kept-if view value exits s (truth_in v) (block_meaning calls k yes_block s) (block_meaning calls k no_block s)
-        (kept-weaker view value (read_exits reader yes_exits) exits s (block_meaning calls k yes_block s)
-        (kept-closed reader view value yes_ends b (block_rule scope b yes_block) s (block_meaning calls k yes_block s) unread_b
+        unseen-if view value exits s (truth_in v) (block_meaning calls k yes_block s) (block_meaning calls k no_block s)
+        (unseen-weaker view value (read_exits reader yes_exits) exits s (block_meaning calls k yes_block s)
+        (unseen-closed reader view value yes_ends b (block_rule scope b yes_block) s (block_meaning calls k yes_block s) unread_b
         (block-among yes_block scope.program calls k confines.among s)
-        (block-kept yes_block b (fits-left h labelling (block_demands scope b yes_block) (block_demands scope b no_block) fits) unread_b s))
+        (block-unseen yes_block b (fits-left h labelling (block_demands scope b yes_block) (block_demands scope b no_block) fits) unread_b s))
         (λ exit m. unread-left reader (raised_exits e q exit ++ yes_exits exit) (no_exits exit)
         (unread-right reader (raised_exits e q exit) (yes_exits exit) m)))
-        (kept-weaker view value (read_exits reader no_exits) exits s (block_meaning calls k no_block s)
-        (kept-closed reader view value no_ends b (block_rule scope b no_block) s (block_meaning calls k no_block s) unread_b
+        (unseen-weaker view value (read_exits reader no_exits) exits s (block_meaning calls k no_block s)
+        (unseen-closed reader view value no_ends b (block_rule scope b no_block) s (block_meaning calls k no_block s) unread_b
         (block-among no_block scope.program calls k confines.among s)
-        (block-kept no_block b (fits-right h labelling (block_demands scope b yes_block) (block_demands scope b no_block) fits) unread_b s))
+        (block-unseen no_block b (fits-right h labelling (block_demands scope b yes_block) (block_demands scope b no_block) fits) unread_b s))
         (λ exit m. unread-right reader (raised_exits e q exit ++ yes_exits exit) (no_exits exit) m)))
-    statement-kept (While at loop e body) pc fits unread s =
+    statement-unseen (While at loop e body) pc fits unread s =
         let view = view_of reader scope in
         let value = reads_result reader (here scope) in
         let l : Join = one (label_of scope.program (ToLoop scope.number loop)) in
@@ -308,102 +309,102 @@ module _ (h : PrincipalHierarchy) (labelling : Labelling) (reader : Reader h lab
         let x : ExitLabels = at_ends ends b (block_rule scope b body) in
         let exits = read_exits reader (statement_rule scope pc (While at loop e body)) in
         let front = fits-left h labelling (demand scope.program at 8 pc (ToLoop scope.number loop) ++ block_demands scope b body) (demand scope.program at 8 (x Normal ++ x Continue) (ToLoop scope.number loop)) fits in
-        kept-turns view value (read_exits reader x) exits k (λ t. value_of t e) (block_meaning calls k body)
+        unseen-turns view value (read_exits reader x) exits k (λ t. value_of t e) (block_meaning calls k body)
         (λ t y f. unread-left reader (raised_exits e q (Throw y)) (loop_exits b x (Throw y)) (unread-raised reader t e q y f unread))
         (unread-right reader (raised_exits e q Normal) (b ++ x Break) (unread-left reader b (x Break) unread_b))
         (loop-read reader (raised_exits e q) b x)
-        (λ t. kept-closed reader view value ends b (block_rule scope b body) t (block_meaning calls k body t) unread_b
+        (λ t. unseen-closed reader view value ends b (block_rule scope b body) t (block_meaning calls k body t) unread_b
         (block-among body scope.program calls k confines.among t)
-        (block-kept body b (fits-right h labelling (demand scope.program at 8 pc (ToLoop scope.number loop)) (block_demands scope b body) front) unread_b t)) s
-    statement-kept (Leave at exit) pc fits unread s =
-        kept-end (view_of reader scope) (reads_result reader (here scope))
+        (block-unseen body b (fits-right h labelling (demand scope.program at 8 pc (ToLoop scope.number loop)) (block_demands scope b body) front) unread_b t)) s
+    statement-unseen (Leave at exit) pc fits unread s =
+        unseen-end (view_of reader scope) (reads_result reader (here scope))
         (read_exits reader (statement_rule scope pc (Leave at exit))) s exit unread
-    statement-kept (ReturnWith at None) pc fits unread s =
-        kept-end (view_of reader scope) (reads_result reader (here scope))
+    statement-unseen (ReturnWith at None) pc fits unread s =
+        unseen-end (view_of reader scope) (reads_result reader (here scope))
         (read_exits reader (statement_rule scope pc (ReturnWith at None))) s Return unread
-    statement-kept (ReturnWith at (Some e)) pc fits unread s =
+    statement-unseen (ReturnWith at (Some e)) pc fits unread s =
         let view = view_of reader scope in
         let value = reads_result reader (here scope) in
         let q = own_label scope pc (ReturnWith at (Some e)) in
         let exits = read_exits reader (statement_rule scope pc (ReturnWith at (Some e))) in
         let unread_result : value ≡ false = sym (reader.written _) ∙ unread-demand reader scope.program at 10 (q ++ value_label scope e) (ToValue scope.number) fits
         (unread-left reader q (value_label scope e) unread) in
-        kept-evaluated view value exits s (value_of s e) (λ v. Ended Return (Some v) s) (λ y f. unread) (λ v f.
+        unseen-evaluated view value exits s (value_of s e) (λ v. Ended Return (Some v) s) (λ y f. unread) (λ v f.
         record {
           agree = agree-itself view s;
           hidden = hidden_return (Some v) s unread
               (λ i. let j : true ≡ false = sym i ∙ unread_result in absurd (cc));
         })
-    statement-kept (Try at block handlers) pc fits unread s =
+    statement-unseen (Try at block handlers) pc fits unread s =
         let view = view_of reader scope in
         let value = reads_result reader (here scope) in
         let ends = block_ends scope.program block in
         let x : ExitLabels = at_ends ends pc (block_rule scope pc block) in
         let exits = read_exits reader (statement_rule scope pc (Try at block handlers)) in
-        let inner = kept-closed reader view value ends pc (block_rule scope pc block) s (block_meaning calls k block s) unread
+        let inner = unseen-closed reader view value ends pc (block_rule scope pc block) s (block_meaning calls k block s) unread
         (block-among block scope.program calls k confines.among s)
-        (block-kept block pc (fits-left h labelling (block_demands scope pc block) (handlers_demands scope x handlers) fits) unread s) in
+        (block-unseen block pc (fits-left h labelling (block_demands scope pc block) (handlers_demands scope x handlers) fits) unread s) in
         let others : (exit : Exit) → passes handlers exit ≡ true → reader.reads (x exit) ≡ false → exits exit ≡ false =
         λ exit passing m. unread-left reader (label_if (passes handlers exit) (x exit)) (handlers_rule scope x handlers exit)
         (unread-label_if reader (passes handlers exit) (x exit) passing m) in
-        kept-from view value exits s (state_after (block_meaning calls k block s))
+        unseen-from view value exits s (state_after (block_meaning calls k block s))
         (caught (block_meaning calls k block s) (handlers_meaning calls k handlers)) inner.agree
-        (kept-caught view value handlers (read_exits reader x) exits (block_meaning calls k block s)
+        (unseen-caught view value handlers (read_exits reader x) exits (block_meaning calls k block s)
         (handlers_meaning calls k handlers) inner.hidden others
-        (λ y t m. handlers-kept handlers x (fits-right h labelling (block_demands scope pc block) (handlers_demands scope x handlers) fits) y t m exits
+        (λ y t m. handlers-unseen handlers x (fits-right h labelling (block_demands scope pc block) (handlers_demands scope x handlers) fits) y t m exits
         (λ exit n. unread-right reader (label_if (passes handlers exit) (x exit)) (handlers_rule scope x handlers exit) n)
         (λ none. others (Throw y) (rw none refl) m)))
-    statement-kept (Nested at block) pc fits unread s =
-        kept-closed reader (view_of reader scope) (reads_result reader (here scope)) (block_ends scope.program block) pc
+    statement-unseen (Nested at block) pc fits unread s =
+        unseen-closed reader (view_of reader scope) (reads_result reader (here scope)) (block_ends scope.program block) pc
         (block_rule scope pc block) s (block_meaning calls k block s) unread
         (block-among block scope.program calls k confines.among s)
-        (block-kept block pc fits unread s)
+        (block-unseen block pc fits unread s)
 
-    pub block-kept : (block : Block) (pc : Join) → FitsDemands h labelling (block_demands scope pc block) → reader.reads pc ≡ false → (s : SourceState) →
-        Kept (view_of reader scope) (reads_result reader (here scope)) (read_exits reader (block_rule scope pc block)) s
+    pub block-unseen : (block : Block) (pc : Join) → FitsDemands h labelling (block_demands scope pc block) → reader.reads pc ≡ false → (s : SourceState) →
+        Unseen (view_of reader scope) (reads_result reader (here scope)) (read_exits reader (block_rule scope pc block)) s
         (block_meaning calls k block s)
-    block-kept Empty pc fits unread s = kept-end (view_of reader scope) (reads_result reader (here scope))
+    block-unseen Empty pc fits unread s = unseen-end (view_of reader scope) (reads_result reader (here scope))
         (read_exits reader (block_rule scope pc Empty)) s Normal unread
-    block-kept (Then statement rest) pc fits unread s =
+    block-unseen (Then statement rest) pc fits unread s =
         let view = view_of reader scope in
         let value = reads_result reader (here scope) in
         let ends = statement_ends scope.program statement in
         let x : ExitLabels = at_ends ends pc (statement_rule scope pc statement) in
         let exits = read_exits reader (block_rule scope pc (Then statement rest)) in
         let here = fits-left h labelling (statement_demands scope pc statement) (block_demands scope (x Normal) rest) fits in
-        let first = kept-closed reader view value ends pc (statement_rule scope pc statement) s (statement_meaning calls k statement s) unread
+        let first = unseen-closed reader view value ends pc (statement_rule scope pc statement) s (statement_meaning calls k statement s) unread
         (statement-among statement scope.program calls k confines.among s)
-        (statement-kept statement pc here (own-unread reader scope pc statement here unread) s) in
-        kept-from view value exits s (state_after (statement_meaning calls k statement s))
+        (statement-unseen statement pc here (own-unread reader scope pc statement here unread) s) in
+        unseen-from view value exits s (state_after (statement_meaning calls k statement s))
         (after (statement_meaning calls k statement s) (block_meaning calls k rest)) first.agree
-        (kept-after view value (read_exits reader x) exits (statement_meaning calls k statement s) (block_meaning calls k rest) first.hidden
+        (unseen-after view value (read_exits reader x) exits (statement_meaning calls k statement s) (block_meaning calls k rest) first.hidden
         (λ exit other m. unread-left reader (label_if (not (same_exit Normal exit)) (x exit)) (block_rule scope (x Normal) rest exit)
         (unread-label_if reader (not (same_exit Normal exit)) (x exit) (ap not other) m))
-        (λ t m. kept-weaker view value (read_exits reader (block_rule scope (x Normal) rest)) exits t (block_meaning calls k rest t)
-        (block-kept rest (x Normal) (fits-right h labelling (statement_demands scope pc statement) (block_demands scope (x Normal) rest) fits) m t)
+        (λ t m. unseen-weaker view value (read_exits reader (block_rule scope (x Normal) rest)) exits t (block_meaning calls k rest t)
+        (block-unseen rest (x Normal) (fits-right h labelling (statement_demands scope pc statement) (block_demands scope (x Normal) rest) fits) m t)
         (λ exit n. unread-right reader (label_if (not (same_exit Normal exit)) (x exit)) (block_rule scope (x Normal) rest exit) n)))
 
-    pub handlers-kept : (handlers : Handlers) (x : ExitLabels) → FitsDemands h labelling (handlers_demands scope x handlers) →
+    pub handlers-unseen : (handlers : Handlers) (x : ExitLabels) → FitsDemands h labelling (handlers_demands scope x handlers) →
         (exception : ℕ) (s : SourceState) → reader.reads (x (Throw exception)) ≡ false → (more : Exit → Bool) →
         ((exit : Exit) → reader.reads (handlers_rule scope x handlers exit) ≡ false → more exit ≡ false) →
         (handles handlers exception ≡ false → more (Throw exception) ≡ false) →
-        Kept (view_of reader scope) (reads_result reader (here scope)) more s (handlers_meaning calls k handlers exception s)
-    handlers-kept NoMore x fits exception s unread more weaker passing =
-        kept-end (view_of reader scope) (reads_result reader (here scope)) more s (Throw exception) (passing refl)
-    handlers-kept (Catch at handled body rest) x fits exception s unread more weaker passing =
+        Unseen (view_of reader scope) (reads_result reader (here scope)) more s (handlers_meaning calls k handlers exception s)
+    handlers-unseen NoMore x fits exception s unread more weaker passing =
+        unseen-end (view_of reader scope) (reads_result reader (here scope)) more s (Throw exception) (passing refl)
+    handlers-unseen (Catch at handled body rest) x fits exception s unread more weaker passing =
         let view = view_of reader scope in
         let value = reads_result reader (here scope) in
         let ends = block_ends scope.program body in
         let pc : Join = x (Throw handled) in
         let body_exits : ExitLabels = at_ends ends pc (block_rule scope pc body) in
-        kept-handler view value more exception handled s (block_meaning calls k body s) (handlers_meaning calls k rest exception s)
+        unseen-handler view value more exception handled s (block_meaning calls k body s) (handlers_meaning calls k rest exception s)
         (λ same.
         let unread_pc : reader.reads pc ≡ false = ap (λ y. reader.reads (x (Throw y))) (sym same) ∙ unread in
-        kept-weaker view value (read_exits reader body_exits) more s (block_meaning calls k body s)
-        (kept-closed reader view value ends pc (block_rule scope pc body) s (block_meaning calls k body s) unread_pc
+        unseen-weaker view value (read_exits reader body_exits) more s (block_meaning calls k body s)
+        (unseen-closed reader view value ends pc (block_rule scope pc body) s (block_meaning calls k body s) unread_pc
         (block-among body scope.program calls k confines.among s)
-        (block-kept body pc (fits-left h labelling (block_demands scope pc body) (handlers_demands scope x rest) fits) unread_pc s))
+        (block-unseen body pc (fits-left h labelling (block_demands scope pc body) (handlers_demands scope x rest) fits) unread_pc s))
         (λ exit m. weaker exit (unread-left reader (body_exits exit) (handlers_rule scope x rest exit) m)))
-        (λ other. handlers-kept rest x (fits-right h labelling (block_demands scope pc body) (handlers_demands scope x rest) fits) exception s unread more
+        (λ other. handlers-unseen rest x (fits-right h labelling (block_demands scope pc body) (handlers_demands scope x rest) fits) exception s unread more
         (λ exit m. weaker exit (unread-right reader (body_exits exit) (handlers_rule scope x rest exit) m))
         (λ none. passing (rw (other, none) refl)))

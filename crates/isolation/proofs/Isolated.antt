@@ -23,8 +23,8 @@ use Rattle.isolation.proofs.Among.{EndsAsDeclared, calls-among, block-among}
 use Rattle.isolation.proofs.Observer.{LabelReader, under, View, view_of, shown, AgreeFor, agree-itself}
 use Rattle.isolation.proofs.Related.{agree-prefix}
 use Rattle.isolation.proofs.Closed.{read_exits, related-closed}
-use Rattle.isolation.proofs.Confined.{Confines, call_stop, reads_result, fits-left, fits-right, block-kept}
-use Rattle.isolation.proofs.Calls.{RelatedCall, same_call, same_thrown, apart_calls, first_call_stops, second_call_stops, declared_label, home, agree-home, declared-under, related_call-weaker, kept-leaving, related-leaving}
+use Rattle.isolation.proofs.Confined.{Confines, call_stop, reads_result, fits-left, fits-right, block-unseen}
+use Rattle.isolation.proofs.Calls.{RelatedCall, same_call, same_thrown, apart_calls, first_call_stops, second_call_stops, declared_label, home, agree-home, declared-under, related_call-weaker, unseen-leaving, related-leaving}
 use Rattle.isolation.proofs.Secure.{Secures, ParametersAlike, block-secure}
 
 -- a program with these labels, of which each procedure ends as it declares and meets its demands
@@ -129,7 +129,7 @@ module _ (program : Program) (labelling : Labelling) (accepted : Accepted progra
       Confines (under reader labels) (record { program = program; number = caller }) (calls_with program k frames)
   calls-confine k zero caller labels = record {
     among = calls-among program k zero accepted.declared;
-    kept = λ f vs s unread. record {
+    unseen = λ f vs s unread. record {
       agree = agree-itself (view_of (under reader labels)
           (record { program = program; number = caller })) s;
       hidden = call_stop Deep s;
@@ -137,16 +137,16 @@ module _ (program : Program) (labelling : Labelling) (accepted : Accepted progra
   }
   calls-confine k (suc frames) caller labels = record {
     among = calls-among program k (suc frames) accepted.declared;
-    kept = λ f vs s unread.
+    unseen = λ f vs s unread.
         let callee : ProcedureEntry = procedure_at program f in
         let calls = calls_with program k frames in
         let u : SourceState = entering callee vs s in
-        kept-leaving callee (block_ends program callee.body) (view_of (under reader labelling) (inside f))
+        unseen-leaving callee (block_ends program callee.body) (view_of (under reader labelling) (inside f))
         (view_of (under reader labels) (record { program = program; number = caller })) (reads_result (under reader labelling) callee)
         (read_exits (under reader labelling) (block_rule (inside f) (begin f) callee.body)) s u (block_meaning calls k callee.body u) (accepted.declared f)
         (λ t. agree-kept_home reader program caller f labels labelling vs s t)
         (block-among callee.body program calls k (calls-among program k frames accepted.declared) u)
-        (block-kept program.hierarchy labelling (under reader labelling) (inside f) calls k (calls-confine k frames f labelling) callee.body (begin f)
+        (block-unseen program.hierarchy labelling (under reader labelling) (inside f) calls k (calls-confine k frames f labelling) callee.body (begin f)
         (body-fits f) unread u);
   }
 

@@ -15,10 +15,10 @@ use Rattle.isolation.specs.Larger.{KeepsActsFor, IsolatedCarried}
 use Rattle.isolation.proofs.Among.{statement-among}
 use Rattle.isolation.proofs.Declared.{ends-as-declared}
 use Rattle.isolation.proofs.Observer.{under, view_of, AgreeFor, agree-back}
-use Rattle.isolation.proofs.Kept.{Hidden, hidden_end, hidden_return, hidden_stop}
+use Rattle.isolation.proofs.Unseen.{Hidden, hidden_end, hidden_return, hidden_stop}
 use Rattle.isolation.proofs.Related.{Related, same_end, same_return, apart, first_stops, second_stops, agree-prefix}
-use Rattle.isolation.proofs.Closed.{read_exits, closed-unread, kept-closed, related-closed}
-use Rattle.isolation.proofs.Confined.{reads_result, own-unread, statement-kept}
+use Rattle.isolation.proofs.Closed.{read_exits, closed-unread, unseen-closed, related-closed}
+use Rattle.isolation.proofs.Confined.{reads_result, own-unread, statement-unseen}
 use Rattle.isolation.proofs.Unread.{statement-ends-unread}
 use Rattle.isolation.proofs.Secure.{statement-secure}
 use Rattle.isolation.proofs.Isolated.{Accepted, procedure-fits, calls-confine, calls-secure, runs-prefix}
@@ -46,23 +46,23 @@ confined scope labelling faults labelled p pc unread statement fits frames k s =
     let calls = calls_with scope.program k frames in
     let confines = calls-confine scope.program (labelling_of scope.program labelled) accepted (principal-reader scope.program.hierarchy p) k frames scope.number labelling in
     let o : Outcome = statement_meaning calls k statement s in
-    let kept = kept-closed reader (view_of reader scope) (reads_result reader (here scope)) (statement_ends scope.program statement) pc
+    let unseen = unseen-closed reader (view_of reader scope) (reads_result reader (here scope)) (statement_ends scope.program statement) pc
     (statement_rule scope pc statement) s o unread
     (statement-among statement scope.program calls k confines.among s)
-    (statement-kept scope.program.hierarchy labelling reader scope calls k confines statement pc fits (own-unread reader scope pc statement fits unread) s) in (
-      record { variables = kept.agree.variables; inputs = kept.agree.inputs; sent = kept.agree.sent },
-      unread-end scope labelling p (statement_exits scope pc statement) (reads_result reader (here scope)) o kept.hidden,
+    (statement-unseen scope.program.hierarchy labelling reader scope calls k confines statement pc fits (own-unread reader scope pc statement fits unread) s) in (
+      record { variables = unseen.agree.variables; inputs = unseen.agree.inputs; sent = unseen.agree.sent },
+      unread-end scope labelling p (statement_exits scope pc statement) (reads_result reader (here scope)) o unseen.hidden,
     )
 
 pub isolated : (program : Program) → end_faults program ≡ [] → Labelled program → Isolated program
 isolated program faults labelled p first second agree k m =
     runs-prefix program (labelling_of program labelled) (accepted-from program faults labelled) (principal-reader program.hierarchy p) first second agree frame_limit k m
 
-pub isolated-carried : (program : Program) (whole : PrincipalHierarchy) (carry : ℕ → ℕ) → end_faults program ≡ [] →
-    Labelled program → KeepsActsFor program.hierarchy whole carry → IsolatedCarried program whole carry
-isolated-carried program whole carry faults labelled keeps p first second agree k m =
+pub isolated-carried : (program : Program) (larger : PrincipalHierarchy) (carry : ℕ → ℕ) → end_faults program ≡ [] →
+    Labelled program → KeepsActsFor program.hierarchy larger carry → IsolatedCarried program larger carry
+isolated-carried program larger carry faults labelled keeps p first second agree k m =
     runs-prefix program (labelling_of program labelled) (accepted-from program faults labelled)
-    (carried-reader program.hierarchy whole carry keeps p) first second agree frame_limit k m
+    (carried-reader program.hierarchy larger carry keeps p) first second agree frame_limit k m
 
 pub ends-unread : (scope : Scope) (labelling : Labelling) → PossibleEndsAreUnread scope labelling
 ends-unread scope labelling p pc unread in_loop statement faults fits exit among =

@@ -6,7 +6,7 @@ pub mod Declared
 pub mod Valued
 pub mod Grows
 pub mod Isolated
-pub mod Kept
+pub mod Unseen
 pub mod Laws
 pub mod Longer
 pub mod Observer

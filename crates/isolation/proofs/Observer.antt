@@ -1,7 +1,8 @@
 -- An observer, apart from principals: a reader of labels, what it reads of a state, and states that are the same for it.
+use Rattle.common.specs.Functions.{updated}
 use Rattle.std.proofs.Common.{◌≡◌, refl, sym, ap, ◌∙◌, ℕ, Bool, true, false, ◌&&◌, List, [], ◌∷◌, ◌++◌, filter, arith}
 use Rattle.std.specs.Prelude.{IsTrue, ◌==◌, ℤ}
-use Rattle.std.proofs.lemmas.Bool.{and_parts}
+use Rattle.std.proofs.lemmas.Bool.{and_parts, and_left, and_right}
 use Rattle.std.proofs.lemmas.List.{append-nil}
 use Rattle.labels.proofs.Constraints.{join_of-append}
 use Rattle.std.proofs.lemmas.List.Elements.{filter-append}
@@ -11,7 +12,7 @@ use Rattle.labels.specs.Label.{Label, flows}
 use Rattle.resolved.specs.declared.expression.Variable.{Variable}
 use Rattle.resolved.specs.declared.expression.Variable.TheVariants.{Global, Local}
 use Rattle.resolved.specs.declared.expression.Value.{Value}
-use Rattle.resolved.specs.SourceState.{SourceState, cells, with_cells, updated}
+use Rattle.resolved.specs.SourceState.{SourceState, cells, with_cells}
 use Rattle.resolved.specs.Value.{number_in}
 use Rattle.resolved.specs.Meaning.{sending}
 use Rattle.resolved.specs.Labelled.{chosen, Scope, Join, one, Labelling, label_under, join_under, variable_label, channel_label, LabelAtom}
@@ -52,14 +53,6 @@ under {h} base labelling = record {
   flowing = λ a b flow e. base.flowing (join_under labelling a) (label_under labelling b) flow (sym (reads-one base (label_under labelling b)) ∙ e);
 }
 
-and-left_false : (a b : Bool) → a ≡ false → (a && b) ≡ false
-and-left_false false b h = refl
-and-left_false true b h = let e : true ≡ false = h in absurd (cc)
-
-and-right_false : (a b : Bool) → b ≡ false → (a && b) ≡ false
-and-right_false false b h = refl
-and-right_false true b h = h
-
 -- what follows from reading a join, and from not reading a side of it
 module _ {h : PrincipalHierarchy} {labelling : Labelling} (reader : Reader h labelling) (a b : Join) where
   pub read-left : reader.reads (a ++ b) ≡ true → reader.reads a ≡ true
@@ -69,10 +62,10 @@ module _ {h : PrincipalHierarchy} {labelling : Labelling} (reader : Reader h lab
   read-right e = (and_parts (reader.reads a) (reader.reads b) (sym (reader.joined a b) ∙ e)).1
 
   pub unread-left : reader.reads a ≡ false → reader.reads (a ++ b) ≡ false
-  unread-left e = reader.joined a b ∙ and-left_false (reader.reads a) (reader.reads b) e
+  unread-left e = reader.joined a b ∙ and_left (reader.reads a) (reader.reads b) e
 
   pub unread-right : reader.reads b ≡ false → reader.reads (a ++ b) ≡ false
-  unread-right e = reader.joined a b ∙ and-right_false (reader.reads a) (reader.reads b) e
+  unread-right e = reader.joined a b ∙ and_right (reader.reads a) (reader.reads b) e
 
   -- where a join is not read but its left side is, its right side is not
   pub unread-other : reader.reads a ≡ true → reader.reads (a ++ b) ≡ false → reader.reads b ≡ false

@@ -18,7 +18,7 @@ use Rattle.labels.proofs.Prefixes.{prefix-through}
 use Rattle.isolation.proofs.Grows.{Grows, grows-itself, grows-after, grows-looped, grows-turns, grows-caught}
 use Rattle.isolation.proofs.Observer.{View, shown, AgreeFor, agree-across, agree-back}
 use Rattle.isolation.proofs.Values.{Alike, both_give, both_raise, SameIf}
-use Rattle.isolation.proofs.Kept.{Hidden, hidden-weaker, Kept, LoopExits, kept-after, kept-looped, kept-turn_zero, kept-turn_suc, kept-caught}
+use Rattle.isolation.proofs.Unseen.{Hidden, hidden-weaker, Unseen, LoopExits, unseen-after, unseen-looped, unseen-turn_zero, unseen-turn_suc, unseen-caught}
 
 pub data Related (view : View) (value : Bool) (exits : Exit → Bool) : Outcome → Outcome → Type 0 where
   same_end : (exit : Exit) (s t : SourceState) → AgreeFor view s t → Related view value exits (Ended exit None s) (Ended exit None t)
@@ -57,9 +57,9 @@ related-prefix view value exits o p (first_stops stop s _ h) = inl h
 related-prefix view value exits o p (second_stops _ stop t h) = inr h
 
 -- two runs of which nothing is seen
-pub both-kept : (view : View) (value : Bool) (exits : Exit → Bool) (s t : SourceState) (o p : Outcome) → AgreeFor view s t →
-    Kept view value exits s o → Kept view value exits t p → Related view value exits o p
-both-kept view value exits s t o p h i j =
+pub both-unseen : (view : View) (value : Bool) (exits : Exit → Bool) (s t : SourceState) (o p : Outcome) → AgreeFor view s t →
+    Unseen view value exits s o → Unseen view value exits t p → Related view value exits o p
+both-unseen view value exits s t o p h i j =
     apart o p i.hidden j.hidden (agree-across view s t (state_after o) (state_after p) h i.agree j.agree)
 
 pub related-evaluated : {A B : Type 0} (P : A → B → Type 0) (view : View) (value : Bool) (exits : Exit →
@@ -95,8 +95,8 @@ grown-after o next h = grows-after (state_after o) o next (grows-itself (state_a
 
 pub related-after : (view : View) (value : Bool) (exits more : Exit → Bool) (o p : Outcome) (next further : SourceState → Outcome) →
     Related view value exits o p → ((exit : Exit) → same_exit Normal exit ≡ false → exits exit ≡ false → more exit ≡ false) →
-    (exits Normal ≡ false → (t : SourceState) → Kept view value more t (next t)) →
-    (exits Normal ≡ false → (t : SourceState) → Kept view value more t (further t)) → WaysOn view value more next further →
+    (exits Normal ≡ false → (t : SourceState) → Unseen view value more t (next t)) →
+    (exits Normal ≡ false → (t : SourceState) → Unseen view value more t (further t)) → WaysOn view value more next further →
     Related view value more (after o next) (after p further)
 related-after view value exits more o p next further (same_end Normal s t h) others first second ways = ways.related s t h
 related-after view value exits more o p next further (same_end Return s t h) others first second ways = same_end Return s t h
@@ -105,9 +105,9 @@ related-after view value exits more o p next further (same_end Continue s t h) o
 related-after view value exits more o p next further (same_end (Throw x) s t h) others first second ways = same_end (Throw x) s t h
 related-after view value exits more o p next further (same_return r q s t h i) others first second ways = same_return r q s t h i
 related-after view value exits more o p next further (apart _ _ h i j) others first second ways =
-    both-kept view value more (state_after o) (state_after p) (after o next) (after p further) j
-    (kept-after view value exits more o next h others (λ t m. first m t))
-    (kept-after view value exits more p further i others (λ t m. second m t))
+    both-unseen view value more (state_after o) (state_after p) (after o next) (after p further) j
+    (unseen-after view value exits more o next h others (λ t m. first m t))
+    (unseen-after view value exits more p further i others (λ t m. second m t))
 related-after view value exits more o p next further (first_stops stop s _ h) others first second ways =
     first_stops stop s (after p further) (stopped-prefix view s p (after p further) h (grown-after p further ways.grows_second))
 related-after view value exits more o p next further (second_stops _ stop t h) others first second ways =
@@ -127,9 +127,9 @@ related-looped view value inner more o p again further (same_end Continue s t h)
 related-looped view value inner more o p again further (same_end (Throw x) s t h) loop normal continued ways = same_end (Throw x) s t h
 related-looped view value inner more o p again further (same_return r q s t h i) loop normal continued ways = same_return r q s t h i
 related-looped view value inner more o p again further (apart _ _ h i j) loop normal continued ways =
-    both-kept view value more (state_after o) (state_after p) (looped o again) (looped p further) j
-    (kept-looped view value inner more o again h loop (λ t m. absurd (normal m)) (λ t m. absurd (continued m)))
-    (kept-looped view value inner more p further i loop (λ t m. absurd (normal m)) (λ t m. absurd (continued m)))
+    both-unseen view value more (state_after o) (state_after p) (looped o again) (looped p further) j
+    (unseen-looped view value inner more o again h loop (λ t m. absurd (normal m)) (λ t m. absurd (continued m)))
+    (unseen-looped view value inner more p further i loop (λ t m. absurd (normal m)) (λ t m. absurd (continued m)))
 related-looped view value inner more o p again further (first_stops stop s _ h) loop normal continued ways =
     first_stops stop s (looped p further) (stopped-prefix view s p (looped p further) h (grown-looped p further ways.grows_second))
 related-looped view value inner more o p again further (second_stops _ stop t h) loop normal continued ways =
@@ -210,15 +210,15 @@ pub record LoopUnread (view : View) (value : Bool) (inner more : Exit → Bool) 
   pub over : more Normal ≡ false
   pub normal : inner Normal ≡ false → ⊥
   pub continued : inner Continue ≡ false → ⊥
-  pub each : (t : SourceState) → Kept view value inner t (body t)
+  pub each : (t : SourceState) → Unseen view value inner t (body t)
 
-pub kept-once : (view : View) (value : Bool) (inner more : Exit → Bool) (b : Bool) (condition : SourceState →
+pub unseen-once : (view : View) (value : Bool) (inner more : Exit → Bool) (b : Bool) (condition : SourceState →
     Evaluated Value) (body : SourceState → Outcome) → LoopUnread view value inner more b condition body →
-    (k : ℕ) (s : SourceState) (v : Value) → condition s ≡ Yields v → Kept view value more s (turns k condition body s)
-kept-once view value inner more b condition body h zero s v e =
-    kept-turn_zero view value more condition body s (λ x f. absurd (cc)) h.over
-kept-once view value inner more b condition body h (suc k) s v e =
-    kept-turn_suc view value inner more k condition body s (λ x f. absurd (cc)) h.over h.loop (h.each s)
+    (k : ℕ) (s : SourceState) (v : Value) → condition s ≡ Yields v → Unseen view value more s (turns k condition body s)
+unseen-once view value inner more b condition body h zero s v e =
+    unseen-turn_zero view value more condition body s (λ x f. absurd (cc)) h.over
+unseen-once view value inner more b condition body h (suc k) s v e =
+    unseen-turn_suc view value inner more k condition body s (λ x f. absurd (cc)) h.over h.loop (h.each s)
     (λ t m. absurd (h.normal m)) (λ t m. absurd (h.continued m))
 
 turns-raised : (k : ℕ) (condition : SourceState → Evaluated Value) (body : SourceState → Outcome) (s : SourceState) (x : ℕ) → condition s ≡ Raises x →
@@ -235,8 +235,8 @@ related-once view value inner more b condition body further h i k m s t agree al
     go : (o p : Evaluated Value) → condition s ≡ o → condition t ≡ p → Alike (SameIf b) o p →
         Related view value more (turns k condition body s) (turns m condition further t)
     go o p e f (both_give v w same) =
-        both-kept view value more s t (turns k condition body s) (turns m condition further t) agree
-        (kept-once view value inner more b condition body h k s v e) (kept-once view value inner more b condition further i m t w f)
+        both-unseen view value more s t (turns k condition body s) (turns m condition further t) agree
+        (unseen-once view value inner more b condition body h k s v e) (unseen-once view value inner more b condition further i m t w f)
     go o p e f (both_raise x) =
         rw (turns-raised k condition body s x e, turns-raised m condition further t x f) (same_end (Throw x) s t agree)
 
@@ -253,8 +253,8 @@ pub record HandlersOn (view : View) (value : Bool) (exits : Exit → Bool) (hand
 pub related-caught : (view : View) (value : Bool) (handlers : Handlers) (inner more : Exit →
     Bool) (o p : Outcome) (handle further : ℕ → SourceState → Outcome) → Related view value inner o p →
     ((exit : Exit) → passes handlers exit ≡ true → inner exit ≡ false → more exit ≡ false) →
-    ((x : ℕ) (t : SourceState) → inner (Throw x) ≡ false → Kept view value more t (handle x t)) →
-    ((x : ℕ) (t : SourceState) → inner (Throw x) ≡ false → Kept view value more t (further x t)) →
+    ((x : ℕ) (t : SourceState) → inner (Throw x) ≡ false → Unseen view value more t (handle x t)) →
+    ((x : ℕ) (t : SourceState) → inner (Throw x) ≡ false → Unseen view value more t (further x t)) →
     HandlersOn view value more handle further → Related view value more (caught o handle) (caught p further)
 related-caught view value handlers inner more o p handle further (same_end Normal s t h) others first second ways = same_end Normal s t h
 related-caught view value handlers inner more o p handle further (same_end Return s t h) others first second ways = same_end Return s t h
@@ -263,9 +263,9 @@ related-caught view value handlers inner more o p handle further (same_end Conti
 related-caught view value handlers inner more o p handle further (same_end (Throw x) s t h) others first second ways = ways.related x s t h
 related-caught view value handlers inner more o p handle further (same_return r q s t h i) others first second ways = same_return r q s t h i
 related-caught view value handlers inner more o p handle further (apart _ _ h i j) others first second ways =
-    both-kept view value more (state_after o) (state_after p) (caught o handle) (caught p further) j
-    (kept-caught view value handlers inner more o handle h others first)
-    (kept-caught view value handlers inner more p further i others second)
+    both-unseen view value more (state_after o) (state_after p) (caught o handle) (caught p further) j
+    (unseen-caught view value handlers inner more o handle h others first)
+    (unseen-caught view value handlers inner more p further i others second)
 related-caught view value handlers inner more o p handle further (first_stops stop s _ h) others first second ways =
     first_stops stop s (caught p further) (stopped-prefix view s p (caught p further) h (grown-caught p further ways.grows_second))
 related-caught view value handlers inner more o p handle further (second_stops _ stop t h) others first second ways =

@@ -10,7 +10,7 @@ use Rattle.resolved.specs.declared.statement.Exit.{Exit}
 use Rattle.resolved.specs.declared.statement.Exit.TheVariants.{Normal, Return, Break, Continue, Throw}
 use Rattle.resolved.specs.Tree.{Expression, Statement, Assign, Clear, Store, Receive, Send, Call, If, While, Leave, ReturnWith, Try, Nested, Block, Empty, Then, Handlers, NoMore, Catch}
 use Rattle.resolved.specs.Program.{Program, procedure_at}
-use Rattle.resolved.specs.Value.{truth_in, checked_index, end_exception, zero_value, base_of}
+use Rattle.resolved.specs.Value.{truth_in, checked_index, zero_value, base_of}
 use Rattle.resolved.specs.SourceState.{SourceState, assigned, stored, cleared, cells, value_of, values_of}
 use Rattle.resolved.specs.Meaning.{Ended, normally, kept_in, received, sending, returned_to, Calls, statement_meaning, block_meaning, handlers_meaning}
 use Rattle.resolved.specs.Ends.{same_exit, passes, statement_ends, block_ends, index_can_raise}
@@ -21,11 +21,12 @@ use Rattle.isolation.proofs.Grows.{CallsGrow, block-grows, handlers-grow}
 use Rattle.isolation.proofs.Among.{statement-among, block-among}
 use Rattle.isolation.proofs.Observer.{Reader, View, view_of, AgreeFor, agree-with_cells, agree-with_input, agree-sending, with_input, read-left, read-right, unread-left, unread-right}
 use Rattle.isolation.proofs.Values.{SameIf, index-alike, expression-alike, ArgumentsAlike, no_arguments, one_more, arguments-alike, read-label_if}
-use Rattle.isolation.proofs.Kept.{kept-weaker, kept-if}
-use Rattle.isolation.proofs.Related.{Related, same_end, same_return, both-kept, related-evaluated, related-if, related-weaker, related-after, related-turns, related-once, related-caught}
-use Rattle.isolation.proofs.Closed.{read_exits, kept-closed, related-closed}
-use Rattle.isolation.proofs.Confined.{Confines, reads_result, fits-left, fits-right, fits-one, unread-label_if, unread-target, loop-read, statement-kept, block-kept, handlers-kept}
+use Rattle.isolation.proofs.Unseen.{unseen-weaker, unseen-if}
+use Rattle.isolation.proofs.Related.{Related, same_end, same_return, both-unseen, related-evaluated, related-if, related-weaker, related-after, related-turns, related-once, related-caught}
+use Rattle.isolation.proofs.Closed.{read_exits, unseen-closed, related-closed}
+use Rattle.isolation.proofs.Confined.{Confines, reads_result, fits-left, fits-right, fits-one, unread-label_if, unread-target, loop-read, statement-unseen, block-unseen, handlers-unseen}
 use Rattle.isolation.proofs.Calls.{RelatedCall, related-returned_to, declared_label}
+use Rattle.common.specs.declared.exceptions.TheConstants.{END}
 
 -- what flows to a label that is read is read
 pub read-demand : {h : PrincipalHierarchy} {labelling : Labelling} (reader : Reader h labelling) (program : Program) (at rule : ℕ) (left : Join) (target : Target) →
@@ -89,7 +90,7 @@ agree-kept_in view (Some x) v s t agree = agree-with_cells view s t x (v ∷ [])
 related-received : (view : View) (value : Bool) (exits : Exit →
     Bool) (channel : ℕ) (target : Option Variable) (s t : SourceState) (numbers others : List ℤ) → numbers ≡ others → AgreeFor view s t →
     Related view value exits (received numbers channel target s) (received others channel target t)
-related-received view value exits channel target s t numbers [] e agree = rw e (same_end (Throw end_exception) s t agree)
+related-received view value exits channel target s t numbers [] e agree = rw e (same_end (Throw END) s t agree)
 related-received view value exits channel target s t numbers (z ∷ rest) e agree =
     rw e (same_end Normal (kept_in target (Number z) (with_input s channel rest)) (kept_in target (Number z) (with_input t channel rest))
     (agree-kept_in view target (Number z) (with_input s channel rest) (with_input t channel rest) (agree-with_input view s t channel rest agree)))
@@ -102,10 +103,10 @@ module _ (h : PrincipalHierarchy) (labelling : Labelling) (reader : Reader h lab
       Related (view_of reader scope) (reads_result reader (here scope)) (read_exits reader (statement_rule scope pc statement))
       (statement_meaning calls k statement s) (statement_meaning further m statement t)
   both-hidden statement pc fits s t agree unread =
-      both-kept (view_of reader scope) (reads_result reader (here scope)) (read_exits reader (statement_rule scope pc statement)) s t
+      both-unseen (view_of reader scope) (reads_result reader (here scope)) (read_exits reader (statement_rule scope pc statement)) s t
       (statement_meaning calls k statement s) (statement_meaning further m statement t) agree
-      (statement-kept h labelling reader scope calls k secures.first statement pc fits unread s)
-      (statement-kept h labelling reader scope further m secures.second statement pc fits unread t)
+      (statement-unseen h labelling reader scope calls k secures.first statement pc fits unread s)
+      (statement-unseen h labelling reader scope further m secures.second statement pc fits unread t)
 
   mutual
     pub statement-secure : (statement : Statement) (pc : Join) → FitsDemands h labelling (statement_demands scope pc statement) → (s t : SourceState) →
@@ -220,26 +221,26 @@ module _ (h : PrincipalHierarchy) (labelling : Labelling) (reader : Reader h lab
         by-reading (reader.reads (value_label scope e))
         (λ unread.
         let unread_b : reader.reads b ≡ false = unread-right reader q (value_label scope e) unread in
-        both-kept view value exits s t (if truth_in v then block_meaning calls k yes_block s else block_meaning calls k no_block s)
+        both-unseen view value exits s t (if truth_in v then block_meaning calls k yes_block s else block_meaning calls k no_block s)
         (if truth_in w then block_meaning further m yes_block t else block_meaning further m no_block t) agree
-        (kept-if view value exits s (truth_in v) (block_meaning calls k yes_block s) (block_meaning calls k no_block s)
-        (kept-weaker view value (read_exits reader yes_exits) exits s (block_meaning calls k yes_block s)
-        (kept-closed reader view value yes_ends b (block_rule scope b yes_block) s (block_meaning calls k yes_block s) unread_b
+        (unseen-if view value exits s (truth_in v) (block_meaning calls k yes_block s) (block_meaning calls k no_block s)
+        (unseen-weaker view value (read_exits reader yes_exits) exits s (block_meaning calls k yes_block s)
+        (unseen-closed reader view value yes_ends b (block_rule scope b yes_block) s (block_meaning calls k yes_block s) unread_b
         (block-among yes_block scope.program calls k secures.first.among s)
-        (block-kept h labelling reader scope calls k secures.first yes_block b yes_fits unread_b s)) yes_more)
-        (kept-weaker view value (read_exits reader no_exits) exits s (block_meaning calls k no_block s)
-        (kept-closed reader view value no_ends b (block_rule scope b no_block) s (block_meaning calls k no_block s) unread_b
+        (block-unseen h labelling reader scope calls k secures.first yes_block b yes_fits unread_b s)) yes_more)
+        (unseen-weaker view value (read_exits reader no_exits) exits s (block_meaning calls k no_block s)
+        (unseen-closed reader view value no_ends b (block_rule scope b no_block) s (block_meaning calls k no_block s) unread_b
         (block-among no_block scope.program calls k secures.first.among s)
-        (block-kept h labelling reader scope calls k secures.first no_block b no_fits unread_b s)) no_more))
-        (kept-if view value exits t (truth_in w) (block_meaning further m yes_block t) (block_meaning further m no_block t)
-        (kept-weaker view value (read_exits reader yes_exits) exits t (block_meaning further m yes_block t)
-        (kept-closed reader view value yes_ends b (block_rule scope b yes_block) t (block_meaning further m yes_block t) unread_b
+        (block-unseen h labelling reader scope calls k secures.first no_block b no_fits unread_b s)) no_more))
+        (unseen-if view value exits t (truth_in w) (block_meaning further m yes_block t) (block_meaning further m no_block t)
+        (unseen-weaker view value (read_exits reader yes_exits) exits t (block_meaning further m yes_block t)
+        (unseen-closed reader view value yes_ends b (block_rule scope b yes_block) t (block_meaning further m yes_block t) unread_b
         (block-among yes_block scope.program further m secures.second.among t)
-        (block-kept h labelling reader scope further m secures.second yes_block b yes_fits unread_b t)) yes_more)
-        (kept-weaker view value (read_exits reader no_exits) exits t (block_meaning further m no_block t)
-        (kept-closed reader view value no_ends b (block_rule scope b no_block) t (block_meaning further m no_block t) unread_b
+        (block-unseen h labelling reader scope further m secures.second yes_block b yes_fits unread_b t)) yes_more)
+        (unseen-weaker view value (read_exits reader no_exits) exits t (block_meaning further m no_block t)
+        (unseen-closed reader view value no_ends b (block_rule scope b no_block) t (block_meaning further m no_block t) unread_b
         (block-among no_block scope.program further m secures.second.among t)
-        (block-kept h labelling reader scope further m secures.second no_block b no_fits unread_b t)) no_more)))
+        (block-unseen h labelling reader scope further m secures.second no_block b no_fits unread_b t)) no_more)))
         (λ seen.
         related-if view value exits (truth_in v) (truth_in w) (block_meaning calls k yes_block s) (block_meaning calls k no_block s)
         (block_meaning further m yes_block t) (block_meaning further m no_block t) (ap (λ x. truth_in x) (same seen))
@@ -284,9 +285,9 @@ module _ (h : PrincipalHierarchy) (labelling : Labelling) (reader : Reader h lab
           normal = normal;
           continued = continued;
           each =
-              λ u. kept-closed reader view value ends b (block_rule scope b body) u (block_meaning calls k body u) unread_b
+              λ u. unseen-closed reader view value ends b (block_rule scope b body) u (block_meaning calls k body u) unread_b
               (block-among body scope.program calls k secures.first.among u)
-              (block-kept h labelling reader scope calls k secures.first body b body_fits unread_b u);
+              (block-unseen h labelling reader scope calls k secures.first body b body_fits unread_b u);
         })
         (record {
           loop = loop_exits_read;
@@ -294,9 +295,9 @@ module _ (h : PrincipalHierarchy) (labelling : Labelling) (reader : Reader h lab
           normal = normal;
           continued = continued;
           each =
-              λ u. kept-closed reader view value ends b (block_rule scope b body) u (block_meaning further m body u) unread_b
+              λ u. unseen-closed reader view value ends b (block_rule scope b body) u (block_meaning further m body u) unread_b
               (block-among body scope.program further m secures.second.among u)
-              (block-kept h labelling reader scope further m secures.second body b body_fits unread_b u);
+              (block-unseen h labelling reader scope further m secures.second body b body_fits unread_b u);
         })
         k m s t agree (expression-alike reader scope s t agree e read_r))
         (λ seen.
@@ -348,9 +349,9 @@ module _ (h : PrincipalHierarchy) (labelling : Labelling) (reader : Reader h lab
         (block_meaning further m block t) (block-among block scope.program calls k secures.first.among s)
         (block-among block scope.program further m secures.second.among t) (block-secure block pc block_fits s t agree))
         others
-        (λ y u unread. handlers-kept h labelling reader scope calls k secures.first handlers x handlers_fit y u unread exits more
+        (λ y u unread. handlers-unseen h labelling reader scope calls k secures.first handlers x handlers_fit y u unread exits more
         (λ none. others (Throw y) (rw none refl) unread))
-        (λ y u unread. handlers-kept h labelling reader scope further m secures.second handlers x handlers_fit y u unread exits more
+        (λ y u unread. handlers-unseen h labelling reader scope further m secures.second handlers x handlers_fit y u unread exits more
         (λ none. others (Throw y) (rw none refl) unread))
         (record {
           related = λ y u u' same. handlers-secure handlers x handlers_fit y u u' same exits more;
@@ -385,10 +386,10 @@ module _ (h : PrincipalHierarchy) (labelling : Labelling) (reader : Reader h lab
         (statement-among statement scope.program further m secures.second.among t) (statement-secure statement pc here s t agree))
         (λ exit other u. unread-left reader (label_if (not (same_exit Normal exit)) (x exit)) (block_rule scope (x Normal) rest exit)
         (unread-label_if reader (not (same_exit Normal exit)) (x exit) (ap not other) u))
-        (λ unread u. kept-weaker view value (read_exits reader (block_rule scope (x Normal) rest)) exits u (block_meaning calls k rest u)
-        (block-kept h labelling reader scope calls k secures.first rest (x Normal) later unread u) more)
-        (λ unread u. kept-weaker view value (read_exits reader (block_rule scope (x Normal) rest)) exits u (block_meaning further m rest u)
-        (block-kept h labelling reader scope further m secures.second rest (x Normal) later unread u) more)
+        (λ unread u. unseen-weaker view value (read_exits reader (block_rule scope (x Normal) rest)) exits u (block_meaning calls k rest u)
+        (block-unseen h labelling reader scope calls k secures.first rest (x Normal) later unread u) more)
+        (λ unread u. unseen-weaker view value (read_exits reader (block_rule scope (x Normal) rest)) exits u (block_meaning further m rest u)
+        (block-unseen h labelling reader scope further m secures.second rest (x Normal) later unread u) more)
         (record {
           related = λ u u' same. related-weaker view value (read_exits reader (block_rule scope (x Normal) rest)) exits
               (block_meaning calls k rest u) (block_meaning further m rest u') (block-secure rest (x Normal) later u u' same) more;

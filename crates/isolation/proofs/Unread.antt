@@ -9,15 +9,15 @@ use Rattle.resolved.specs.declared.statement.Exit.{Exit}
 use Rattle.resolved.specs.declared.statement.Exit.TheVariants.{Normal, Return, Break, Continue, Throw}
 use Rattle.resolved.specs.Tree.{Statement, Call, If, While, ReturnWith, Try, Nested, Block, Empty, Then, Handlers, NoMore, Catch, place_of}
 use Rattle.resolved.specs.Ends.{same_exit, has_end, raises, thrown_ends, leaves_loop, passes, then_ends, statement_ends, block_ends, handlers_ends}
-use Rattle.resolved.specs.EndFaults.{OutsideLoop, Unreachable, NeverRaised, fault_unless, may_stand, inner_faults, block_faults, handlers_faults}
+use Rattle.resolved.specs.EndFaults.{fault_unless, may_stand, inner_faults, block_faults, handlers_faults}
+use Rattle.resolved.specs.declared.fault.EndDefect.TheVariants.{OutsideLoop, Unreachable, NeverRaised}
 use Rattle.resolved.specs.declared.target.Target.TheVariants.{ToLoop}
 use Rattle.resolved.specs.Labelled.{Scope, ExitLabels, demand, FitsDemands, value_label, label_if, at_ends, own_label, raised_exits, loop_exits, statement_rule, block_rule, handlers_rule, statement_demands, block_demands, handlers_demands, Labelling, Join, one, label_of}
-use Rattle.isolation.proofs.Among.{end-filter}
 use Rattle.isolation.proofs.Observer.{Reader, unread-left, unread-right}
 use Rattle.isolation.proofs.Closed.{closed-unread}
 use Rattle.isolation.proofs.Confined.{fits-left, fits-right, unread-label_if, unread-call, own-unread}
 use Rattle.common.proofs.Cases.{append_empty}
-use Rattle.resolved.proofs.Exits.{same-exit, no_fault-test}
+use Rattle.resolved.proofs.Exits.{same-exit, no_fault-test, end-filter}
 
 either-end : (xs ys : List Exit) (exit : Exit) → has_end (xs ++ ys) exit ≡ true →
     (has_end xs exit ≡ true) ⊎ (has_end ys exit ≡ true)

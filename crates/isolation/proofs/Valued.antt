@@ -9,10 +9,11 @@ use Rattle.resolved.specs.Value.{base_of}
 use Rattle.resolved.specs.SourceState.{SourceState}
 use Rattle.resolved.specs.Meaning.{Outcome, Ended, Stopped, leaving, entering, calls_with, block_meaning}
 use Rattle.resolved.specs.Ends.{has_end, block_ends}
-use Rattle.resolved.specs.EndFaults.{NoValueReturned, Undeclared, fault_unless, may_end, block_faults, procedure_faults}
+use Rattle.resolved.specs.EndFaults.{fault_unless, may_end, block_faults, procedure_faults}
+use Rattle.resolved.specs.declared.fault.EndDefect.TheVariants.{NoValueReturned, Undeclared}
 use Rattle.resolved.specs.WellFormed.{has_result, same_base}
 use Rattle.resolved.specs.Kinds.{OutcomeFits}
-use Rattle.resolved.proofs.Parts.{ProcedureParts, procedure_there, procedure_at_is}
+use Rattle.resolved.proofs.WellFormedParts.{ProcedureParts, procedure_there, procedure_at_is}
 use Rattle.resolved.proofs.Sound.Values.{same_base_is}
 use Rattle.resolved.proofs.Sound.States.{entering_fits}
 use Rattle.resolved.proofs.Sound.Meanings.{meaning_keeps_types}
@@ -40,7 +41,7 @@ no-normal program procedure value h is =
     turned false e = refl
     turned true e = let no : false ≡ true = e in absurd (cc)
 
-faultless-there : (program : Program) (procedures : List ProcedureEntry) → flat_map (procedure_faults program) procedures ≡ [] → (f : ℕ) (callee : ProcedureEntry) →
+pub faultless-there : (program : Program) (procedures : List ProcedureEntry) → flat_map (procedure_faults program) procedures ≡ [] → (f : ℕ) (callee : ProcedureEntry) →
     slice_get procedures f ≡ Some callee → procedure_faults program callee ≡ []
 faultless-there program [] none f callee there = absurd (let no : None ≡ Some callee = there in cc)
 faultless-there program (first ∷ rest) none zero callee there =

@@ -9,13 +9,14 @@ use Rattle.resolved.specs.declared.expression.Operator.{Operator}
 use Rattle.resolved.specs.declared.expression.Operator.TheVariants.{Add, Subtract, Multiply, Divide, Remainder, LessThan, AtMost, GreaterThan, AtLeast, Equal, Unequal, Same, Different}
 use Rattle.resolved.specs.declared.expression.Connective.{Connective}
 use Rattle.resolved.specs.Tree.{Expression, Integer, Logical, Read, Element, Unary, Binary, Short}
-use Rattle.resolved.specs.Value.{Evaluated, Yields, Raises, then_with, number_in, literal_number, unless_zero, prefix_value, operator_value, decides, in_range, position_of, checked_index, arith_exception, bounds_exception}
+use Rattle.resolved.specs.Value.{Evaluated, Yields, Raises, then_with, number_in, literal_number, unless_zero, prefix_value, operator_value, decides, in_range, position_of, checked_index}
 use Rattle.resolved.specs.SourceState.{SourceState, cells, cell_at, value_of, values_of}
 use Rattle.resolved.specs.Ends.{index_can_raise, divisor_can_raise, is_division, raises}
 use Rattle.resolved.specs.Labelled.{Scope, variable_label, value_label, raise_label, raise_labels, label_if, any_of, Labelling, Join}
 use Rattle.isolation.proofs.Among.{RaisesAmong, expression-raises, index-in_range, divisor-not_zero}
 use Rattle.isolation.proofs.Observer.{Reader, view_of, AgreeFor, read-left, read-right}
 use Rattle.common.specs.Integers.{is_zero}
+use Rattle.common.specs.declared.exceptions.TheConstants.{ARITH, BOUNDS}
 
 -- two evaluations: both give values that are related, or both raise the same exception
 pub data Alike {A B : Type 0} (P : A → B → Type 0) : Evaluated A → Evaluated B → Type 0 where
@@ -51,7 +52,7 @@ index-alike s t index len b v w covered f g same = go (index_can_raise index len
       where
         cases : (c : Bool) → in_range (number_in v) len ≡ c → Alike (SameIf b) (checked_index v len) (checked_index v len)
         cases true e = rw e (both_give (position_of (number_in v)) (position_of (number_in v)) (λ i. refl))
-        cases false e = rw e (both_raise bounds_exception)
+        cases false e = rw e (both_raise BOUNDS)
 
     go : (c : Bool) → index_can_raise index len ≡ c → Alike (SameIf b) (checked_index v len) (checked_index w len)
     go true e = rw (same (covered e)) (reflexive w)
@@ -65,7 +66,7 @@ division-alike : (b : Bool) (d e : ℤ) (m n : ℤ) → is_zero d ≡ is_zero e 
 division-alike b d e m n no_zero same = go (is_zero e) refl
   where
     go : (c : Bool) → is_zero e ≡ c → Alike (SameIf b) (unless_zero d m) (unless_zero e n)
-    go true f = rw (no_zero, f) (both_raise arith_exception)
+    go true f = rw (no_zero, f) (both_raise ARITH)
     go false f = rw (no_zero, f) (both_give (Number m) (Number n) (λ i. ap (λ x. Number x) (same i)))
 
 operator-alike : (b : Bool) (operator : Operator) (v w v' w' : Value) →

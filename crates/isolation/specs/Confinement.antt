@@ -1,5 +1,5 @@
--- Confinement: what a labelled statement may do that is reached on a way of which a principal may not read the label.
--- Source: confinement of Volpano, Smith and Irvine 1996; with a label for each way out as in JFlow (Myers 1999).
+-- Confinement: what a labelled statement may do at a program-counter label that a principal may not read.
+-- Source: confinement of Volpano, Smith and Irvine 1996; with a label for each end as in JFlow (Myers 1999).
 use Rattle.std.specs.Prelude.{◌≡◌, ℕ, List, [], Bool, IsTrue, IsFalse}
 use Rattle.labels.specs.declared.sent.Pair.{Pair}
 use Rattle.labels.specs.Label.{Label, may_read}

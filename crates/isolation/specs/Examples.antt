@@ -12,7 +12,7 @@ use Rattle.resolved.specs.declared.expression.Operator.TheVariants.{GreaterThan}
 use Rattle.common.specs.declared.direction.Direction.TheVariants.{Input, Output}
 use Rattle.resolved.specs.Tree.{Integer, Read, Binary, Assign, Receive, Send, While, Try, Block, Empty, Then, NoMore, Catch}
 use Rattle.resolved.specs.Program.{Program, ThrownEntry}
-use Rattle.resolved.specs.Value.{end_exception}
+use Rattle.common.specs.declared.exceptions.TheConstants.{END}
 use Rattle.resolved.specs.SourceState.{World}
 use Rattle.resolved.specs.Meaning.{sent_by}
 use Rattle.resolved.specs.Labelled.{channel_label}
@@ -53,14 +53,14 @@ program_with out throws end_label body = record {
 
 -- `void main() throws (End{Alice:}) { int{Alice:} x = receive s; send out, x; }`
 abbrev pub relay : (out : Label) → Program
-relay out = program_with out (record { exception = end_exception; label = for_alice } ∷ []) for_alice
+relay out = program_with out (record { exception = END; label = for_alice } ∷ []) for_alice
     (Then (Receive 0 0 (Some (Local 0))) (Then (Send 0 1 (Read (Local 0))) Empty))
 
 -- `void main() { int{Alice:} x = 0; try { x = receive s; } catch (End) { } while (x > 0) { } send out, 1; }`, with `output{} out;`
 abbrev pub waiting : Program
 waiting = program_with [] [] []
     (Then (Assign 0 (Local 0) (Integer 0))
-    (Then (Try 0 (Then (Receive 0 0 (Some (Local 0))) Empty) (Catch 0 end_exception Empty NoMore))
+    (Then (Try 0 (Then (Receive 0 0 (Some (Local 0))) Empty) (Catch 0 END Empty NoMore))
     (Then (While 0 0 (Binary GreaterThan (Read (Local 0)) (Integer 0)) Empty)
     (Then (Send 0 1 (Integer 1)) Empty))))
 

@@ -1,5 +1,5 @@
 -- Two runs of a labelled statement from states that are the same for a principal.
--- Source: noninterference after Volpano, Smith and Irvine 1996, for statements with several ways out and for runs that are stopped.
+-- Source: noninterference after Volpano, Smith and Irvine 1996, for statements with several ends and for runs that are stopped.
 use Rattle.std.specs.Prelude.{◌≡◌, ℕ, [], ◌⊎◌, IsTrue}
 use Rattle.labels.specs.Sent.{IsPrefix}
 use Rattle.resolved.specs.Tree.{Statement}

@@ -3,7 +3,7 @@
 ghost use Rattle.isolation.specs.Runs.{BlocksEndAsTheyMay, CallsEndAsDeclared, CallsGiveTheirValue, RunsGoOn, SentOnlyGrows, SentStaysSent, StatementsEndAsTheyMay};
 ghost use Rattle.resolved.specs.Program.{Program};
 
-/// Each way out that the meaning gives a statement or a block is one of its possible ends, in every program without a fault of its
+/// Each end that the meaning gives a statement or a block is one of its possible ends, in every program without a fault of its
 /// ends, from every state, with every number of turns and of frames. A call ends normally or by an exception that its procedure
 /// declares.
 pub fn ends_are_possible()

@@ -5,7 +5,7 @@ use Rattle.std.specs.List.{list_any}
 use Rattle.std.proofs.lemmas.Bool.Decides.{same_from_decides}
 use Rattle.principals.specs.ActsFor.{ActsFor, IsHierarchy, PrincipalHierarchy, acts_for}
 use Rattle.principals.specs.Table.{has}
-use Rattle.principals.specs.declared.row.Row.{Row}
+use Rattle.principals.specs.declared.principal_set.PrincipalSet.{PrincipalSet}
 use Rattle.principals.proofs.Closure.{acts_for-below, acts_for-decides}
 use Rattle.labels.specs.Inside.{IsRowOf}
 use Rattle.labels.proofs.Elements.{Any-elim, Any-from_some}
@@ -20,7 +20,7 @@ small_of_acting h kept a b inside acts =
     (acts_for-below (length h.names) h.pairs kept.there a b ((acts_for-decides h.pairs a b).1 acts))
 
 -- a principal acts for some reader where it acts for some number of the row
-pub read_by_row : (h : PrincipalHierarchy) → IsHierarchy h → (a : ℕ) → a < length h.names → (readers : List ℕ) (row : Row) → IsRowOf readers row →
+pub read_by_row : (h : PrincipalHierarchy) → IsHierarchy h → (a : ℕ) → a < length h.names → (readers : List ℕ) (row : PrincipalSet) → IsRowOf readers row →
     (answer : Bool) → IsTrue answer ↔ ((b : ℕ) × IsTrue (has row b) × ActsFor h.pairs a b) → answer ≡ list_any (λ reader. acts_for h.pairs a reader) readers
 read_by_row h kept a inside readers row is answer says =
     let decides = list_any-decides (λ reader. acts_for h.pairs a reader) (λ reader. ActsFor h.pairs a reader) readers (acts_for-decides h.pairs a) in

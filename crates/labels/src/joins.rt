@@ -9,8 +9,8 @@ use crate::policies::Policy;
 use std::alloc::{AllocError, Global};
 use std::cmp::Ordering;
 
-/// The join of two labels: the policies of both and no other ones (Myers and Liskov 1997). It fails only where memory was
-/// refused, and takes time in proportion to the two labels.
+/// The join of two labels: the policies of both and no other ones (Myers and Liskov 1997). It fails only where memory runs
+/// out, and takes time in proportion to the two labels.
 pub fn join(alloc: Global, left: &Label, right: &Label) -> Result<Label, AllocError>
     ensures union { IfOk result (λ label. SameSet label (left.now ++ right.now)) }
     ensures exact { IfOk result (λ label. label ≡ joined left.now right.now) }

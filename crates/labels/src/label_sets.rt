@@ -38,8 +38,8 @@ impl Label {
         }
     }
 
-    /// The label of these policies. Precondition: they ascend, each once; that each is canonical, as every `Policy` is,
-    /// its makers and `readers` say.
+    /// The label of these policies. Precondition: the policies ascend strictly, and each is canonical, as every
+    /// `Policy` is (see `Policy::of`).
     pub fn of(policies: Vec<Policy>) -> Label
         requires ascending { IsStrictlySortedBy policy_cmp policies.items }
         requires each_canonical { All IsCanonicalPolicy policies.items }
@@ -49,7 +49,7 @@ impl Label {
     }
 
     /// The label that is written with these policies, in any order and any number of times. Precondition: each is
-    /// canonical, as every `Policy` is, its makers and `readers` say.
+    /// canonical, as every `Policy` is (see `Policy::of`).
     pub fn written(mut policies: Vec<Policy>) -> Label
         requires { All IsCanonicalPolicy policies.items }
         ensures { result ≡ written_label policies.items }

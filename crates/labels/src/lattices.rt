@@ -12,25 +12,25 @@ use std::alloc::{AllocError, Global};
 /// the join, and some element lies below all. Two elements that lie below each other need not be the same one.
 pub trait Lattice {
     /// The elements that are stored.
-    type Elem: Drop;
+    type Element: Drop;
 
-    ghost order: { Self → LatticeOf Self.Elem };
+    ghost order: { Self → LatticeOf Self.Element };
 
     /// Whether the first lies below the second. It takes no memory.
-    fn leq(&self, left: &Self::Elem, right: &Self::Elem) -> bool
-        ensures { result ≡ (order self.now).leq left.now right.now };
+    fn lies_below(&self, left: &Self::Element, right: &Self::Element) -> bool
+        ensures { result ≡ (order self.now).lies_below left.now right.now };
 
     /// The join: above both, and below all that are above both. It fails only where memory ran out.
     fn join(
         &self,
         alloc: Global,
-        left: &Self::Elem,
-        right: &Self::Elem,
-    ) -> Result<Self::Elem, AllocError>
+        left: &Self::Element,
+        right: &Self::Element,
+    ) -> Result<Self::Element, AllocError>
         ensures { IfOk result (IsJoin (order self.now) left.now right.now) };
 
     /// The element that lies below all. It takes no memory.
-    fn least(&self, alloc: Global) -> Self::Elem
+    fn least(&self, alloc: Global) -> Self::Element
         ensures { result ≡ (order self.now).least };
 
     /// The laws: the order is reflexive and transitive, the join is a least upper bound, and the least element lies below all.
@@ -46,11 +46,11 @@ pub struct LabelLattice<'a> {
 }
 
 impl Lattice for LabelLattice<'_> {
-    type Elem = Label;
+    type Element = Label;
 
     ghost order = { λ lattice. label_lattice lattice.hierarchy.now };
 
-    fn leq(&self, left: &Label, right: &Label) -> bool {
+    fn lies_below(&self, left: &Label, right: &Label) -> bool {
         flows(self.hierarchy, left, right)
     }
 

@@ -62,8 +62,8 @@ pub fn only_the_set_of_policies_counts()
         flows h a c ≡ flows h b d }
 {}
 
-/// A written policy is kept without a loss: it has the readers that are written but its owner, allows whom the policy as it is
-/// written allows, and each of the two flows to the other.
+/// The canonical form of a written policy means the same. It has the written readers without the owner, it allows whom the policy
+/// as it is written allows, and each of the two flows to the other.
 pub fn written_policy_keeps_its_meaning()
     ensures readers { (owner : ℕ) (readers : List ℕ) (reader : ℕ) →
         Contains (written_policy owner readers).readers reader

@@ -7,7 +7,7 @@ ghost use Rattle.std.specs.List.Sorted.{IsStrictlyIncreasing};
 ghost use Rattle.std.specs.Ordering.{as_partial_cmp};
 ghost use Rattle.std.specs.Prelude.{Contains, IsTrue, ◌↔◌, ◌≡◌};
 
-use principals::Row;
+use principals::PrincipalSet;
 use std::alloc::AllocError;
 use std::cmp::Ordering;
 use std::marker::Model;
@@ -19,7 +19,7 @@ pub struct Policy {
     owner: u32,
     readers: Vec<u32>,
     // The readers that can be principals once more, as bits, so that a test whether one is acted for takes a few steps.
-    row: Row,
+    row: PrincipalSet,
 }
 
 impl Model for Policy {
@@ -27,11 +27,11 @@ impl Model for Policy {
 
     ghost Value = { ReaderPolicy };
 
-    ghost use Rattle.labels.specs.Inside.{policy_of, IsKeptPolicy};
+    ghost use Rattle.labels.specs.Inside.{policy_of, IsStoredPolicy};
 
     ghost view = { policy_of };
 
-    ghost invariant = { IsKeptPolicy };
+    ghost invariant = { IsStoredPolicy };
 }
 
 impl Policy {
@@ -41,7 +41,7 @@ impl Policy {
         requires owner_left_out { ¬ Contains readers.items owner }
         ensures { result ≡ record { owner = owner; readers = readers.items } }
     {
-        let row = Row::of(readers.as_slice());
+        let row = PrincipalSet::of(readers.as_slice());
         Policy {
             owner,
             readers,
@@ -76,7 +76,7 @@ impl Policy {
     }
 
     // The readers below the greatest number of principals, as bits.
-    pub(crate) fn row(&self) -> &Row
+    pub(crate) fn row(&self) -> &PrincipalSet
         ensures { IsRowOf self.now.readers result.now }
     {
         &self.row

@@ -16,7 +16,7 @@ use Rattle.bytecode.specs.Machine.{Header, MachineCode, Machine, Running, Ended,
 use Rattle.bytecode.specs.Targets.{renamed_instruction, renamed_handler}
 use Rattle.layout.specs.Offsets.{offset, laid_out_procedure, laid_out, offset_in}
 use Rattle.layout.specs.Runs.{graph_program, graph_after_steps}
-use Rattle.layout.specs.Kept.{renamed, SameRuns, SameInterface}
+use Rattle.layout.specs.SameRuns.{renamed, SameRuns, SameInterface}
 use Rattle.layout.proofs.Renaming.{Relaid, relaid, exec-same}
 use Rattle.bytecode.proofs.Widths.{width_of-pos, past}
 

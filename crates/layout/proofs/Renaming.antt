@@ -1,4 +1,5 @@
 -- A program whose code is laid out differently takes the same steps: each step commutes with the renaming of positions.
+use Rattle.common.specs.Functions.{updated, same_truth}
 use Rattle.std.proofs.Common.{◌≡◌, ℕ, zero, suc, ◌+◌, ◌∙◌, refl, sym, ap, Bool, true, false, cond, not, List, [], ◌∷◌, ◌++◌, length, map, reverse, replicate, Option, Some, None, ltb, ℤ}
 use Rattle.std.specs.Prelude.{slice_get}
 use Rattle.std.specs.Option.{option_map}
@@ -16,9 +17,9 @@ use Rattle.bytecode.specs.declared.declaration.Slot.{Slot}
 use Rattle.bytecode.specs.declared.declaration.Slot.TheVariants as slot
 use Rattle.common.specs.declared.direction.Direction.{Direction}
 use Rattle.common.specs.declared.direction.Direction.TheVariants.{Input, Output}
-use Rattle.bytecode.specs.Machine.{Frame, Caller, State, Machine, Running, Ended, Stuck, Deep, Header, MachineCode, changed, goes_on, goes_to, handled, unwound, raised, slot_at, with_slot, with_global, loads, stores, found, loads_element, changes, stores_element, clears, with_element, element_at, computed, pushes_number, computes, compares, same_truth, matches, drops, negates, inverts, branches, popped, new_frame, enters, calls, leaves, leaves_without, returns_nothing, leaves_value, gives_back, returns_value, takes, receives, sends, throws, act, acts, step, exec}
+use Rattle.bytecode.specs.Machine.{Frame, Caller, State, Machine, Running, Ended, Stuck, Deep, Header, MachineCode, goes_on, goes_to, handled, unwound, raised, slot_at, with_slot, with_global, loads, stores, found, loads_element, changes, stores_element, clears, with_element, element_at, computed, pushes_number, computes, compares, matches, drops, negates, inverts, branches, popped, new_frame, enters, calls, leaves, leaves_without, returns_nothing, leaves_value, gives_back, returns_value, takes, receives, sends, throws, act, acts, step, exec}
 use Rattle.bytecode.specs.Targets.{renamed_instruction}
-use Rattle.layout.specs.Kept.{renamed_frame, renamed_caller, renamed_state, renamed}
+use Rattle.layout.specs.SameRuns.{renamed_frame, renamed_caller, renamed_state, renamed}
 use Rattle.common.specs.declared.limits.TheConstants.{MAX_FRAMES}
 
 -- a program; other functions that fetch, go on and find a handler; and a renaming of the program's positions that fits to them
@@ -207,7 +208,7 @@ returns_value-same l s (Some header) = gives_back-same l s header.returned s.fra
 
 takes-same : (l : Relaid) (s : State) → GoesOn l s → (channel : ℕ) (numbers : List ℤ) → Same l (takes (relaid l) (moved l s) channel numbers) (takes l.program s channel numbers)
 takes-same l s h channel [] = raised-same l s _
-takes-same l s h channel (n ∷ numbers) = on l (record s { rest = changed s.rest channel numbers }) h _
+takes-same l s h channel (n ∷ numbers) = on l (record s { rest = updated s.rest channel numbers }) h _
 
 receives-same : (l : Relaid) (s : State) → GoesOn l s → (channel : ℕ) (direction : Option Direction) → Same l (receives (relaid l) (moved l s) channel direction) (receives l.program s channel direction)
 receives-same l s h channel None = refl

@@ -2,5 +2,5 @@ pub mod Graph
 pub mod Offsets
 pub mod Starts
 pub mod Runs
-pub mod Kept
+pub mod SameRuns
 pub mod Tables

@@ -3,7 +3,7 @@ ghost use Rattle.bytecode.specs.Code.{code_length};
 ghost use Rattle.bytecode.specs.Form.{Fits};
 ghost use Rattle.bytecode.specs.Format.{module_file};
 ghost use Rattle.layout.specs.Graph.{HasPositions};
-ghost use Rattle.layout.specs.Kept.{SameInterface, SameRuns};
+ghost use Rattle.layout.specs.SameRuns.{SameInterface, SameRuns};
 ghost use Rattle.layout.specs.Offsets.{laid_out, laid_out_procedure};
 ghost use Rattle.layout.specs.Starts.{HasStarts};
 ghost use Rattle.std.specs.Prelude.{All, IfOk, map, ◌<◌, ◌^◌, ◌≡◌};
@@ -14,8 +14,12 @@ use crate::graph::Graph;
 use bytecode::{Channel, Module, Procedure};
 use std::alloc::{AllocError, Global};
 
-/// The same names.
-fn copy_names(alloc: Global, names: &[String]) -> Result<Vec<String>, AllocError>
+/// The same names, in their order.
+///
+/// # Errors
+///
+/// Memory ran out.
+pub fn copy_names(alloc: Global, names: &[String]) -> Result<Vec<String>, AllocError>
     ensures { IfOk result (λ made.
         map (λ name. string_bytes name) made.items ≡ map (λ name. string_bytes name) names.now) }
 {

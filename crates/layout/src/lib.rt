@@ -8,4 +8,4 @@ pub mod laws;
 mod layout;
 
 pub use graph::Graph;
-pub use layout::emit;
+pub use layout::{copy_names, emit};

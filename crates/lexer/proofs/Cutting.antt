@@ -3,12 +3,13 @@ use Rattle.std.proofs.Common.{◌≡◌, ℕ, ◌+◌, List, [], ◌∷◌, ◌+
 use Rattle.std.specs.Str.{chars}
 use Rattle.lexer.specs.Terminal.{Terminal}
 use Rattle.lexer.specs.Lexeme.{Lexeme, Word, Gap, LargeLiteral, OpenComment}
-use Rattle.lexer.specs.Cut.{Cuts, Nothing, Token, Between, IsNextLexeme, IsStuck, terminal_at, size}
+use Rattle.lexer.specs.Cut.{Cuts, Nothing, Token, Between, IsNextLexeme, HasDefect, IsStuck, terminal_at, size}
 use Rattle.lexer.specs.Laws.{HasOneCut, IsNotCutAndRefused, HasOneRefusal}
 use Rattle.lexer.specs.declared.token.Kind.{Kind}
 use Rattle.lexer.specs.declared.token.Kind.TheVariants.{End}
+use Rattle.lexer.specs.declared.fault.LexDefect.{LexDefect}
+use Rattle.lexer.specs.declared.fault.LexDefect.TheVariants.{NoToken, LiteralTooLarge, UnclosedComment}
 use Rattle.lexer.specs.declared.fault.LexRefusal.{LexRefusal}
-use Rattle.lexer.specs.declared.fault.LexRefusal.TheVariants.{NoToken, LiteralTooLarge, UnclosedComment}
 use Rattle.lexer.proofs.Fronts.{nonempty}
 use Rattle.lexer.proofs.Nexts.{one_next}
 
@@ -97,40 +98,40 @@ halts_at text front rest lexeme no_word no_gap next = record {
   no_gap = λ back left other. no_gap (one_next text front rest back left lexeme Gap next other).0;
 }
 
-pub halts_stuck : (place : ℕ) (text : List ℕ) (fault : LexRefusal) → IsStuck place text fault → Halts text
-halts_stuck place text (NoToken at) (e, stuck) = record {
+pub halts_stuck : (text : List ℕ) (defect : LexDefect) → HasDefect text defect → Halts text
+halts_stuck text NoToken stuck = record {
   no_token = λ kind front left next. stuck.none (Word kind) front left next.is next.text_is;
   no_gap = λ front left next. stuck.none Gap front left next.is next.text_is;
 }
-halts_stuck place text (LiteralTooLarge at) (e, (front, rest, next)) =
-    halts_at text front rest LargeLiteral (λ kind h. cc) (λ h. cc) next
-halts_stuck place text (UnclosedComment at) (e, (front, rest, next)) =
-    halts_at text front rest OpenComment (λ kind h. cc) (λ h. cc) next
+halts_stuck text LiteralTooLarge (front, rest, next) = halts_at text front rest LargeLiteral (λ kind h. cc) (λ h. cc) next
+halts_stuck text UnclosedComment (front, rest, next) = halts_at text front rest OpenComment (λ kind h. cc) (λ h. cc) next
 
-some_stuck : (place : ℕ) (text : List ℕ) (fault : LexRefusal) → IsStuck place text fault → text ≡ [] → ⊥
-some_stuck place text (NoToken at) (_, stuck) e = stuck.goes_on e
-some_stuck place text (LiteralTooLarge at) (_, (front, rest, next)) e = front_nil LargeLiteral text front rest next e
-some_stuck place text (UnclosedComment at) (_, (front, rest, next)) e = front_nil OpenComment text front rest next e
+some_stuck : (text : List ℕ) (defect : LexDefect) → HasDefect text defect → text ≡ [] → ⊥
+some_stuck text NoToken stuck e = stuck.goes_on e
+some_stuck text LiteralTooLarge (front, rest, next) e = front_nil LargeLiteral text front rest next e
+some_stuck text UnclosedComment (front, rest, next) e = front_nil OpenComment text front rest next e
 
-one_stuck : (place : ℕ) (text : List ℕ) (fault other : LexRefusal) → IsStuck place text fault → IsStuck place text other
-    → fault ≡ other
-one_stuck place text (NoToken at) (NoToken by) h k = ap NoToken (h.0 ∙ sym k.0)
-one_stuck place text (NoToken at) (LiteralTooLarge by) (_, h) (_, (front, rest, next)) =
-    absurd (h.none LargeLiteral front rest next.is next.text_is)
-one_stuck place text (NoToken at) (UnclosedComment by) (_, h) (_, (front, rest, next)) =
-    absurd (h.none OpenComment front rest next.is next.text_is)
-one_stuck place text (LiteralTooLarge at) (NoToken by) (_, (front, rest, next)) (_, k) =
-    absurd (k.none LargeLiteral front rest next.is next.text_is)
-one_stuck place text (LiteralTooLarge at) (LiteralTooLarge by) h k = ap LiteralTooLarge (h.0 ∙ sym k.0)
-one_stuck place text (LiteralTooLarge at) (UnclosedComment by) (_, (front, rest, next)) (_, (back, left, other)) =
+one_defect : (text : List ℕ) (defect other : LexDefect) → HasDefect text defect → HasDefect text other → defect ≡ other
+one_defect text NoToken NoToken h k = refl
+one_defect text NoToken LiteralTooLarge h (front, rest, next) = absurd (h.none LargeLiteral front rest next.is next.text_is)
+one_defect text NoToken UnclosedComment h (front, rest, next) = absurd (h.none OpenComment front rest next.is next.text_is)
+one_defect text LiteralTooLarge NoToken (front, rest, next) k = absurd (k.none LargeLiteral front rest next.is next.text_is)
+one_defect text LiteralTooLarge LiteralTooLarge h k = refl
+one_defect text LiteralTooLarge UnclosedComment (front, rest, next) (back, left, other) =
     let e = (one_next text front rest back left LargeLiteral OpenComment next other).0 in
     absurd cc
-one_stuck place text (UnclosedComment at) (NoToken by) (_, (front, rest, next)) (_, k) =
-    absurd (k.none OpenComment front rest next.is next.text_is)
-one_stuck place text (UnclosedComment at) (LiteralTooLarge by) (_, (front, rest, next)) (_, (back, left, other)) =
+one_defect text UnclosedComment NoToken (front, rest, next) k = absurd (k.none OpenComment front rest next.is next.text_is)
+one_defect text UnclosedComment LiteralTooLarge (front, rest, next) (back, left, other) =
     let e = (one_next text front rest back left OpenComment LargeLiteral next other).0 in
     absurd cc
-one_stuck place text (UnclosedComment at) (UnclosedComment by) h k = ap UnclosedComment (h.0 ∙ sym k.0)
+one_defect text UnclosedComment UnclosedComment h k = refl
+
+one_stuck : (place : ℕ) (text : List ℕ) (refusal other : LexRefusal) → IsStuck place text refusal
+    → IsStuck place text other → refusal ≡ other
+one_stuck place text refusal other (here, h) (there, k) =
+    let defects = one_defect text refusal.defect other.defect h k in
+    let places : refusal.at ≡ other.at = here ∙ sym there in
+    λ i. record { defect = defects i; at = places i }
 
 -- the laws
 pub has_one_cut : HasOneCut
@@ -139,12 +140,15 @@ has_one_cut text tokens others h k =
     h.ended ∙ (ap (λ ws. ws ++ terminal_at (length text) End [] ∷ []) same.tokens_same ∙ sym k.ended)
 
 pub not_cut_and_refused : IsNotCutAndRefused
-not_cut_and_refused text tokens fault h k =
-    let same = one_way 0 (chars text) h.words (length text) [] k.words k.place k.rest h.cuts halts_nil k.cuts (halts_stuck k.place k.rest fault k.stuck) in
-    some_stuck k.place k.rest fault k.stuck (sym same.rest_same)
+not_cut_and_refused text tokens refusal h k =
+    let halts = halts_stuck k.rest refusal.defect k.stuck.1 in
+    let same = one_way 0 (chars text) h.words (length text) [] k.words k.place k.rest h.cuts halts_nil k.cuts halts in
+    some_stuck k.rest refusal.defect k.stuck.1 (sym same.rest_same)
 
 pub has_one_refusal : HasOneRefusal
-has_one_refusal text fault other h k =
-    let same = one_way 0 (chars text) h.words h.place h.rest k.words k.place k.rest h.cuts (halts_stuck h.place h.rest fault h.stuck) k.cuts (halts_stuck k.place k.rest other k.stuck) in
-    one_stuck k.place k.rest fault other
-    (subst (λ p. IsStuck p k.rest fault) same.end_same (subst (λ r. IsStuck h.place r fault) same.rest_same h.stuck)) k.stuck
+has_one_refusal text refusal other h k =
+    let halts = halts_stuck h.rest refusal.defect h.stuck.1 in
+    let other_halts = halts_stuck k.rest other.defect k.stuck.1 in
+    let same = one_way 0 (chars text) h.words h.place h.rest k.words k.place k.rest h.cuts halts k.cuts other_halts in
+    one_stuck k.place k.rest refusal other
+    (subst (λ p. IsStuck p k.rest refusal) same.end_same (subst (λ r. IsStuck h.place r refusal) same.rest_same h.stuck)) k.stuck

@@ -6,11 +6,12 @@ use Rattle.std.specs.List.{list_all}
 use Rattle.std.specs.Prelude.{nat_le}
 use Rattle.std.specs.Str.Parse.{digits_value}
 use Rattle.lexer.specs.Words.{is_white_space, is_name, may_continue, keyword_of, keywords}
-use Rattle.lexer.specs.Lexeme.{Lexeme, Word, Gap, LargeLiteral, OpenComment, IsLexeme, Blank, LineComment, BlockComment, Unended, Keyword, Identifier, Literal, TooLarge, Sign, IsInLine, HasNoCommentEnd, IsClosed, IsNumeral, sign_of, signs, greatest_literal}
+use Rattle.lexer.specs.Lexeme.{Lexeme, Word, Gap, LargeLiteral, OpenComment, IsLexeme, Blank, LineComment, BlockComment, Unended, Keyword, Identifier, Literal, TooLarge, Sign, IsInLine, HasNoCommentEnd, IsClosed, IsNumeral, sign_of, signs}
 use Rattle.lexer.specs.declared.token.Kind.{Kind}
 use Rattle.lexer.specs.declared.token.Kind.TheVariants.{Slash, Name, Integer}
 use Rattle.lexer.proofs.Letters.{Class, White, Digit, Letter, Solidus, Other, class_of, class-White, class-Digit, class-Letter, class-Solidus, class-Other, is_sign_first, lowercase_begins, lowercase_continues}
 use Rattle.lexer.proofs.Tables.{found_passes}
+use Rattle.common.specs.declared.limits.TheConstants.{MAX_INTEGER}
 
 -- the kind of a word
 abbrev pub word_kind : List ℕ → Kind
@@ -18,7 +19,7 @@ word_kind cs = unwrap_or (keyword_of cs) Name
 
 -- what an integer is
 abbrev pub literal_of : List ℕ → Lexeme
-literal_of cs = cond (nat_le (digits_value 10 cs) greatest_literal) (Word (Integer (digits_value 10 cs))) LargeLiteral
+literal_of cs = cond (nat_le (digits_value 10 cs) MAX_INTEGER) (Word (Integer (digits_value 10 cs))) LargeLiteral
 
 -- what follows a `/` in a lexeme
 pub data AfterSolidus : List ℕ → Lexeme → Type 0 where
@@ -132,10 +133,10 @@ shape lexeme text c cs (Keyword word kind found) e =
 shape lexeme text c cs (Identifier word named) e = name_shape c cs (subst (λ t. is_name t ≡ true) e named)
 shape lexeme text c cs (Literal digits numeral small) e =
     literal_shape c cs _ (subst IsNumeral e numeral)
-    (sym (cond-true (nat_le (digits_value 10 digits) greatest_literal) _ _ (le-leb _ _ small)) ∙ ap literal_of e)
+    (sym (cond-true (nat_le (digits_value 10 digits) MAX_INTEGER) _ _ (le-leb _ _ small)) ∙ ap literal_of e)
 shape lexeme text c cs (TooLarge digits numeral large) e =
     literal_shape c cs _ (subst IsNumeral e numeral)
-    (sym (cond-false (nat_le (digits_value 10 digits) greatest_literal) _ _ (lt-leb _ _ large)) ∙ ap literal_of e)
+    (sym (cond-false (nat_le (digits_value 10 digits) MAX_INTEGER) _ _ (lt-leb _ _ large)) ∙ ap literal_of e)
 shape lexeme text c cs (Sign sign kind found) e = sign_shape c cs kind (subst (λ t. sign_of t ≡ Some kind) e found)
 
 -- no lexeme is empty

@@ -107,10 +107,10 @@ refused text rest tokens fault so_far stuck = record {
 }
 
 -- a text that is cut to its end
-pub whole : (text rest : List ℕ) (tokens : List Terminal) (last : Terminal) → IsCutSoFar text rest tokens → rest ≡ []
+pub cut_to_end : (text rest : List ℕ) (tokens : List Terminal) (last : Terminal) → IsCutSoFar text rest tokens → rest ≡ []
     → last ≡ record { kind = End; text = rest; start = length text; end = length text }
     → IsCut text (tokens ++ last ∷ [])
-whole text rest tokens last so_far e k =
+cut_to_end text rest tokens last so_far e k =
     let place : length text - length rest ≡ length text = let n = ap length e in omega arith in
     let none : chars rest ≡ [] = ap chars e ∙ chars-nil in
     let width : length text ≡ length text + size [] = omega arith in

@@ -11,10 +11,9 @@ use Rattle.std.specs.Str.Parse.{digits_value}
 use Rattle.lexer.specs.Terminal.{Terminal, IsTerminated}
 use Rattle.lexer.specs.Words.{is_name, keyword_of, keywords}
 use Rattle.lexer.specs.Lexeme.{Lexeme, Word, Gap, IsLexeme, Keyword, Identifier, Literal, Sign, IsNumeral, sign_of, signs}
-use Rattle.lexer.specs.Cut.{Cuts, Nothing, Token, Between, IsNextLexeme, IsCut, IsTextRefused, IsStuck, terminal_at, size}
+use Rattle.lexer.specs.Cut.{Cuts, Nothing, Token, Between, IsNextLexeme, IsCut, IsTextRefused, terminal_at, size}
 use Rattle.lexer.specs.Listing.{IsInOrder, IsSliceOf, IsSpelled, SpellsToken, IsAtCharacter, IsRefusedAtCharacter}
 use Rattle.lexer.specs.declared.fault.LexRefusal.{LexRefusal}
-use Rattle.lexer.specs.declared.fault.LexRefusal.TheVariants.{NoToken, LiteralTooLarge, UnclosedComment}
 use Rattle.lexer.specs.declared.token.Kind.{Kind}
 use Rattle.lexer.specs.declared.token.Kind.TheVariants.{Name, Integer, End}
 use Rattle.lexer.proofs.Fronts.{nonempty}
@@ -78,7 +77,7 @@ cut_order start text ts end rest (Between _ _ front l us _ _ next cuts) =
     earlier start (start + size front) ts end (omega arith) (cut_order (start + size front) l ts end rest cuts)
 
 -- the characters of the parts are characters
-scalars_parts : (xs ys : List ℕ) → all_scalars (xs ++ ys) ≡ true → (all_scalars xs ≡ true) × (all_scalars ys ≡ true)
+pub scalars_parts : (xs ys : List ℕ) → all_scalars (xs ++ ys) ≡ true → (all_scalars xs ≡ true) × (all_scalars ys ≡ true)
 scalars_parts [] ys e = (refl, e)
 scalars_parts (x ∷ xs) ys e =
     let (first, others) = and_parts _ _ e in
@@ -241,13 +240,7 @@ at_start text ok = record {
 pub refused_at : (text : List ℕ) (fault : LexRefusal) → IsUtf8 text → IsTextRefused text fault → IsRefusedAtCharacter text fault
 refused_at text fault ok h =
     let here = boundary text h.place h.rest (cut_parts text 0 (chars text) h.words h.place h.rest h.cuts (at_start text ok)) in
-    fault_at text h.place h.rest fault here h.stuck
-  where
-    fault_at : (text : List ℕ) (place : ℕ) (rest : List ℕ) (fault : LexRefusal) → IsCharBoundary text place
-        → IsStuck place rest fault → IsRefusedAtCharacter text fault
-    fault_at text place rest (NoToken at) here stuck = subst (IsCharBoundary text) (sym stuck.0) here
-    fault_at text place rest (LiteralTooLarge at) here stuck = subst (IsCharBoundary text) (sym stuck.0) here
-    fault_at text place rest (UnclosedComment at) here stuck = subst (IsCharBoundary text) (sym stuck.0) here
+    subst (IsCharBoundary text) (sym h.stuck.0) here
 
 -- all that holds of the tokens of a text
 pub record Listed (text : List ℕ) (tokens : List Terminal) : Type 0 where

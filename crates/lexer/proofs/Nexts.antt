@@ -5,15 +5,17 @@ use Rattle.std.specs.Char.{is_ascii_digit}
 use Rattle.std.specs.List.{list_all}
 use Rattle.std.specs.Prelude.{nat_le}
 use Rattle.std.specs.Str.Parse.{digits_value}
+use Rattle.std.proofs.lemmas.List.Prefix.{front_fits}
 use Rattle.lexer.specs.Words.{is_white_space, is_identifier, may_begin, may_continue, keyword_of}
-use Rattle.lexer.specs.Lexeme.{Lexeme, Word, Gap, OpenComment, IsLexeme, Blank, LineComment, BlockComment, Unended, Keyword, Identifier, Literal, TooLarge, Sign, IsInLine, HasNoCommentEnd, IsClosed, IsNumeral, sign_of, greatest_literal}
+use Rattle.lexer.specs.Lexeme.{Lexeme, Word, Gap, OpenComment, IsLexeme, Blank, LineComment, BlockComment, Unended, Keyword, Identifier, Literal, TooLarge, Sign, IsInLine, HasNoCommentEnd, IsClosed, IsNumeral, sign_of}
 use Rattle.lexer.specs.Cut.{IsNextLexeme, HasNoLexeme}
 use Rattle.lexer.specs.Scan.{IsNoDouble}
 use Rattle.lexer.specs.declared.token.Kind.{Kind}
 use Rattle.lexer.specs.declared.token.Kind.TheVariants.{Slash, Name}
 use Rattle.lexer.proofs.Letters.{Class, White, Digit, Letter, Solidus, Other, class_of, class-White, class-Digit, class-Letter, class-Solidus}
 use Rattle.lexer.proofs.Fronts.{Front, AfterSolidus, Alone, Line, Block, Unclosed, word_kind, literal_of, shape, nonempty}
-use Rattle.lexer.proofs.Runs.{Stops, run_longest, longer_front, same_front, whole_longest}
+use Rattle.lexer.proofs.Runs.{Stops, run_longest, longer_front, same_front}
+use Rattle.common.specs.declared.limits.TheConstants.{MAX_INTEGER}
 
 -- a lexeme at the front of a text that begins with c, where c is of this class
 opened : (k : Class) (c : ℕ) (cs : List ℕ) → class_of c ≡ k → (lexeme : Lexeme) (front more : List ℕ)
@@ -49,9 +51,9 @@ next_white c cs white = record {
 literal_is : (cs : List ℕ) → IsNumeral cs → IsLexeme (literal_of cs) cs
 literal_is cs numeral =
     let P : Lexeme → Type 0 = λ lexeme. IsLexeme lexeme cs in
-    elim (cases_Bool (nat_le (digits_value 10 cs) greatest_literal)) [
-      | inl small ↦ subst P (sym (cond-true (nat_le (digits_value 10 cs) greatest_literal) _ _ small)) (Literal cs numeral (leb-true _ _ small))
-      | inr large ↦ subst P (sym (cond-false (nat_le (digits_value 10 cs) greatest_literal) _ _ large)) (TooLarge cs numeral (leb-false _ _ large))
+    elim (cases_Bool (nat_le (digits_value 10 cs) MAX_INTEGER)) [
+      | inl small ↦ subst P (sym (cond-true (nat_le (digits_value 10 cs) MAX_INTEGER) _ _ small)) (Literal cs numeral (leb-true _ _ small))
+      | inr large ↦ subst P (sym (cond-false (nat_le (digits_value 10 cs) MAX_INTEGER) _ _ large)) (TooLarge cs numeral (leb-false _ _ large))
     ]
 
 pub next_literal : (c : ℕ) (cs rest : List ℕ) → is_ascii_digit c ≡ true → list_all is_ascii_digit cs ≡ true
@@ -142,7 +144,7 @@ pub next_open : (cs : List ℕ) → HasNoCommentEnd cs → IsNextLexeme (47 ∷ 
 next_open cs unclosed = record {
   text_is = sym (append-nil (47 ∷ 42 ∷ cs));
   is = Unended cs unclosed;
-  longest = λ other longer more h e. whole_longest (47 ∷ 42 ∷ cs) longer more e;
+  longest = λ other longer more h e. front_fits (47 ∷ 42 ∷ cs) longer more e;
 }
 
 -- the list does not begin with the character

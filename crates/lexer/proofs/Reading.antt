@@ -14,8 +14,9 @@ use Rattle.std.proofs.lemmas.Bool.Decides.{nat_tests}
 use Rattle.std.proofs.lemmas.Str.{encodes-IsAscii, encodes-chars}
 use Rattle.std.proofs.lemmas.Str.Ascii.{IsAscii-nil, IsAscii-cons}
 use Rattle.std.proofs.lemmas.Str.Parse.{IsDigitsTest, numerals_by_value, parse_digits}
+use Rattle.std.proofs.lemmas.List.{nil_from_length}
 use Rattle.lexer.specs.Words.{is_white_space, may_begin, may_continue}
-use Rattle.lexer.specs.Lexeme.{Lexeme, Word, Gap, LargeLiteral, OpenComment, HasNoCommentEnd, IsClosed, greatest_literal}
+use Rattle.lexer.specs.Lexeme.{Lexeme, Word, Gap, LargeLiteral, OpenComment, HasNoCommentEnd, IsClosed}
 use Rattle.lexer.specs.Cut.{IsNextLexeme}
 use Rattle.lexer.specs.Scan.{after_run, after_close, IsTail, begins_sign}
 use Rattle.lexer.specs.declared.token.Kind.TheVariants.{Integer}
@@ -23,6 +24,7 @@ use Rattle.lexer.proofs.Letters.{class_of, Other}
 use Rattle.lexer.proofs.Fronts.{word_kind, literal_of}
 use Rattle.lexer.proofs.Nexts.{next_literal, next_word, next_line, next_block, next_open}
 use Rattle.lexer.proofs.Runs.{Stops, same_before}
+use Rattle.common.specs.declared.limits.TheConstants.{MAX_INTEGER}
 
 -- a next lexeme, of equal texts
 pub moved : (text other : List ℕ) (l m : Lexeme) (front a rest b : List ℕ) → text ≡ other → l ≡ m → front ≡ a
@@ -63,7 +65,7 @@ run_parts p (c ∷ cs) =
 -- the characters before what follows a run, and the first one before it
 pub record IsRunFront (p : ℕ → Bool) (cs : List ℕ) (c : ℕ) (after rest : List ℕ) : Type 0 where
   pub others : List ℕ
-  pub whole : cs ≡ c ∷ (others ++ rest)
+  pub text_is : cs ≡ c ∷ (others ++ rest)
   pub passes : list_all p others ≡ true
   pub stops : Stops p rest
 
@@ -73,22 +75,22 @@ run_front p cs c after rest e k =
     let (front, run) = run_parts p after in
     record {
       others = front;
-      whole = e ∙ ap (λ t. c ∷ t) (run.text_is ∙ ap (λ r. front ++ r) (sym k));
+      text_is = e ∙ ap (λ t. c ∷ t) (run.text_is ∙ ap (λ r. front ++ r) (sym k));
       passes = run.passes;
       stops = subst (Stops p) (sym k) run.stops;
     }
 
 pub run_tail : (p : ℕ → Bool) (cs : List ℕ) (c : ℕ) (after rest : List ℕ) → cs ≡ c ∷ after → rest ≡ after_run p after
     → IsTail cs rest
-run_tail p cs c after rest e k = let h = run_front p cs c after rest e k in (c ∷ h.others, h.whole)
+run_tail p cs c after rest e k = let h = run_front p cs c after rest e k in (c ∷ h.others, h.text_is)
 
 -- a word
 pub word_read : (cs : List ℕ) (c : ℕ) (after rest front : List ℕ) → cs ≡ c ∷ after → rest ≡ after_run may_continue after
     → may_begin c ≡ true → cs ≡ front ++ rest → IsNextLexeme cs (Word (word_kind front)) front rest
 word_read cs c after rest front e k begins parts =
     let h = run_front may_continue cs c after rest e k in
-    let same : c ∷ h.others ≡ front = same_before (c ∷ h.others) front rest (sym h.whole ∙ parts) in
-    moved _ _ _ _ _ _ _ _ (sym h.whole) (ap (λ f. Word (word_kind f)) same) same refl
+    let same : c ∷ h.others ≡ front = same_before (c ∷ h.others) front rest (sym h.text_is ∙ parts) in
+    moved _ _ _ _ _ _ _ _ (sym h.text_is) (ap (λ f. Word (word_kind f)) same) same refl
     (next_word c h.others rest begins h.passes h.stops)
 
 -- an integer
@@ -97,21 +99,21 @@ pub literal_read : (cs : List ℕ) (c : ℕ) (after rest front : List ℕ) → c
     → IsNextLexeme cs (literal_of front) front rest × ((list_all is_ascii_digit front ≡ true) × (0 < length front))
 literal_read cs c after rest front e k digit parts =
     let h = run_front is_ascii_digit cs c after rest e k in
-    let same : c ∷ h.others ≡ front = same_before (c ∷ h.others) front rest (sym h.whole ∙ parts) in
+    let same : c ∷ h.others ≡ front = same_before (c ∷ h.others) front rest (sym h.text_is ∙ parts) in
     let n = ap length same in (
-      moved _ _ _ _ _ _ _ _ (sym h.whole) (ap literal_of same) same refl
+      moved _ _ _ _ _ _ _ _ (sym h.text_is) (ap literal_of same) same refl
           (next_literal c h.others rest digit h.passes h.stops),
       (subst (λ f. list_all is_ascii_digit f ≡ true) same (and_from _ _ digit h.passes), omega arith),
     )
 
-pub literal_small : (cs : List ℕ) (value : ℕ) → value ≡ digits_value 10 cs → value ≤ greatest_literal
+pub literal_small : (cs : List ℕ) (value : ℕ) → value ≡ digits_value 10 cs → value ≤ MAX_INTEGER
     → literal_of cs ≡ Word (Integer value)
 literal_small cs value e small =
-    let test : nat_le (digits_value 10 cs) greatest_literal ≡ true = le-leb _ _ (subst (λ v. v ≤ greatest_literal) e small) in
-    cond-true (nat_le (digits_value 10 cs) greatest_literal) _ _ test ∙ ap (λ v. Word (Integer v)) (sym e)
+    let test : nat_le (digits_value 10 cs) MAX_INTEGER ≡ true = le-leb _ _ (subst (λ v. v ≤ MAX_INTEGER) e small) in
+    cond-true (nat_le (digits_value 10 cs) MAX_INTEGER) _ _ test ∙ ap (λ v. Word (Integer v)) (sym e)
 
-pub literal_large : (cs : List ℕ) → greatest_literal < digits_value 10 cs → literal_of cs ≡ LargeLiteral
-literal_large cs large = cond-false (nat_le (digits_value 10 cs) greatest_literal) _ _ (lt-leb _ _ large)
+pub literal_large : (cs : List ℕ) → MAX_INTEGER < digits_value 10 cs → literal_of cs ≡ LargeLiteral
+literal_large cs large = cond-false (nat_le (digits_value 10 cs) MAX_INTEGER) _ _ (lt-leb _ _ large)
 
 -- a comment to the end of the line
 pub line_read : (cs body rest : List ℕ) → cs ≡ 47 ∷ 47 ∷ body → rest ≡ after_run (λ c. not (c == 10)) body
@@ -119,7 +121,7 @@ pub line_read : (cs body rest : List ℕ) → cs ≡ 47 ∷ 47 ∷ body → rest
 line_read cs body rest e k =
     let h = run_front (λ c. not (c == 10)) (47 ∷ body) 47 body rest refl k in (
       47 ∷ 47 ∷ h.others,
-      moved _ _ _ _ _ _ _ _ (sym (e ∙ ap (λ t. 47 ∷ t) h.whole)) refl refl refl
+      moved _ _ _ _ _ _ _ _ (sym (e ∙ ap (λ t. 47 ∷ t) h.text_is)) refl refl refl
           (next_line h.others rest h.passes h.stops),
     )
 
@@ -174,14 +176,10 @@ open_end : (s : Bool) → HasNoCommentEnd (behind s [])
 open_end false = open_nil
 open_end true = open_cons 42 [] (λ after k m. cc) open_nil
 
-empty : (cs : List ℕ) → length cs ≡ 0 → cs ≡ []
-empty [] e = refl
-empty (c ∷ cs) e = absurd (omega arith)
-
 once_pair : (before after : List ℕ) → 42 ∷ 47 ∷ [] ≡ before ++ (codes "*/" ++ after) → after ≡ []
 once_pair before after e =
     let n = ap length e ∙ length-append before (codes "*/" ++ after) in
-    empty after (omega arith)
+    nil_from_length after (omega arith)
 
 closed_end : (s : Bool) (c : ℕ) → (s && c == 47) ≡ true → IsClosed (behind s (c ∷ []))
 closed_end s c e =
@@ -283,18 +281,18 @@ parsed_ok {E} bs r value h utf8 all e =
 
 pub parsed_err : {E : Type 0} (bs : List ℕ) (r : Result ℕ E) (fault : E) → ParsesUnsigned 32 10 bs r → IsUtf8 bs
     → list_all is_ascii_digit (chars bs) ≡ true → 0 < length (chars bs) → r ≡ Err fault
-    → greatest_literal < digits_value 10 (chars bs)
+    → MAX_INTEGER < digits_value 10 (chars bs)
 parsed_err {E} bs r fault h utf8 all some e =
     let same = digits_text bs utf8 all in
     let digits = subst (λ t. list_all is_ascii_digit t ≡ true) same all in
     let P : Result ℕ E → Type 0 = λ x. OkIff x ((0 < length bs) × (digits_value 10 bs < 2 ^ 32)) (digits_value 10 bs) in
     let large = subst P e (parsed bs r h digits) in
-    subst (λ t. greatest_literal < digits_value 10 t) (sym same) (above bs (subst (λ t. 0 < length t) same some) large)
+    subst (λ t. MAX_INTEGER < digits_value 10 t) (sym same) (above bs (subst (λ t. 0 < length t) same some) large)
   where
     above : (bs : List ℕ) → 0 < length bs → ((0 < length bs) × (digits_value 10 bs < 2 ^ 32) → ⊥)
-        → greatest_literal < digits_value 10 bs
+        → MAX_INTEGER < digits_value 10 bs
     above bs some none =
-        elim (cases_lt greatest_literal (digits_value 10 bs)) [
+        elim (cases_lt MAX_INTEGER (digits_value 10 bs)) [
           | inl large ↦ large
           | inr small ↦ absurd (none (some, omega arith))
         ]

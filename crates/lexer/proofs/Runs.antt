@@ -44,10 +44,6 @@ same_front (c ∷ a) r (d ∷ b) m e same =
     let k = h.0 in
     (cc, h.1)
 
--- no front is longer than the list
-pub whole_longest : (a b m : List ℕ) → a ≡ b ++ m → length b ≤ length a
-whole_longest a b m e = let n : length a ≡ length b + length m = ap length e ∙ length-append b m in omega arith
-
 -- what stands before one tail is the same
 pub same_before : (a b r : List ℕ) → a ++ r ≡ b ++ r → a ≡ b
 same_before a b r e =

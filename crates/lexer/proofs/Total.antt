@@ -7,13 +7,14 @@ use Rattle.std.specs.Str.{chars, IsUtf8}
 use Rattle.lexer.specs.Terminal.{Terminal}
 use Rattle.lexer.specs.Words.{is_white_space, may_begin, may_continue}
 use Rattle.lexer.specs.Lexeme.{Lexeme, Word, Gap, LargeLiteral, OpenComment, sign_of}
-use Rattle.lexer.specs.Cut.{Cuts, Nothing, Token, Between, IsNextLexeme, IsCut, IsStuck, HasNoLexeme, terminal_at, size}
+use Rattle.lexer.specs.Cut.{Cuts, Nothing, Token, Between, IsNextLexeme, IsCut, HasDefect, IsStuck, HasNoLexeme, terminal_at, size}
 use Rattle.lexer.specs.Laws.{IsCutOrRefused}
 use Rattle.lexer.specs.Scan.{after_close, after_run, IsNoDouble}
 use Rattle.lexer.specs.declared.token.Kind.{Kind}
 use Rattle.lexer.specs.declared.token.Kind.TheVariants.{End}
 use Rattle.lexer.specs.declared.fault.LexRefusal.{LexRefusal}
-use Rattle.lexer.specs.declared.fault.LexRefusal.TheVariants.{NoToken, LiteralTooLarge, UnclosedComment}
+use Rattle.lexer.specs.declared.fault.LexDefect.{LexDefect}
+use Rattle.lexer.specs.declared.fault.LexDefect.TheVariants.{NoToken, LiteralTooLarge, UnclosedComment}
 use Rattle.lexer.proofs.Letters.{class_of, Other}
 use Rattle.lexer.proofs.Fronts.{nonempty}
 use Rattle.lexer.proofs.Nexts.{next_white, next_literal, next_word, next_solidus, next_double, next_single, none_next}
@@ -94,8 +95,14 @@ record Cutting (start : ℕ) (text : List ℕ) : Type 0 where
   cuts : Cuts start text words end rest
   stops : (rest ≡ []) ⊎ ((fault : LexRefusal) × IsStuck end rest fault)
 
-stuck : (start : ℕ) (text : List ℕ) (fault : LexRefusal) → IsStuck start text fault → Cutting start text
-stuck start text fault h = record { words = []; end = start; rest = text; cuts = Nothing start text; stops = inr (fault, h) }
+stuck : (start : ℕ) (text : List ℕ) (defect : LexDefect) → HasDefect text defect → Cutting start text
+stuck start text defect h = record {
+  words = [];
+  end = start;
+  rest = text;
+  cuts = Nothing start text;
+  stops = inr (record { defect = defect; at = start }, (refl, h));
+}
 
 shorter : (lexeme : Lexeme) (text front rest : List ℕ) → IsNextLexeme text lexeme front rest → length rest < length text
 shorter lexeme text [] rest next = absurd (nonempty lexeme [] next.is refl)
@@ -129,8 +136,8 @@ from_next : (start : ℕ) (text : List ℕ) (lexeme : Lexeme) (front left : List
     → Cutting (start + size front) left → Cutting start text
 from_next start text (Word kind) front left next c = goes_on start text kind front left next c
 from_next start text Gap front left next c = passes start text front left next c
-from_next start text LargeLiteral front left next c = stuck start text (LiteralTooLarge start) (refl, (front, left, next))
-from_next start text OpenComment front left next c = stuck start text (UnclosedComment start) (refl, (front, left, next))
+from_next start text LargeLiteral front left next c = stuck start text LiteralTooLarge (front, left, next)
+from_next start text OpenComment front left next c = stuck start text UnclosedComment (front, left, next)
 
 cutting : (fuel start : ℕ) (text : List ℕ) → length text ≤ fuel → Cutting start text
 cutting fuel start [] short = record { words = []; end = start; rest = []; cuts = Nothing start []; stops = inl refl }
@@ -140,12 +147,12 @@ cutting (suc fuel) start (c ∷ cs) short =
       | Next lexeme front left next ↦
           let less = shorter lexeme (c ∷ cs) front left next in
           from_next start (c ∷ cs) lexeme front left next (cutting fuel (start + size front) left (omega arith))
-      | Absent none ↦ stuck start (c ∷ cs) (NoToken start) (refl, none)
+      | Absent none ↦ stuck start (c ∷ cs) NoToken none
     ]
 
-whole : (text : List ℕ) → IsUtf8 text → (c : Cutting 0 (chars text)) → c.rest ≡ []
+cut_to_end : (text : List ℕ) → IsUtf8 text → (c : Cutting 0 (chars text)) → c.rest ≡ []
     → (tokens : List Terminal) × IsCut text tokens
-whole text utf8 c e =
+cut_to_end text utf8 c e =
     let n = cut_size 0 (chars text) c.words c.end c.rest c.cuts in
     let m = ap length (encodes-chars text utf8) in
     let k = ap size e in
@@ -162,6 +169,6 @@ pub is_cut_or_refused : IsCutOrRefused
 is_cut_or_refused text utf8 =
     let c = cutting (length (chars text)) 0 (chars text) (omega arith) in
     elim c.stops [
-      | inl e ↦ inl (whole text utf8 c e)
+      | inl e ↦ inl (cut_to_end text utf8 c e)
       | inr refusal ↦ inr (refusal.0, record { words = c.words; place = c.end; rest = c.rest; cuts = c.cuts; stuck = refusal.1 })
     ]

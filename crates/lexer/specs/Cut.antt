@@ -6,8 +6,9 @@ use Rattle.lexer.specs.Terminal.{Terminal}
 use Rattle.lexer.specs.Lexeme.{Lexeme, Word, Gap, LargeLiteral, OpenComment, IsLexeme}
 use Rattle.lexer.specs.declared.token.Kind.{Kind}
 use Rattle.lexer.specs.declared.token.Kind.TheVariants.{End}
+use Rattle.lexer.specs.declared.fault.LexDefect.{LexDefect}
+use Rattle.lexer.specs.declared.fault.LexDefect.TheVariants.{NoToken, LiteralTooLarge, UnclosedComment}
 use Rattle.lexer.specs.declared.fault.LexRefusal.{LexRefusal}
-use Rattle.lexer.specs.declared.fault.LexRefusal.TheVariants.{NoToken, LiteralTooLarge, UnclosedComment}
 
 -- the text begins with the lexeme `front`, and with no longer one; `rest` follows
 pub record IsNextLexeme (text : List ℕ) (lexeme : Lexeme) (front rest : List ℕ) : Type 0 where
@@ -47,13 +48,15 @@ pub record HasNoLexeme (text : List ℕ) : Type 0 where
   pub goes_on : text ≡ [] → ⊥
   pub none : (lexeme : Lexeme) (front rest : List ℕ) → IsLexeme lexeme front → text ≡ front ++ rest → ⊥
 
--- the refusal is that the text goes on at the byte `start` with a refused lexeme, or with none
+-- the text goes on with no lexeme, or with one that is refused
+abbrev pub HasDefect : List ℕ → LexDefect → Type 0
+HasDefect text NoToken = HasNoLexeme text
+HasDefect text LiteralTooLarge = (front : List ℕ) × (rest : List ℕ) × IsNextLexeme text LargeLiteral front rest
+HasDefect text UnclosedComment = (front : List ℕ) × (rest : List ℕ) × IsNextLexeme text OpenComment front rest
+
+-- the refusal is how the text goes on at the byte `start`
 abbrev pub IsStuck : ℕ → List ℕ → LexRefusal → Type 0
-IsStuck start text (NoToken at) = (at ≡ start) × HasNoLexeme text
-IsStuck start text (LiteralTooLarge at) =
-    (at ≡ start) × ((front : List ℕ) × (rest : List ℕ) × IsNextLexeme text LargeLiteral front rest)
-IsStuck start text (UnclosedComment at) =
-    (at ≡ start) × ((front : List ℕ) × (rest : List ℕ) × IsNextLexeme text OpenComment front rest)
+IsStuck start text refusal = (refusal.at ≡ start) × HasDefect text refusal.defect
 
 -- what stands before the refusal is cut into tokens, and the refusal is what comes then
 pub record IsTextRefused (text : List ℕ) (refusal : LexRefusal) : Type 0 where

@@ -30,10 +30,6 @@ pub record IsNumeral (cs : List ℕ) : Type 0 where
   pub nonempty : 0 < length cs
   pub digits : IsTrue (list_all is_ascii_digit cs)
 
--- the greatest integer that a program may write
-abbrev pub greatest_literal : ℕ
-greatest_literal = MAX_INTEGER
-
 -- no character is a line feed
 abbrev pub IsInLine : List ℕ → Type 0
 IsInLine cs = IsTrue (list_all (λ c. not (c == 10)) cs)
@@ -74,9 +70,9 @@ pub data IsLexeme : Lexeme → List ℕ → Type 0 where
   -- an identifier that is no keyword
   Identifier : (cs : List ℕ) → IsTrue (is_name cs) → IsLexeme (Word Name) cs
   -- decimal digits, read in decimal
-  Literal : (cs : List ℕ) → IsNumeral cs → digits_value 10 cs ≤ greatest_literal
+  Literal : (cs : List ℕ) → IsNumeral cs → digits_value 10 cs ≤ MAX_INTEGER
       → IsLexeme (Word (Integer (digits_value 10 cs))) cs
   -- decimal digits of a number above the greatest
-  TooLarge : (cs : List ℕ) → IsNumeral cs → greatest_literal < digits_value 10 cs → IsLexeme LargeLiteral cs
+  TooLarge : (cs : List ℕ) → IsNumeral cs → MAX_INTEGER < digits_value 10 cs → IsLexeme LargeLiteral cs
   -- a sign of the table
   Sign : (cs : List ℕ) (kind : Kind) → sign_of cs ≡ Some kind → IsLexeme (Word kind) cs

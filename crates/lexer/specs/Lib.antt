@@ -1,4 +1,5 @@
 pub mod Cut
+pub mod Defects
 pub mod Laws
 pub mod Lexeme
 pub mod Listing

@@ -3,13 +3,13 @@
 use Rattle.std.specs.Prelude.{◌≡◌, ◌⊎◌, ℕ, ◌≤◌, List, [], ◌∷◌, Some, slice_range, IsTrue}
 use Rattle.std.specs.Str.{IsCharBoundary}
 use Rattle.std.specs.Str.Parse.{digits_value}
-use Rattle.lexer.specs.Lexeme.{IsNumeral, greatest_literal, sign_of}
+use Rattle.lexer.specs.Lexeme.{IsNumeral, sign_of}
 use Rattle.lexer.specs.Terminal.{Terminal}
 use Rattle.lexer.specs.Words.{is_name_text, keyword_of}
 use Rattle.lexer.specs.declared.fault.LexRefusal.{LexRefusal}
-use Rattle.lexer.specs.declared.fault.LexRefusal.TheVariants.{NoToken, LiteralTooLarge, UnclosedComment}
 use Rattle.lexer.specs.declared.token.Kind.{Kind}
 use Rattle.lexer.specs.declared.token.Kind.TheVariants.{Name, Integer, End}
+use Rattle.common.specs.declared.limits.TheConstants.{MAX_INTEGER}
 
 -- the terminals stand one behind another, from the byte `start` to the byte `end`
 abbrev pub IsInOrder : ℕ → List Terminal → ℕ → Type 0
@@ -23,7 +23,7 @@ IsSliceOf source t = t.text ≡ slice_range source t.start t.end
 -- the bytes spell a terminal of this kind
 abbrev pub SpellsToken : Kind → List ℕ → Type 0
 SpellsToken Name text = IsTrue (is_name_text text)
-SpellsToken (Integer value) text = IsNumeral text × (digits_value 10 text ≡ value) × (value ≤ greatest_literal)
+SpellsToken (Integer value) text = IsNumeral text × (digits_value 10 text ≡ value) × (value ≤ MAX_INTEGER)
 SpellsToken End text = text ≡ []
 SpellsToken kind text = (keyword_of text ≡ Some kind) ⊎ (sign_of text ≡ Some kind)
 
@@ -37,6 +37,4 @@ IsAtCharacter source t = IsCharBoundary source t.start
 
 -- the refusal stands where a character of the source begins
 abbrev pub IsRefusedAtCharacter : List ℕ → LexRefusal → Type 0
-IsRefusedAtCharacter source (NoToken at) = IsCharBoundary source at
-IsRefusedAtCharacter source (LiteralTooLarge at) = IsCharBoundary source at
-IsRefusedAtCharacter source (UnclosedComment at) = IsCharBoundary source at
+IsRefusedAtCharacter source refusal = IsCharBoundary source refusal.at

@@ -7,7 +7,7 @@ ghost use Rattle.std.specs.Prelude.{◌≡◌, ◌++◌, ◌∷◌, [], MatchRes
 ghost use Rattle.std.specs.Char.{is_ascii_digit};
 ghost use Rattle.std.specs.Str.{chars};
 
-use crate::fault::LexRefusal;
+use crate::fault::{LexDefect, LexRefusal};
 use crate::names::{begins_name, continues_name, find_keyword};
 use crate::token::Kind;
 use common::limits::MAX_INTEGER;
@@ -62,7 +62,10 @@ pub(crate) fn cut_piece<'a>(
     } else if first == '/' {
         cut_solidus(text, after, at)
     } else {
-        cut_sign(text, first, after).ok_or(LexRefusal::NoToken(at))
+        cut_sign(text, first, after).ok_or(LexRefusal {
+            defect: LexDefect::NoToken,
+            at,
+        })
     }
 }
 
@@ -90,7 +93,10 @@ fn cut_literal<'a>(
             kind: Some(Kind::Integer(value)),
             rest,
         }),
-        _ => Err(LexRefusal::LiteralTooLarge(at)),
+        _ => Err(LexRefusal {
+            defect: LexDefect::LiteralTooLarge,
+            at,
+        }),
     }
 }
 
@@ -122,7 +128,10 @@ fn cut_solidus<'a>(text: &'a str, after: &'a str, at: usize) -> Result<Piece<'a>
         }),
         Some('*') => match skip_comment(characters.as_str()) {
             Some(rest) => Ok(Piece { kind: None, rest }),
-            None => Err(LexRefusal::UnclosedComment(at)),
+            None => Err(LexRefusal {
+                defect: LexDefect::UnclosedComment,
+                at,
+            }),
         },
         _ => Ok(Piece {
             kind: Some(Kind::Slash),

@@ -10,28 +10,28 @@ use Rattle.bytecode.specs.declared.instruction.Instruction.{Instruction}
 use Rattle.channels.specs.Sink.{AppendsPrefix}
 use Rattle.listing.specs.Listing.{code_text, instruction_line, procedure_text, procedures_text}
 
--- the sink took a front of the whole, and this is left
-pub record IsListed (old new : Option (List ℕ)) (left whole : List ℕ) : Type 0 where
+-- the sink took a front of the listing, and this is left
+pub record IsListed (old new : Option (List ℕ)) (left listing : List ℕ) : Type 0 where
   pub front : List ℕ
-  pub split : front ++ left ≡ whole
+  pub split : front ++ left ≡ listing
   pub taken : Appends old new front
 
-pub begun : (old : Option (List ℕ)) (whole : List ℕ) → IsListed old old whole whole
-begun old whole = record { front = []; split = refl; taken = Appends-nil old }
+pub begun : (old : Option (List ℕ)) (listing : List ℕ) → IsListed old old listing listing
+begun old listing = record { front = []; split = refl; taken = Appends-nil old }
 
 -- the next piece went out
-pub went_on : (old mid new : Option (List ℕ)) (left piece rest whole : List ℕ) → left ≡ piece ++ rest → IsListed old mid left whole
-    → Appends mid new piece → IsListed old new rest whole
-went_on old mid new left piece rest whole next before now = record {
+pub went_on : (old mid new : Option (List ℕ)) (left piece rest listing : List ℕ) → left ≡ piece ++ rest → IsListed old mid left listing
+    → Appends mid new piece → IsListed old new rest listing
+went_on old mid new left piece rest listing next before now = record {
   front = before.front ++ piece;
   split = append_assoc before.front piece rest ∙ ap (λ text. before.front ++ text) (sym next) ∙ before.split;
   taken = Appends-trans old mid new before.front piece before.taken now;
 }
 
 -- the next piece went out in part
-pub cut : (old mid new : Option (List ℕ)) (left piece rest whole : List ℕ) → left ≡ piece ++ rest → IsListed old mid left whole
-    → AppendsPrefix mid new piece → AppendsPrefix old new whole
-cut old mid new left piece rest whole next before part = (
+pub cut : (old mid new : Option (List ℕ)) (left piece rest listing : List ℕ) → left ≡ piece ++ rest → IsListed old mid left listing
+    → AppendsPrefix mid new piece → AppendsPrefix old new listing
+cut old mid new left piece rest listing next before part = (
   before.front ++ part.0,
   (
     part.1.0 ++ rest,
@@ -43,12 +43,12 @@ cut old mid new left piece rest whole next before part = (
 )
 
 -- nothing more went out
-pub stopped : (old new : Option (List ℕ)) (left whole : List ℕ) → IsListed old new left whole → AppendsPrefix old new whole
-stopped old new left whole before = (before.front, (left, before.split), before.taken)
+pub stopped : (old new : Option (List ℕ)) (left listing : List ℕ) → IsListed old new left listing → AppendsPrefix old new listing
+stopped old new left listing before = (before.front, (left, before.split), before.taken)
 
 -- everything went out
-pub all_listed : (old new : Option (List ℕ)) (left whole : List ℕ) → left ≡ [] → IsListed old new left whole → Appends old new whole
-all_listed old new left whole none before =
+pub all_listed : (old new : Option (List ℕ)) (left listing : List ℕ) → left ≡ [] → IsListed old new left listing → Appends old new listing
+all_listed old new left listing none before =
     subst (λ (text : List ℕ). Appends old new text)
     (sym (append-nil before.front) ∙ ap (λ text. before.front ++ text) (sym none) ∙ before.split) before.taken
 
@@ -80,11 +80,6 @@ procedures_next procedures k d procedure small is =
 
 -- ---- one text behind another
 
-pub cut_first : (old new : Option (List ℕ)) (bytes first second : List ℕ) → bytes ≡ first → AppendsPrefix old new bytes
-    → AppendsPrefix old new (first ++ second)
-cut_first old new bytes first second is part =
-    (part.0, (part.1.0 ++ second, sym (append_assoc part.0 part.1.0 second) ∙ ap (λ text. text ++ second) (part.1.1 ∙ is)), part.2)
-
 pub cut_second : (old mid new : Option (List ℕ)) (bytes first second : List ℕ) → bytes ≡ first → Appends old mid bytes
     → AppendsPrefix mid new second → AppendsPrefix old new (first ++ second)
 cut_second old mid new bytes first second is before part = (
@@ -92,7 +87,3 @@ cut_second old mid new bytes first second is before part = (
   (part.1.0, append_assoc bytes part.0 part.1.0 ∙ ap (λ text. bytes ++ text) part.1.1 ∙ ap (λ text. text ++ second) is),
   Appends-trans old mid new bytes part.0 before part.2,
 )
-
-pub on_err_then : {X Y : Type 0} (result : Result X Y) (P Q : Type 0) → (P → Q) → OnErr result P → OnErr result Q
-on_err_then (Ok x) P Q then holds = tt
-on_err_then (Err y) P Q then holds = then holds

@@ -1,4 +1,5 @@
 -- What an instruction does is the same in two programs that differ in what they fetch alone.
+use Rattle.common.specs.Functions.{same_truth}
 use Rattle.std.proofs.Common.{◌≡◌, ℕ, refl, ap, Bool, true, false, cond, not, List, [], ◌∷◌, reverse, Option, Some, None, ltb, ℤ, slice_get}
 use Rattle.bytecode.specs.Values.{has_kind}
 use Rattle.bytecode.specs.declared.instruction.Arithmetic.{Arithmetic}
@@ -11,7 +12,7 @@ use Rattle.bytecode.specs.declared.declaration.Slot.{Slot}
 use Rattle.bytecode.specs.declared.declaration.Slot.TheVariants as slot
 use Rattle.common.specs.declared.direction.Direction.{Direction}
 use Rattle.common.specs.declared.direction.Direction.TheVariants.{Input, Output}
-use Rattle.bytecode.specs.Machine.{Caller, State, Machine, Header, MachineCode, handled, unwound, raised, slot_at, with_slot, with_global, loads, stores, found, loads_element, changes, stores_element, clears, with_element, element_at, computed, pushes_number, computes, compares, same_truth, matches, drops, negates, inverts, branches, popped, enters, calls, takes, receives, sends, throws, act}
+use Rattle.bytecode.specs.Machine.{Caller, State, Machine, Header, MachineCode, handled, unwound, raised, slot_at, with_slot, with_global, loads, stores, found, loads_element, changes, stores_element, clears, with_element, element_at, computed, pushes_number, computes, compares, matches, drops, negates, inverts, branches, popped, enters, calls, takes, receives, sends, throws, act}
 
 module _ (p : MachineCode) (fetch : ℕ → ℕ → Option Instruction) where
   abbrev q : MachineCode

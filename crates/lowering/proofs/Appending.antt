@@ -1,4 +1,5 @@
 -- Code that is appended piece by piece, each piece made for the place at which it stands.
+use Rattle.common.specs.Functions.{same_truth}
 use Rattle.std.proofs.Common.{◌≡◌, ℕ, ◌+◌, List, [], ◌∷◌, ◌++◌, length, ap, ◌∙◌, sym, refl, arith, length-append, append_assoc}
 use Rattle.bytecode.specs.declared.instruction.Instruction.{Instruction}
 use Rattle.resolved.specs.declared.expression.Variable.{Variable}
@@ -6,7 +7,6 @@ use Rattle.resolved.specs.declared.expression.Connective.{Connective}
 use Rattle.resolved.specs.declared.expression.Operator.{Operator}
 use Rattle.resolved.specs.Tree.{Expression, Binary, Short}
 use Rattle.lowering.specs.Expressions.{store_element_of, operator_instruction, value_size, value_code, rest_of_short, arguments_code, arguments_size, branch_code, branch_size, deciding}
-use Rattle.resolved.specs.Value.{bool_eq}
 use Rattle.std.specs.Prelude.{Bool, if◌then◌else◌}
 use Rattle.lowering.proofs.Sizes.{value-sized, branch-sized}
 
@@ -34,7 +34,7 @@ pub ruleset growing = (value_grown, branch_grown)
 
 pub short-branched : (before middle after : List Instruction) (left right : Expression) (connective : Connective) (e : Expression) (wanted decides : Bool) (target behind inner : ℕ)
     → decides ≡ deciding connective → behind ≡ length before + branch_size decides left + branch_size wanted right
-    → inner ≡ (if bool_eq wanted decides then target else behind)
+    → inner ≡ (if same_truth wanted decides then target else behind)
     → middle ≡ before ++ branch_code decides (length before) inner left
     → after ≡ middle ++ branch_code wanted (length middle) target right
     → e ≡ Short connective left right
@@ -43,14 +43,14 @@ short-branched before middle after left right connective e wanted decides target
     let b = deciding connective in
     let place : behind ≡ length before + branch_size b left + branch_size wanted right =
     is_behind ∙ ap (λ (d : Bool). length before + branch_size d left + branch_size wanted right) is_deciding in
-    let inner_is : inner ≡ (if bool_eq wanted b then target else length before + branch_size b left + branch_size wanted right) =
-    is_inner ∙ (ap (λ (d : Bool). if bool_eq wanted d then target else behind) is_deciding
-    ∙ ap (λ (n : ℕ). if bool_eq wanted b then target else n) place) in
-    let first_is : middle ≡ before ++ branch_code b (length before) (if bool_eq wanted b then target else length before + branch_size b left + branch_size wanted right) left =
+    let inner_is : inner ≡ (if same_truth wanted b then target else length before + branch_size b left + branch_size wanted right) =
+    is_inner ∙ (ap (λ (d : Bool). if same_truth wanted d then target else behind) is_deciding
+    ∙ ap (λ (n : ℕ). if same_truth wanted b then target else n) place) in
+    let first_is : middle ≡ before ++ branch_code b (length before) (if same_truth wanted b then target else length before + branch_size b left + branch_size wanted right) left =
     first ∙ (ap (λ (d : Bool). before ++ branch_code d (length before) inner left) is_deciding
     ∙ ap (λ (n : ℕ). before ++ branch_code b (length before) n left) inner_is) in
     both before middle after
-    (λ at. branch_code b at (if bool_eq wanted b then target else at + branch_size b left + branch_size wanted right) left)
+    (λ at. branch_code b at (if same_truth wanted b then target else at + branch_size b left + branch_size wanted right) left)
     (λ at. branch_code wanted at target right) (branch_size b left)
     first_is (branch-sized left b (length before) _) second
     ∙ sym (ap (λ d. before ++ branch_code wanted (length before) target d) tree)

@@ -18,7 +18,7 @@ use Rattle.bytecode.specs.Machine as machine
 use Rattle.bytecode.specs.Machine.{Machine}
 use Rattle.lowering.specs.Expressions.{value_size, arguments_size, branch_size, branch_code}
 use Rattle.lowering.specs.Code.{Loop, block_falls, is_empty, is_none_left, jump_size, jump_code, jumps_over, jumps_behind, result_size, no_place, test_place, handlers_place, statement_size, block_size, handlers_size, statement_code, block_code, handlers_code, entry_of, statement_table, block_table, handlers_table}
-use Rattle.lowering.proofs.Places.{Stands, stands-front, stands-back}
+use Rattle.lowering.proofs.CodePieces.{Stands, stands-front, stands-back}
 use Rattle.lowering.proofs.Sizes.{branch-sized, jump-sized, statement-sized, block-sized}
 use Rattle.lowering.proofs.Steps.{leads-itself}
 use Rattle.lowering.proofs.States.{Setting, place, thrown_to}

@@ -1,4 +1,5 @@
 -- Code of a condition goes to its target where the condition has the wanted truth, and else on behind.
+use Rattle.common.specs.Functions.{same_truth}
 use Rattle.std.proofs.Common.{◌≡◌, ℕ, ◌+◌, Bool, true, false, not, ℤ, pos, negsuc, List, [], ◌∷◌, refl, sym, ap, subst, arith}
 use Rattle.std.specs.Prelude.{Option, if◌then◌else◌, int_le, int_lt}
 use Rattle.std.proofs.lemmas.Bool.Decides.{nat_tests}
@@ -14,7 +15,7 @@ use Rattle.resolved.specs.declared.expression.Connective.TheVariants.{And, Or}
 use Rattle.resolved.specs.Tree.{Expression, Integer, Logical, Read, Element, Unary, Binary, Short}
 use Rattle.resolved.specs.SourceState as source
 use Rattle.resolved.specs.SourceState.{value_of}
-use Rattle.resolved.specs.Value.{Evaluated, Yields, Raises, then_with, prefix_value, operator_value, decides, bool_eq, truth_in, number_in}
+use Rattle.resolved.specs.Value.{Evaluated, Yields, Raises, then_with, prefix_value, operator_value, decides, truth_in, number_in}
 use Rattle.resolved.specs.WellFormed.{has_base, result_base}
 use Rattle.resolved.specs.Kinds.{StateFits, GivesBase}
 use Rattle.resolved.proofs.Sound.Values.{value_fits}
@@ -22,9 +23,9 @@ use Rattle.bytecode.specs.declared.value.Cell.TheVariants as cell
 use Rattle.bytecode.specs.declared.instruction.Instruction.{Instruction}
 use Rattle.bytecode.specs.declared.instruction.Instruction.TheVariants.{JumpIfFalse}
 use Rattle.bytecode.specs.Machine.{Machine}
-use Rattle.lowering.specs.Expressions.{value_size, value_code, turned, turned_operator, tested, deciding, branch_size, branch_code, test_code}
-use Rattle.lowering.proofs.Turned.{operands-fit, turned-fits}
-use Rattle.lowering.proofs.Places.{Stands, stands-front, stands-back}
+use Rattle.lowering.specs.Expressions.{value_size, value_code, negated, negated_operator, tested, deciding, branch_size, branch_code, test_code}
+use Rattle.lowering.proofs.Negated.{operands-fit, negated-fits}
+use Rattle.lowering.proofs.CodePieces.{Stands, stands-front, stands-back}
 use Rattle.lowering.proofs.Sizes.{value-sized, branch-sized}
 use Rattle.lowering.proofs.Steps.{Leads, Strides, leads-through, strides-through, strides-leads}
 use Rattle.lowering.proofs.States.{Setting, place, thrown_to}
@@ -34,64 +35,64 @@ use Rattle.lowering.proofs.Expressions.{value-runs}
 
 -- the place to which a condition leads by its truth
 abbrev pub lead_by : (wanted truth : Bool) → (target end : ℕ) → ℕ
-lead_by wanted truth target end = if bool_eq wanted truth then target else end
+lead_by wanted truth target end = if same_truth wanted truth then target else end
 
 -- in at least one step the machine comes to the target or behind the code, or to where the exception goes
 abbrev pub BranchRuns : Setting → (ℕ → Option ℕ) → (wanted : Bool) → (target : ℕ) → Machine → (end : ℕ) → source.SourceState → Evaluated Value → Type 0
 BranchRuns g h wanted target from end s (Yields v) = Strides g.p from (place g (lead_by wanted (truth_in v) target end) [] s)
 BranchRuns g h wanted target from end s (Raises exception) = Leads g.p from (thrown_to g (h exception) exception s)
 
--- ---- turned conditions
+-- ---- negated conditions
 
-turned_order : (a b : ℤ) → int_le b a ≡ not (int_lt a b)
-turned_order (pos m) (pos n) = grind (arith, nat_tests)
-turned_order (negsuc m) (negsuc n) = grind (arith, nat_tests)
-turned_order (pos m) (negsuc n) = refl
-turned_order (negsuc m) (pos n) = refl
+negated_order : (a b : ℤ) → int_le b a ≡ not (int_lt a b)
+negated_order (pos m) (pos n) = grind (arith, nat_tests)
+negated_order (negsuc m) (negsuc n) = grind (arith, nat_tests)
+negated_order (pos m) (negsuc n) = refl
+negated_order (negsuc m) (pos n) = refl
 
-turned_order' : (a b : ℤ) → int_lt b a ≡ not (int_le a b)
-turned_order' a b = go (int_lt b a) refl
+negated_order' : (a b : ℤ) → int_lt b a ≡ not (int_le a b)
+negated_order' a b = go (int_lt b a) refl
   where
     go : (t : Bool) → int_lt b a ≡ t → int_lt b a ≡ not (int_le a b)
-    go true e = rw (turned_order b a, e) refl
-    go false e = rw (turned_order b a, e) refl
+    go true e = rw (negated_order b a, e) refl
+    go false e = rw (negated_order b a, e) refl
 
 twice : (b : Bool) → b ≡ not (not b)
 twice true = refl
 twice false = refl
 
-turned_truth : (a b : Bool) → a ≡ b → ◌≡◌ {A = Evaluated Value} (Yields (Truth a)) (Yields (Truth b))
-turned_truth a b e = ap (λ (t : Bool). Yields (Truth t)) e
+negated_truth : (a b : Bool) → a ≡ b → ◌≡◌ {A = Evaluated Value} (Yields (Truth a)) (Yields (Truth b))
+negated_truth a b e = ap (λ (t : Bool). Yields (Truth t)) e
 
-turned-operator : (op : Operator) (v w : Value) → result_base op ≡ base.Boolean
-    → operator_value (turned_operator op) v w ≡ then_with (operator_value op v w) (λ x. Yields (prefix_value prefix.Not x))
-turned-operator operator.LessThan v w e = turned_truth _ _ (turned_order (number_in v) (number_in w))
-turned-operator operator.AtMost v w e = turned_truth _ _ (turned_order' (number_in v) (number_in w))
-turned-operator operator.GreaterThan v w e = turned_truth _ _ (turned_order (number_in w) (number_in v))
-turned-operator operator.AtLeast v w e = turned_truth _ _ (turned_order' (number_in w) (number_in v))
-turned-operator operator.Equal v w e = refl
-turned-operator operator.Unequal v w e = turned_truth _ _ (twice _)
-turned-operator operator.Same v w e = refl
-turned-operator operator.Different v w e = turned_truth _ _ (twice _)
-turned-operator _ v w e = absurd (let no : base.Int ≡ base.Boolean = e in cc)
+negated-operator : (op : Operator) (v w : Value) → result_base op ≡ base.Boolean
+    → operator_value (negated_operator op) v w ≡ then_with (operator_value op v w) (λ x. Yields (prefix_value prefix.Not x))
+negated-operator operator.LessThan v w e = negated_truth _ _ (negated_order (number_in v) (number_in w))
+negated-operator operator.AtMost v w e = negated_truth _ _ (negated_order' (number_in v) (number_in w))
+negated-operator operator.GreaterThan v w e = negated_truth _ _ (negated_order (number_in w) (number_in v))
+negated-operator operator.AtLeast v w e = negated_truth _ _ (negated_order' (number_in w) (number_in v))
+negated-operator operator.Equal v w e = refl
+negated-operator operator.Unequal v w e = negated_truth _ _ (twice _)
+negated-operator operator.Same v w e = refl
+negated-operator operator.Different v w e = negated_truth _ _ (twice _)
+negated-operator _ v w e = absurd (let no : base.Int ≡ base.Boolean = e in cc)
 
-turned_pair : (op : Operator) (first second : Evaluated Value) → result_base op ≡ base.Boolean
-    → then_with first (λ v. then_with second (λ w. operator_value (turned_operator op) v w))
+negated_pair : (op : Operator) (first second : Evaluated Value) → result_base op ≡ base.Boolean
+    → then_with first (λ v. then_with second (λ w. operator_value (negated_operator op) v w))
     ≡ then_with (then_with first (λ v. then_with second (λ w. operator_value op v w))) (λ x. Yields (prefix_value prefix.Not x))
-turned_pair op (Yields v) (Yields w) e = turned-operator op v w e
-turned_pair op (Yields v) (Raises exception) e = refl
-turned_pair op (Raises exception) second e = refl
+negated_pair op (Yields v) (Yields w) e = negated-operator op v w e
+negated_pair op (Yields v) (Raises exception) e = refl
+negated_pair op (Raises exception) second e = refl
 
 module _ (g : Setting) (h : ℕ → Option ℕ) (s : source.SourceState) (fit : StateFits g.program g.procedure s) where
-  turned-value : (e : Expression) → has_base g.program g.procedure base.Boolean e ≡ true
-      → value_of s (turned e) ≡ then_with (value_of s e) (λ x. Yields (prefix_value prefix.Not x))
-  turned-value (Integer n) typed = refl
-  turned-value (Logical b) typed = refl
-  turned-value (Read x) typed = refl
-  turned-value (Element array count index) typed = refl
-  turned-value (Unary sign e) typed = refl
-  turned-value (Binary op d e) typed = turned_pair op (value_of s d) (value_of s e) (operands-fit g.program g.procedure base.Boolean op d e typed).result
-  turned-value (Short connective d e) typed = refl
+  negated-value : (e : Expression) → has_base g.program g.procedure base.Boolean e ≡ true
+      → value_of s (negated e) ≡ then_with (value_of s e) (λ x. Yields (prefix_value prefix.Not x))
+  negated-value (Integer n) typed = refl
+  negated-value (Logical b) typed = refl
+  negated-value (Read x) typed = refl
+  negated-value (Element array count index) typed = refl
+  negated-value (Unary sign e) typed = refl
+  negated-value (Binary op d e) typed = negated_pair op (value_of s d) (value_of s e) (operands-fit g.program g.procedure base.Boolean op d e typed).result
+  negated-value (Short connective d e) typed = refl
 
   -- ---- putting pieces together
 
@@ -119,16 +120,16 @@ module _ (g : Setting) (h : ℕ → Option ℕ) (s : source.SourceState) (fit : 
       → BranchRuns g h (not wanted) target from end s o → BranchRuns g h wanted target from end s (then_with o (λ x. Yields (prefix_value prefix.Not x)))
   not-branch wanted target end from (Yields v) run = subst (λ (b : Bool). Strides g.p from (place g (if b then target else end) [] s)) (same wanted (truth_in v)) run
     where
-      same : (a b : Bool) → bool_eq (not a) b ≡ bool_eq a (not b)
+      same : (a b : Bool) → same_truth (not a) b ≡ same_truth a (not b)
       same true b = refl
       same false true = refl
       same false false = refl
   not-branch wanted target end from (Raises exception) run = run
 
-  turned-branch : (target end : ℕ) (from : Machine) (o : Evaluated Value)
+  negated-branch : (target end : ℕ) (from : Machine) (o : Evaluated Value)
       → BranchRuns g h false target from end s (then_with o (λ x. Yields (prefix_value prefix.Not x))) → BranchRuns g h true target from end s o
-  turned-branch target end from (Yields v) run = subst (λ (b : Bool). Strides g.p from (place g (if b then target else end) [] s)) (sym (twice (truth_in v))) run
-  turned-branch target end from (Raises exception) run = run
+  negated-branch target end from (Yields v) run = subst (λ (b : Bool). Strides g.p from (place g (if b then target else end) [] s)) (sym (twice (truth_in v))) run
+  negated-branch target end from (Raises exception) run = run
 
   test-runs : (wanted : Bool) (e : Expression) (at target : ℕ) → has_base g.program g.procedure base.Boolean e ≡ true
       → Stands g.code (test_code wanted at target e) at → Finds g at (value_size (tested wanted e) + 1) h
@@ -141,18 +142,18 @@ module _ (g : Setting) (h : ℕ → Option ℕ) (s : source.SourceState) (fit : 
       (finds-part g at (value_size e + 1) h at (value_size e) (omega arith) (omega arith) finds))
       (stands-back g.code (value_code at e) (JumpIfFalse target ∷ []) at (value_size e) (value-sized e at) stands))
   test-runs true e at target typed stands finds =
-      let mid = at + value_size (turned e) in
-      let fits : has_base g.program g.procedure base.Boolean (turned e) ≡ true = turned-fits g.program g.procedure e typed in
-      turned-branch target (at + (value_size (turned e) + 1)) (place g at [] s) (value_of s e)
-      (subst (λ (o : Evaluated Value). BranchRuns g h false target (place g at [] s) (at + (value_size (turned e) + 1)) s o) (turned-value e typed)
-      (branch-at false target (place g at [] s) (mid + 1) (at + (value_size (turned e) + 1)) (value_of s (turned e)) (omega arith)
-      (after-test target mid (place g at [] s) [] (value_of s (turned e)) (value_fits g.program g.procedure s fit base.Boolean (turned e) fits)
-      (value-runs g h s fit (turned e) base.Boolean at [] fits (stands-front g.code (value_code at (turned e)) (JumpIfFalse target ∷ []) at stands)
-      (finds-part g at (value_size (turned e) + 1) h at (value_size (turned e)) (omega arith) (omega arith) finds))
-      (stands-back g.code (value_code at (turned e)) (JumpIfFalse target ∷ []) at (value_size (turned e)) (value-sized (turned e) at) stands))))
+      let mid = at + value_size (negated e) in
+      let fits : has_base g.program g.procedure base.Boolean (negated e) ≡ true = negated-fits g.program g.procedure e typed in
+      negated-branch target (at + (value_size (negated e) + 1)) (place g at [] s) (value_of s e)
+      (subst (λ (o : Evaluated Value). BranchRuns g h false target (place g at [] s) (at + (value_size (negated e) + 1)) s o) (negated-value e typed)
+      (branch-at false target (place g at [] s) (mid + 1) (at + (value_size (negated e) + 1)) (value_of s (negated e)) (omega arith)
+      (after-test target mid (place g at [] s) [] (value_of s (negated e)) (value_fits g.program g.procedure s fit base.Boolean (negated e) fits)
+      (value-runs g h s fit (negated e) base.Boolean at [] fits (stands-front g.code (value_code at (negated e)) (JumpIfFalse target ∷ []) at stands)
+      (finds-part g at (value_size (negated e) + 1) h at (value_size (negated e)) (omega arith) (omega arith) finds))
+      (stands-back g.code (value_code at (negated e)) (JumpIfFalse target ∷ []) at (value_size (negated e)) (value-sized (negated e) at) stands))))
 
   short-branch : (connective : Connective) (wanted : Bool) (target mid end : ℕ) (from : Machine) (o right : Evaluated Value) → GivesBase base.Boolean o
-      → BranchRuns g h (deciding connective) (if bool_eq wanted (deciding connective) then target else end) from mid s o
+      → BranchRuns g h (deciding connective) (if same_truth wanted (deciding connective) then target else end) from mid s o
       → BranchRuns g h wanted target (place g mid [] s) end s right
       → BranchRuns g h wanted target from end s (then_with o (λ v. if decides connective v then Yields v else right))
   short-branch And wanted target mid end from (Yields (Truth true)) right typed run next = branch-from wanted target from _ end right (strides-leads g.p _ _ run) next
@@ -179,7 +180,7 @@ module _ (g : Setting) (h : ℕ → Option ℕ) (s : source.SourceState) (fit : 
       let n = branch_size (deciding connective) d in
       let m = branch_size wanted e in
       let mid = at + n in
-      let inner = (if bool_eq wanted (deciding connective) then target else mid + m) in
+      let inner = (if same_truth wanted (deciding connective) then target else mid + m) in
       branch-at wanted target (place g at [] s) (mid + m) (at + (n + m)) (value_of s (Short connective d e)) (omega arith)
       (short-branch connective wanted target mid (mid + m) (place g at [] s) (value_of s d) (value_of s e) (value_fits g.program g.procedure s fit base.Boolean d parts.0)
       (branch-runs d (deciding connective) at inner parts.0 (stands-front g.code (branch_code (deciding connective) at inner d) (branch_code wanted mid target e) at stands)

@@ -3,6 +3,7 @@ use Rattle.std.proofs.Common.{◌≡◌, ℕ, zero, suc, ◌+◌, ◌<◌, Bool,
 use Rattle.std.specs.Prelude.{Option, Some, None, is_none}
 use Rattle.std.proofs.lemmas.List.{append-nil}
 use Rattle.std.proofs.lemmas.Bool.Decides.{nat_tests}
+use Rattle.std.proofs.lemmas.Bool.{false≢true}
 use Rattle.resolved.specs.declared.expression.Value.{Value}
 use Rattle.resolved.specs.declared.statement.Exit.TheVariants.{Normal, Return, Break, Continue, Throw}
 use Rattle.resolved.specs.Program.{Program, ProcedureEntry, ResultEntry, procedure_at}
@@ -13,8 +14,8 @@ use Rattle.resolved.specs.EndFaults.{end_faults}
 use Rattle.resolved.specs.Meaning.{Outcome, Ended, Stopped, Deep, OutOfTurns, leaving, entering, calls_with, block_meaning}
 use Rattle.resolved.specs.WellFormed.{well_formed, parameters_of, has_result, same_base}
 use Rattle.resolved.specs.Kinds.{StateFits, OutcomeFits, ArgumentsFit}
-use Rattle.resolved.proofs.Parts.{ProcedureParts, procedure_at_is}
-use Rattle.resolved.proofs.Parts as parts
+use Rattle.resolved.proofs.WellFormedParts.{ProcedureParts, procedure_at_is}
+use Rattle.resolved.proofs.WellFormedParts as parts
 use Rattle.resolved.proofs.Sound.States.{entering_fits}
 use Rattle.resolved.proofs.Sound.Meanings.{calls_keep, meaning_keeps_types}
 use Rattle.isolation.specs.Runs.{EndsAmong, GivesValue}
@@ -28,7 +29,7 @@ use Rattle.bytecode.specs.Machine.{Machine, Running, State, Caller, Header, hand
 use Rattle.lowering.specs.Interface.{slot_contents}
 use Rattle.lowering.specs.Code.{block_falls, block_size, block_code, block_table}
 use Rattle.lowering.specs.Graphs.{end_code, no_loop, body_code}
-use Rattle.lowering.proofs.Places.{Stands, stands-front, stands-back}
+use Rattle.lowering.proofs.CodePieces.{Stands, stands-front, stands-back}
 use Rattle.lowering.proofs.Sizes.{block-sized}
 use Rattle.lowering.proofs.Steps.{Leads, leads-through}
 use Rattle.lowering.proofs.States.{state_at, place, cells_of, thrown_to, returned_to}
@@ -44,9 +45,6 @@ use Rattle.resolved.proofs.Exits.{thrown-break, thrown-continue}
 
 abbrev pub nowhere : ℕ → Option ℕ
 nowhere exception = None
-
-pub never_true : ◌≡◌ {A = Bool} false true → ⊥
-never_true h = cc
 
 module _ (program : Program) (formed : well_formed program ≡ true) (none : end_faults program ≡ []) (world : source.World) (k : ℕ) where
   -- the body of a procedure from its begin on
@@ -135,14 +133,14 @@ module _ (program : Program) (formed : well_formed program ≡ true) (none : end
         leads-through (setting_of program formed world f entry there callers).p _ _ _ run
         (body-returns d q callee found (waiting ∷ callers) inner t None ended (ap is_none is))
     body-called q callee found d inner (Some value) (Ended Normal None t) is ended fit among gives run = absurd (gives value refl)
-    body-called q callee found d inner result (Ended Normal (Some v) t) is ended fit among gives run = absurd (never_true fit.returned)
+    body-called q callee found d inner result (Ended Normal (Some v) t) is ended fit among gives run = absurd (false≢true fit.returned)
     body-called q callee found d inner None (Ended Return None t) is ended fit among gives run = run
     body-called q callee found d inner None (Ended Return (Some v) t) is ended fit among gives run =
-        absurd (never_true (sym (ap (λ (r : Option ResultEntry). has_result r (same_base (base_of v))) is) ∙ fit.returned))
+        absurd (false≢true (sym (ap (λ (r : Option ResultEntry). has_result r (same_base (base_of v))) is) ∙ fit.returned))
     body-called q callee found d inner (Some value) (Ended Return None t) is ended fit among gives run = absurd (gives value refl)
     body-called q callee found d inner (Some value) (Ended Return (Some v) t) is ended fit among gives run = (gives value refl, run)
-    body-called q callee found d inner result (Ended Break returned t) is ended fit among gives run = absurd (never_true (sym (thrown-break (declared_by callee.throws)) ∙ among))
-    body-called q callee found d inner result (Ended Continue returned t) is ended fit among gives run = absurd (never_true (sym (thrown-continue (declared_by callee.throws)) ∙ among))
+    body-called q callee found d inner result (Ended Break returned t) is ended fit among gives run = absurd (false≢true (sym (thrown-break (declared_by callee.throws)) ∙ among))
+    body-called q callee found d inner result (Ended Continue returned t) is ended fit among gives run = absurd (false≢true (sym (thrown-continue (declared_by callee.throws)) ∙ among))
     body-called q callee found d inner result (Ended (Throw e) returned t) is ended fit among gives run =
         subst (λ (m : Machine). Leads (setting_of program formed world f entry there callers).p (place (setting_of program formed world q callee found (waiting ∷ callers)) 0 [] inner) m)
         (thrown_back q callee found t e) run

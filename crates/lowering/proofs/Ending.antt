@@ -3,7 +3,7 @@
 use Rattle.std.proofs.Common.{◌≡◌, refl, sym, ap, ◌∙◌, subst, ℕ, zero, suc, ◌+◌, ◌<◌, ◌⊎◌, inl, inr, Bool, true, false, not, ◌&&◌, ◌||◌, List, [], ◌∷◌, ◌++◌, length, Option, Some, None, slice_get, arith, append-nil}
 use Rattle.std.specs.Prelude.{filter, if◌then◌else◌}
 use Rattle.std.proofs.lemmas.List.Folds.{list_any-append}
-use Rattle.std.proofs.lemmas.Bool.{or_parts, and_parts}
+use Rattle.std.proofs.lemmas.Bool.{or_parts, and_parts, or_cases}
 use Rattle.std.proofs.Math.Bool.{or-true}
 use Rattle.resolved.specs.declared.statement.Exit.{Exit}
 use Rattle.resolved.specs.declared.statement.Exit.TheVariants.{Normal, Return, Break, Continue, Throw}
@@ -11,9 +11,9 @@ use Rattle.resolved.specs.declared.expression.Base.TheVariants.{Boolean}
 use Rattle.resolved.specs.Tree.{Expression, Statement, Assign, Clear, Store, Receive, Send, Call, If, While, Leave, ReturnWith, Try, Nested, Block, Empty, Then, Handlers, NoMore, Catch, place_of}
 use Rattle.resolved.specs.Program.{Program, ProcedureEntry}
 use Rattle.resolved.specs.Ends.{same_exit, has_end, raises, thrown_ends, passes, then_ends, statement_ends, block_ends, handlers_ends}
-use Rattle.resolved.specs.EndFaults.{OutsideLoop, Unreachable, NeverRaised, fault_unless, may_stand, inner_faults, block_faults, handlers_faults}
+use Rattle.resolved.specs.EndFaults.{fault_unless, may_stand, inner_faults, block_faults, handlers_faults}
+use Rattle.resolved.specs.declared.fault.EndDefect.TheVariants.{OutsideLoop, Unreachable, NeverRaised}
 use Rattle.resolved.specs.WellFormed.{has_base, is_exception, statement_fits, block_fits, handlers_fit}
-use Rattle.isolation.proofs.Among.{end-filter}
 use Rattle.bytecode.specs.declared.instruction.Instruction.{Instruction}
 use Rattle.bytecode.specs.declared.instruction.Instruction.TheVariants as instruction
 use Rattle.verifier.specs.Flow.{goes_on}
@@ -21,7 +21,7 @@ use Rattle.lowering.specs.Expressions.{value_code, branch_size, branch_code}
 use Rattle.lowering.specs.Code.{Loop, statement_falls, block_falls, handlers_fall, jump_size, jump_code, jumps_over, jumps_behind, leave_code, return_code, statement_size, block_size, handlers_size, statement_code, block_code, handlers_code}
 use Rattle.lowering.proofs.Unreached.{statement-none}
 use Rattle.common.proofs.Cases.{by_test, append_empty}
-use Rattle.resolved.proofs.Exits.{no_fault-test}
+use Rattle.resolved.proofs.Exits.{no_fault-test, end-filter}
 
 -- code that is not empty, and whose last instruction does not go on
 pub record Stops (code : List Instruction) : Type 0 where
@@ -160,10 +160,6 @@ then-normal first rest h k =
     subst (λ (b : Bool). has_end (if b then filter (λ exit. not (same_exit Normal exit)) first ++ rest else first) Normal ≡ true) (sym h)
     (some-right (filter (λ exit. not (same_exit Normal exit)) first) rest k)
 
-either : (a b : Bool) → (a || b) ≡ true → (a ≡ true) ⊎ (b ≡ true)
-either true b h = inl refl
-either false b h = inr h
-
 module _ (program : Program) where
   mutual
     statement-normal : (statement : Statement) → statement_falls statement ≡ true → has_end (statement_ends program statement) Normal ≡ true
@@ -175,7 +171,7 @@ module _ (program : Program) where
     statement-normal (Call mark f arguments target) falls = refl
     statement-normal (If mark e yes_block no_block) falls =
         let raised = thrown_ends (raises e) in
-        elim (either (block_falls yes_block) (block_falls no_block) falls) [
+        elim (or_cases (block_falls yes_block) (block_falls no_block) falls) [
           | inl h ↦ some-left (raised ++ block_ends program yes_block) (block_ends program no_block) (some-right raised (block_ends program yes_block) (block-normal yes_block h))
           | inr h ↦ some-right (raised ++ block_ends program yes_block) (block_ends program no_block) (block-normal no_block h)
         ]
@@ -184,7 +180,7 @@ module _ (program : Program) where
     statement-normal (ReturnWith mark e) falls = absurd (let no : false ≡ true = falls in cc)
     statement-normal (Try mark block handlers) falls =
         let tried = filter (passes handlers) (block_ends program block) in
-        elim (either (block_falls block) (handlers_fall handlers) falls) [
+        elim (or_cases (block_falls block) (handlers_fall handlers) falls) [
           | inl h ↦ some-left tried (handlers_ends program handlers) (end-filter (passes handlers) (block_ends program block) Normal ∙ block-normal block h)
           | inr h ↦ some-right tried (handlers_ends program handlers) (handlers-normal handlers h)
         ]
@@ -199,7 +195,7 @@ module _ (program : Program) where
     handlers-normal : (handlers : Handlers) → handlers_fall handlers ≡ true → has_end (handlers_ends program handlers) Normal ≡ true
     handlers-normal NoMore falls = absurd (let no : false ≡ true = falls in cc)
     handlers-normal (Catch mark exception body rest) falls =
-        elim (either (block_falls body) (handlers_fall rest) falls) [
+        elim (or_cases (block_falls body) (handlers_fall rest) falls) [
           | inl h ↦ some-left (block_ends program body) (handlers_ends program rest) (block-normal body h)
           | inr h ↦ some-right (block_ends program body) (handlers_ends program rest) (handlers-normal rest h)
         ]

@@ -1,4 +1,5 @@
 -- Code of a whole expression pushes its value, or raises what the expression raises: operators, connectives and arguments.
+use Rattle.common.specs.Functions.{same_truth}
 use Rattle.std.proofs.Common.{◌≡◌, ℕ, ◌+◌, ◌≤◌, Bool, true, false, not, ℤ, pos, negsuc, List, [], ◌∷◌, ◌++◌, length, refl, sym, ap, ◌∙◌, subst, arith}
 use Rattle.std.specs.Prelude.{Option, Some, None, if◌then◌else◌, int_le, int_lt, ◌&&◌, ◌+ℤ◌, ◌-ℤ◌, ◌*ℤ◌, int_div, int_rem, neg_ℤ}
 use Rattle.std.specs.Ordering.{int_eq}
@@ -17,7 +18,7 @@ use Rattle.resolved.specs.declared.expression.Connective.TheVariants.{And, Or}
 use Rattle.resolved.specs.Tree.{Expression, Integer, Logical, Read, Element, Unary, Binary, Short}
 use Rattle.resolved.specs.SourceState as source
 use Rattle.resolved.specs.SourceState.{value_of, values_of, cells, cell_at}
-use Rattle.resolved.specs.Value.{Evaluated, Yields, Raises, literal_number, base_of, prefix_value, operator_value, decides, bool_eq, wrapped}
+use Rattle.resolved.specs.Value.{Evaluated, Yields, Raises, literal_number, base_of, prefix_value, operator_value, decides, wrapped}
 use Rattle.resolved.specs.WellFormed.{variable_type, has_base, same_base, array_by, prefix_base, operand_base, result_base}
 use Rattle.resolved.specs.Kinds.{StateFits}
 use Rattle.resolved.proofs.Sound.Values.{value_fits}
@@ -25,16 +26,16 @@ use Rattle.bytecode.specs.declared.value.Cell.{Cell}
 use Rattle.bytecode.specs.declared.value.Cell.TheVariants as cell
 use Rattle.bytecode.specs.declared.instruction.Instruction.{Instruction}
 use Rattle.bytecode.specs.declared.instruction.Instruction.TheVariants as instruction
-use Rattle.bytecode.specs.Machine as machine
-use Rattle.bytecode.specs.Machine.{Machine, act, goes_on, pushes_number, compared, same_truth}
+use Rattle.bytecode.specs.Machine.{act, goes_on, pushes_number}
 use Rattle.lowering.specs.Expressions.{load_element_of, prefix_instruction, operator_instruction, value_size, value_code, rest_of_short}
-use Rattle.lowering.proofs.Places.{Stands, stands-front, stands-back}
+use Rattle.lowering.proofs.CodePieces.{Stands, stands-front, stands-back}
 use Rattle.lowering.proofs.Sizes.{value-sized}
 use Rattle.lowering.proofs.Steps.{Leads, leads-through}
 use Rattle.lowering.proofs.States.{Setting, state_at, place, cell_of, thrown_to, raised-is}
 use Rattle.lowering.proofs.Rows.{does, onward}
-use Rattle.lowering.proofs.Values.{Finds, finds-part, ValueRuns, value-from, value-to, value-at, then-runs, given-base, read-runs, element-runs}
+use Rattle.lowering.proofs.Values.{Finds, finds-part, ValueRuns, value-from, value-to, value-at, then-runs, read-runs, element-runs}
 use Rattle.common.specs.Integers.{is_zero}
+use Rattle.resolved.proofs.Sound.Meanings.{base_given}
 
 -- ---- single instructions
 
@@ -55,10 +56,6 @@ same_equal a b =
     same_from_decides (int_le a b && int_le b a) (int_eq a b)
     (λ h. le_both a b (and_parts (int_le a b) (int_le b a) h).0 (and_parts (int_le a b) (int_le b a) h).1, λ e. subst (λ c. (int_le a c && int_le c a) ≡ true) e (rw (le_itself a) refl))
     (Decides-int_eq a b)
-
-same_truths : (a b : Bool) → same_truth a b ≡ bool_eq a b
-same_truths true b = refl
-same_truths false b = refl
 
 module _ (g : Setting) (h : ℕ → Option ℕ) (s : source.SourceState) where
   division-runs : (i : Instruction) (a z result : ℤ) (test : Bool) (at : ℕ) (operands : List Cell) (more : List Instruction)
@@ -108,11 +105,9 @@ module _ (g : Setting) (h : ℕ → Option ℕ) (s : source.SourceState) where
       → Stands g.code (operator_instruction op ∷ more) at
       → ValueRuns g h operands (place g at (cell.Bool b ∷ cell.Bool a ∷ operands) s) (at + 1) s (operator_value op (Truth a) (Truth b))
   truths-run operator.Same a b at operands more truths stands =
-      gives-runs _ at _ operands (Truth (bool_eq a b)) more stands
-      (ap (λ (t : Bool). goes_on g.p (state_at g at (cell.Bool b ∷ cell.Bool a ∷ operands) s) (cell.Bool t ∷ operands)) (same_truths a b))
+      gives-runs _ at _ operands (Truth (same_truth a b)) more stands refl
   truths-run operator.Different a b at operands more truths stands =
-      gives-runs _ at _ operands (Truth (not (bool_eq a b))) more stands
-      (ap (λ (t : Bool). goes_on g.p (state_at g at (cell.Bool b ∷ cell.Bool a ∷ operands) s) (cell.Bool (not t) ∷ operands)) (same_truths a b))
+      gives-runs _ at _ operands (Truth (not (same_truth a b))) more stands refl
   truths-run _ a b at operands more truths stands = absurd (let no : base.Int ≡ base.Boolean = truths in cc)
 
   operator-runs : (op : Operator) (v w : Value) (at : ℕ) (operands : List Cell) (more : List Instruction)
@@ -205,7 +200,7 @@ module _ (g : Setting) (h : ℕ → Option ℕ) (s : source.SourceState) (fit : 
       (value-runs index base.Int at operands parts.1 (stands-front g.code (value_code at index) (load_element_of array ∷ []) at stands)
       (finds-part g at (value_size index + 1) h at (value_size index) (omega arith) (omega arith) finds))
       (λ v e. element-runs g h s fit array count b v mid operands [] parts.0
-      (given-base base.Int (value_of s index) v (value_fits g.program g.procedure s fit base.Int index parts.1) e) back
+      (base_given base.Int (value_of s index) v e (value_fits g.program g.procedure s fit base.Int index parts.1)) back
       (finds.finds mid (omega arith) (omega arith))))
   value-runs (Unary sign e) b at operands typed stands finds =
       let parts : (same_base (prefix_base sign) b ≡ true) × (has_base g.program g.procedure (prefix_base sign) e ≡ true) =
@@ -217,7 +212,7 @@ module _ (g : Setting) (h : ℕ → Option ℕ) (s : source.SourceState) (fit : 
       (value-runs e (prefix_base sign) at operands parts.1 (stands-front g.code (value_code at e) (prefix_instruction sign ∷ []) at stands)
       (finds-part g at (value_size e + 1) h at (value_size e) (omega arith) (omega arith) finds))
       (λ v f. prefix-runs g h s sign v mid operands []
-      (given-base (prefix_base sign) (value_of s e) v (value_fits g.program g.procedure s fit (prefix_base sign) e parts.1) f) back))
+      (base_given (prefix_base sign) (value_of s e) v f (value_fits g.program g.procedure s fit (prefix_base sign) e parts.1)) back))
   value-runs (Binary op d e) b at operands typed stands finds =
       let outer : (same_base (result_base op) b && has_base g.program g.procedure (operand_base op) d ≡ true) × (has_base g.program g.procedure (operand_base op) e ≡ true) =
       and_parts (same_base (result_base op) b && has_base g.program g.procedure (operand_base op) d) _ typed in
@@ -236,8 +231,8 @@ module _ (g : Setting) (h : ℕ → Option ℕ) (s : source.SourceState) (fit : 
       (value-runs e (operand_base op) mid (cell_of v ∷ operands) outer.1 (stands-front g.code (value_code mid e) (operator_instruction op ∷ []) mid second)
       (finds-part g at (n + (m + 1)) h mid m (omega arith) (omega arith) finds))
       (λ w f'. operator-runs g h s op v w last operands []
-      (given-base (operand_base op) (value_of s d) v (value_fits g.program g.procedure s fit (operand_base op) d left) f)
-      (given-base (operand_base op) (value_of s e) w (value_fits g.program g.procedure s fit (operand_base op) e outer.1) f') third
+      (base_given (operand_base op) (value_of s d) v f (value_fits g.program g.procedure s fit (operand_base op) d left))
+      (base_given (operand_base op) (value_of s e) w f' (value_fits g.program g.procedure s fit (operand_base op) e outer.1)) third
       (finds.finds last (omega arith) (omega arith)))))
   value-runs (Short connective d e) b at operands typed stands finds =
       let outer : (same_base base.Boolean b && has_base g.program g.procedure base.Boolean d ≡ true) × (has_base g.program g.procedure base.Boolean e ≡ true) =
@@ -254,7 +249,7 @@ module _ (g : Setting) (h : ℕ → Option ℕ) (s : source.SourceState) (fit : 
       (value-runs d base.Boolean at operands left (stands-front g.code (value_code at d) rest at stands)
       (finds-part g at (n + (1 + (m + 2))) h at n (omega arith) (omega arith) finds))
       (λ v f. decided connective v mid m right operands (value_of s e)
-      (given-base base.Boolean (value_of s d) v (value_fits g.program g.procedure s fit base.Boolean d left) f)
+      (base_given base.Boolean (value_of s d) v f (value_fits g.program g.procedure s fit base.Boolean d left))
       (λ q. value-sized e q) second
       (λ q low high here. value-runs e base.Boolean q operands outer.1 here (finds-part g at (n + (1 + (m + 2))) h q m (omega (arith, low)) (omega (arith, high)) finds))))
     where

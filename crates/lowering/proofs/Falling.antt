@@ -1,5 +1,6 @@
 -- Normal ends by form, where one of two decides.
-use Rattle.std.proofs.Common.{◌≡◌, refl, sym, ap, ◌∙◌, List, [], ◌∷◌, length, ◌<◌, Bool, true, false, ◌&&◌, ◌||◌, arith}
+use Rattle.std.proofs.Common.{◌≡◌, sym, ap, ◌∙◌, List, [], ◌∷◌, length, ◌<◌, Bool, true, false, ◌||◌, arith}
+use Rattle.std.proofs.Math.Bool.{and-true, and-false}
 use Rattle.resolved.specs.declared.statement.Statement as S
 use Rattle.resolved.specs.declared.statement.Handler.{Handler}
 use Rattle.resolved.specs.TreeOf.{block_of, handlers_of}
@@ -11,25 +12,17 @@ first-decides a b r is holds = holds ∙ sym (ap (λ (x : Bool). x || b) (sym is
 pub second-decides : (a b p r : Bool) → p ≡ a → p ≡ false → r ≡ b → r ≡ (a || b)
 second-decides a b p r is fails same = same ∙ sym (ap (λ (x : Bool). x || b) (sym is ∙ fails))
 
-and-true : (a : Bool) → a ≡ (a && true)
-and-true true = refl
-and-true false = refl
-
 pub over-filled : (first second : List S.Statement) (r : Bool) → 0 < length second → r ≡ block_falls (block_of first) → r ≡ jumps_over (block_of first) (block_of second)
 over-filled first [] r h is = absurd (omega (arith, h))
-over-filled first (s ∷ rest) r h is = is ∙ and-true (block_falls (block_of first))
+over-filled first (s ∷ rest) r h is = is ∙ sym (and-true (block_falls (block_of first)))
 
 pub behind-filled : (block : List S.Statement) (behind : List Handler) (r : Bool) → 0 < length behind → r ≡ block_falls (block_of block) → r ≡ jumps_behind (block_of block) (handlers_of behind)
 behind-filled block [] r h is = absurd (omega (arith, h))
-behind-filled block (handler ∷ rest) r h is = is ∙ and-true (block_falls (block_of block))
+behind-filled block (handler ∷ rest) r h is = is ∙ sym (and-true (block_falls (block_of block)))
 
 -- where nothing follows, nothing is jumped over
-and-false : (a : Bool) → false ≡ (a && false)
-and-false true = refl
-and-false false = refl
-
 pub over-none : (first : List S.Statement) → false ≡ jumps_over (block_of first) (block_of [])
-over-none first = and-false (block_falls (block_of first))
+over-none first = sym (and-false (block_falls (block_of first)))
 
 pub behind-none : (block : List S.Statement) → false ≡ jumps_behind (block_of block) (handlers_of [])
-behind-none block = and-false (block_falls (block_of block))
+behind-none block = sym (and-false (block_falls (block_of block)))

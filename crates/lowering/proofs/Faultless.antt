@@ -1,6 +1,6 @@
 -- The module of a well-formed program without a fault of its ends has no fault: the verifier takes it, and no run of it is stuck.
-use Rattle.std.proofs.Common.{◌≡◌, refl, sym, ap, ◌∙◌, subst, ℕ, zero, suc, ◌+◌, Bool, true, false, not, ◌&&◌, List, [], ◌∷◌, ◌++◌, map, Option, Some, None, slice_get, append-nil}
-use Rattle.std.specs.Prelude.{flat_map, is_some}
+use Rattle.std.proofs.Common.{◌≡◌, refl, sym, ap, ◌∙◌, subst, ℕ, suc, ◌+◌, Bool, true, false, not, ◌&&◌, List, [], ◌∷◌, ◌++◌, map, Option, Some, None, slice_get, append-nil}
+use Rattle.std.specs.Prelude.{is_some}
 use Rattle.std.specs.List.{list_all}
 use Rattle.std.specs.Option.{option_map}
 use Rattle.std.proofs.lemmas.Option.{slice_get-map}
@@ -9,9 +9,10 @@ use Rattle.resolved.specs.declared.expression.Variable.TheVariants.{Global, Loca
 use Rattle.resolved.specs.declared.statement.Exit.TheVariants.{Normal}
 use Rattle.resolved.specs.Program.{Program, ProcedureEntry, ResultEntry}
 use Rattle.resolved.specs.Ends.{has_end, block_ends}
-use Rattle.resolved.specs.EndFaults.{NoValueReturned, Undeclared, fault_unless, block_faults, may_end, procedure_faults, end_faults}
+use Rattle.resolved.specs.EndFaults.{fault_unless, block_faults, may_end, procedure_faults, end_faults}
+use Rattle.resolved.specs.declared.fault.EndDefect.TheVariants.{NoValueReturned, Undeclared}
 use Rattle.resolved.specs.WellFormed.{variable_type, well_formed, block_fits}
-use Rattle.resolved.proofs.Parts as parts
+use Rattle.resolved.proofs.WellFormedParts as parts
 use Rattle.bytecode.specs.Contents.{ChannelContents, ProcedureContents, ModuleContents}
 use Rattle.bytecode.specs.Machine.{slot_of}
 use Rattle.bytecode.specs.declared.instruction.Instruction.TheVariants as instruction
@@ -38,26 +39,11 @@ use Rattle.lowering.proofs.Settled.{Settles, LoopFlows, settles-front, block-set
 use Rattle.lowering.proofs.Sizes.{block-sized}
 use Rattle.lowering.proofs.States.{slot_of_type}
 use Rattle.lowering.proofs.Standing.{Sound, sound-flows, sound-instructions, sound-handlers}
-use Rattle.common.proofs.Cases.{append_empty}
+use Rattle.common.proofs.Cases.{append_empty, there_map_only}
 use Rattle.resolved.proofs.Exits.{no_fault-test}
+use Rattle.isolation.proofs.Valued.{faultless-there}
 
 -- ---- lists
--- an element of a list that a function made
-mapped-from : {A B : Type 0} (f : A → B) (xs : List A) (k : ℕ) (y : B) → slice_get (map f xs) k ≡ Some y → (x : A) × (slice_get xs k ≡ Some x) × (f x ≡ y)
-mapped-from f xs k y e = by (slice_get xs k) refl (sym (slice_get-map f xs k) ∙ e)
-  where
-    by : (o : Option _) → slice_get xs k ≡ o → option_map f o ≡ Some y → (x : _) × (slice_get xs k ≡ Some x) × (f x ≡ y)
-    by None there h = absurd (let no : None ≡ Some y = h in cc)
-    by (Some x) there h = (x, there, let same : Some (f x) ≡ Some y = h in cc)
-
-faults-at : (program : Program) (procedures : List ProcedureEntry) (k : ℕ) (entry : ProcedureEntry) → flat_map (procedure_faults program) procedures ≡ []
-    → slice_get procedures k ≡ Some entry → procedure_faults program entry ≡ []
-faults-at program [] k entry none e = absurd (let no : None ≡ Some entry = e in cc)
-faults-at program (procedure ∷ rest) zero entry none e =
-    let same : procedure ≡ entry = cc in
-    subst (λ q. procedure_faults program q ≡ []) same (append_empty (procedure_faults program procedure) (flat_map (procedure_faults program) rest) none).0
-faults-at program (procedure ∷ rest) (suc k) entry none e =
-    faults-at program rest k entry (append_empty (procedure_faults program procedure) (flat_map (procedure_faults program) rest) none).1 e
 
 -- ---- a procedure in its module
 stated : (program : Program) → well_formed program ≡ true → (entry : ProcedureEntry)
@@ -164,11 +150,11 @@ procedures-right m number (g ∷ graphs) sound =
 sound-at : (program : Program) → well_formed program ≡ true → end_faults program ≡ [] → (k : ℕ) (g : ProcedureContents)
     → slice_get (graph_of program).procedures k ≡ Some g → Sound (laid_out (graph_of program)) g
 sound-at program formed none k g e =
-    let from = mapped-from (procedure_contents program) program.procedures k g e in
+    let from = there_map_only (procedure_contents program) program.procedures k g e in
     let entry = from.0 in
     let positions = all-at HasPositions (graph_of program).procedures k g (graphs-positioned program formed none) e in
     subst (Sound (laid_out (graph_of program))) from.2
-    (body-sound program formed entry (parts.procedure_there program formed k entry from.1).body_fits (faults-at program program.procedures k entry none from.1)
+    (body-sound program formed entry (parts.procedure_there program formed k entry from.1).body_fits (faultless-there program program.procedures none k entry from.1)
     (subst HasPositions (sym from.2) positions))
 
 pub modules-have-no-defect : ModulesHaveNoDefect
@@ -177,7 +163,7 @@ modules-have-no-defect program formed none =
     record {
       fixed = procedures-right m 0 (graph_of program).procedures (sound-at program formed none);
       flow = λ refusal found.
-          let from = mapped-from laid_out_procedure (graph_of program).procedures refusal.procedure found.procedure found.there in
+          let from = there_map_only laid_out_procedure (graph_of program).procedures refusal.procedure found.procedure found.there in
           subst (FlowsWell m) from.2 (sound-flows m from.0 (sound-at program formed none refusal.procedure from.0 from.1)) refusal.offset refusal.defect found.defect;
     }
 

@@ -24,11 +24,12 @@ use Rattle.resolved.specs.Tree.{Expression, Integer, Logical, Read, Element, Una
 use Rattle.resolved.specs.Program.{Program, ProcedureEntry, SlotEntry, ResultEntry, ChannelEntry, GlobalEntry, procedure_at}
 use Rattle.resolved.specs.Value.{literal_number}
 use Rattle.resolved.specs.WellFormed.{VariableType, same_base, slot_type, global_type, variable_type, scalar_by, has_length, array_by, has_base, prefix_base, operand_base, result_base, has_result, target_by, channel_is, arguments_match, parameters_of, call_matches, is_exception, may_leave_by, is_array, statement_fits, block_fits, handlers_fit, statement_nodes, block_nodes, handlers_nodes}
+use Rattle.resolved.proofs.WellFormedParts.{result_some}
 use Rattle.bytecode.specs.declared.instruction.Instruction.{Instruction}
 use Rattle.bytecode.specs.declared.instruction.Instruction.TheVariants as instruction
 use Rattle.bytecode.specs.declared.declaration.Handler.{Handler}
 use Rattle.bytecode.specs.Opcodes.{OperandFits, row_of}
-use Rattle.lowering.specs.Expressions.{load_of, store_of, load_element_of, store_element_of, prefix_instruction, operator_instruction, turned_operator, value_size, value_code, rest_of_short, arguments_code, turned, deciding, branch_size, branch_code, test_code}
+use Rattle.lowering.specs.Expressions.{load_of, store_of, load_element_of, store_element_of, prefix_instruction, operator_instruction, negated_operator, value_size, value_code, rest_of_short, arguments_code, negated, deciding, branch_size, branch_code, test_code}
 use Rattle.lowering.specs.Code.{Loop, jump_code, jumps_over, jumps_behind, kept_code, result_code, leave_code, return_code, entry_of, no_place, test_place, handlers_place, statement_size, block_size, handlers_size, statement_code, block_code, handlers_code, statement_table, block_table, handlers_table}
 use Rattle.lowering.specs.Graphs.{end_code}
 
@@ -222,21 +223,21 @@ module _ (program : Program) (procedure : ProcedureEntry) (short : HasShortTable
   not-numbered : (e : Expression) (at : ℕ) → has_base program procedure Boolean e ≡ true → AreNumbered (value_code at (Unary prefix.Not e))
   not-numbered e at h = numbered-both (value_code at e) _ (value-numbered e Boolean at h) (numbered-one instruction.Not tt)
 
-  turned-numbered : (e : Expression) (at : ℕ) → has_base program procedure Boolean e ≡ true → AreNumbered (value_code at (turned e))
-  turned-numbered (Integer n) at h = not-numbered (Integer n) at h
-  turned-numbered (Logical b) at h = numbered-one _ tt
-  turned-numbered (Read x) at h = not-numbered (Read x) at h
-  turned-numbered (Element array count index) at h = not-numbered (Element array count index) at h
-  turned-numbered (Unary sign e) at h = not-numbered (Unary sign e) at h
-  turned-numbered (Binary o d e) at h =
+  negated-numbered : (e : Expression) (at : ℕ) → has_base program procedure Boolean e ≡ true → AreNumbered (value_code at (negated e))
+  negated-numbered (Integer n) at h = not-numbered (Integer n) at h
+  negated-numbered (Logical b) at h = numbered-one _ tt
+  negated-numbered (Read x) at h = not-numbered (Read x) at h
+  negated-numbered (Element array count index) at h = not-numbered (Element array count index) at h
+  negated-numbered (Unary sign e) at h = not-numbered (Unary sign e) at h
+  negated-numbered (Binary o d e) at h =
       let parts = and_parts (same_base (result_base o) Boolean && has_base program procedure (operand_base o) d) (has_base program procedure (operand_base o) e) h in
       let left = (and_parts (same_base (result_base o) Boolean) (has_base program procedure (operand_base o) d) parts.0).1 in
       numbered-both (value_code at d) _ (value-numbered d (operand_base o) at left)
-      (numbered-both (value_code (at + value_size d) e) _ (value-numbered e (operand_base o) (at + value_size d) parts.1) (numbered-one _ (operator-numbered (turned_operator o))))
-  turned-numbered (Short connective d e) at h = not-numbered (Short connective d e) at h
+      (numbered-both (value_code (at + value_size d) e) _ (value-numbered e (operand_base o) (at + value_size d) parts.1) (numbered-one _ (operator-numbered (negated_operator o))))
+  negated-numbered (Short connective d e) at h = not-numbered (Short connective d e) at h
 
   test-numbered : (wanted : Bool) (e : Expression) (at target : ℕ) → has_base program procedure Boolean e ≡ true → AreNumbered (test_code wanted at target e)
-  test-numbered true e at target h = numbered-both (value_code at (turned e)) _ (turned-numbered e at h) (numbered-one (instruction.JumpIfFalse target) tt)
+  test-numbered true e at target h = numbered-both (value_code at (negated e)) _ (negated-numbered e at h) (numbered-one (instruction.JumpIfFalse target) tt)
   test-numbered false e at target h = numbered-both (value_code at e) _ (value-numbered e Boolean at h) (numbered-one (instruction.JumpIfFalse target) tt)
 
   branch-numbered : (e : Expression) (wanted : Bool) (at target : ℕ) → has_base program procedure Boolean e ≡ true → AreNumbered (branch_code wanted at target e)
@@ -276,10 +277,6 @@ module _ (program : Program) (procedure : ProcedureEntry) (short : HasShortTable
   leave-numbered loop Continue h = tt
   leave-numbered loop (Throw exception) h = exception-small exception h
 
-  has_result-base : (result : Option ResultEntry) (test : Base → Bool) → has_result result test ≡ true → (base : Base) × (test base ≡ true)
-  has_result-base None test h = absurd (cc)
-  has_result-base (Some entry) test h = (entry.base, h)
-
   -- ---- statements that hold no others
   assign-numbered : (x : Variable) (e : Expression) (at : ℕ) → scalar_by (variable_type program procedure x) (λ base. has_base program procedure base e) ≡ true
       → AreNumbered (value_code at e ++ store_of x ∷ [])
@@ -315,7 +312,7 @@ module _ (program : Program) (procedure : ProcedureEntry) (short : HasShortTable
   return-numbered : (e : Option Expression) (p at : ℕ) → statement_fits program procedure (ReturnWith p e) ≡ true → AreNumbered (return_code at e)
   return-numbered None p at h = numbered-one instruction.Return tt
   return-numbered (Some e) p at h =
-      let there = has_result-base procedure.result (λ base. has_base program procedure base e) h in
+      let there = result_some procedure.result (λ base. has_base program procedure base e) h in
       numbered-both (value_code at e) _ (value-numbered e there.0 at there.1) (numbered-one instruction.ReturnValue tt)
 
   -- ---- statements, blocks and handlers

@@ -1,5 +1,5 @@
 -- The graph of a program is within the limits of the module file.
-use Rattle.std.proofs.Common.{◌≡◌, ℕ, zero, suc, ◌+◌, ◌*◌, ◌^◌, ◌<◌, ◌≤◌, Bool, true, false, ◌&&◌, List, [], ◌∷◌, ◌++◌, All, length, map, get_or, Option, Some, None, refl, ap, ◌∙◌, subst, arith, sum_by}
+use Rattle.std.proofs.Common.{◌≡◌, ℕ, ◌+◌, ◌*◌, ◌^◌, ◌<◌, ◌≤◌, true, ◌&&◌, List, [], ◌∷◌, ◌++◌, All, length, map, get_or, Option, Some, None, refl, ap, ◌∙◌, subst, arith, sum_by}
 use Rattle.std.specs.Prelude.{◌==◌, slice_get, is_none}
 use Rattle.std.specs.List.{AllByRecursion, list_all}
 use Rattle.std.specs.Option.{option_map}
@@ -7,22 +7,20 @@ use Rattle.std.proofs.lemmas.Bool.{and_parts, leb-true}
 use Rattle.std.proofs.lemmas.List.{length-map, get_or-map}
 use Rattle.std.proofs.lemmas.List.Elements.{All-head, All-tail}
 use Rattle.std.proofs.lemmas.List.Sums.{get_or-le-sum_by}
-use Rattle.std.proofs.lemmas.Option.{slice_get-map, slice_get_within}
+use Rattle.std.proofs.lemmas.Option.{slice_get-map, slice_get_within, slice_get-get_or}
 use Rattle.resolved.specs.Names.{HasNames}
 use Rattle.resolved.specs.Program.{Program, ProcedureEntry, ResultEntry, ChannelEntry, GlobalEntry, SlotEntry}
 use Rattle.resolved.specs.WellFormed.{size_fits, cell_count, label_fits, label_nodes, first_fits, procedure_fits, procedure_nodes, program_nodes, node_limit, main_fits, well_formed}
-use Rattle.resolved.proofs.Parts.{ProcedureParts, procedure_parts, program_parts}
+use Rattle.resolved.proofs.WellFormedParts.{ProcedureParts, procedure_parts, program_parts, passes_at}
 use Rattle.bytecode.specs.declared.instruction.Instruction.{Instruction}
 use Rattle.bytecode.specs.declared.instruction.Instruction.TheVariants as instruction
 use Rattle.bytecode.specs.declared.declaration.Handler.{Handler}
 use Rattle.bytecode.specs.declared.value.Kind.{Kind}
 use Rattle.bytecode.specs.declared.value.Kind.TheVariants as kind
-use Rattle.bytecode.specs.Code.{code_length}
 use Rattle.bytecode.specs.Form.{Fits, FitEach, IsCoded, Code}
 use Rattle.bytecode.specs.Format.{returned, handler, handlers, procedure, procedures, may_start, main, program as program_field, contents, module_file}
 use Rattle.bytecode.specs.Targets.{renamed_instruction}
 use Rattle.bytecode.specs.Opcodes.{instructions}
-use Rattle.bytecode.specs.declared.opcode.Operand.TheVariants.{Int, Boolean}
 use Rattle.bytecode.proofs.Spelling.{is_spelled, spelled-length}
 use Rattle.layout.specs.Graph.{IsHandlerIn, HasTargetIn, HasPositions}
 use Rattle.lowering.specs.Interface.{returned_kind}
@@ -37,10 +35,10 @@ use Rattle.lowering.proofs.FittingHierarchy.{hierarchy-fits}
 use Rattle.lowering.proofs.FittingLabels.{length_by_sum}
 use Rattle.lowering.proofs.FittingTables.{globals-fit, slots-fit}
 use Rattle.lowering.proofs.Fronts.{FitEach-made, All-at_seam}
-use Rattle.lowering.proofs.Room.{block-room}
+use Rattle.lowering.proofs.Room.{block-room, end-room}
 use Rattle.lowering.proofs.Sizes.{both_sized, block-sized}
 use Rattle.lowering.proofs.Targets.{Below}
-use Rattle.bytecode.proofs.Widths.{width_of-most}
+use Rattle.bytecode.proofs.Widths.{code_length_most}
 use Rattle.common.specs.declared.limits.TheConstants.{MAX_CELLS}
 
 -- ---- code
@@ -79,14 +77,9 @@ code-coded n [] room each there = tt
 code-coded n (x ∷ code) room each there =
     (numbered-coded n x room each.0 (All-head (Below n) x code there), code-coded n code room each.1 (All-tail (Below n) x code there))
 
--- an instruction takes at most five bytes
-code-short : (code : List Instruction) → code_length code ≤ 5 * length code
-code-short [] = omega arith
-code-short (x ∷ code) = omega (arith, width_of-most x, code-short code)
-
 code-fits : (code : List Instruction) → length code ≤ 4194305 → AllByRecursion IsNumbered code → All (HasTargetIn code) code → Fits (Code instructions) code
 code-fits code few each there =
-    (omega (arith, few, code-short code, spelled-length code), code-coded (length code) code (omega (arith, few)) each there)
+    (omega (arith, few, code_length_most code, spelled-length code), code-coded (length code) code (omega (arith, few)) each there)
 
 -- ---- handlers
 
@@ -124,10 +117,6 @@ returned-fits None = ((omega arith, refl), refl)
 returned-fits (Some kind.Int) = ((omega arith, refl), refl)
 returned-fits (Some kind.Boolean) = ((omega arith, refl), refl)
 
-end-sized : (falls : Bool) → length (end_code falls) ≤ 1
-end-sized true = omega arith
-end-sized false = omega arith
-
 -- a procedure of a program whose tables are not too long
 procedure-fits : (program : Program) (entry : ProcedureEntry) → HasShortTables program entry → procedure_nodes entry ≤ 1048576 → ProcedureParts program entry
     → HasPositions (procedure_contents program entry) → Fits procedure (procedure_contents program entry)
@@ -138,7 +127,7 @@ procedure-fits program entry short few parts placed =
     let size : length code ≡ block_size program body + length (end_code (block_falls body)) =
     length-threaded (body_code program body)
     ∙ both_sized (block_code program no_loop 0 body) (end_code (block_falls body)) (block_size program body) (length (end_code (block_falls body))) (block-sized program no_loop 0 body) refl in
-    let long : length code ≤ 4194305 = omega (arith, few, size, block-room program body, end-sized (block_falls body)) in
+    let long : length code ≤ 4194305 = omega (arith, few, size, block-room program body, end-room (block_falls body)) in
     let numbers = numbered-both (block_code program no_loop 0 body) (end_code (block_falls body)) (block-numbered program entry short no_loop 0 body parts.body_fits) (end-numbered (block_falls body)) in
     let catches = block-catches program entry short 0 body parts.body_fits in
     let parameters = leb-true entry.parameters (length entry.slots) parts.parameters_there in (
@@ -214,12 +203,6 @@ tables-from program entry counts few = record {
   exceptions = omega (arith, counts.exceptions);
 }
 
-passes-at : (program : Program) (entries : List ProcedureEntry) (k : ℕ) (d : ProcedureEntry) → list_all (procedure_fits program) entries ≡ true → k < length entries
-    → procedure_fits program (get_or entries k d) ≡ true
-passes-at program [] k d h below = absurd (omega (arith, below))
-passes-at program (entry ∷ rest) zero d h below = (and_parts (procedure_fits program entry) _ h).0
-passes-at program (entry ∷ rest) (suc k) d h below = passes-at program rest k d (and_parts (procedure_fits program entry) _ h).1 (omega (arith, below))
-
 each-procedure : (program : Program) → HasCounts program → list_all (procedure_fits program) program.procedures ≡ true → All HasPositions (map (procedure_contents program) program.procedures)
     → All (λ (entry : ProcedureEntry). Fits procedure (procedure_contents program entry)) program.procedures
 each-procedure program counts fits placed k d below =
@@ -228,7 +211,7 @@ each-procedure program counts fits placed k d below =
     let here : HasPositions (procedure_contents program entry) =
     subst HasPositions (get_or-map (procedure_contents program) program.procedures k d (procedure_contents program d) below)
     (placed k (procedure_contents program d) (omega (arith, below, length-map program.procedures (procedure_contents program)))) in
-    procedure-fits program entry (tables-from program entry counts few) few (procedure_parts program entry (passes-at program program.procedures k d fits below)) here
+    procedure-fits program entry (tables-from program entry counts few) few (procedure_parts program entry (passes_at (procedure_fits program) program.procedures k (get_or program.procedures k d) fits (slice_get-get_or program.procedures k d below))) here
 
 pub graph-fits : (program : Program) → well_formed program ≡ true → HasNames program → HasShortValues program
     → All HasPositions (graph_of program).procedures → Fits module_file (graph_of program)

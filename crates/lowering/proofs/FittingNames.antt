@@ -10,8 +10,9 @@ use Rattle.std.proofs.lemmas.Str.{is_utf8-from_IsUtf8}
 use Rattle.principals.specs.ActsFor.{AllDifferent}
 use Rattle.resolved.specs.Names.{IsShortName}
 use Rattle.bytecode.specs.Form.{Fits}
-use Rattle.bytecode.specs.Format.{is_among, name_after, number_below, principals, exceptions, built_in, is_built_in}
+use Rattle.bytecode.specs.Format.{is_among, name_after, number_below, principals, exceptions, is_built_in}
 use Rattle.lowering.proofs.Fronts.{FitEach-from_fronts, All-at_seam, not_among_front}
+use Rattle.common.specs.Exceptions.{built_in_names}
 
 -- ---- names that are all different
 
@@ -54,12 +55,12 @@ principals_fit names each different few = (
 )
 
 -- the names of declared exceptions
-pub exceptions_fit : (names : List (List ℕ)) → length names ≤ 1048576 → All IsShortName names → All (λ name. ¬ Contains built_in name) names → AllDifferent names → Fits exceptions names
+pub exceptions_fit : (names : List (List ℕ)) → length names ≤ 1048576 → All IsShortName names → All (λ name. ¬ Contains built_in_names name) names → AllDifferent names → Fits exceptions names
 unfolding exceptions
 exceptions_fit names few each free different = (
   omega (arith, few),
   refl,
-  FitEach-from_fronts _ names (λ front x rest e. name_fits is_built_in front x (All-at_seam front x rest IsShortName (subst (All IsShortName) e each)) (not_contained built_in x (All-at_seam front x rest (λ name. ¬ Contains built_in name) (subst (All (λ name. ¬ Contains built_in name)) e free))) (not_among_front front x rest (subst AllDifferent e different))),
+  FitEach-from_fronts _ names (λ front x rest e. name_fits is_built_in front x (All-at_seam front x rest IsShortName (subst (All IsShortName) e each)) (not_contained built_in_names x (All-at_seam front x rest (λ name. ¬ Contains built_in_names name) (subst (All (λ name. ¬ Contains built_in_names name)) e free))) (not_among_front front x rest (subst AllDifferent e different))),
 )
 
 -- ---- numbers

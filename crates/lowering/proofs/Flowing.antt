@@ -1,8 +1,9 @@
 -- The kinds of the operands along code. They follow from the first instruction to the last: behind one at which control goes on they are
 -- what it leaves, and behind another what it leaves without the top. So each position has one list, and code flows where each instruction
 -- finds its operands and leaves what the position has to which it jumps.
-use Rattle.std.proofs.Common.{◌≡◌, refl, sym, ap, ◌∙◌, subst, ℕ, zero, suc, ◌+◌, Bool, true, false, List, [], ◌∷◌, ◌++◌, length, take, Option, Some, None, slice_get, arith, append_assoc, length-append}
+use Rattle.std.proofs.Common.{◌≡◌, refl, sym, ap, ◌∙◌, subst, ℕ, zero, suc, ◌+◌, Bool, true, false, List, [], ◌∷◌, ◌++◌, length, take, Some, None, slice_get, arith, append_assoc, length-append}
 use Rattle.std.proofs.Math.Seq.{take-append_seam}
+use Rattle.std.proofs.lemmas.Option.{none-some, same_Some}
 use Rattle.bytecode.specs.Contents.{ProcedureContents, ModuleContents}
 use Rattle.bytecode.specs.declared.instruction.Instruction.{Instruction}
 use Rattle.bytecode.specs.declared.instruction.Instruction.TheVariants as instruction
@@ -11,8 +12,7 @@ use Rattle.bytecode.specs.declared.value.Kind.TheVariants.{Boolean}
 use Rattle.verifier.specs.Fixed.{instruction_defect}
 use Rattle.bytecode.specs.Targets.{target_of}
 use Rattle.verifier.specs.Flow.{Effect, Leaves, Misses, effect, goes_on}
-use Rattle.lowering.proofs.Places.{Stands, stands-front, stands-back}
-use Rattle.common.proofs.Cases.{same_some}
+use Rattle.lowering.proofs.CodePieces.{Stands, stands-front, stands-back}
 
 abbrev pub below_top : List Kind → List Kind
 below_top [] = []
@@ -27,9 +27,6 @@ following false (Misses wrong) = []
 taken : (whole before behind : List Instruction) (k : ℕ) → whole ≡ before ++ behind → length before ≡ k → take k whole ≡ before
 taken whole before behind k parts size =
     ap (take k) parts ∙ (ap (λ (n : ℕ). take n (before ++ behind)) (sym size) ∙ take-append_seam before behind)
-
-no_target-has : {A : Type 0} (o : Option ℕ) (to : ℕ) → o ≡ None → o ≡ Some to → A
-no_target-has o to none some = absurd (let no : None ≡ Some to = sym none ∙ some in cc)
 
 module _ (m : ModuleContents) (p : ProcedureContents) where
   -- the kinds behind an instruction, and behind code
@@ -64,25 +61,25 @@ module _ (m : ModuleContents) (p : ProcedureContents) (whole : List Instruction)
       ∙ (along-append m p h.before code [] ∙ ap (λ c. along m p code (along m p c [])) (sym (taken whole h.before (code ++ h.behind) at h.parts h.place)))
 
   -- an instruction at a position with some kinds
-  pub record Fine (i : Instruction) (kinds : List Kind) : Type 0 where
+  pub record IsSound (i : Instruction) (kinds : List Kind) : Type 0 where
     pub after : List Kind
     pub leaves : effect m p i kinds ≡ Leaves after
     pub jumps : (to : ℕ) → target_of i ≡ Some to → kinds_at to ≡ after
     pub fixed : target_of i ≡ None → instruction_defect m p i ≡ None
 
-  abbrev pub EachFine : List Instruction → List Kind → Type 0
-  EachFine [] kinds = Unit {0}
-  EachFine (i ∷ code) kinds = Fine i kinds × EachFine code (onward m p i kinds)
+  abbrev pub EachSound : List Instruction → List Kind → Type 0
+  EachSound [] kinds = Unit {0}
+  EachSound (i ∷ code) kinds = IsSound i kinds × EachSound code (onward m p i kinds)
 
-  fine-append : (xs ys : List Instruction) (kinds : List Kind) → EachFine xs kinds → EachFine ys (along m p xs kinds) → EachFine (xs ++ ys) kinds
-  fine-append [] ys kinds h k = k
-  fine-append (x ∷ xs) ys kinds h k = (h.0, fine-append xs ys (onward m p x kinds) h.1 k)
+  sound-append : (xs ys : List Instruction) (kinds : List Kind) → EachSound xs kinds → EachSound ys (along m p xs kinds) → EachSound (xs ++ ys) kinds
+  sound-append [] ys kinds h k = k
+  sound-append (x ∷ xs) ys kinds h k = (h.0, sound-append xs ys (onward m p x kinds) h.1 k)
 
-  pub fine-at : (code : List Instruction) (kinds : List Kind) (k : ℕ) (i : Instruction) → EachFine code kinds → slice_get code k ≡ Some i
-      → Fine i (along m p (take k code) kinds)
-  fine-at [] kinds k i h e = absurd (let no : None ≡ Some i = e in cc)
-  fine-at (x ∷ code) kinds zero i h e = let same : x ≡ i = cc in subst (λ y. Fine y kinds) same h.0
-  fine-at (x ∷ code) kinds (suc k) i h e = fine-at code (onward m p x kinds) k i h.1 e
+  pub sound-at : (code : List Instruction) (kinds : List Kind) (k : ℕ) (i : Instruction) → EachSound code kinds → slice_get code k ≡ Some i
+      → IsSound i (along m p (take k code) kinds)
+  sound-at [] kinds k i h e = absurd (let no : None ≡ Some i = e in cc)
+  sound-at (x ∷ code) kinds zero i h e = let same : x ≡ i = cc in subst (λ y. IsSound y kinds) same h.0
+  sound-at (x ∷ code) kinds (suc k) i h e = sound-at code (onward m p x kinds) k i h.1 e
 
   -- a piece of the code at a place to which control comes with some kinds
   pub record Here (code : List Instruction) (at : ℕ) (kinds : List Kind) : Type 0 where
@@ -102,7 +99,7 @@ module _ (m : ModuleContents) (p : ProcedureContents) (whole : List Instruction)
   -- a piece of code for a place, with the kinds before and behind it; its instructions are fine wherever it stands, given some aims
   pub record Flows (at : ℕ) (code : List Instruction) (aims : Type 0) (before behind : List Kind) : Type 0 where
     pub passes : along m p code before ≡ behind
-    pub each : Here code at before → aims → EachFine code before
+    pub each : Here code at before → aims → EachSound code before
 
   pub flows-none : {at : ℕ} {aims : Type 0} {a : List Kind} → Flows at [] aims a a
   flows-none = record { passes = refl; each = λ h g. tt }
@@ -111,8 +108,8 @@ module _ (m : ModuleContents) (p : ProcedureContents) (whole : List Instruction)
       → Flows at xs aims a b → Flows (at + n) ys aims b c → Flows at (xs ++ ys) aims a c
   flows-both {at = at} {xs = xs} {ys = ys} {a = a} {b = b} n size first second = record {
     passes = along-append m p xs ys a ∙ (ap (along m p ys) first.passes ∙ second.passes);
-    each = λ h g. fine-append xs ys a (first.each (here-front xs ys at a h) g)
-        (subst (EachFine ys) (sym first.passes) (second.each (here-back xs ys at n a b size first.passes h) g));
+    each = λ h g. sound-append xs ys a (first.each (here-front xs ys at a h) g)
+        (subst (EachSound ys) (sym first.passes) (second.each (here-back xs ys at n a b size first.passes h) g));
   }
 
   -- with other aims, which give the ones that are wanted
@@ -127,7 +124,7 @@ module _ (m : ModuleContents) (p : ProcedureContents) (whole : List Instruction)
   pub flows-one : {at : ℕ} {aims : Type 0} {i : Instruction} {a b : List Kind} → Does m p i a b → Flows at (i ∷ []) aims a b
   flows-one {i = i} d = record {
     passes = ap (following (goes_on i)) d.leaves ∙ d.follows;
-    each = λ h g. (record { after = d.after; leaves = d.leaves; jumps = λ to e. no_target-has (target_of i) to d.no_target e; fixed = λ none. d.fixed }, tt);
+    each = λ h g. (record { after = d.after; leaves = d.leaves; jumps = λ to e. absurd (none-some to (sym d.no_target ∙ e)); fixed = λ none. d.fixed }, tt);
   }
 
   pub flows-jump : {at : ℕ} {aims : Type 0} {a : List Kind} (target : ℕ) → (aims → kinds_at target ≡ a)
@@ -138,8 +135,8 @@ module _ (m : ModuleContents) (p : ProcedureContents) (whole : List Instruction)
       record {
         after = a;
         leaves = refl;
-        jumps = λ to e. subst (λ t. kinds_at t ≡ a) (same_some target to e) (arrives g);
-        fixed = λ none. no_target-has (Some target) target none refl;
+        jumps = λ to e. subst (λ t. kinds_at t ≡ a) (same_Some target to e) (arrives g);
+        fixed = λ none. absurd (none-some target (sym none));
       },
       tt,
     );
@@ -153,8 +150,8 @@ module _ (m : ModuleContents) (p : ProcedureContents) (whole : List Instruction)
       record {
         after = a;
         leaves = refl;
-        jumps = λ to e. subst (λ t. kinds_at t ≡ a) (same_some target to e) (arrives g);
-        fixed = λ none. no_target-has (Some target) target none refl;
+        jumps = λ to e. subst (λ t. kinds_at t ≡ a) (same_Some target to e) (arrives g);
+        fixed = λ none. absurd (none-some target (sym none));
       },
       tt,
     );

@@ -10,8 +10,7 @@ use Rattle.resolved.specs.TreeOf.{expression_of, statement_of, block_of, handler
 use Rattle.resolved.specs.WellFormed.{expression_nodes, statement_nodes, block_nodes, handlers_nodes}
 use Rattle.lowering.specs.Expressions.{branch_size}
 use Rattle.lowering.specs.Code.{statement_size, block_size, handlers_size, jump_size, jumps_over, jumps_behind}
-use Rattle.lowering.proofs.Trees.{tree-if, tree-while, tree-try, tree-nested}
-use Rattle.resolved.proofs.Views.{next-statement, next-handler}
+use Rattle.resolved.proofs.Views.{next-statement, next-handler, tree-if, tree-while, tree-try, tree-nested}
 
 pub nodes_if : (s : S.Statement) (at : ℕ) (e : E.Expression) (yes_block no_block : Vec S.Statement Global)
     → s ≡ S.If at e yes_block no_block

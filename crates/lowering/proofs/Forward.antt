@@ -1,6 +1,7 @@
 -- All unconditional jumps of a procedure go forward.
 use Rattle.std.proofs.Common.{◌≡◌, refl, sym, ◌∙◌, ℕ, zero, suc, ◌+◌, ◌<◌, ◌≤◌, Bool, true, false, not, List, [], ◌∷◌, ◌++◌, length, Option, Some, None, slice_get, arith}
 use Rattle.std.specs.Prelude.{filter}
+use Rattle.std.proofs.lemmas.Option.{none-some}
 use Rattle.resolved.specs.declared.expression.Variable.{Variable}
 use Rattle.resolved.specs.declared.expression.Variable.TheVariants.{Global, Local}
 use Rattle.resolved.specs.declared.expression.Prefix.{Prefix}
@@ -14,7 +15,8 @@ use Rattle.resolved.specs.declared.statement.Exit.TheVariants.{Normal, Return, B
 use Rattle.resolved.specs.Tree.{Expression, Integer, Logical, Read, Element, Unary, Binary, Short, Statement, Assign, Clear, Store, Receive, Send, Call, If, While, Leave, ReturnWith, Try, Nested, Block, Empty, Then, Handlers, NoMore, Catch, place_of}
 use Rattle.resolved.specs.Program.{Program, ResultEntry, procedure_at}
 use Rattle.resolved.specs.Ends.{same_exit, has_end, statement_ends, block_ends}
-use Rattle.resolved.specs.EndFaults.{OutsideLoop, Unreachable, NeverRaised, fault_unless, may_leave, may_stand, inner_faults, block_faults, handlers_faults}
+use Rattle.resolved.specs.EndFaults.{fault_unless, may_leave, may_stand, inner_faults, block_faults, handlers_faults}
+use Rattle.resolved.specs.declared.fault.EndDefect.TheVariants.{OutsideLoop, Unreachable, NeverRaised}
 use Rattle.bytecode.specs.declared.instruction.Instruction.{Instruction}
 use Rattle.bytecode.specs.declared.instruction.Instruction.TheVariants as instruction
 use Rattle.lowering.specs.Expressions.{load_of, store_of, load_element_of, store_element_of, prefix_instruction, operator_instruction, value_size, value_code, rest_of_short, arguments_size, arguments_code, tested, deciding, branch_size, branch_code, test_code}
@@ -30,11 +32,8 @@ use Rattle.resolved.proofs.Exits.{no_fault-test}
 record Ahead (at : ℕ) (code : List Instruction) : Type 0 where
   pub each : (k target : ℕ) → jump_of (slice_get code k) ≡ Some target → at + k < target
 
-nowhere : {A : Type 0} (o : Option ℕ) (target : ℕ) → o ≡ None → o ≡ Some target → A
-nowhere o target none some = absurd (let no : None ≡ Some target = sym none ∙ some in cc)
-
 ahead-none : (at : ℕ) → Ahead at []
-ahead-none at = record { each = λ k target e. nowhere None target refl e }
+ahead-none at = record { each = λ k target e. absurd (none-some target e) }
 
 ahead-first : (at : ℕ) (i : Instruction) (code : List Instruction) → ((target : ℕ) → jump_of (Some i) ≡ Some target → at < target) → Ahead (at + 1) code → Ahead at (i ∷ code)
 ahead-first at i code first rest = record { each = each }
@@ -45,7 +44,7 @@ ahead-first at i code first rest = record { each = each }
 
 -- an instruction that is no unconditional jump, and one that is
 ahead-more : (at : ℕ) (i : Instruction) (code : List Instruction) → jump_of (Some i) ≡ None → Ahead (at + 1) code → Ahead at (i ∷ code)
-ahead-more at i code none rest = ahead-first at i code (λ target e. nowhere (jump_of (Some i)) target none e) rest
+ahead-more at i code none rest = ahead-first at i code (λ target e. absurd (none-some target (sym none ∙ e))) rest
 
 ahead-one : (at : ℕ) (i : Instruction) → jump_of (Some i) ≡ None → Ahead at (i ∷ [])
 ahead-one at i none = ahead-more at i [] none (ahead-none (at + 1))

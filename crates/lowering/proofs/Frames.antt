@@ -17,7 +17,7 @@ use Rattle.resolved.specs.Value.{base_of, zero_value}
 use Rattle.resolved.specs.Meaning.{cells_of as first_cells_of, first_cells_of_slots, frame_of}
 use Rattle.resolved.specs.WellFormed.{slot_type, global_type, first_fits, size_fits, label_fits, same_base, well_formed, parameters_of}
 use Rattle.resolved.specs.Kinds.{ArgumentsFit}
-use Rattle.resolved.proofs.Parts.{program_parts, passes_at}
+use Rattle.resolved.proofs.WellFormedParts.{program_parts, passes_at}
 use Rattle.resolved.proofs.Sound.Values.{same_base_is}
 use Rattle.bytecode.specs.declared.value.Cell.{Cell}
 use Rattle.bytecode.specs.declared.value.Kind.{Kind}

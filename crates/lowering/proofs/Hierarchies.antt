@@ -16,16 +16,12 @@ use Rattle.labels.specs.Sets.{ascending_set}
 use Rattle.labels.proofs.Ascending.{ascending_set-SameSet}
 use Rattle.labels.proofs.Elements.{All-from_each, each_from_All}
 use Rattle.labels.proofs.Written.{dedup-sorted}
+use Rattle.labels.proofs.Order.{both_tie}
 use Rattle.bytecode.specs.Format.{pair_cmp}
 use Rattle.lowering.specs.Interface.{hierarchy_contents}
 
 pub pair_cmp-total : IsTotalOrder pair_cmp
 pair_cmp-total = then_total (on_total (λ pair. pair.0) nat_cmp_total) (on_total (λ pair. pair.1) nat_cmp_total)
-
-both_tie : (a b : _) → ordering_then a b ≡ Equal → (a ≡ Equal) × (b ≡ Equal)
-both_tie Less b e = absurd (cc)
-both_tie Equal b e = (refl, e)
-both_tie Greater b e = absurd (cc)
 
 pub pair_cmp-exact : CmpEqualImpliesEq pair_cmp
 pair_cmp-exact p q e =

@@ -4,6 +4,7 @@ use Rattle.std.specs.Prelude.{Option, Some, None, filter, flat_map, nat_lt, is_s
 use Rattle.std.specs.List.{list_all}
 use Rattle.std.proofs.lemmas.Bool.{ltb-true, or_right, or_left, or_parts, and_from, and_parts}
 use Rattle.std.proofs.lemmas.List.Elements.{All-nil, All-cons, All-append, All-map}
+use Rattle.std.proofs.lemmas.Option.{slice_get-get_or}
 use Rattle.resolved.specs.declared.expression.Base.TheVariants.{Boolean}
 use Rattle.resolved.specs.declared.expression.Variable.{Variable}
 use Rattle.resolved.specs.declared.statement.Exit.{Exit}
@@ -11,9 +12,10 @@ use Rattle.resolved.specs.declared.statement.Exit.TheVariants.{Normal, Return, B
 use Rattle.resolved.specs.Tree.{Expression, Statement, Assign, Clear, Store, Receive, Send, Call, If, While, Leave, ReturnWith, Try, Nested, Block, Empty, Then, Handlers, NoMore, Catch, place_of}
 use Rattle.resolved.specs.Program.{Program, ProcedureEntry, ResultEntry, procedure_at}
 use Rattle.resolved.specs.Ends.{same_exit, has_end, statement_ends, block_ends}
-use Rattle.resolved.specs.EndFaults.{OutsideLoop, Unreachable, NeverRaised, NoValueReturned, Undeclared, fault_unless, may_leave, may_stand, inner_faults, block_faults, handlers_faults, may_end, procedure_faults, end_faults}
+use Rattle.resolved.specs.EndFaults.{fault_unless, may_leave, may_stand, inner_faults, block_faults, handlers_faults, may_end, procedure_faults, end_faults}
+use Rattle.resolved.specs.declared.fault.EndDefect.TheVariants.{OutsideLoop, Unreachable, NeverRaised, NoValueReturned, Undeclared}
 use Rattle.resolved.specs.WellFormed.{has_base, is_exception, statement_fits, block_fits, handlers_fit, procedure_fits}
-use Rattle.resolved.proofs.Parts.{program_parts, procedure_parts}
+use Rattle.resolved.proofs.WellFormedParts.{program_parts, procedure_parts, passes_at}
 use Rattle.bytecode.specs.declared.instruction.Instruction.{Instruction}
 use Rattle.bytecode.specs.declared.instruction.Instruction.TheVariants as instruction
 use Rattle.bytecode.specs.declared.declaration.Handler.{Handler}
@@ -264,13 +266,6 @@ procedure-placed program procedure fits faults =
       handlers = placed.entries;
     }
 
-fits-at : (program : Program) (procedures : List ProcedureEntry) (k : ℕ) (d : ProcedureEntry) → list_all (procedure_fits program) procedures ≡ true → k < length procedures
-    → procedure_fits program (get_or procedures k d) ≡ true
-fits-at program [] k d h below = absurd (omega (arith, below))
-fits-at program (procedure ∷ rest) zero d h below = (and_parts (procedure_fits program procedure) (list_all (procedure_fits program) rest) h).0
-fits-at program (procedure ∷ rest) (suc k) d h below =
-    fits-at program rest k d (and_parts (procedure_fits program procedure) (list_all (procedure_fits program) rest) h).1 (omega (arith, below))
-
 faultless-at : (program : Program) (procedures : List ProcedureEntry) (k : ℕ) (d : ProcedureEntry) → flat_map (procedure_faults program) procedures ≡ [] → k < length procedures
     → procedure_faults program (get_or procedures k d) ≡ []
 faultless-at program [] k d h below = absurd (omega (arith, below))
@@ -295,5 +290,5 @@ graphs-positioned program formed none =
     let procedure = get_or program.procedures k d in
     threaded-positioned (unthreaded_procedure program procedure)
     (procedure-placed program procedure
-    (procedure_parts program procedure (fits-at program program.procedures k d (program_parts program formed).procedures_fit below)).body_fits
+    (procedure_parts program procedure (passes_at (procedure_fits program) program.procedures k (get_or program.procedures k d) (program_parts program formed).procedures_fit (slice_get-get_or program.procedures k d below))).body_fits
     (body-faultless program k d none below)))

@@ -13,11 +13,11 @@ use Rattle.bytecode.specs.Machine as machine
 use Rattle.bytecode.specs.Machine.{Machine, Running}
 use Rattle.layout.specs.Offsets.{laid_out}
 use Rattle.layout.specs.Runs.{graph_program, graph_after_steps}
-use Rattle.layout.specs.Kept.{SameRuns}
+use Rattle.layout.specs.SameRuns.{SameRuns}
 use Rattle.layout.proofs.Offsets.{runs-same}
 use Rattle.lowering.specs.Graphs.{graph_of}
 use Rattle.lowering.specs.Threaded.{jump_of}
-use Rattle.lowering.specs.Kept.{ending_of, MeaningKept, GraphsKeepMeaning, ModulesKeepMeaning}
+use Rattle.lowering.specs.SameMeaning.{ending_of, SameMeaning, GraphsKeepMeaning, ModulesKeepMeaning}
 use Rattle.lowering.proofs.Sent.{exec-keeps}
 use Rattle.lowering.proofs.Steps.{counted, counts, sent-before, ends-once}
 use Rattle.lowering.proofs.Unthreaded.{unthreaded_graph, graph-threaded}
@@ -164,7 +164,7 @@ graphs-keep program formed none = record {
 
 pub modules-keep : ModulesKeepMeaning
 modules-keep program formed none =
-    let kept : MeaningKept program (graph_after_steps (graph_of program)) = graphs-keep program formed none in
+    let kept : SameMeaning program (graph_after_steps (graph_of program)) = graphs-keep program formed none in
     let same : SameRuns (graph_of program) (laid_out (graph_of program)) = runs-same (graph_of program) in
     record {
       no_more = λ world n. subst (λ (sent : List Pair). IsPrefix sent (meaning.sent_by program world n)) (sym (same.sends world n)) (kept.no_more world n);

@@ -11,6 +11,7 @@ use Rattle.resolved.specs.declared.expression.Prefix.TheVariants as prefix
 use Rattle.resolved.specs.declared.expression.Operator.{Operator}
 use Rattle.resolved.specs.declared.expression.Operator.TheVariants as operator
 use Rattle.common.specs.declared.direction.Direction.TheVariants as direction
+use Rattle.common.proofs.Cases.{none_there}
 use Rattle.resolved.specs.Program.{Program, ProcedureEntry, SlotEntry, ChannelEntry}
 use Rattle.resolved.specs.WellFormed.{VariableType, variable_type, scalar_by, array_by, has_length, channel_is, prefix_base, operand_base, result_base}
 use Rattle.bytecode.specs.Contents.{ProcedureContents, ModuleContents}
@@ -56,10 +57,6 @@ pops-all (kind ∷ wanted) kinds =
 unless-right : (right : Bool) (wrong : CodeDefect) → right ≡ true → unless right wrong ≡ None
 unless-right right wrong h = ap (λ (b : Bool). unless b wrong) h
 
-pub none-is : {A : Type 0} (o : Option A) → is_none o ≡ true → o ≡ None
-none-is None h = refl
-none-is (Some x) h = absurd (let no : false ≡ true = h in cc)
-
 -- a scalar whose base type passes a test
 pub record ScalarOf (o : Option VariableType) (test : Base → Bool) : Type 0 where
   pub base : Base
@@ -70,7 +67,7 @@ pub scalar-type : (o : Option VariableType) (test : Base → Bool) → scalar_by
 scalar-type None test h = absurd (let no : false ≡ true = h in cc)
 scalar-type (Some type) test h =
     let parts = and_parts (is_none type.size) (test type.base) h in
-    record { base = type.base; passes = parts.1; is = ap (λ (size : Option ℕ). Some (declared_slot type.base size)) (none-is type.size parts.0) }
+    record { base = type.base; passes = parts.1; is = ap (λ (size : Option ℕ). Some (declared_slot type.base size)) (none_there type.size parts.0) }
 
 -- an array whose base type passes a test
 pub record ArrayOf (o : Option VariableType) (test : Base → Bool) : Type 0 where

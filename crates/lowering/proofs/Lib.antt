@@ -5,7 +5,7 @@ pub mod Acting
 pub mod Unthreaded
 pub mod Following
 pub mod Finals
-pub mod Places
+pub mod CodePieces
 pub mod Sizes
 pub mod States
 pub mod Rows
@@ -48,7 +48,7 @@ pub mod FittingTables
 pub mod FittingCode
 pub mod FittingGraphs
 pub mod FittingFile
-pub mod Turned
+pub mod Negated
 pub mod Flowing
 pub mod Kinded
 pub mod Pushing

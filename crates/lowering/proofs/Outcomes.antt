@@ -12,7 +12,7 @@ use Rattle.bytecode.specs.declared.instruction.Instruction.{Instruction}
 use Rattle.bytecode.specs.Machine as machine
 use Rattle.bytecode.specs.Machine.{Machine}
 use Rattle.lowering.specs.Code.{Loop, jump_code}
-use Rattle.lowering.proofs.Places.{Stands}
+use Rattle.lowering.proofs.CodePieces.{Stands}
 use Rattle.lowering.proofs.Steps.{Leads, Strides, Waits, leads-through, strides-leads, strides-on, waits-through, waits-stride, waits-less}
 use Rattle.lowering.proofs.States.{Setting, place, cell_of, thrown_to, returned_to}
 use Rattle.lowering.proofs.Tables.{first_found}

@@ -1,4 +1,5 @@
 -- Code of assignments, stores, receives, sends, clears and returns does what they do.
+use Rattle.common.specs.Functions.{updated}
 use Rattle.std.proofs.Common.{◌≡◌, ℕ, ◌+◌, Bool, true, false, not, ℤ, pos, negsuc, List, [], ◌∷◌, ◌++◌, length, map, refl, sym, ap, ◌∙◌, slice_get, subst, arith, nat_lt}
 use Rattle.std.specs.Prelude.{Option, Some, None, if◌then◌else◌, is_none, slice_set}
 use Rattle.std.proofs.lemmas.List.{map-set, length-map}
@@ -13,12 +14,13 @@ use Rattle.common.specs.declared.direction.Direction.TheVariants.{Input, Output}
 use Rattle.resolved.specs.Tree.{Expression}
 use Rattle.resolved.specs.Program as resolved
 use Rattle.resolved.specs.SourceState as source
-use Rattle.resolved.specs.SourceState.{value_of, cells, cell_at, assigned, stored, cleared, updated, with_cells}
+use Rattle.resolved.specs.SourceState.{value_of, cells, cell_at, assigned, stored, cleared, with_cells}
 use Rattle.resolved.specs.Value.{Yields, Raises, base_of, checked_index, zero_value}
 use Rattle.resolved.specs.Meaning.{Ended, normally, evaluated, received, kept_in, sending}
 use Rattle.resolved.specs.WellFormed.{VariableType, variable_type, has_base, same_base, scalar_by, array_by, target_by, channel_is, is_array, may_leave_by, is_exception, has_result, cell_count}
 use Rattle.resolved.specs.Kinds.{StateFits, CellsFit}
 use Rattle.resolved.proofs.Sound.Values.{value_fits}
+use Rattle.resolved.proofs.Sound.Meanings.{base_given}
 use Rattle.bytecode.specs.declared.value.Cell.{Cell}
 use Rattle.bytecode.specs.declared.value.Kind.{Kind}
 use Rattle.bytecode.specs.declared.value.Cell.TheVariants as cell
@@ -27,16 +29,17 @@ use Rattle.bytecode.specs.declared.declaration.Slot.TheVariants as slot
 use Rattle.bytecode.specs.declared.instruction.Instruction.{Instruction}
 use Rattle.bytecode.specs.declared.instruction.Instruction.TheVariants as instruction
 use Rattle.bytecode.specs.Machine as machine
-use Rattle.bytecode.specs.Machine.{Machine, State, Header, clears, with_slot, with_element, goes_on, takes, receives, sends, changed, throws, returns_nothing, leaves_without, returns_value, gives_back, leaves_value, raised, no_row, leaves, bounds, end_of_input}
+use Rattle.bytecode.specs.Machine.{Machine, State, Header, clears, with_slot, with_element, goes_on, takes, receives, sends, throws, returns_nothing, leaves_without, returns_value, gives_back, leaves_value, raised, no_row, leaves}
+use Rattle.common.specs.declared.exceptions.TheConstants.{BOUNDS, END}
 use Rattle.lowering.specs.Interface.{kind_of_base}
 use Rattle.lowering.specs.Expressions.{store_of, store_element_of, value_size, value_code}
 use Rattle.lowering.specs.Code.{Loop, kept_code}
-use Rattle.lowering.proofs.Places.{Stands, stands-front, stands-back}
+use Rattle.lowering.proofs.CodePieces.{Stands, stands-front, stands-back}
 use Rattle.lowering.proofs.Sizes.{value-sized}
 use Rattle.lowering.proofs.Steps.{Leads, leads-through}
 use Rattle.lowering.proofs.States.{Setting, state_at, place, cell_of, cells_of, thrown_to, raised-is, kind-same, left_of, direction_in, with_slot-is}
 use Rattle.lowering.proofs.Rows.{does, onward, slot_for, stores_element-is, stores_nowhere}
-use Rattle.lowering.proofs.Values.{Finds, finds-part, given-base, scalar-there, array-there}
+use Rattle.lowering.proofs.Values.{Finds, finds-part, scalar-there, array-there}
 use Rattle.lowering.proofs.Expressions.{value-runs}
 use Rattle.lowering.proofs.Outcomes.{Runs, runs-at, evaluated-runs}
 use Rattle.lowering.proofs.Simple.{cleared_cells, stores-scalar, returns-value, taken_state, input_rest, kept-runs}
@@ -54,7 +57,7 @@ module _ (g : Setting) (loop : Loop) (h : ℕ → Option ℕ) (k : ℕ) (s : sou
       (value-runs g h s fit e type.base at [] there.3 (stands-front g.code (value_code at e) (store_of x ∷ []) at stands)
       (finds-part g at (n + 1) h at n (omega arith) (omega arith) finds))
       (λ v f. stores-scalar g loop h k s x v (at + n) [] [] (λ b. has_base g.program g.procedure b e) typed
-      (λ b has. given-base b (value_of s e) v (value_fits g.program g.procedure s fit b e has) f)
+      (λ b has. base_given b (value_of s e) v f (value_fits g.program g.procedure s fit b e has))
       (stands-back g.code (value_code at e) (store_of x ∷ []) at n (value-sized e at) stands)))
 
   send-channel : (channel : ℕ) → channel_is (slice_get g.program.channels channel) Output ≡ true → slice_get g.p.directions channel ≡ Some Output
@@ -86,7 +89,7 @@ module _ (g : Setting) (loop : Loop) (h : ℕ → Option ℕ) (k : ℕ) (s : sou
       (evaluated-runs g loop h k [] (place g at [] s) (at + n) (at + n + 1) s (value_of s e) (λ v. normally (sending channel v s))
       (value-runs g h s fit e base.Int at [] typed (stands-front g.code (value_code at e) (instruction.Send channel ∷ []) at stands)
       (finds-part g at (n + 1) h at n (omega arith) (omega arith) finds))
-      (λ v f. send-value channel (at + n) v [] is_output (given-base base.Int (value_of s e) v (value_fits g.program g.procedure s fit base.Int e typed) f)
+      (λ v f. send-value channel (at + n) v [] is_output (base_given base.Int (value_of s e) v f (value_fits g.program g.procedure s fit base.Int e typed))
       (stands-back g.code (value_code at e) (instruction.Send channel ∷ []) at n (value-sized e at) stands)))
 
   pub return-runs : (e : Expression) (at end : ℕ) → has_result g.procedure.result (λ b. has_base g.program g.procedure b e) ≡ true
@@ -102,7 +105,7 @@ module _ (g : Setting) (loop : Loop) (h : ℕ → Option ℕ) (k : ℕ) (s : sou
           evaluated-runs g loop h k [] (place g at [] s) (at + n) end s (value_of s e) (λ v. Ended exit.Return (Some v) s)
           (value-runs g h s fit e entry.base at [] has (stands-front g.code (value_code at e) (instruction.ReturnValue ∷ []) at stands)
           (finds-part g at (n + 1) h at n (omega arith) (omega arith) finds))
-          (λ v f. returns-value g loop h k s (at + n) [] v entry is (given-base entry.base (value_of s e) v (value_fits g.program g.procedure s fit entry.base e has) f)
+          (λ v f. returns-value g loop h k s (at + n) [] v entry is (base_given entry.base (value_of s e) v f (value_fits g.program g.procedure s fit entry.base e has))
           (stands-back g.code (value_code at e) (instruction.ReturnValue ∷ []) at n (value-sized e at) stands))
 
   pub receive-runs : (channel at : ℕ) (target : Option Variable) → channel_is (slice_get g.program.channels channel) Input ≡ true
@@ -123,7 +126,7 @@ module _ (g : Setting) (loop : Loop) (h : ℕ → Option ℕ) (k : ℕ) (s : sou
           → Runs g loop h k (place g at [] s) (at + 2) (received numbers channel target s)
       go [] acts =
           does g (kept_code target ∷ []) (instruction.Receive channel) at [] s _ stands
-          (acts ∙ raised-is g at [] s end_of_input ∙ ap (λ (o : Option ℕ). thrown_to g o end_of_input s) (finds.finds at (omega arith) (omega arith) end_of_input))
+          (acts ∙ raised-is g at [] s END ∙ ap (λ (o : Option ℕ). thrown_to g o END s) (finds.finds at (omega arith) (omega arith) END))
       go (z ∷ rest) acts =
           let t : source.SourceState = record s { inputs = updated s.inputs channel rest } in
           let got : Leads g.p (place g at [] s) (place g (at + 1) (cell.Int z ∷ []) t) =
@@ -173,10 +176,10 @@ module _ (g : Setting) (loop : Loop) (h : ℕ → Option ℕ) (k : ℕ) (s : sou
       many : length (cells s x) ≡ count
       many = fits.count ∙ ap cell_count size
 
-      nowhere : (z : ℤ) → with_element (cells_of (cells s x)) z (cell_of w) ≡ None → Leads g.p (place g at (cell_of w ∷ cell.Int z ∷ []) s) (thrown_to g (h bounds) bounds s)
+      nowhere : (z : ℤ) → with_element (cells_of (cells s x)) z (cell_of w) ≡ None → Leads g.p (place g at (cell_of w ∷ cell.Int z ∷ []) s) (thrown_to g (h BOUNDS) BOUNDS s)
       nowhere z none =
           does g more (store_element_of x) at (cell_of w ∷ cell.Int z ∷ []) s _ stands
-          (stores_nowhere g x kind count w z at [] s slot_is (kind-same w type.base same) none ∙ ap (λ (o : Option ℕ). thrown_to g o bounds s) (finds bounds))
+          (stores_nowhere g x kind count w z at [] s slot_is (kind-same w type.base same) none ∙ ap (λ (o : Option ℕ). thrown_to g o BOUNDS s) (finds BOUNDS))
 
       inside : (i : ℕ) (test : Bool) → nat_lt i count ≡ test
           → Runs g loop h k (place g at (cell_of w ∷ cell.Int (pos i) ∷ []) s) (at + 1) (evaluated (if test then Yields i else Raises 1) s (λ i. normally (stored s x i w)))
@@ -216,6 +219,6 @@ module _ (g : Setting) (loop : Loop) (h : ℕ → Option ℕ) (k : ℕ) (s : sou
       (value-runs g h s fit e type.base mid (cell_of v ∷ []) there.3 (stands-front g.code (value_code mid e) (store_element_of x ∷ []) mid second)
       (finds-part g at (n + (m + 1)) h mid m (omega arith) (omega arith) finds))
       (λ w f'. element-stored x count v w last [] type there.1 there.2
-      (given-base base.Int (value_of s index) v (value_fits g.program g.procedure s fit base.Int index is_int) f)
-      (given-base type.base (value_of s e) w (value_fits g.program g.procedure s fit type.base e there.3) f') third
+      (base_given base.Int (value_of s index) v f (value_fits g.program g.procedure s fit base.Int index is_int))
+      (base_given type.base (value_of s e) w f' (value_fits g.program g.procedure s fit type.base e there.3)) third
       (finds.finds last (omega arith) (omega arith)))))

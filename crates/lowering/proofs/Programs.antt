@@ -5,7 +5,7 @@ use Rattle.std.specs.Option.{option_map}
 use Rattle.std.specs.List.{list_all}
 use Rattle.std.proofs.Math.Path.{fun_ext}
 use Rattle.std.proofs.lemmas.Option.{slice_get-map}
-use Rattle.std.proofs.lemmas.Bool.{and_parts}
+use Rattle.std.proofs.lemmas.Bool.{and_parts, false≢true}
 use Rattle.resolved.specs.declared.expression.Value.{Value}
 use Rattle.resolved.specs.declared.expression.Value.TheVariants.{Number, Truth}
 use Rattle.resolved.specs.declared.expression.Base.{Base}
@@ -13,6 +13,7 @@ use Rattle.resolved.specs.declared.expression.Base.TheVariants as base
 use Rattle.resolved.specs.declared.statement.Exit.TheVariants.{Normal, Return, Break, Continue, Throw}
 use Rattle.common.specs.declared.direction.Direction.{Direction}
 use Rattle.common.specs.declared.direction.Direction.TheVariants.{Input, Output}
+use Rattle.common.proofs.Cases.{none_there}
 use Rattle.resolved.specs.Program.{Program, ProcedureEntry, ResultEntry, GlobalEntry, ChannelEntry, procedure_at}
 use Rattle.resolved.specs.SourceState as source
 use Rattle.resolved.specs.Value.{base_of}
@@ -22,8 +23,8 @@ use Rattle.resolved.specs.Meaning as meaning
 use Rattle.resolved.specs.Meaning.{Outcome, Ended, Stopped, Deep, OutOfTurns, leaving, entering, calls_with, block_meaning, state_after, first_cells_of_globals, channel_numbers, numbers_by}
 use Rattle.resolved.specs.WellFormed.{well_formed, parameters_of, has_result, same_base, main_fits, first_fits, size_fits, label_fits, is_zero_value}
 use Rattle.resolved.specs.Kinds.{StateFits, OutcomeFits, ArgumentsFit}
-use Rattle.resolved.proofs.Parts.{ProcedureParts, procedure_at_is, program_parts, passes_at}
-use Rattle.resolved.proofs.Parts as parts
+use Rattle.resolved.proofs.WellFormedParts.{ProcedureParts, procedure_at_is, program_parts, passes_at}
+use Rattle.resolved.proofs.WellFormedParts as parts
 use Rattle.resolved.proofs.Sound.Values.{same_base_is}
 use Rattle.resolved.proofs.Sound.Meanings.{meaning_keeps_types}
 use Rattle.resolved.proofs.Sound.Runs.{runs_begin_typed}
@@ -40,12 +41,12 @@ use Rattle.lowering.specs.Interface.{global_contents, scalar_global, kind_of_bas
 use Rattle.lowering.specs.Code.{block_size}
 use Rattle.lowering.specs.Graphs.{no_loop}
 use Rattle.lowering.proofs.Unthreaded.{unthreaded_graph}
-use Rattle.lowering.specs.Kept.{ending_of}
+use Rattle.lowering.specs.SameMeaning.{ending_of}
 use Rattle.lowering.proofs.Steps.{Leads, Waits, leads-through}
 use Rattle.lowering.proofs.States.{place, cell_of, cells_of, left_of, left_by}
 use Rattle.lowering.proofs.Outcomes.{Runs}
 use Rattle.lowering.proofs.Frames.{setting_of, procedure_there, slots-begin, cells_replicated}
-use Rattle.lowering.proofs.Calls.{nowhere, never_true, body-run, body-returns, calls-run}
+use Rattle.lowering.proofs.Calls.{nowhere, body-run, body-returns, calls-run}
 use Rattle.resolved.proofs.Exits.{thrown-break, thrown-continue}
 
 -- ---- the first state
@@ -132,12 +133,12 @@ module _ (program : Program) (formed : well_formed program ≡ true) (none : end
         ⊎ GoesOn (setting_of program formed world program.main main there []).p k (place (setting_of program formed world program.main main there []) 0 [] s) (leaving back o)
     ends-by s back (Ended Normal None t) is same fit among run =
         inl (record { ending = machine.Finished; so = refl; leads = rw (same t) (leads-through _ _ _ _ run (body-returns program formed none world k 511 program.main main there [] s t None is (ap is_none nothing))) })
-    ends-by s back (Ended Normal (Some v) t) is same fit among run = absurd (never_true fit.returned)
+    ends-by s back (Ended Normal (Some v) t) is same fit among run = absurd (false≢true fit.returned)
     ends-by s back (Ended Return None t) is same fit among run = inl (record { ending = machine.Finished; so = refl; leads = rw (same t) run })
     ends-by s back (Ended Return (Some v) t) is same fit among run =
-        absurd (never_true (sym (ap (λ (r : Option ResultEntry). has_result r (same_base (base_of v))) nothing) ∙ fit.returned))
-    ends-by s back (Ended Break returned t) is same fit among run = absurd (never_true (sym (thrown-break (declared_by main.throws)) ∙ among))
-    ends-by s back (Ended Continue returned t) is same fit among run = absurd (never_true (sym (thrown-continue (declared_by main.throws)) ∙ among))
+        absurd (false≢true (sym (ap (λ (r : Option ResultEntry). has_result r (same_base (base_of v))) nothing) ∙ fit.returned))
+    ends-by s back (Ended Break returned t) is same fit among run = absurd (false≢true (sym (thrown-break (declared_by main.throws)) ∙ among))
+    ends-by s back (Ended Continue returned t) is same fit among run = absurd (false≢true (sym (thrown-continue (declared_by main.throws)) ∙ among))
     ends-by s back (Ended (Throw e) returned t) is same fit among run = inl (record { ending = machine.Threw e; so = refl; leads = rw (same t) run })
     ends-by s back (Stopped Deep t) is same fit among run = inl (record { ending = machine.Deep; so = refl; leads = rw (same t) run })
     ends-by s back (Stopped OutOfTurns t) is same fit among run = inr (record { no_end = refl; waits = rw (same t) run })
@@ -164,14 +165,10 @@ module _ (program : Program) (formed : well_formed program ≡ true) (none : end
       subst (λ (x : Outcome). EndsAmong (Normal ∷ thrown_ends (declared_by main.throws)) x) whole
       (subst (λ (p : ProcedureEntry). EndsAmong (Normal ∷ thrown_ends (declared_by p.throws)) (calls_with program k 512 program.main [] first)) is
       (calls-among program k 512 (ends-as-declared program none) program.main [] first).among) in
-      let done = ends-by main there (nothing main.result two.1) s back o refl (λ t. refl) (meaning_keeps_types program formed main main.body body.body_fits 511 k s fit) among
+      let done = ends-by main there (none_there main.result two.1) s back o refl (λ t. refl) (meaning_keeps_types program formed main main.body body.body_fits 511 k s fit) among
       (body-run program formed none world k 511 program.main main there [] s (calls-run program formed none world k 511 program.main main there [] refl) fit) in
       subst (λ (x : Outcome). Done x) (sym whole)
       (subst (λ (m : Machine). Comes (graph_program (unthreaded_graph program)) m (leaving back o) ⊎ GoesOn (graph_program (unthreaded_graph program)) k m (leaving back o)) (sym (begins-so program formed world main there no_arguments)) done)
-    where
-      nothing : (o : Option ResultEntry) → is_none o ≡ true → o ≡ None
-      nothing None e = refl
-      nothing (Some value) e = absurd (let no : false ≡ true = e in cc)
 
   run-done : Done (calls_with program k 512 program.main [] (meaning.first_state program world))
   run-done = go (slice_get program.procedures program.main) refl (program_parts program formed).main_is

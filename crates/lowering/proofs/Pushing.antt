@@ -1,4 +1,5 @@
 -- The code of an expression pushes a value of its kind, and that of a condition leaves the operands as they were.
+use Rattle.common.specs.Functions.{same_truth}
 use Rattle.std.proofs.Common.{◌≡◌, refl, sym, ◌∙◌, subst, ℕ, ◌+◌, Bool, true, false, ◌&&◌, List, [], ◌∷◌, ◌++◌, length, map, reverse}
 use Rattle.std.proofs.lemmas.Bool.{and_parts}
 use Rattle.std.specs.Prelude.{not, if◌then◌else◌}
@@ -9,7 +10,7 @@ use Rattle.resolved.specs.declared.expression.Connective.{Connective}
 use Rattle.resolved.specs.declared.expression.Connective.TheVariants.{And, Or}
 use Rattle.resolved.specs.Tree.{Expression, Integer, Logical, Read, Element, Unary, Binary, Short}
 use Rattle.resolved.specs.Program.{Program, ProcedureEntry, SlotEntry}
-use Rattle.resolved.specs.Value.{literal_number, bool_eq}
+use Rattle.resolved.specs.Value.{literal_number}
 use Rattle.resolved.specs.WellFormed.{has_base, same_base, prefix_base, operand_base, result_base, variable_type, array_by, arguments_match}
 use Rattle.resolved.proofs.Sound.Values.{same_base_is}
 use Rattle.bytecode.specs.Contents.{ProcedureContents, ModuleContents}
@@ -22,7 +23,7 @@ use Rattle.lowering.specs.Expressions.{tested, deciding, value_size, value_code,
 use Rattle.lowering.proofs.Sizes.{value-sized, branch-sized}
 use Rattle.lowering.proofs.Flowing.{Flows, kinds_at, here-back, here-end, flows-none, flows-both, flows-given, flows-free, flows-one, flows-jump, flows-test}
 use Rattle.lowering.proofs.Frames.{reverse_more}
-use Rattle.lowering.proofs.Turned.{operands-fit, tested-fits}
+use Rattle.lowering.proofs.Negated.{operands-fit, tested-fits}
 use Rattle.lowering.proofs.Kinded.{scalar-type, array-type, Stated, load-does, load_element-does, push-does, push_boolean-does, prefix-does, operator-does}
 
 -- ---- values
@@ -137,7 +138,7 @@ module _ (program : Program) (procedure : ProcedureEntry) (m : ModuleContents) (
   branch-flows (Short connective d e) wanted at target kinds typed =
       let left = branch_size (deciding connective) d in
       let behind = at + left + branch_size wanted e in
-      let decided = (if bool_eq wanted (deciding connective) then target else behind) in
+      let decided = (if same_truth wanted (deciding connective) then target else behind) in
       let outer = and_parts (same_base base.Boolean base.Boolean && has_base program procedure base.Boolean d) (has_base program procedure base.Boolean e) typed in
       let first = branch-flows d (deciding connective) at decided kinds outer.0 in
       let second = branch-flows e wanted (at + left) target kinds outer.1 in
@@ -148,6 +149,6 @@ module _ (program : Program) (procedure : ProcedureEntry) (m : ModuleContents) (
       (λ h arrives.
       let next = here-back m p whole first_code second_code at left kinds kinds sized first.passes h in
       let ends = here-end m p whole second_code (at + left) (branch_size wanted e) kinds kinds (branch-sized e wanted (at + left) target) second.passes next in
-      (either-at (bool_eq wanted (deciding connective)) target behind kinds arrives ends, arrives))
+      (either-at (same_truth wanted (deciding connective)) target behind kinds arrives ends, arrives))
       (flows-both m p whole left sized (flows-given m p whole (kinds_at m p whole decided ≡ kinds) (λ h aims. aims.0) first)
       (flows-given m p whole (kinds_at m p whole target ≡ kinds) (λ h aims. aims.1) second))

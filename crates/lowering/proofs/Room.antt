@@ -3,7 +3,7 @@ use Rattle.std.proofs.Common.{◌≡◌, ◌+◌, ◌*◌, ◌^◌, ◌<◌, ◌
 use Rattle.std.specs.Prelude.{IsTrue, Option, Some, None, not, sum_by}
 use Rattle.std.proofs.lemmas.Bool.{leb-true}
 use Rattle.std.proofs.lemmas.List.Sums.{get_or-le-sum_by, sum_by-cons}
-use Rattle.resolved.proofs.Parts.{program_parts}
+use Rattle.resolved.proofs.WellFormedParts.{program_parts}
 use Rattle.resolved.specs.declared.expression.Prefix.TheVariants as prefix
 use Rattle.resolved.specs.Tree.{Expression, Integer, Logical, Read, Element, Unary, Binary, Short, Statement, Assign, Clear, Store, Receive, Send, Call, If, While, Leave, ReturnWith, Try, Nested, Block, Empty, Then, Handlers, NoMore, Catch}
 use Rattle.resolved.specs.Program.{Program, ProcedureEntry, ResultEntry, procedure_at}
@@ -93,7 +93,7 @@ bodies-short program formed k d inside =
     let sum : 4 * block_nodes procedure.body ≤ 4194304 = omega (arith, few, least) in
     omega (arith, room, sum)
 
-end-room : (falls : Bool) → length (end_code falls) ≤ 1
+pub end-room : (falls : Bool) → length (end_code falls) ≤ 1
 end-room true = omega arith
 end-room false = omega arith
 

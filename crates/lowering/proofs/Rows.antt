@@ -13,9 +13,10 @@ use Rattle.bytecode.specs.declared.declaration.Slot.{Slot}
 use Rattle.bytecode.specs.declared.declaration.Slot.TheVariants as slot
 use Rattle.bytecode.specs.declared.instruction.Instruction.{Instruction}
 use Rattle.bytecode.specs.Values.{has_kind}
-use Rattle.bytecode.specs.Machine.{Machine, State, act, acts, step, goes_on, with_slot, with_global, loads, stores, with_element, loads_element, stores_element, changes, bounds}
+use Rattle.bytecode.specs.Machine.{Machine, State, act, acts, step, goes_on, with_slot, with_global, loads, stores, with_element, loads_element, stores_element, changes}
+use Rattle.common.specs.declared.exceptions.TheConstants.{BOUNDS}
 use Rattle.lowering.specs.Expressions.{load_of, store_of, load_element_of, store_element_of}
-use Rattle.lowering.proofs.Places.{Stands, stands-here}
+use Rattle.lowering.proofs.CodePieces.{Stands, stands-here}
 use Rattle.lowering.specs.Threaded.{jump_of}
 use Rattle.lowering.proofs.Steps.{Leads, Strides, counted, leads-step}
 use Rattle.lowering.proofs.States.{Setting, state_at, place, cell_of, cells_of, slot_of_type, with_slot-is, with_global-is, thrown_to, raised-is}
@@ -108,16 +109,16 @@ stores_element-is g (Local n) kind count v z values at operands s e h c =
 pub stores_nowhere : (g : Setting) (x : Variable) (kind : Kind) (count : ℕ) (v : Value) (z : ℤ) (at : ℕ) (operands : List Cell) (s : source.SourceState)
     → slot_for g x ≡ Some (slot.Array kind count) → has_kind kind (cell_of v) ≡ true
     → with_element (cells_of (source.cells s x)) z (cell_of v) ≡ None
-    → act g.p (store_element_of x) (state_at g at (cell_of v ∷ cell.Int z ∷ operands) s) ≡ thrown_to g (g.p.find g.number at bounds) bounds s
+    → act g.p (store_element_of x) (state_at g at (cell_of v ∷ cell.Int z ∷ operands) s) ≡ thrown_to g (g.p.find g.number at BOUNDS) BOUNDS s
 stores_nowhere g (Global n) kind count v z at operands s e h c =
     let S = state_at g at (cell_of v ∷ cell.Int z ∷ operands) s in
     ap (λ (o : Option Slot). stores_element g.p S o (with_global S n) (cells_of (s.globals n)) (cell_of v ∷ cell.Int z ∷ operands)) (g.globals_there n ∙ e)
     ∙ stores_in_array g S kind count (with_global S n) (cells_of (s.globals n)) (cell_of v) z operands h
     ∙ ap (changes g.p S (with_global S n) operands) c
-    ∙ raised-is g at (cell_of v ∷ cell.Int z ∷ operands) s bounds
+    ∙ raised-is g at (cell_of v ∷ cell.Int z ∷ operands) s BOUNDS
 stores_nowhere g (Local n) kind count v z at operands s e h c =
     let S = state_at g at (cell_of v ∷ cell.Int z ∷ operands) s in
     ap (λ (o : Option Slot). stores_element g.p S o (with_slot S n) (cells_of (s.locals n)) (cell_of v ∷ cell.Int z ∷ operands)) (g.locals_there n ∙ e)
     ∙ stores_in_array g S kind count (with_slot S n) (cells_of (s.locals n)) (cell_of v) z operands h
     ∙ ap (changes g.p S (with_slot S n) operands) c
-    ∙ raised-is g at (cell_of v ∷ cell.Int z ∷ operands) s bounds
+    ∙ raised-is g at (cell_of v ∷ cell.Int z ∷ operands) s BOUNDS

@@ -1,4 +1,5 @@
 -- What a machine has sent stays sent: one step of any instruction adds to it at most.
+use Rattle.common.specs.Functions.{same_truth}
 use Rattle.std.proofs.Common.{ℕ, zero, suc, Bool, true, false, ℤ, List, [], ◌∷◌, length, nat_lt, ◌+◌, Option, Some, None, refl, slice_get}
 use Rattle.std.specs.Prelude.{if◌then◌else◌, reverse}
 use Rattle.labels.specs.Sent.{IsPrefix}
@@ -15,7 +16,8 @@ use Rattle.common.specs.declared.direction.Direction.TheVariants.{Input, Output}
 use Rattle.bytecode.specs.declared.value.Cell.{Cell}
 use Rattle.bytecode.specs.declared.value.Cell.TheVariants as cell
 use Rattle.bytecode.specs.Values.{has_kind}
-use Rattle.bytecode.specs.Machine.{element_at, with_element, Frame, Caller, State, Machine, Running, Ended, Stuck, sent_of, Header, MachineCode, arith, bounds, end_of_input, handled, unwound, raised, slot_at, with_slot, with_global, loads, stores, found, loads_element, changes, stores_element, clears, computed, pushes_number, computes, compares, same_truth, matches, drops, negates, inverts, branches, popped, enters, calls, leaves, leaves_without, returns_nothing, leaves_value, gives_back, returns_value, takes, receives, sends, throws, act, acts, step, exec}
+use Rattle.bytecode.specs.Machine.{element_at, with_element, Frame, Caller, State, Machine, Running, Ended, Stuck, sent_of, Header, MachineCode, handled, unwound, raised, slot_at, with_slot, with_global, loads, stores, found, loads_element, changes, stores_element, clears, computed, pushes_number, computes, compares, matches, drops, negates, inverts, branches, popped, enters, calls, leaves, leaves_without, returns_nothing, leaves_value, gives_back, returns_value, takes, receives, sends, throws, act, acts, step, exec}
+use Rattle.common.specs.declared.exceptions.TheConstants.{ARITH, BOUNDS, END}
 use Rattle.common.specs.declared.limits.TheConstants.{MAX_FRAMES}
 
 -- what was sent before a state is a prefix of what a machine has sent
@@ -55,7 +57,7 @@ stores-keeps p s (Some (slot.Scalar kind)) put (x ∷ operands) h = choice-keeps
 stores-keeps p s _ put _ h = same s
 
 found-keeps : (p : MachineCode) (s : State) (operands : List Cell) (o : Option Cell) → Kept s (found p s operands o)
-found-keeps p s operands None = raised-keeps p s bounds
+found-keeps p s operands None = raised-keeps p s BOUNDS
 found-keeps p s operands (Some value) = same s
 
 loads_element-keeps : (p : MachineCode) (s : State) (o : Option Slot) (cells : List Cell) (operands : List Cell) → Kept s (loads_element p s o cells operands)
@@ -63,7 +65,7 @@ loads_element-keeps p s (Some (slot.Array kind count)) cells (cell.Int i ∷ ope
 loads_element-keeps p s _ cells _ = same s
 
 changes-keeps : (p : MachineCode) (s : State) (put : List Cell → State) (operands : List Cell) (o : Option (List Cell)) → ((cells : List Cell) → IsPrefix s.sent (put cells).sent) → Kept s (changes p s put operands o)
-changes-keeps p s put operands None h = raised-keeps p s bounds
+changes-keeps p s put operands None h = raised-keeps p s BOUNDS
 changes-keeps p s put operands (Some cells) h = h cells
 
 stores_element-keeps : (p : MachineCode) (s : State) (o : Option Slot) (put : List Cell → State) (cells : List Cell) (operands : List Cell) → ((cells : List Cell) → IsPrefix s.sent (put cells).sent) → Kept s (stores_element p s o put cells operands)
@@ -76,7 +78,7 @@ clears-keeps p s k (Some (slot.Array kind count)) = same s
 clears-keeps p s k _ = same s
 
 pushes_number-keeps : (p : MachineCode) (s : State) (operands : List Cell) (o : Option ℤ) → Kept s (pushes_number p s operands o)
-pushes_number-keeps p s operands None = raised-keeps p s arith
+pushes_number-keeps p s operands None = raised-keeps p s ARITH
 pushes_number-keeps p s operands (Some n) = same s
 
 computes-keeps : (p : MachineCode) (s : State) (operator : Arithmetic) (operands : List Cell) → Kept s (computes p s operator operands)
@@ -141,7 +143,7 @@ returns_value-keeps s None = same s
 returns_value-keeps s (Some header) = gives_back-keeps s header.returned s.frame.operands
 
 takes-keeps : (p : MachineCode) (s : State) (channel : ℕ) (numbers : List ℤ) → Kept s (takes p s channel numbers)
-takes-keeps p s channel [] = raised-keeps p s end_of_input
+takes-keeps p s channel [] = raised-keeps p s END
 takes-keeps p s channel (n ∷ numbers) = same s
 
 receives-keeps : (p : MachineCode) (s : State) (channel : ℕ) (o : Option Direction) → Kept s (receives p s channel o)

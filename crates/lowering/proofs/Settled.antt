@@ -13,9 +13,10 @@ use Rattle.common.specs.declared.direction.Direction.TheVariants.{Input, Output}
 use Rattle.resolved.specs.Tree.{Expression, Statement, Assign, Clear, Store, Receive, Send, Call, If, While, Leave, ReturnWith, Try, Nested, Block, Empty, Then, Handlers, NoMore, Catch, place_of}
 use Rattle.resolved.specs.Program.{Program, ProcedureEntry, ResultEntry, SlotEntry, procedure_at}
 use Rattle.resolved.specs.Ends.{same_exit, has_end, statement_ends, block_ends}
-use Rattle.resolved.specs.EndFaults.{OutsideLoop, Unreachable, NeverRaised, fault_unless, may_leave, may_stand, inner_faults, block_faults, handlers_faults}
+use Rattle.resolved.specs.EndFaults.{fault_unless, may_leave, may_stand, inner_faults, block_faults, handlers_faults}
+use Rattle.resolved.specs.declared.fault.EndDefect.TheVariants.{OutsideLoop, Unreachable, NeverRaised}
 use Rattle.resolved.specs.WellFormed.{VariableType, variable_type, has_base, same_base, scalar_by, array_by, target_by, has_result, channel_is, parameters_of, arguments_match, call_matches, is_array, is_exception, may_leave_by, statement_fits, block_fits, handlers_fit}
-use Rattle.resolved.proofs.Parts.{procedure_at_is}
+use Rattle.resolved.proofs.WellFormedParts.{procedure_at_is}
 use Rattle.resolved.proofs.Sound.Values.{same_base_is}
 use Rattle.bytecode.specs.Contents.{ProcedureContents, ModuleContents}
 use Rattle.bytecode.specs.Machine.{Header, machine_code, header_of}
@@ -34,9 +35,9 @@ use Rattle.lowering.specs.Code.{Loop, jump_size, jump_code, jumps_over, jumps_be
 use Rattle.lowering.proofs.States.{slot_of_type}
 use Rattle.lowering.proofs.Sizes.{value-sized, arguments-sized, branch-sized, jump-sized, statement-sized, block-sized, handlers-sized}
 use Rattle.lowering.proofs.Flowing.{Does, Flows, Here, kinds_at, here-front, here-back, here-end, flows-none, flows-both, flows-given, flows-free, flows-one, flows-jump}
-use Rattle.lowering.proofs.Kinded.{scalar-type, array-type, none-is, input-is, output-is, Stated, store-does, store_element-does, clear-does, pop-does, receive-does, send-does, call-does, return-does, return_value-does, throw-does, parameters-are}
+use Rattle.lowering.proofs.Kinded.{scalar-type, array-type, input-is, output-is, Stated, store-does, store_element-does, clear-does, pop-does, receive-does, send-does, call-does, return-does, return_value-does, throw-does, parameters-are}
 use Rattle.lowering.proofs.Pushing.{value-flows, arguments-flow, branch-flows}
-use Rattle.common.proofs.Cases.{append_empty}
+use Rattle.common.proofs.Cases.{append_empty, none_there}
 use Rattle.resolved.proofs.Exits.{no_fault-test}
 
 -- an array that may be cleared
@@ -237,7 +238,7 @@ module _ (program : Program) (procedure : ProcedureEntry) (m : ModuleContents) (
 
   return-flows : (at : ℕ) (e : Option Expression) (mark : ℕ) → statement_fits program procedure (ReturnWith mark e) ≡ true
       → Flows m p whole at (return_code at e) (Unit {0}) [] []
-  return-flows at None mark fits = flows-one m p whole (return-does m p (stated.returned_is ∙ ap returned_kind (none-is procedure.result fits)))
+  return-flows at None mark fits = flows-one m p whole (return-does m p (stated.returned_is ∙ ap returned_kind (none_there procedure.result fits)))
   return-flows at (Some e) mark fits = value-returned at procedure.result e refl fits
 
   assign-flows : (at : ℕ) (x : Variable) (e : Expression) → scalar_by (variable_type program procedure x) (λ b. has_base program procedure b e) ≡ true

@@ -1,4 +1,5 @@
 -- Code of simple statements does what they do.
+use Rattle.common.specs.Functions.{updated}
 use Rattle.std.proofs.Common.{◌≡◌, ℕ, suc, ◌+◌, Bool, true, false, cond, eqb, ℤ, List, [], ◌∷◌, length, map, refl, sym, ap, ◌∙◌, slice_get, subst, arith, nat_lt, eqb-true, All}
 use Rattle.std.specs.Prelude.{Option, Some, None, if◌then◌else◌, is_none, replicate}
 use Rattle.std.proofs.Math.Path.{fun_ext}
@@ -11,9 +12,10 @@ use Rattle.resolved.specs.declared.statement.Exit.{Exit}
 use Rattle.resolved.specs.declared.statement.Exit.TheVariants as exit
 use Rattle.common.specs.declared.direction.Direction.{Direction}
 use Rattle.common.specs.declared.direction.Direction.TheVariants.{Input, Output}
+use Rattle.common.proofs.Cases.{none_there}
 use Rattle.resolved.specs.Program as resolved
 use Rattle.resolved.specs.SourceState as source
-use Rattle.resolved.specs.SourceState.{value_of, cells, cell_at, assigned, stored, cleared, updated, with_cells}
+use Rattle.resolved.specs.SourceState.{value_of, cells, cell_at, assigned, stored, cleared, with_cells}
 use Rattle.resolved.specs.Value.{base_of, zero_value}
 use Rattle.resolved.specs.Meaning.{Ended, kept_in}
 use Rattle.resolved.specs.WellFormed.{VariableType, variable_type, has_base, same_base, scalar_by, array_by, target_by, channel_is, is_array, may_leave_by, is_exception, has_result, cell_count}
@@ -25,11 +27,11 @@ use Rattle.bytecode.specs.declared.declaration.Slot.TheVariants as slot
 use Rattle.bytecode.specs.declared.instruction.Instruction.{Instruction}
 use Rattle.bytecode.specs.declared.instruction.Instruction.TheVariants as instruction
 use Rattle.bytecode.specs.Values.{zero_of, has_kind}
-use Rattle.bytecode.specs.Machine.{State, changed, returns_nothing, leaves_without, returns_value, gives_back, leaves_value, raised, no_row}
+use Rattle.bytecode.specs.Machine.{State, returns_nothing, leaves_without, returns_value, gives_back, leaves_value, raised, no_row}
 use Rattle.lowering.specs.Interface.{kind_of_base, returned_kind}
 use Rattle.lowering.specs.Expressions.{store_of}
 use Rattle.lowering.specs.Code.{Loop, kept_code, leave_code}
-use Rattle.lowering.proofs.Places.{Stands}
+use Rattle.lowering.proofs.CodePieces.{Stands}
 use Rattle.lowering.proofs.Steps.{Leads}
 use Rattle.lowering.proofs.States.{Setting, state_at, place, cell_of, cells_of, thrown_to, returned_to, raised-is, leaves-is, leaves_value-is, kind-same, left_of, left_by, direction_in}
 use Rattle.lowering.proofs.Rows.{does, onward, slot_for, stores-is}
@@ -87,12 +89,8 @@ module _ (g : Setting) (loop : Loop) (h : ℕ → Option ℕ) (k : ℕ) (s : sou
       → Leads g.p (place g at [] s) (returned_to g None s)
   returns-nothing at more none stands =
       does g more instruction.Return at [] s _ stands
-      (ap (returns_nothing (state_at g at [] s)) g.header_is ∙ ap (leaves_without (state_at g at [] s)) (g.returned_is ∙ ap returned_kind (nothing g.procedure.result none))
+      (ap (returns_nothing (state_at g at [] s)) g.header_is ∙ ap (leaves_without (state_at g at [] s)) (g.returned_is ∙ ap returned_kind (none_there g.procedure.result none))
       ∙ leaves-is g at [] s)
-    where
-      nothing : (o : Option resolved.ResultEntry) → is_none o ≡ true → o ≡ None
-      nothing None e = refl
-      nothing (Some entry) e = cc
 
   gives_kind : (at : ℕ) (v : Value) (kind : Kind) → has_kind kind (cell_of v) ≡ true
       → gives_back (state_at g at (cell_of v ∷ []) s) (Some kind) (cell_of v ∷ []) ≡ leaves_value (state_at g at (cell_of v ∷ []) s) (cell_of v) g.callers
@@ -108,7 +106,7 @@ module _ (g : Setting) (loop : Loop) (h : ℕ → Option ℕ) (k : ℕ) (s : sou
 
   -- ---- channels
   pub taken_state : (channel : ℕ) (numbers : List ℤ) (at : ℕ) (operands : List Cell) → channel_is (slice_get g.program.channels channel) Input ≡ true
-      → ◌≡◌ {A = State} (record (state_at g at operands s) { rest = changed (state_at g at operands s).rest channel numbers })
+      → ◌≡◌ {A = State} (record (state_at g at operands s) { rest = updated (state_at g at operands s).rest channel numbers })
       (state_at g at operands (record s { inputs = updated s.inputs channel numbers }))
   taken_state channel numbers at operands is_input =
       ap (λ (rest : ℕ → List ℤ). record (state_at g at operands s) { rest = rest }) (fun_ext (λ m. go m (eqb m channel) refl))

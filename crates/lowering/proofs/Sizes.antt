@@ -1,4 +1,5 @@
 -- The code of statements has as many instructions as its size says.
+use Rattle.common.specs.Functions.{same_truth}
 use Rattle.std.proofs.Common.{◌≡◌, ℕ, ◌+◌, List, [], ◌∷◌, ◌++◌, length, Bool, true, false, ◌∙◌, refl, arith, length-append}
 use Rattle.std.specs.Prelude.{Option, Some, None, not, if◌then◌else◌}
 use Rattle.resolved.specs.declared.expression.Variable.{Variable}
@@ -7,7 +8,6 @@ use Rattle.resolved.specs.declared.expression.Connective.{Connective}
 use Rattle.resolved.specs.declared.expression.Connective.TheVariants.{And, Or}
 use Rattle.resolved.specs.Tree.{Expression, Integer, Logical, Read, Element, Unary, Binary, Short, Statement, Assign, Clear, Store, Receive, Send, Call, If, While, Leave, ReturnWith, Try, Nested, Block, Empty, Then, Handlers, NoMore, Catch}
 use Rattle.resolved.specs.Program.{Program, ResultEntry, procedure_at}
-use Rattle.resolved.specs.Value.{bool_eq}
 use Rattle.bytecode.specs.declared.instruction.Instruction.{Instruction}
 use Rattle.bytecode.specs.declared.instruction.Instruction.TheVariants as instruction
 use Rattle.lowering.specs.Expressions.{store_of, store_element_of, load_element_of, prefix_instruction, operator_instruction, value_size, value_code, rest_of_short, arguments_size, arguments_code, tested, deciding, branch_size, branch_code, test_code}
@@ -57,7 +57,7 @@ branch-sized (Unary prefix.Negate e) wanted at target = test_sized wanted at tar
 branch-sized (Unary prefix.Not e) wanted at target = branch-sized e (not wanted) at target
 branch-sized (Binary operator d e) wanted at target = test_sized wanted at target (Binary operator d e)
 branch-sized (Short connective d e) wanted at target =
-    let inner = (if bool_eq wanted (deciding connective) then target else at + branch_size (deciding connective) d + branch_size wanted e) in
+    let inner = (if same_truth wanted (deciding connective) then target else at + branch_size (deciding connective) d + branch_size wanted e) in
     both_sized (branch_code (deciding connective) at inner d) (branch_code wanted (at + branch_size (deciding connective) d) target e)
     (branch_size (deciding connective) d) (branch_size wanted e)
     (branch-sized d (deciding connective) at inner) (branch-sized e wanted (at + branch_size (deciding connective) d) target)

@@ -6,7 +6,7 @@ use Rattle.std.specs.Option.{option_map}
 use Rattle.std.proofs.lemmas.Bool.{lt-ltb, le-ltb, ltb-true, ltb-false, ne_eqb, or_right}
 use Rattle.std.proofs.lemmas.Bool.Decides.{nat_tests}
 use Rattle.std.proofs.lemmas.List.Elements.{All-head, All-tail, All-map, All-contains}
-use Rattle.std.proofs.lemmas.Option.{slice_get-get_or}
+use Rattle.std.proofs.lemmas.Option.{slice_get-get_or, same_Some}
 use Rattle.bytecode.specs.Code.{width_of, code_length, instruction_at}
 use Rattle.bytecode.specs.Contents.{ProcedureContents, ModuleContents}
 use Rattle.bytecode.specs.Machine.{machine_code}
@@ -26,14 +26,14 @@ use Rattle.verifier.specs.declared.fault.CodeDefect.TheVariants as defect
 use Rattle.verifier.specs.Fixed.{unless, is_start, is_end, instruction_defect, handler_defect, refusals_at, instruction_refusals, handler_refusals}
 use Rattle.verifier.specs.Flow.{Edge, next, jumps, caught, Leaves, Misses, effect, goes_on, FlowsWell}
 use Rattle.verifier.proofs.Laws.{flows_well}
-use Rattle.lowering.proofs.Flowing.{Fine, EachFine, fine-at, kinds_at, along, onward, following}
+use Rattle.lowering.proofs.Flowing.{IsSound, EachSound, sound-at, kinds_at, along, onward, following}
 use Rattle.lowering.proofs.Settled.{Catches}
-use Rattle.common.proofs.Cases.{same_some}
 use Rattle.bytecode.proofs.Widths.{width_of-pos}
+use Rattle.lowering.proofs.Finals.{target-renamed}
 
 -- a procedure of a graph whose code flows and stays inside
 pub record Sound (m : ModuleContents) (g : ProcedureContents) : Type 0 where
-  pub fine : EachFine m (laid_out_procedure g) g.code g.code []
+  pub fine : EachSound m (laid_out_procedure g) g.code g.code []
   pub catches : All (Catches m (laid_out_procedure g) g.code) g.handlers
   pub positions : HasPositions g
   pub starts : 0 < length g.code
@@ -87,7 +87,7 @@ listed-found (i ∷ code) kinds at list h =
 
     by : (first inside : Bool) → eqb at 0 ≡ first → ltb at (width_of i) ≡ inside → cond first (Some (kinds 0)) (cond inside None rest) ≡ Some list
         → (rest ≡ Some list → Found code (λ k. kinds (suc k)) (at - width_of i) list) → Found (i ∷ code) kinds at list
-    by true inside e f h more = record { position = 0; below = omega arith; is = zero-is at e; same = same_some (kinds 0) list h }
+    by true inside e f h more = record { position = 0; below = omega arith; is = zero-is at e; same = same_Some (kinds 0) list h }
     by false true e f h more = absurd (let no : None ≡ Some list = h in cc)
     by false false e f h more =
         let r = more h in
@@ -103,11 +103,6 @@ pub same-goes : (f : ℕ → ℕ) (x : Instruction) → goes_on (renamed_instruc
 same-goes f (Jump target) = refl
 same-goes f (JumpIfFalse target) = refl
 same-goes f x = refl
-
-same-target : (f : ℕ → ℕ) (x : Instruction) → target_of (renamed_instruction f x) ≡ option_map f (target_of x)
-same-target f (Jump target) = refl
-same-target f (JumpIfFalse target) = refl
-same-target f x = refl
 
 target-inside : (n : ℕ) (x : Instruction) → IfSome (target_of x) (λ target. target < n) → (t : ℕ) → target_of x ≡ Some t → t < n
 target-inside n x h t e = subst (λ (o : Option ℕ). IfSome o (λ target. target < n)) e h
@@ -139,7 +134,7 @@ module _ (m : ModuleContents) (g : ProcedureContents) (s : Sound m g) where
     there : slice_get g.code position ≡ Some instruction
     below : position < length g.code
     same : kinds position ≡ list
-    fine : Fine m (laid_out_procedure g) g.code instruction list
+    fine : IsSound m (laid_out_procedure g) g.code instruction list
     inside : (t : ℕ) → target_of instruction ≡ Some t → t < length g.code
 
   at-instruction : (at : ℕ) (list : List Kind) → done at ≡ Some list → AtInstruction at list
@@ -155,14 +150,14 @@ module _ (m : ModuleContents) (g : ProcedureContents) (s : Sound m g) where
         there = there;
         below = found.below;
         same = found.same;
-        fine = subst (Fine m (laid_out_procedure g) g.code x) found.same (fine-at m (laid_out_procedure g) g.code g.code [] found.position x s.fine there);
+        fine = subst (IsSound m (laid_out_procedure g) g.code x) found.same (sound-at m (laid_out_procedure g) g.code g.code [] found.position x s.fine there);
         inside = target-inside (length g.code) x (s.positions.targets found.position Return found.below);
       }
 
   renamed-there : (at : ℕ) (list : List Kind) (h : AtInstruction at list) (i : Instruction) → instruction_at (laid_out_procedure g).code at ≡ Some i
       → renamed_instruction (offset g.code) h.instruction ≡ i
   renamed-there at list h i e =
-      same_some (renamed_instruction (offset g.code) h.instruction) i
+      same_Some (renamed_instruction (offset g.code) h.instruction) i
       (sym (fetched (offset g.code) g.code h.position ∙ ap (option_map (renamed_instruction (offset g.code))) h.there)
       ∙ (ap (instruction_at (laid_out_procedure g).code) (sym h.is) ∙ e))
 
@@ -198,7 +193,7 @@ module _ (m : ModuleContents) (g : ProcedureContents) (s : Sound m g) where
   unfolding done kinds
   goes-there at list h i to e target =
       let x = h.instruction in
-      let from = renamed-from (offset g.code) (target_of x) to (sym (same-target (offset g.code) x) ∙ (ap target_of (renamed-there at list h i e) ∙ target)) in
+      let from = renamed-from (offset g.code) (target_of x) to (sym (target-renamed (offset g.code) x) ∙ (ap target_of (renamed-there at list h i e) ∙ target)) in
       ap (listed g.code kinds) (sym from.2) ∙ (listed-at g.code kinds from.0 (h.inside from.0 from.1) ∙ ap (λ l. Some l) (h.fine.jumps from.0 from.1))
 
   -- each handler goes to where there are no operands
@@ -240,7 +235,7 @@ module _ (m : ModuleContents) (g : ProcedureContents) (s : Sound m g) where
   jump-right : (t : ℕ) → t < length g.code → unless (is_start (laid_out_procedure g) (offset g.code t)) defect.Jump ≡ None
   jump-right t below = ap (λ (b : Bool). unless b defect.Jump) (start-at g.code t below)
 
-  instruction-right : (x : Instruction) (list : List Kind) → Fine m (laid_out_procedure g) g.code x list → IfSome (target_of x) (λ target. target < length g.code)
+  instruction-right : (x : Instruction) (list : List Kind) → IsSound m (laid_out_procedure g) g.code x list → IfSome (target_of x) (λ target. target < length g.code)
       → instruction_defect m (laid_out_procedure g) (renamed_instruction (offset g.code) x) ≡ None
   instruction-right (Jump target) list f below = jump-right target below
   instruction-right (JumpIfFalse target) list f below = jump-right target below
@@ -292,7 +287,7 @@ module _ (m : ModuleContents) (g : ProcedureContents) (s : Sound m g) where
   pub sound-instructions : (number : ℕ) → instruction_refusals m number (laid_out_procedure g) 0 (laid_out_procedure g).code ≡ []
   sound-instructions number =
       instructions-right number 0 g.code
-      (λ k x e. instruction-right x (along m (laid_out_procedure g) (take k g.code) []) (fine-at m (laid_out_procedure g) g.code g.code [] k x s.fine e) (targets k x e))
+      (λ k x e. instruction-right x (along m (laid_out_procedure g) (take k g.code) []) (sound-at m (laid_out_procedure g) g.code g.code [] k x s.fine e) (targets k x e))
     where
       below : (code : List Instruction) (k : ℕ) (x : Instruction) → slice_get code k ≡ Some x → k < length code
       below [] k x e = absurd (let no : None ≡ Some x = e in cc)
@@ -302,7 +297,7 @@ module _ (m : ModuleContents) (g : ProcedureContents) (s : Sound m g) where
       targets : (k : ℕ) (x : Instruction) → slice_get g.code k ≡ Some x → IfSome (target_of x) (λ target. target < length g.code)
       targets k x e =
           let there = slice_get-get_or g.code k Return (below g.code k x e) in
-          subst (λ (y : Instruction). IfSome (target_of y) (λ target. target < length g.code)) (same_some (get_or g.code k Return) x (sym there ∙ e))
+          subst (λ (y : Instruction). IfSome (target_of y) (λ target. target < length g.code)) (same_Some (get_or g.code k Return) x (sym there ∙ e))
           (s.positions.targets k Return (below g.code k x e))
 
   pub sound-handlers : (number : ℕ) → handler_refusals m number (laid_out_procedure g) (laid_out_procedure g).handlers ≡ []

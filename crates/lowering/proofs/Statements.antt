@@ -13,7 +13,7 @@ use Rattle.resolved.specs.Value.{Evaluated, Yields, Raises, then_with, base_of}
 use Rattle.resolved.specs.Meaning.{Outcome, Ended, Stopped, Deep, OutOfTurns, Calls, evaluated, returned_to}
 use Rattle.resolved.specs.WellFormed.{has_base, has_result, same_base, target_by, call_matches, arguments_match, parameters_of}
 use Rattle.resolved.specs.Kinds.{StateFits, ArgumentsFit}
-use Rattle.resolved.proofs.Parts.{procedure_at_is}
+use Rattle.resolved.proofs.WellFormedParts.{procedure_at_is}
 use Rattle.resolved.proofs.Sound.Values.{same_base_is, values_match, GivesMatch}
 use Rattle.bytecode.specs.declared.value.Cell.{Cell}
 use Rattle.bytecode.specs.declared.instruction.Instruction.{Instruction}
@@ -22,7 +22,7 @@ use Rattle.bytecode.specs.Machine as machine
 use Rattle.bytecode.specs.Machine.{Machine}
 use Rattle.lowering.specs.Expressions.{value_size, value_code, arguments_size, arguments_code}
 use Rattle.lowering.specs.Code.{Loop, result_size, result_code}
-use Rattle.lowering.proofs.Places.{Stands, stands-front, stands-back}
+use Rattle.lowering.proofs.CodePieces.{Stands, stands-front, stands-back}
 use Rattle.lowering.proofs.Sizes.{value-sized, arguments-sized}
 use Rattle.lowering.proofs.Steps.{Leads, Waits, leads-through, waits-through}
 use Rattle.lowering.proofs.States.{Setting, place, cell_of, thrown_to}

@@ -60,14 +60,14 @@ entry-inside start end exception target i e low high =
     let some : nat_lt start end ≡ true = grind (arith, nat_tests) in
     let after : nat_lt i start ≡ false = grind (arith, nat_tests) in
     let before : nat_lt i end ≡ true = grind (arith, nat_tests) in
-    let same : eqb exception e ≡ eqb e exception = turned (eqb exception e) (eqb e exception) refl refl in
+    let same : eqb exception e ≡ eqb e exception = swapped (eqb exception e) (eqb e exception) refl refl in
     rw (some, after, before, same) refl
   where
-    turned : (a b : Bool) → eqb exception e ≡ a → eqb e exception ≡ b → eqb exception e ≡ eqb e exception
-    turned true true h k = h ∙ sym k
-    turned false false h k = h ∙ sym k
-    turned true false h k = grind (arith, nat_tests)
-    turned false true h k = grind (arith, nat_tests)
+    swapped : (a b : Bool) → eqb exception e ≡ a → eqb e exception ≡ b → eqb exception e ≡ eqb e exception
+    swapped true true h k = h ∙ sym k
+    swapped false false h k = h ∙ sym k
+    swapped true false h k = grind (arith, nat_tests)
+    swapped false true h k = grind (arith, nat_tests)
 
 -- ---- outside a statement
 mutual

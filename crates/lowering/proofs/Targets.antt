@@ -1,5 +1,7 @@
 -- Where the code of expressions and conditions jumps: behind itself at most.
+use Rattle.common.specs.Functions.{same_truth}
 use Rattle.std.proofs.Common.{ℕ, ◌+◌, ◌<◌, ◌≤◌, List, [], ◌∷◌, ◌++◌, All, Bool, true, false, arith}
+use Rattle.common.proofs.Cases.{by_test}
 use Rattle.std.specs.Prelude.{IfSome, Option, Some, None, not, if◌then◌else◌}
 use Rattle.std.proofs.lemmas.List.Elements.{All-nil, All-cons, All-append}
 use Rattle.resolved.specs.declared.expression.Variable.{Variable}
@@ -11,7 +13,6 @@ use Rattle.resolved.specs.declared.expression.Operator.TheVariants as operator
 use Rattle.resolved.specs.declared.expression.Connective.{Connective}
 use Rattle.resolved.specs.declared.expression.Connective.TheVariants.{And, Or}
 use Rattle.resolved.specs.Tree.{Expression, Integer, Logical, Read, Element, Unary, Binary, Short}
-use Rattle.resolved.specs.Value.{bool_eq}
 use Rattle.bytecode.specs.declared.instruction.Instruction.{Instruction}
 use Rattle.bytecode.specs.declared.instruction.Instruction.TheVariants as instruction
 use Rattle.bytecode.specs.Targets.{target_of}
@@ -122,10 +123,6 @@ branch-filled (Unary prefix.Not e) wanted = branch-filled e (not wanted)
 branch-filled (Binary o d e) wanted = test-filled wanted (Binary o d e)
 branch-filled (Short connective d e) wanted = omega (arith, branch-filled d (deciding connective))
 
-either-below : (b : Bool) (first second n : ℕ) → first < n → second < n → (if b then first else second) < n
-either-below true first second n h k = h
-either-below false first second n h k = k
-
 test-below : (wanted : Bool) (e : Expression) (at target n : ℕ) → at + (value_size (tested wanted e) + 1) ≤ n → target < n
     → Stays n (test_code wanted at target e)
 test-below wanted e at target n room h =
@@ -142,5 +139,5 @@ branch-below (Binary o d e) wanted at target n room h = test-below wanted (Binar
 branch-below (Short connective d e) wanted at target n room h =
     both-below n (branch_code (deciding connective) at _ d) _
     (branch-below d (deciding connective) at _ n (omega (arith, room))
-    (either-below (bool_eq wanted (deciding connective)) target (at + branch_size (deciding connective) d + branch_size wanted e) n h (omega (arith, room))))
+    (by_test (same_truth wanted (deciding connective)) (λ e. rw e h) (λ e. rw e (omega (arith, room)))))
     (branch-below e wanted (at + branch_size (deciding connective) d) target n (omega (arith, room)) h)

@@ -17,7 +17,7 @@ use Rattle.verifier.specs.Flow.{Leaves, effect, goes_on}
 use Rattle.lowering.specs.Threaded.{jump_of, onward as onward_place, followed, final_place, threaded}
 use Rattle.lowering.proofs.Unthreaded.{threaded_procedure}
 use Rattle.lowering.proofs.Finals.{length-threaded, target-renamed}
-use Rattle.lowering.proofs.Flowing.{Fine, EachFine, fine-at, kinds_at, along, onward, following}
+use Rattle.lowering.proofs.Flowing.{IsSound, EachSound, sound-at, kinds_at, along, onward, following}
 use Rattle.lowering.proofs.Following.{jump-is}
 use Rattle.lowering.proofs.Settled.{Catches}
 use Rattle.lowering.proofs.Standing.{Sound, same-effect, same-goes, renamed-from}
@@ -44,9 +44,9 @@ module _ (m : ModuleContents) (p : ProcedureContents) (code : List Instruction) 
   kinds-same k = ap (λ (xs : List Instruction). along m p xs []) (take-map (renamed_instruction f) k code) ∙ along-renamed (take k code) []
 
   -- the kinds at an unconditional jump are those at its target
-  kinds-jumped : EachFine m p code code [] → (place target : ℕ) → jump_of (slice_get code place) ≡ Some target → kinds_at m p code target ≡ kinds_at m p code place
+  kinds-jumped : EachSound m p code code [] → (place target : ℕ) → jump_of (slice_get code place) ≡ Some target → kinds_at m p code target ≡ kinds_at m p code place
   kinds-jumped fine place target e =
-      let here = fine-at m p code code [] place (Jump target) fine (jump-is (slice_get code place) target e) in
+      let here = sound-at m p code code [] place (Jump target) fine (jump-is (slice_get code place) target e) in
       let left : Leaves (kinds_at m p code place) ≡ Leaves here.after = here.leaves in
       let after : here.after ≡ kinds_at m p code place = cc in
       here.jumps target refl ∙ after
@@ -60,13 +60,13 @@ module _ (m : ModuleContents) (p : ProcedureContents) (code : List Instruction) 
       by true = later target ∙ jumped target refl
       by false = refl
 
-  kinds-followed : EachFine m p code code [] → (jumps place : ℕ) → kinds_at m p code (followed jumps code place) ≡ kinds_at m p code place
+  kinds-followed : EachSound m p code code [] → (jumps place : ℕ) → kinds_at m p code (followed jumps code place) ≡ kinds_at m p code place
   kinds-followed fine zero place = refl
   kinds-followed fine (suc jumps) place =
       kinds-onward place (followed jumps code) (jump_of (slice_get code place)) (kinds-followed fine jumps) (λ target e. kinds-jumped fine place target e)
 
-  fine-renamed : EachFine m p code code [] → (i : Instruction) (kinds : List Kind) → Fine m p code i kinds → Fine m p (threaded code) (renamed_instruction f i) kinds
-  fine-renamed fine i kinds h = record {
+  sound-renamed : EachSound m p code code [] → (i : Instruction) (kinds : List Kind) → IsSound m p code i kinds → IsSound m p (threaded code) (renamed_instruction f i) kinds
+  sound-renamed fine i kinds h = record {
     after = h.after;
     leaves = same-effect m p f i kinds ∙ h.leaves;
     jumps = λ to e.
@@ -77,11 +77,11 @@ module _ (m : ModuleContents) (p : ProcedureContents) (code : List Instruction) 
         ap (instruction_defect m p) same ∙ h.fixed (ap target_of (sym same) ∙ none);
   }
 
-  each-renamed : EachFine m p code code [] → (xs : List Instruction) (kinds : List Kind) → EachFine m p code xs kinds
-      → EachFine m p (threaded code) (map (renamed_instruction f) xs) kinds
+  each-renamed : EachSound m p code code [] → (xs : List Instruction) (kinds : List Kind) → EachSound m p code xs kinds
+      → EachSound m p (threaded code) (map (renamed_instruction f) xs) kinds
   each-renamed fine [] kinds h = tt
   each-renamed fine (i ∷ xs) kinds h =
-      (fine-renamed fine i kinds h.0, subst (EachFine m p (threaded code) (map (renamed_instruction f) xs)) (sym (onward-renamed i kinds)) (each-renamed fine xs (onward m p i kinds) h.1))
+      (sound-renamed fine i kinds h.0, subst (EachSound m p (threaded code) (map (renamed_instruction f) xs)) (sym (onward-renamed i kinds)) (each-renamed fine xs (onward m p i kinds) h.1))
 
   catches-same : (handlers : List Handler) → All (Catches m p code) handlers → All (Catches m p (threaded code)) handlers
   catches-same handlers each k d below =
@@ -103,7 +103,7 @@ stays-threaded code stays k i there goes =
         let x_goes : goes_on x ≡ true = sym (same-goes (final_place code) x) ∙ ap goes_on same ∙ goes in
         omega (arith, stays k x e x_goes, length-threaded code)
 
-pub threaded-sound : (m : ModuleContents) (g : ProcedureContents) → EachFine m (laid_out_procedure (threaded_procedure g)) g.code g.code []
+pub threaded-sound : (m : ModuleContents) (g : ProcedureContents) → EachSound m (laid_out_procedure (threaded_procedure g)) g.code g.code []
     → All (Catches m (laid_out_procedure (threaded_procedure g)) g.code) g.handlers → HasPositions (threaded_procedure g) → 0 < length g.code → StaysIn g.code
     → Sound m (threaded_procedure g)
 threaded-sound m g fine catches positions starts stays =

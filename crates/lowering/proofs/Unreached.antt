@@ -11,9 +11,8 @@ use Rattle.resolved.specs.Tree.{Statement, If, Leave, ReturnWith, Try, Nested, B
 use Rattle.resolved.specs.Program.{Program, ProcedureEntry}
 use Rattle.resolved.specs.Ends.{same_exit, has_end, raises, thrown_ends, passes, then_ends, statement_ends, block_ends, handlers_ends}
 use Rattle.resolved.specs.WellFormed.{has_base, statement_fits, block_fits, handlers_fit, is_exception, may_leave_by}
-use Rattle.isolation.proofs.Among.{end-filter}
 use Rattle.lowering.specs.Code.{statement_falls, block_falls, handlers_fall}
-use Rattle.resolved.proofs.Exits.{thrown-normal}
+use Rattle.resolved.proofs.Exits.{thrown-normal, end-filter}
 
 none-of : (xs ys : List Exit) → has_end xs Normal ≡ false → has_end ys Normal ≡ false → has_end (xs ++ ys) Normal ≡ false
 none-of xs ys h k = list_any-append (same_exit Normal) xs ys ∙ (ap (λ b. b || has_end ys Normal) h ∙ k)

@@ -5,6 +5,7 @@ use Rattle.std.specs.Option.{option_map}
 use Rattle.std.proofs.lemmas.Bool.{ltb-true, ltb-false, and_parts}
 use Rattle.std.proofs.lemmas.List.{length-map}
 use Rattle.std.proofs.lemmas.Option.{slice_get-get_or, slice_get_past, slice_get-map}
+use Rattle.common.proofs.Cases.{none_there}
 use Rattle.resolved.specs.declared.expression.Value.{Value}
 use Rattle.resolved.specs.declared.expression.Value.TheVariants.{Number, Truth}
 use Rattle.resolved.specs.declared.expression.Base.{Base}
@@ -14,17 +15,18 @@ use Rattle.resolved.specs.SourceState as source
 use Rattle.resolved.specs.SourceState.{value_of, cells, cell_at}
 use Rattle.resolved.specs.Value.{Evaluated, Yields, Raises, then_with, base_of, checked_index}
 use Rattle.resolved.specs.WellFormed.{VariableType, variable_type, same_base, scalar_by, array_by, has_length, cell_count}
-use Rattle.resolved.specs.Kinds.{StateFits, CellsFit, GivesBase}
+use Rattle.resolved.specs.Kinds.{StateFits, CellsFit}
 use Rattle.bytecode.specs.declared.value.Cell.{Cell}
 use Rattle.bytecode.specs.declared.value.Kind.{Kind}
 use Rattle.bytecode.specs.declared.value.Cell.TheVariants as cell
 use Rattle.bytecode.specs.declared.declaration.Slot.{Slot}
 use Rattle.bytecode.specs.declared.declaration.Slot.TheVariants as slot
 use Rattle.bytecode.specs.declared.instruction.Instruction.{Instruction}
-use Rattle.bytecode.specs.Machine.{Machine, act, loads, scalar_cell, element_at, loads_element, found, goes_on, bounds}
+use Rattle.bytecode.specs.Machine.{Machine, act, loads, scalar_cell, element_at, loads_element, found, goes_on}
+use Rattle.common.specs.declared.exceptions.TheConstants.{BOUNDS}
 use Rattle.lowering.specs.Interface.{kind_of_base}
 use Rattle.lowering.specs.Expressions.{load_of, load_element_of}
-use Rattle.lowering.proofs.Places.{Stands}
+use Rattle.lowering.proofs.CodePieces.{Stands}
 use Rattle.lowering.proofs.Steps.{Leads, leads-through}
 use Rattle.lowering.proofs.States.{Setting, state_at, place, cell_of, cells_of, thrown_to, raised-is}
 use Rattle.lowering.proofs.Rows.{does, onward, slot_for, loads-is, loads_element-is}
@@ -66,11 +68,6 @@ then-runs g h before behind from mid end s (Yields v) next run each =
     value-from g h behind from (place g mid (cell_of v ∷ before) s) end s (next v) run (each v refl)
 then-runs g h before behind from mid end s (Raises exception) next run each = run
 
--- the base type of what was given
-pub given-base : (b : Base) (o : Evaluated Value) (v : Value) → GivesBase b o → o ≡ Yields v → base_of v ≡ b
-given-base b (Yields w) v fit e = let same : w ≡ v = cc in subst (λ x. base_of x ≡ b) same fit
-given-base b (Raises exception) v fit e = cc
-
 -- ---- variables
 
 pub scalar-there : (o : Option VariableType) (test : Base → Bool) → scalar_by o test ≡ true
@@ -78,11 +75,7 @@ pub scalar-there : (o : Option VariableType) (test : Base → Bool) → scalar_b
 scalar-there None test h = cc
 scalar-there (Some type) test h =
     let parts : (is_none type.size ≡ true) × (test type.base ≡ true) = and_parts (is_none type.size) (test type.base) h in
-    (type, refl, none_size type.size parts.0, parts.1)
-  where
-    none_size : (size : Option ℕ) → is_none size ≡ true → size ≡ None
-    none_size None h = refl
-    none_size (Some n) h = cc
+    (type, refl, none_there type.size parts.0, parts.1)
 
 pub array-there : (o : Option VariableType) (count : ℕ) (test : Base → Bool) → array_by o count test ≡ true
     → (type : VariableType) × (o ≡ Some type) × (type.size ≡ Some count) × (test type.base ≡ true)
@@ -147,11 +140,11 @@ module _ (g : Setting) (h : ℕ → Option ℕ) (s : source.SourceState) (fit : 
       slot_is type e f = rw (e, f) refl
 
       missing : (z : ℤ) → element_at (cells_of (cells s x)) z ≡ None → act g.p (load_element_of x) (state_at g at (cell.Int z ∷ operands) s) ≡ found g.p (state_at g at (cell.Int z ∷ operands) s) operands (element_at (cells_of (cells s x)) z)
-          → Leads g.p (place g at (cell.Int z ∷ operands) s) (thrown_to g (h bounds) bounds s)
+          → Leads g.p (place g at (cell.Int z ∷ operands) s) (thrown_to g (h BOUNDS) BOUNDS s)
       missing z none acts =
           does g more (load_element_of x) at (cell.Int z ∷ operands) s _ stands
-          (acts ∙ ap (found g.p (state_at g at (cell.Int z ∷ operands) s) operands) none ∙ raised-is g at (cell.Int z ∷ operands) s bounds
-          ∙ ap (λ (o : Option ℕ). thrown_to g o bounds s) (finds bounds))
+          (acts ∙ ap (found g.p (state_at g at (cell.Int z ∷ operands) s) operands) none ∙ raised-is g at (cell.Int z ∷ operands) s BOUNDS
+          ∙ ap (λ (o : Option ℕ). thrown_to g o BOUNDS s) (finds BOUNDS))
 
       inside : (i : ℕ) (test : Bool) → nat_lt i count ≡ test → length (cells s x) ≡ count
           → act g.p (load_element_of x) (state_at g at (cell.Int (pos i) ∷ operands) s) ≡ found g.p (state_at g at (cell.Int (pos i) ∷ operands) s) operands (element_at (cells_of (cells s x)) (pos i))

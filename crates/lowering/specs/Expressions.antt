@@ -2,6 +2,7 @@
 -- that goes to a place where the condition has the truth that is asked for, and else goes on behind.
 -- Places are numbers of instructions in the code of a procedure, from 0 on; code is made for the place at which it is to stand.
 -- Source: our own; jumping code for conditions as textbooks give it.
+use Rattle.common.specs.Functions.{same_truth}
 use Rattle.std.specs.Prelude.{ℕ, ◌+◌, Bool, true, false, not, List, [], ◌∷◌, ◌++◌, if◌then◌else◌}
 use Rattle.resolved.specs.declared.expression.Variable.{Variable}
 use Rattle.resolved.specs.declared.expression.Variable.TheVariants as variable
@@ -12,7 +13,7 @@ use Rattle.resolved.specs.declared.expression.Operator.TheVariants as operator
 use Rattle.resolved.specs.declared.expression.Connective.{Connective}
 use Rattle.resolved.specs.declared.expression.Connective.TheVariants.{And, Or}
 use Rattle.resolved.specs.Tree.{Expression, Integer, Logical, Read, Element, Unary, Binary, Short}
-use Rattle.resolved.specs.Value.{literal_number, bool_eq}
+use Rattle.resolved.specs.Value.{literal_number}
 use Rattle.bytecode.specs.declared.instruction.Arithmetic.TheVariants.{Add, Subtract, Multiply, Divide, Remainder}
 use Rattle.bytecode.specs.declared.instruction.Comparison.TheVariants.{Less, AtMost, Greater, AtLeast, Equal, NotEqual}
 use Rattle.bytecode.specs.declared.instruction.Instruction.{Instruction}
@@ -95,36 +96,36 @@ arguments_code at (e ∷ rest) = value_code at e ++ arguments_code (at + value_s
 
 -- ---- conditions
 -- the comparison that is true exactly where an operator is false; an operator on numbers has none and stays
-abbrev pub turned_operator : Operator → Operator
-turned_operator operator.Add = operator.Add
-turned_operator operator.Subtract = operator.Subtract
-turned_operator operator.Multiply = operator.Multiply
-turned_operator operator.Divide = operator.Divide
-turned_operator operator.Remainder = operator.Remainder
-turned_operator operator.LessThan = operator.AtLeast
-turned_operator operator.AtMost = operator.GreaterThan
-turned_operator operator.GreaterThan = operator.AtMost
-turned_operator operator.AtLeast = operator.LessThan
-turned_operator operator.Equal = operator.Unequal
-turned_operator operator.Unequal = operator.Equal
-turned_operator operator.Same = operator.Different
-turned_operator operator.Different = operator.Same
+abbrev pub negated_operator : Operator → Operator
+negated_operator operator.Add = operator.Add
+negated_operator operator.Subtract = operator.Subtract
+negated_operator operator.Multiply = operator.Multiply
+negated_operator operator.Divide = operator.Divide
+negated_operator operator.Remainder = operator.Remainder
+negated_operator operator.LessThan = operator.AtLeast
+negated_operator operator.AtMost = operator.GreaterThan
+negated_operator operator.GreaterThan = operator.AtMost
+negated_operator operator.AtLeast = operator.LessThan
+negated_operator operator.Equal = operator.Unequal
+negated_operator operator.Unequal = operator.Equal
+negated_operator operator.Same = operator.Different
+negated_operator operator.Different = operator.Same
 
 -- a condition that is true exactly where a condition is false. A connective is negated as a whole here; the code of a condition never
 -- asks for that
-abbrev pub turned : Expression → Expression
-turned (Integer n) = Unary prefix.Not (Integer n)
-turned (Logical b) = Logical (not b)
-turned (Read x) = Unary prefix.Not (Read x)
-turned (Element array length index) = Unary prefix.Not (Element array length index)
-turned (Unary sign e) = Unary prefix.Not (Unary sign e)
-turned (Binary operator d e) = Binary (turned_operator operator) d e
-turned (Short connective d e) = Unary prefix.Not (Short connective d e)
+abbrev pub negated : Expression → Expression
+negated (Integer n) = Unary prefix.Not (Integer n)
+negated (Logical b) = Logical (not b)
+negated (Read x) = Unary prefix.Not (Read x)
+negated (Element array length index) = Unary prefix.Not (Element array length index)
+negated (Unary sign e) = Unary prefix.Not (Unary sign e)
+negated (Binary operator d e) = Binary (negated_operator operator) d e
+negated (Short connective d e) = Unary prefix.Not (Short connective d e)
 
 -- a condition as it is tested: code goes to a place where what is tested is false
 abbrev pub tested : (wanted : Bool) → Expression → Expression
 tested false e = e
-tested true e = turned e
+tested true e = negated e
 
 -- the truth at which the left operand of a connective decides
 abbrev pub deciding : Connective → Bool
@@ -156,6 +157,6 @@ branch_code wanted at target (Unary prefix.Not e) = branch_code (not wanted) at 
 branch_code wanted at target (Binary operator d e) = test_code wanted at target (Binary operator d e)
 branch_code wanted at target (Short connective d e) =
     branch_code (deciding connective) at
-    (if bool_eq wanted (deciding connective) then target
+    (if same_truth wanted (deciding connective) then target
     else at + branch_size (deciding connective) d + branch_size wanted e) d
     ++ branch_code wanted (at + branch_size (deciding connective) d) target e

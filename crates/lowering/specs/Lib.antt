@@ -3,7 +3,7 @@ pub mod Expressions
 pub mod Code
 pub mod Threaded
 pub mod Graphs
-pub mod Kept
+pub mod SameMeaning
 pub mod Added
 pub mod Positions
 pub mod Direct

@@ -1,7 +1,7 @@
 //! Code of conditions, which goes to a place where the condition has a wanted truth.
+ghost use Rattle.common.specs.Functions.{same_truth};
 ghost use Rattle.resolved.specs.TreeOf.{expression_of};
-ghost use Rattle.resolved.specs.Value.{bool_eq};
-ghost use Rattle.lowering.specs.Expressions.{branch_code, branch_size, deciding, test_code, tested, turned, turned_operator, value_code, value_size};
+ghost use Rattle.lowering.specs.Expressions.{branch_code, branch_size, deciding, test_code, tested, negated, negated_operator, value_code, value_size};
 ghost use Rattle.std.specs.Prelude.{OnOk, if◌then◌else◌, length, ◌++◌, ◌+◌, ◌<◌, ◌^◌, ◌≡◌};
 
 use crate::emitter::push;
@@ -12,8 +12,8 @@ use resolved::expression::{Connective, Expression, Operator, Prefix};
 use std::alloc::AllocError;
 
 /// The comparison that is true exactly where an operator is false.
-fn turned_operator(operator: Operator) -> Operator
-    ensures { result ≡ turned_operator operator }
+fn negated_operator(operator: Operator) -> Operator
+    ensures { result ≡ negated_operator operator }
 {
     match operator {
         Operator::Add => Operator::Add,
@@ -80,20 +80,20 @@ pub(crate) fn branch_size(wanted: bool, condition: &Expression) -> u32
     }
 }
 
-/// Adds code that pushes the value of a turned condition.
+/// Adds code that pushes the value of a negated condition.
 #[tactic(auto, using(crate::proofs::Appending::growing))]
-fn push_turned(code: &mut Vec<Instruction>, condition: &Expression) -> Result<(), AllocError>
-    requires { length code.now.items + value_size (turned (expression_of condition.now)) < 2 ^ 32 }
+fn push_negated(code: &mut Vec<Instruction>, condition: &Expression) -> Result<(), AllocError>
+    requires { length code.now.items + value_size (negated (expression_of condition.now)) < 2 ^ 32 }
     ensures { OnOk result (code.new.items ≡
         code.old.items ++ value_code (length code.old.items)
-        (turned (expression_of condition.now))) }
+        (negated (expression_of condition.now))) }
 {
     match condition {
         Expression::Logical(truth) => return push(code, Instruction::PushBoolean(!*truth)),
         Expression::Binary(operator, left, right) => {
             push_value(code, left)?;
             push_value(code, right)?;
-            return push(code, operator_instruction(turned_operator(*operator)));
+            return push(code, operator_instruction(negated_operator(*operator)));
         }
         Expression::Integer(_) => {}
         Expression::Read(_) => {}
@@ -118,7 +118,7 @@ fn push_test(
         test_code wanted (length code.old.items) target (expression_of condition.now)) }
 {
     if wanted {
-        push_turned(code, condition)?;
+        push_negated(code, condition)?;
     } else {
         push_value(code, condition)?;
     }
@@ -127,7 +127,7 @@ fn push_test(
 
 /// Where the left operand of a connective goes where it decides: the whole condition then has that truth.
 fn inner_target(wanted: bool, decides: bool, target: u32, behind: u32) -> u32
-    ensures { result ≡ (if bool_eq wanted decides then target else behind) }
+    ensures { result ≡ (if same_truth wanted decides then target else behind) }
 {
     match (wanted, decides) {
         (true, true) => target,

@@ -3,7 +3,6 @@ ghost use Rattle.resolved.specs.ProgramOf.{channel_entry, global_entry};
 ghost use Rattle.lowering.specs.Interface.{channel_contents, declared_global, global_contents, hierarchy_contents, kind_of_base, scalar_global};
 ghost use Rattle.lowering.specs.Fitting.{IsShortValue};
 ghost use Rattle.std.specs.Prelude.{All, IfOk, map, ◌≡◌};
-ghost use Rattle.std.specs.String.{string_bytes};
 
 use bytecode::{Channel, Kind};
 use principals::Hierarchy;
@@ -15,6 +14,7 @@ use std::alloc::{AllocError, Global};
 pub(crate) fn hierarchy_of(alloc: Global, hierarchy: &Hierarchy) -> Result<Hierarchy, AllocError>
     ensures { IfOk result (λ made. made ≡ hierarchy_contents hierarchy.now) }
 {
+    // It brings that the names are different and few, and that the pairs are of principals that are there.
     let _kept = hierarchy.count();
     let mut names = Vec::new(alloc);
     for name in hierarchy.names() {
@@ -24,18 +24,6 @@ pub(crate) fn hierarchy_of(alloc: Global, hierarchy: &Hierarchy) -> Result<Hiera
     pairs.sort_unstable();
     pairs.dedup();
     Hierarchy::of(alloc, names, pairs)
-}
-
-/// The same names, in their order.
-pub(crate) fn names_of(alloc: Global, names: &[String]) -> Result<Vec<String>, AllocError>
-    ensures { IfOk result (λ made.
-        map (λ name. string_bytes name) made.items ≡ map (λ name. string_bytes name) names.now) }
-{
-    let mut made = Vec::new(alloc);
-    for name in names {
-        made.push(name.clone()?)?;
-    }
-    Ok(made)
 }
 
 /// The same channels, in their order.

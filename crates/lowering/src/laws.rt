@@ -1,7 +1,7 @@
 //! Laws of the definitions, each the contract of a function that does nothing.
 ghost use Rattle.lowering.specs.Direct.{GraphsHaveDirectJumps};
 ghost use Rattle.lowering.specs.Fitting.{GraphsFitTheFile};
-ghost use Rattle.lowering.specs.Kept.{GraphsKeepMeaning, ModulesKeepMeaning};
+ghost use Rattle.lowering.specs.SameMeaning.{GraphsKeepMeaning, ModulesKeepMeaning};
 ghost use Rattle.lowering.specs.Positions.{GraphsHavePositions};
 ghost use Rattle.lowering.specs.Verified.{ModulesAreNeverStuck, ModulesHaveNoDefect};
 

@@ -43,10 +43,7 @@ fn slots_of(alloc: Global, slots: &[tables::Slot]) -> Result<Vec<Slot>, AllocErr
 fn returned_kind(given: &Option<tables::ResultType>) -> Option<Kind>
     ensures { result ≡ returned_kind (result_entry given.now) }
 {
-    match given {
-        None => None,
-        Some(given) => Some(kind_of_base(given.base)),
-    }
+    given.as_ref().map(|given| kind_of_base(given.base))
 }
 
 /// Adds a return, where a body may end normally.

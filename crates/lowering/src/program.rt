@@ -4,12 +4,12 @@ ghost use Rattle.resolved.specs.CoreOf.{program_of};
 ghost use Rattle.resolved.specs.EndFaults.{end_faults};
 ghost use Rattle.resolved.specs.Names.{HasNames};
 ghost use Rattle.lowering.specs.Graphs.{graph_of};
-ghost use Rattle.lowering.specs.Kept.{MeaningKept};
+ghost use Rattle.lowering.specs.SameMeaning.{SameMeaning};
 ghost use Rattle.std.specs.Prelude.{IfOk, [], ◌≡◌};
 
-use crate::interface::{channels_of, globals_of, hierarchy_of, names_of};
+use crate::interface::{channels_of, globals_of, hierarchy_of};
 use crate::procedures::procedures_of;
-use layout::Graph;
+use layout::{Graph, copy_names};
 use resolved::program::Core;
 use std::alloc::{AllocError, Global};
 
@@ -25,10 +25,10 @@ pub fn lower(alloc: Global, core: &Core) -> Result<Graph, AllocError>
     requires names { HasNames (program_of core.now) }
     ensures exact { IfOk result (λ graph. graph ≡ graph_of (program_of core.now)) }
     ensures kept { IfOk result (λ graph.
-        MeaningKept (program_of core.now) (graph_after_steps graph)) }
+        SameMeaning (program_of core.now) (graph_after_steps graph)) }
 {
     let hierarchy = hierarchy_of(alloc, &core.hierarchy)?;
-    let exceptions = names_of(alloc, &core.exceptions)?;
+    let exceptions = copy_names(alloc, &core.exceptions)?;
     let channels = channels_of(alloc, &core.channels)?;
     let globals = globals_of(alloc, &core.globals)?;
     let procedures = procedures_of(alloc, core)?;

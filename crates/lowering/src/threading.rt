@@ -33,7 +33,7 @@ fn place_from(finals: &[u32], place: u32, instruction: Instruction) -> u32
 fn find_final_places(alloc: Global, code: &[Instruction]) -> Result<Vec<u32>, AllocError>
     requires { length code.now < 2 ^ 32 }
     ensures size { IfOk result (λ finals. length finals.items ≡ length code.now) }
-    ensures places { IfOk result (λ finals.
+    ensures positions { IfOk result (λ finals.
         (place : ℕ) → get_or finals.items place place ≡ final_place code.now place) }
 {
     let mut finals = vec![in alloc; 0u32; code.len()]?;

@@ -1,9 +1,10 @@
 pub mod Lists
 pub mod Operands
 pub mod Raising
-pub mod Going
+pub mod FrameRows
 pub mod Storing
 pub mod Stores
+pub mod Behind
 pub mod Calling
 pub mod Reporting
 pub mod First

@@ -1,7 +1,6 @@
-pub mod Inputs
 pub mod Live
 pub mod Run
 pub mod Steps
 pub mod OpenCells
 pub mod Inner
-pub mod Words
+pub mod Defects

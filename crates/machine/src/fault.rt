@@ -1,4 +1,4 @@
-ghost use Rattle.machine.specs.Words.{new_refusal_number, new_refusal_words};
+ghost use Rattle.machine.specs.Defects.{new_refusal_number, new_refusal_words};
 ghost use Rattle.std.specs.Prelude.{◌≡◌, Some};
 
 use channels::WorldDefect;
@@ -6,7 +6,7 @@ use common::OrNoMemory;
 use std::error::Error;
 use std::fmt;
 
-/// Why there is no machine of a module and a world.
+/// Why a machine cannot be made from a module and a world.
 #[derive(Clone, Copy, Debug, PartialEq, Eq)]
 pub enum NewRefusal {
     /// 852: the names of the world's inputs are not those of the module's inputs, in order.

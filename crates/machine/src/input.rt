@@ -1,5 +1,4 @@
-ghost use Rattle.machine.specs.Inputs.{first_number};
-ghost use Rattle.std.specs.Prelude.{◌<◌, ◌≡◌, [], drop, length, slice_index_or, slice_set};
+ghost use Rattle.std.specs.Prelude.{◌<◌, ◌≡◌, [], drop, length, slice_get, slice_index_or, slice_set};
 
 use std::marker::Model;
 
@@ -30,7 +29,7 @@ impl Input {
 
     /// The next number, which is not taken yet.
     pub fn next(&self) -> Option<i32>
-        ensures { result ≡ first_number self.now }
+        ensures { result ≡ slice_get self.now 0 }
     {
         self.numbers.last().copied()
     }
@@ -68,7 +67,7 @@ impl Inputs {
     /// The next number of a channel, which is not taken yet.
     pub fn next(&self, channel: u32) -> Option<i32>
         requires { channel < length self.now }
-        ensures { result ≡ first_number (slice_index_or self.now channel []) }
+        ensures { result ≡ slice_get (slice_index_or self.now channel []) 0 }
     {
         self.inputs[channel as usize].next()
     }

@@ -1,11 +1,15 @@
 -- The two laws of the module file, over all of the bytes.
-use Rattle.std.proofs.Common.{◌≡◌, ℕ, cond, eqb, List, [], ◌++◌, length, Ok, Err, sym, ap, ◌∙◌}
-use Rattle.std.proofs.lemmas.Bool.{eqb-true}
-use Rattle.std.proofs.lemmas.List.{append-nil, nil_from_length}
+use Rattle.std.proofs.Common.{◌≡◌, ◌⊎◌, inl, inr, ℕ, ◌-◌, cond, eqb, List, [], ◌++◌, length, Result, Ok, Err, Some, refl, sym, ap, ◌∙◌, arith}
+use Rattle.std.proofs.lemmas.Bool.{cases_lt, eqb-true}
+use Rattle.std.proofs.lemmas.List.{append-nil, get_or_past, nil_from_length}
 use Rattle.bytecode.specs.Contents.{ModuleContents}
 use Rattle.bytecode.specs.Form.{Form, Spells, spelled, Read, read, read_all, stop_at, ◌>>=◌}
 use Rattle.bytecode.specs.Format.{module_file}
 use Rattle.bytecode.specs.declared.fault.ModuleDefect.TheVariants.{Trailing}
+use Rattle.bytecode.specs.declared.fault.ReadRefusal.{ReadRefusal}
+use Rattle.module_file.specs.Decoded.{first_refusal, refusal_of}
+use Rattle.module_file.specs.Laws.{BytesAreSpelledOrRefused}
+use Rattle.module_file.specs.declared.fault.ModuleRefusal.{ModuleRefusal}
 use Rattle.module_file.proofs.Again.{again}
 use Rattle.module_file.proofs.Coherent.{Coherent}
 use Rattle.module_file.proofs.Lawful.{module_file-coherent}
@@ -41,3 +45,19 @@ one_spelling {A} form coherent x y a b more others h k e =
     let both = same_value (x, more) (y, others) (sym left ∙ ap (read form) e ∙ right) in
     let same : x ≡ y = ap (λ (p : A × List ℕ). p.0) both in
     (same, h.1 ∙ ap (spelled form) same ∙ sym k.1)
+
+-- bytes that are read spell what is read, and others have a first refusal
+read_or_refused : (bytes : List ℕ) → IsBytes bytes → (r : Result ModuleContents ReadRefusal) → read_all module_file bytes ≡ r
+    → ((m : ModuleContents) × Spells module_file m bytes) ⊎ ((refusal : ModuleRefusal) × (first_refusal bytes ≡ Some refusal))
+read_or_refused bytes fits (Ok m) e = inl (m, module_taken bytes m fits e)
+read_or_refused bytes fits (Err stop) e = inr (record { defect = stop.defect; offset = length bytes - stop.left }, ap (refusal_of bytes) e)
+
+pub spelled_or_refused : BytesAreSpelledOrRefused
+spelled_or_refused bytes each =
+    let fits : IsBytes bytes = record {
+      below = λ i. elim (cases_lt i (length bytes)) [
+        | inl inside ↦ each i 0 inside
+        | inr outside ↦ rw (get_or_past bytes i 0 outside) (omega arith)
+      ];
+    } in
+    read_or_refused bytes fits (read_all module_file bytes) refl

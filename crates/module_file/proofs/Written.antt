@@ -1,10 +1,9 @@
 -- What is written of a module is its spelling, and its lengths and counts fit four bytes.
 use Rattle.std.proofs.Common.{◌≡◌, ℕ, Bool, true, false, cond, eqb, ltb, ◌||◌, List, [], ◌∷◌, ◌++◌, length, All, refl, sym, ap, ◌∙◌, arith, length-append, append_assoc}
 use Rattle.std.specs.Int.{w32, cast_signed}
-use Rattle.std.specs.List.{flat_map, AllByRecursion, sum_by}
+use Rattle.std.specs.List.{flat_map, AllByRecursion}
 use Rattle.std.proofs.lemmas.List.{length-map}
 use Rattle.std.proofs.lemmas.List.Elements.{All-from_recursion, recursion_from_All}
-use Rattle.std.proofs.lemmas.List.Sums.{sum_by-cons}
 use Rattle.std.specs.Global.{Global as Allocator}
 use Rattle.std.specs.Prelude.{String, string_bytes}
 use Rattle.module_file.specs.Reading.{texts}
@@ -19,7 +18,7 @@ use Rattle.bytecode.specs.declared.declaration.Global.TheVariants as global
 use Rattle.bytecode.specs.declared.declaration.Handler.{Handler}
 use Rattle.bytecode.specs.declared.fault.ModuleDefect.TheVariants.{BadValue}
 use Rattle.bytecode.specs.Contents.{ChannelContents, ProcedureContents, ModuleContents}
-use Rattle.bytecode.specs.Code.{width_of}
+use Rattle.bytecode.specs.Code.{code_length, width_of}
 use Rattle.bytecode.specs.Form.{Form, Number, Checked, Fits, FitEach, spelled, spelled_each, spelled_code}
 use Rattle.bytecode.specs.Opcodes.{instructions}
 use Rattle.bytecode.specs.Format.{direction_byte, kind_byte, returned_byte, magic, version, is_built_in, is_among, channel_names, name_after, number_below, principals, pair_after, hierarchy, exceptions, direction, reader_after, policy_after, label, channel_after, channels, declared, of_scalar, global_after, globals, slot_after, slots, variable_kind, returned, handler, handlers, procedure, procedures, main, program, contents, module_file}
@@ -235,10 +234,9 @@ each_short : (names : List (String Allocator)) → AllByRecursion IsShort (texts
 each_short [] h = tt
 each_short (name ∷ names) h = (h.0, each_short names h.1)
 
-pub code_size-is : (code : List Instruction) → sum_by width_of code ≡ length (code_bytes code)
-code_size-is [] = refl
-code_size-is (x ∷ xs) =
-    sum_by-cons width_of x xs ∙ omega (arith, code_size-is xs, length-append (instruction_bytes x) (code_bytes xs), instruction_size x)
+pub code_length-is : (code : List Instruction) → code_length code ≡ length (code_bytes code)
+code_length-is [] = refl
+code_length-is (x ∷ xs) = omega (arith, code_length-is xs, length-append (instruction_bytes x) (code_bytes xs), instruction_size x)
 
 pub texts-bytes : (names : List (String Allocator)) → list_bytes (λ text. text_bytes (string_bytes text)) names ≡ list_bytes text_bytes (texts names)
 texts-bytes names = two (ap number_bytes (sym (length-map names string_bytes))) (each_text names)

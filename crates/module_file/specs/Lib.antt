@@ -1,3 +1,4 @@
 pub mod Reading
 pub mod Decoded
 pub mod Writing
+pub mod Laws

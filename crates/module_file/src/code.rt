@@ -13,7 +13,7 @@ use bytecode::opcode::{instruction_of, width_after};
 use std::alloc::Global;
 
 // An instruction takes one byte, two or five. Code with so many bytes for each of its instructions finds room for all.
-const USUAL_WIDTH: usize = 3;
+const DEFAULT_WIDTH: usize = 3;
 
 /// The instruction at the front, which ends within the room that is left in its code.
 #[tactic(auto, unfolding(bytecode::specs::Opcodes::instructions))]
@@ -46,7 +46,7 @@ fn read_instructions(
         bytes.now) }
 {
     // Room for the bytes that are there, whatever the size claims.
-    let mut code = Vec::with_capacity(alloc, bytes.len().min(size as usize) / USUAL_WIDTH)?;
+    let mut code = Vec::with_capacity(alloc, bytes.len().min(size as usize) / DEFAULT_WIDTH)?;
     let mut rest = bytes;
     let mut room = size;
     while room > 0 {

@@ -148,7 +148,7 @@ fn module_of(fields: Fields) -> Module
 pub fn decode(alloc: Global, bytes: &[u8]) -> Result<Module, ModuleFault>
     // What is read is spelled so, each byte of it.
     ensures accepted { IfOk result (λ m. Spells module_file m bytes.now) }
-    // What is spelled so is read, unless memory is refused.
+    // What is spelled so is read, unless memory runs out.
     ensures complete { (m : ModuleContents) → Spells module_file m bytes.now →
         Answers (λ found. found ≡ m) (λ _. ⊥) result }
     // A refusal is the first one, at its offset.

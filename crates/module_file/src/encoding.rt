@@ -1,14 +1,14 @@
 //! Writing of modules.
 
-ghost use Rattle.bytecode.specs.Code.{width_of};
 ghost use Rattle.bytecode.specs.Form.{Fits, Spells};
 ghost use Rattle.bytecode.specs.Format.{module_file};
 ghost use Rattle.module_file.specs.Reading.{texts};
 ghost use Rattle.module_file.specs.Writing.{code_bytes, IsShort, list_bytes, module_bytes, number_bytes, pair_bytes, procedure_bytes, ProcedureFits, text_bytes};
-ghost use Rattle.std.specs.Prelude.{All, IfOk, length, OnOk, sum_by, ◌++◌, ◌<◌, ◌^◌, ◌≡◌};
+ghost use Rattle.std.specs.Prelude.{All, IfOk, length, OnOk, ◌++◌, ◌≡◌};
 
 use crate::decoding::{MAGIC, VERSION};
 use crate::writing::{Field, put_instruction, put_list, put_number};
+use bytecode::code_length;
 use bytecode::instruction::Instruction;
 use bytecode::module::Module;
 use bytecode::procedure::Procedure;
@@ -16,21 +16,13 @@ use bytecode::value::Kind;
 use principals::Hierarchy;
 use std::alloc::{AllocError, Global};
 
-/// How many bytes code takes.
-fn code_size(code: &[Instruction]) -> usize
-    requires { sum_by width_of code.now < 2 ^ 64 }
-    ensures { result ≡ sum_by width_of code.now }
-{
-    code.iter().map(|instruction| instruction.width()).sum()
-}
-
 /// Writes code behind its length.
 fn put_code(out: &mut Vec<u8>, code: &[Instruction]) -> Result<(), AllocError>
     requires { IsShort (code_bytes code.now) }
     ensures { OnOk result (out.new.items ≡ out.old.items
         ++ (number_bytes (length (code_bytes code.now)) ++ code_bytes code.now)) }
 {
-    put_number(out, code_size(code) as u32)?;
+    put_number(out, code_length(code) as u32)?;
     for instruction in code {
         put_instruction(out, *instruction)?;
     }

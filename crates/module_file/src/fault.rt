@@ -1,6 +1,6 @@
 //! Why a module was not read.
 
-ghost use Rattle.bytecode.specs.Faults.{module_defect_words};
+ghost use Rattle.bytecode.specs.Defects.{module_defect_words};
 ghost use Rattle.std.specs.Prelude.{Some};
 
 use bytecode::ModuleDefect;

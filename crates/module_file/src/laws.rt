@@ -5,6 +5,7 @@ ghost use Rattle.module_file.specs.Decoded.{first_refusal};
 ghost use Rattle.bytecode.specs.Form.{Fits, read_all, spelled, Spells};
 ghost use Rattle.bytecode.specs.Format.{module_file};
 ghost use Rattle.bytecode.specs.declared.fault.ReadRefusal.{ReadRefusal};
+ghost use Rattle.module_file.specs.Laws.{BytesAreSpelledOrRefused};
 ghost use Rattle.std.specs.Prelude.{length, List, None, ℕ, ◌++◌, ◌≡◌, ◌≤◌};
 
 /// Each module has one spelling, and each spelling is that of one module.
@@ -28,6 +29,12 @@ pub fn no_spelling_is_a_prefix()
 pub fn spellings_are_not_refused()
     ensures { (m : ModuleContents) (bytes : List ℕ)
         → Spells module_file m bytes → first_refusal bytes ≡ None }
+{}
+
+/// Bytes that are not refused spell a module: each list of bytes has the one or the other, and by
+/// [`spellings_are_not_refused`] not both.
+pub fn bytes_are_spelled_or_refused()
+    ensures { BytesAreSpelledOrRefused }
 {}
 
 /// A refusal stands inside the bytes or at their end.

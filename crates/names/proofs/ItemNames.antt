@@ -2,12 +2,12 @@
 use Rattle.std.proofs.Common.{◌≡◌, ◌≢◌, refl, sym, ◌∙◌, subst, ap, ℕ, List, [], ◌∷◌, ◌++◌, map, Bool, true, false, cond, append-nil, append_assoc, arith}
 use Rattle.common.specs.Exceptions.{built_in_names}
 use Rattle.std.specs.Prelude.{All, IfOk, Option, Some, None, bytes_eq, codes, ◌==◌}
-use Rattle.std.proofs.lemmas.Bool.{eq-eqb, and_from}
 use Rattle.std.proofs.lemmas.List.{map_push}
 use Rattle.std.proofs.lemmas.List.Elements.{All-nil, All-cons, All-head, All-tail}
 use Rattle.std.proofs.lemmas.List.Kept.{AllPairs-cons}
+use Rattle.std.proofs.lemmas.Slice.Eq.{bytes_eq-Decides}
 use Rattle.principals.specs.ActsFor.{PrincipalHierarchy, AllDifferent}
-use Rattle.syntax.specs.Limits.{longest_name}
+use Rattle.common.specs.declared.limits.TheConstants.{MAX_TEXT}
 use Rattle.syntax.specs.Tree.{ChannelTree, GlobalTree, ProcedureTree, ItemTree, ChannelItem, ExceptionItem, GlobalItem, ProcedureItem, ProgramTree}
 use Rattle.syntax.specs.Written.{Anywhere, IsWrittenItem, IsWritten}
 use Rattle.resolved.specs.Program.{Program, ChannelEntry, GlobalEntry, ProcedureEntry}
@@ -84,28 +84,24 @@ still_declared names new meaning name is = go (bytes_eq new name)
     go true = (meaning, refl)
     go false = is
 
-bytes_eq-itself : (name : List ℕ) → bytes_eq name name ≡ true
-bytes_eq-itself [] = refl
-bytes_eq-itself (x ∷ name) = and_from (x == x) (bytes_eq name name) (eq-eqb x x refl) (bytes_eq-itself name)
-
 now_declared : (names : Environment) (name : List ℕ) (meaning : Meaning) → IsDeclared (declaring name meaning names) name
-now_declared names name meaning = (meaning, ap (λ b. cond b (Some meaning) (names name)) (bytes_eq-itself name))
+now_declared names name meaning = (meaning, ap (λ b. cond b (Some meaning) (names name)) ((bytes_eq-Decides name name).1 refl))
 
 -- names that are declared and different, as are the built-in ones, and that are names
-record NamesKept (names : Environment) (all : List (List ℕ)) : Type 0 where
+record AreWellFormedNames (names : Environment) (all : List (List ℕ)) : Type 0 where
   pub declared : EachName (IsDeclared names) (built_in_names ++ all)
   pub different : Different (built_in_names ++ all)
   pub proper : EachName IsProperName all
 
-names_inserted : (names : Environment) (all : List (List ℕ)) (name : List ℕ) (longer : List (List ℕ)) (meaning : Meaning) → NamesKept names all → Inserted all name longer
-    → names name ≡ None → IsProperName name → NamesKept (declaring name meaning names) longer
+names_inserted : (names : Environment) (all : List (List ℕ)) (name : List ℕ) (longer : List (List ℕ)) (meaning : Meaning) → AreWellFormedNames names all → Inserted all name longer
+    → names name ≡ None → IsProperName name → AreWellFormedNames (declaring name meaning names) longer
 names_inserted names all name longer meaning kept is fresh proper =
-    let moved = subst (NamesKept names) is.shorter_is kept in
+    let moved = subst (AreWellFormedNames names) is.shorter_is kept in
     let before = built_in_names ++ is.before in
     let apart : EachName (λ other. name ≢ other) (before ++ is.behind) =
     each_mapped (IsDeclared names) (λ other. name ≢ other) (before ++ is.behind)
     (λ other there same. let (found, e) = there in is_nothing found (sym fresh ∙ ap names same ∙ e)) moved.declared in
-    subst (NamesKept (declaring name meaning names)) (sym is.longer_is) (record {
+    subst (AreWellFormedNames (declaring name meaning names)) (sym is.longer_is) (record {
       declared =
           each_inserted (IsDeclared (declaring name meaning names)) before is.behind name
           (each_mapped (IsDeclared names) (IsDeclared (declaring name meaning names)) (before ++ is.behind)
@@ -160,7 +156,7 @@ item_inserted named (ProcedureItem procedure) =
     (inserted_behind named.globals named.procedures procedure.name.text (named.procedures ++ procedure.name.text ∷ [])
     (record { before = named.procedures; behind = []; shorter_is = sym (append-nil named.procedures); longer_is = refl })))
 
-item_proper : (item : ItemTree) → IsWrittenItem Anywhere longest_name item → IsProperName (item_name item).text
+item_proper : (item : ItemTree) → IsWrittenItem Anywhere MAX_TEXT item → IsProperName (item_name item).text
 item_proper (ChannelItem channel) is = (is.2.1, is.2.2)
 item_proper (ExceptionItem at name) is = (is.1.1, is.1.2)
 item_proper (GlobalItem global) is = (is.2.1, is.2.2)
@@ -171,19 +167,19 @@ unfolding fresh_finding
 fresh_is None at = refl
 fresh_is (Some meaning) at = tt
 
-names_kept : (named : ItemNames) (top : TopLevel) (items : List ItemTree) → All (IsWrittenItem Anywhere longest_name) items
-    → NamesKept top.names (all_names named) → IfOk (along next_name top items) (λ after. NamesKept after.names (all_names (names_all named items)))
+names_kept : (named : ItemNames) (top : TopLevel) (items : List ItemTree) → All (IsWrittenItem Anywhere MAX_TEXT) items
+    → AreWellFormedNames top.names (all_names named) → IfOk (along next_name top items) (λ after. AreWellFormedNames after.names (all_names (names_all named items)))
 unfolding next_name
 names_kept named top [] all kept = kept
 names_kept named top (item ∷ items) all kept =
-    then_finds (next_name top item) (λ next. along next_name next items) (λ next. NamesKept next.names (all_names (names_with named item))) _
+    then_finds (next_name top item) (λ next. along next_name next items) (λ next. AreWellFormedNames next.names (all_names (names_with named item))) _
     (then_finds (fresh_finding (top.names (item_name item).text) (item_name item).at) _ (λ one. top.names (item_name item).text ≡ None) _
     (fresh_is (top.names (item_name item).text) (item_name item).at) (λ one fresh.
     names_inserted top.names (all_names named) (item_name item).text (all_names (names_with named item)) (item_meaning top item) kept
-    (item_inserted named item) fresh (item_proper item (All-head (IsWrittenItem Anywhere longest_name) item items all))))
-    (λ next kept_next. names_kept (names_with named item) next items (All-tail (IsWrittenItem Anywhere longest_name) item items all) kept_next)
+    (item_inserted named item) fresh (item_proper item (All-head (IsWrittenItem Anywhere MAX_TEXT) item items all))))
+    (λ next kept_next. names_kept (names_with named item) next items (All-tail (IsWrittenItem Anywhere MAX_TEXT) item items all) kept_next)
 
-built_in_kept : NamesKept built_in.names (all_names no_names)
+built_in_kept : AreWellFormedNames built_in.names (all_names no_names)
 built_in_kept = record {
   declared = ((Exception 0, refl), ((Exception 1, refl), ((Exception 2, refl), tt)));
   different = (((λ e. cc), ((λ e. cc), tt)), (((λ e. cc), tt), (tt, tt)));
@@ -306,11 +302,11 @@ pub record ProgramNames (program : Program) : Type 0 where
   pub proper : All IsProperName (item_names program)
   pub different : AllDifferent (built_in_names ++ item_names program)
 
-pub program_names : (h : PrincipalHierarchy) (written : ProgramTree) → IsWritten Anywhere longest_name written → IfOk (resolution h written) ProgramNames
+pub program_names : (h : PrincipalHierarchy) (written : ProgramTree) → IsWritten Anywhere MAX_TEXT written → IfOk (resolution h written) ProgramNames
 unfolding resolution top_finding items_finding
 program_names h written is =
     let named = names_all no_names written.items in
-    then_finds (along next_name built_in written.items) _ (λ after. NamesKept after.names (all_names named)) _
+    then_finds (along next_name built_in written.items) _ (λ after. AreWellFormedNames after.names (all_names named)) _
     (names_kept no_names built_in written.items is built_in_kept) (λ top top_kept.
     then_finds (along (next_item h top) no_tables written.items) _ (TableNames named) _
     (items_named h top no_names no_tables written.items (record { exceptions = refl; channels = refl; globals = refl; procedures = refl })) (λ tables kept.

@@ -4,7 +4,7 @@ mod Declarations
 mod Frames
 mod Holding
 mod ItemNames
-mod ItemPlaces
+mod NamedMeanings
 mod JoinAll
 mod Later
 mod Loops

@@ -2,7 +2,7 @@
 use Rattle.std.proofs.Common.{◌≡◌, refl, ℕ, Bool, true, false, Ok, Err}
 use Rattle.std.specs.Prelude.{IfOk}
 use Rattle.names.specs.declared.fault.NameDefect.{NameDefect}
-use Rattle.names.specs.Finding.{Finding, and_then, give_if, demand}
+use Rattle.names.specs.Finding.{Finding, and_then, give_if, require}
 
 pub then_finds : {A B : Type 0} (looked : Finding A) (next : A → Finding B) (P : A → Type 0) (Q : B → Type 0)
     → IfOk looked P → ((x : A) → P x → IfOk (next x) Q) → IfOk (and_then looked next) Q
@@ -14,9 +14,9 @@ pub if_finds : {A : Type 0} (test : Bool) (x : A) (refusal : NameDefect) (at : �
 if_finds true x refusal at Q h = h refl
 if_finds false x refusal at Q h = tt
 
-pub demand_finds : (test : Bool) (refusal : NameDefect) (at : ℕ) → IfOk (demand test refusal at) (λ one. test ≡ true)
-demand_finds true refusal at = refl
-demand_finds false refusal at = tt
+pub require_finds : (test : Bool) (refusal : NameDefect) (at : ℕ) → IfOk (require test refusal at) (λ one. test ≡ true)
+require_finds true refusal at = refl
+require_finds false refusal at = tt
 
 pub finds_for_all : {A X : Type 0} (looked : Finding A) (P : X → A → Type 0) → ((x : X) → IfOk looked (P x))
     → IfOk looked (λ a. (x : X) → P x a)

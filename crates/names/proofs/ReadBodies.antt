@@ -4,7 +4,7 @@ use Rattle.std.specs.Prelude.{IfOk, Option, Some, None, not, codes, is_none}
 use Rattle.std.proofs.lemmas.List.{length-map, map_push}
 use Rattle.std.proofs.lemmas.Result.{IfOk-weaker}
 use Rattle.principals.specs.ActsFor.{PrincipalHierarchy}
-use Rattle.syntax.specs.Tree.{NameTree, LabelTree, ExpressionTree, CallTree, RightTree, SizeTree, StatementTree, DeclareTree, DeclareArrayTree, AssignTree, AssignElementTree, CallTree', ReceiveTree, SendTree, IfTree, IfElseTree, WhileTree, BreakTree, ContinueTree, ThrowTree, ReturnTree, TryTree, NestedTree, BlockTree, BlockOf, StatementTrees, NoStatement, StatementThen, CatchTrees, NoCatch, CatchThen, ParameterTree, ThrownTree, ProcedureTree, ItemTree, ChannelItem, ExceptionItem, GlobalItem, ProcedureItem, ProgramTree, expression_place}
+use Rattle.syntax.specs.Tree.{NameTree, LabelTree, ExpressionTree, CallTree, RightTree, SizeTree, StatementTree, DeclareTree, DeclareArrayTree, AssignTree, AssignElementTree, CallTree', ReceiveTree, SendTree, IfTree, IfElseTree, WhileTree, BreakTree, ContinueTree, ThrowTree, ReturnTree, TryTree, NestedTree, BlockTree, BlockOf, StatementTrees, NoStatement, StatementThen, CatchTrees, NoCatch, CatchThen, ParameterTree, ThrownTree, ProcedureTree, ItemTree, ChannelItem, ExceptionItem, GlobalItem, ProcedureItem, ProgramTree, expression_at}
 use Rattle.resolved.specs.declared.expression.Base.{Base}
 use Rattle.resolved.specs.declared.expression.Base.TheVariants.{Int, Boolean}
 use Rattle.resolved.specs.declared.expression.Variable.TheVariants.{Global, Local}
@@ -13,7 +13,7 @@ use Rattle.resolved.specs.Tree.{Statement, Clear, ReturnWith, Block, Handlers}
 use Rattle.resolved.specs.WellFormed.{same_base}
 use Rattle.names.specs.declared.scope.Meaning.{Meaning}
 use Rattle.names.specs.declared.scope.Meaning.TheVariants.{Input, Output, Exception, Procedure, Scalar, Array}
-use Rattle.names.specs.Finding.{Finding, give, demand, along}
+use Rattle.names.specs.Finding.{Finding, give, require, along}
 use Rattle.names.specs.Environment.{Environment, ScalarUse, ArrayUse, declaring, fresh_finding, scalar_finding, array_finding, input_finding, output_finding, exception_finding}
 use Rattle.names.specs.Labels.{label_finding, optional_label_finding}
 use Rattle.names.specs.Expressions.{Typed, base_of, expression_finding, typed_finding}
@@ -22,7 +22,7 @@ use Rattle.names.specs.Statements.{Setting, Point, with_local, CallUse, call_fin
 use Rattle.names.specs.Resolution.{TopLevel, result_finding, result_base_of, next_parameter, parameters_finding, is_thrown, next_thrown, throws_finding, procedure_entry_finding, channel_finding, global_finding, Tables, next_item, no_tables, items_finding, top_finding, main_finding, global_cells_finding, frames_finding, program_with, resolution}
 use Rattle.names.specs.ReadBack.{NameScope, top_scope, with_declared, leaving_block, innermost, IsChannel, IsException, IsProcedure, IsVariable, ReadsExpression, ReadsArguments, ReadsRight, ReadsStatement, ReadDeclare, ReadDeclareArray, ReadAssign, ReadStore, ReadCall, ReadReceive, ReadSend, ReadIf, ReadIfElse, ReadWhile, ReadBreak, ReadContinue, ReadThrow, ReadReturn, ReadReturnValue, ReadTry, ReadNested, ReadsBlock, ReadBlock, ReadsStatements, ReadNoStatement, ReadStatement, ReadsCatches, ReadNoCatch, ReadCatch, ReadsThrows, ReadNoThrown, ReadThrown, with_parameters, slot_declaration, ReadsProcedure, ReadsItems, ReadNoItem, ReadChannel, ReadException, ReadGlobal, ReadProcedure}
 use Rattle.names.proofs.ItemNames.{channel_name, global_name, channel_named, global_named}
-use Rattle.names.proofs.ItemPlaces.{finds_itself}
+use Rattle.names.proofs.NamedMeanings.{finds_itself}
 use Rattle.names.proofs.Passing.{then_finds, if_finds, any_finds, finds_for_all}
 use Rattle.names.proofs.ReadExpressions.{Agrees, IsMeaning, same_scope, agrees_declaring, scalar_reads, array_reads, input_reads, output_reads, exception_reads, expression_reads, typed_reads, call_reads, right_reads}
 
@@ -152,7 +152,7 @@ module _ (program : Program) where
     return_reads result at None = if_finds (is_none result) (ReturnWith at None) _ at _ (λ none. ReadReturn)
     return_reads result at (Some value) =
         then_finds (expression_finding names value) _ (λ (found : Typed). ReadsExpression program scope value found.expression) _
-        (expression_reads program scope names agrees value) (λ found reads. returned_reads result at (expression_place value) value found reads)
+        (expression_reads program scope names agrees value) (λ found reads. returned_reads result at (expression_at value) value found reads)
 
   -- ---- declarations
 
@@ -331,8 +331,8 @@ module _ (program : Program) where
       (λ next. (entry : ThrownEntry) × (next ≡ before ++ entry ∷ []) × IsException program top_scope thrown.name entry.exception) _
       (then_finds (exception_finding (names thrown.name.text) thrown.name.at) _ (IsException program top_scope thrown.name) _
       (exception_reads program top_scope names agrees thrown.name) (λ exception is.
-      then_finds (demand (not (is_thrown before exception)) _ thrown.name.at) _ (λ one. Unit {0}) _
-      (any_finds (demand (not (is_thrown before exception)) _ thrown.name.at)) (λ one nothing.
+      then_finds (require (not (is_thrown before exception)) _ thrown.name.at) _ (λ one. Unit {0}) _
+      (any_finds (require (not (is_thrown before exception)) _ thrown.name.at)) (λ one nothing.
       then_finds (label_finding h thrown.label) _ (λ one. Unit {0}) _ (any_finds (label_finding h thrown.label))
       (λ label nothing. (record { exception = exception; label = label }, refl, is)))))
       (λ next parts.

@@ -6,7 +6,7 @@ use Rattle.syntax.specs.declared.tree.UnaryOperator.{UnaryOperator}
 use Rattle.syntax.specs.declared.tree.UnaryOperator.TheVariants as unary
 use Rattle.syntax.specs.declared.tree.BinaryOperator.{BinaryOperator}
 use Rattle.syntax.specs.declared.tree.BinaryOperator.TheVariants as binary
-use Rattle.syntax.specs.Tree.{NameTree, ExpressionTree, IntegerTree, TruthTree, VariableTree, ElementTree, UnaryTree, BinaryTree, CallTree, RightTree, ReceivedTree, CalledTree, ValueTree, expression_place}
+use Rattle.syntax.specs.Tree.{NameTree, ExpressionTree, IntegerTree, TruthTree, VariableTree, ElementTree, UnaryTree, BinaryTree, CallTree, RightTree, ReceivedTree, CalledTree, ValueTree, expression_at}
 use Rattle.resolved.specs.declared.expression.Base.{Base}
 use Rattle.resolved.specs.declared.expression.Base.TheVariants.{Int, Boolean}
 use Rattle.resolved.specs.declared.expression.Variable.{Variable}
@@ -18,7 +18,7 @@ use Rattle.resolved.specs.Tree.{Expression, Call}
 use Rattle.resolved.specs.WellFormed.{same_base, prefix_base}
 use Rattle.names.specs.declared.scope.Meaning.{Meaning}
 use Rattle.names.specs.declared.scope.Meaning.TheVariants.{Input, Output, Exception, Procedure, Scalar, Array}
-use Rattle.names.specs.Finding.{Finding, demand, along}
+use Rattle.names.specs.Finding.{Finding, require, along}
 use Rattle.names.specs.Environment.{Environment, ScalarUse, ArrayUse, declaring, scalar_finding, array_finding, input_finding, output_finding, exception_finding, procedure_finding}
 use Rattle.names.specs.Expressions.{prefix_of, use_of, Typed, of_base, wanting, operands_base, combined, expression_finding, typed_finding}
 use Rattle.names.specs.Statements.{Signature, signature_at, next_argument, arguments_finding, CallUse, applied_finding, call_finding, gives_base, assigned_finding}
@@ -206,24 +206,24 @@ module _ (program : Program) where
         (λ x is. ReadVariable is)
     expression_reads (ElementTree array index) =
         then_finds (array_finding (names array.text) array.at) _ (λ (a : ArrayUse). IsVariable program scope array a.variable) _ (array_reads array) (λ a is.
-        then_finds (wanting Int (expression_place index) (expression_finding names index)) _ (Reads index) _
-        (wanting_reads Int (expression_place index) (expression_finding names index) index (expression_reads index)) (λ i reads. ReadElement is reads))
+        then_finds (wanting Int (expression_at index) (expression_finding names index)) _ (Reads index) _
+        (wanting_reads Int (expression_at index) (expression_finding names index) index (expression_reads index)) (λ i reads. ReadElement is reads))
     expression_reads (UnaryTree at operator operand) =
         let base = prefix_base (prefix_of operator) in
-        then_finds (wanting base (expression_place operand) (expression_finding names operand)) _ (Reads operand) _
-        (wanting_reads base (expression_place operand) (expression_finding names operand) operand (expression_reads operand))
+        then_finds (wanting base (expression_at operand) (expression_finding names operand)) _ (Reads operand) _
+        (wanting_reads base (expression_at operand) (expression_finding names operand) operand (expression_reads operand))
         (λ e reads. ReadUnary (prefix_written operator) reads)
     expression_reads (BinaryTree at operator left right) =
         then_finds (expression_finding names left) _ (λ (found : Typed). Reads left found.expression) _ (expression_reads left) (λ l left_reads.
         let base = operands_base (use_of operator) l.base in
-        then_finds (of_base base (expression_place left) l) _ (Reads left) _ (of_base_finds base (expression_place left) l (Reads left) left_reads) (λ d d_reads.
+        then_finds (of_base base (expression_at left) l) _ (Reads left) _ (of_base_finds base (expression_at left) l (Reads left) left_reads) (λ d d_reads.
         then_finds (expression_finding names right) _ (λ (found : Typed). Reads right found.expression) _ (expression_reads right) (λ r right_reads.
-        then_finds (of_base base (expression_place right) r) _ (Reads right) _ (of_base_finds base (expression_place right) r (Reads right) right_reads)
+        then_finds (of_base base (expression_at right) r) _ (Reads right) _ (of_base_finds base (expression_at right) r (Reads right) right_reads)
         (λ e e_reads. combined_reads at operator l.base left right d e d_reads e_reads))))
 
     pub typed_reads : (base : Base) (tree : ExpressionTree) → IfOk (typed_finding names base tree) (Reads tree)
     unfolding typed_finding
-    typed_reads base tree = wanting_reads base (expression_place tree) (expression_finding names tree) tree (expression_reads tree)
+    typed_reads base tree = wanting_reads base (expression_at tree) (expression_finding names tree) tree (expression_reads tree)
 
     -- ---- calls and right sides
 
@@ -259,8 +259,8 @@ module _ (program : Program) where
         then_finds (procedure_finding (names call.procedure.text) call.procedure.at) _ (IsProcedure program scope call.procedure) _
         (procedure_reads call.procedure) (λ number is.
         let signature = signature_at signatures number in
-        then_finds (demand (length signature.parameters == length call.arguments) _ call.procedure.at) _ (λ one. Unit {0}) _
-        (any_finds (demand (length signature.parameters == length call.arguments) _ call.procedure.at)) (λ one nothing.
+        then_finds (require (length signature.parameters == length call.arguments) _ call.procedure.at) _ (λ one. Unit {0}) _
+        (any_finds (require (length signature.parameters == length call.arguments) _ call.procedure.at)) (λ one nothing.
         then_finds (along (next_argument names signature.parameters) [] call.arguments) _ (ArgumentsRead [] call.arguments) _
         (arguments_read signature.parameters [] call.arguments)
         (λ arguments read. (is, subst (ReadsArguments program scope call.arguments) (sym read.found_is) read.reads))))
@@ -269,7 +269,7 @@ module _ (program : Program) where
         → IfOk (assigned_finding signatures names at x base right) (ReadsRight program scope at x right)
     unfolding assigned_finding
     right_reads signatures at x base (ReceivedTree receive_at channel) =
-        then_finds (demand (same_base Int base) _ receive_at) _ (λ one. Unit {0}) _ (any_finds (demand (same_base Int base) _ receive_at)) (λ one nothing.
+        then_finds (require (same_base Int base) _ receive_at) _ (λ one. Unit {0}) _ (any_finds (require (same_base Int base) _ receive_at)) (λ one nothing.
         then_finds (input_finding (names channel.text) channel.at) _ (IsChannel program scope channel) _ (input_reads channel) (λ number is. ReadReceived is))
     right_reads signatures at x base (CalledTree call) =
         then_finds (call_finding signatures names call) _

@@ -6,14 +6,14 @@ use Rattle.std.proofs.lemmas.Bool.{le-leb, eq-eqb, and_from}
 use Rattle.syntax.specs.declared.tree.BinaryOperator.{BinaryOperator}
 use Rattle.syntax.specs.declared.tree.BinaryOperator.TheVariants as binary
 use Rattle.syntax.specs.Nodes.{expression_nodes as written_nodes}
-use Rattle.syntax.specs.Tree.{NameTree, ExpressionTree, IntegerTree, TruthTree, VariableTree, ElementTree, UnaryTree, BinaryTree, expression_place}
+use Rattle.syntax.specs.Tree.{NameTree, ExpressionTree, IntegerTree, TruthTree, VariableTree, ElementTree, UnaryTree, BinaryTree, expression_at}
 use Rattle.syntax.specs.Written.{IsWrittenExpression}
 use Rattle.resolved.specs.declared.expression.Base.{Base}
 use Rattle.resolved.specs.declared.expression.Base.TheVariants.{Int, Boolean}
 use Rattle.common.specs.declared.direction.Direction.TheVariants as directions
 use Rattle.resolved.specs.Program.{Program, ProcedureEntry, SlotEntry, ResultEntry}
 use Rattle.resolved.specs.Tree.{Expression}
-use Rattle.resolved.specs.WellFormed.{same_base, prefix_base, VariableType, variable_type, scalar_by, array_by, has_base, channel_is, is_exception, parameters_of, literal_limit, expression_nodes}
+use Rattle.resolved.specs.WellFormed.{same_base, prefix_base, VariableType, variable_type, scalar_by, array_by, has_base, channel_is, is_exception, parameters_of, expression_nodes}
 use Rattle.resolved.proofs.Sound.Values.{same_base_is, same_base_itself}
 use Rattle.names.specs.declared.scope.Meaning.{Meaning}
 use Rattle.names.specs.declared.scope.Meaning.TheVariants.{Input, Output, Exception, Procedure, Scalar, Array}
@@ -22,6 +22,7 @@ use Rattle.names.specs.Environment.{Environment, ScalarUse, ArrayUse, declaring,
 use Rattle.names.specs.Expressions.{prefix_of, use_of, Typed, of_base, wanting, operands_base, value_base, combined, expression_finding, typed_finding}
 use Rattle.names.specs.Statements.{Signature, signature_at}
 use Rattle.names.proofs.Passing.{then_finds, if_finds}
+use Rattle.common.specs.declared.limits.TheConstants.{MAX_INTEGER}
 
 -- ---- what names stand for
 
@@ -159,26 +160,26 @@ module _ (program : Program) (procedure : ProcedureEntry) (signatures : List Sig
   -- ---- expressions
 
   -- an expression of a base type that has no more nodes than the written one
-  pub record TypedKept (names : Environment) (base : Base) (written : ℕ) (e : Expression) : Type 0 where
+  pub record IsWellFormedTyped (names : Environment) (base : Base) (written : ℕ) (e : Expression) : Type 0 where
     pub fits : Means names → has_base program procedure base e ≡ true
     pub few : expression_nodes e ≤ written
 
-  abbrev pub ExpressionKept : Environment → ℕ → Typed → Type 0
-  ExpressionKept names written found = TypedKept names found.base written found.expression
+  abbrev pub IsWellFormedExpression : Environment → ℕ → Typed → Type 0
+  IsWellFormedExpression names written found = IsWellFormedTyped names found.base written found.expression
 
-  of_base_keeps : (names : Environment) (base : Base) (at written : ℕ) (found : Typed) → ExpressionKept names written found
-      → IfOk (of_base base at found) (TypedKept names base written)
+  of_base_keeps : (names : Environment) (base : Base) (at written : ℕ) (found : Typed) → IsWellFormedExpression names written found
+      → IfOk (of_base base at found) (IsWellFormedTyped names base written)
   unfolding of_base
   of_base_keeps names base at written found kept =
-      if_finds (same_base found.base base) found.expression _ at (TypedKept names base written) (λ same. record {
+      if_finds (same_base found.base base) found.expression _ at (IsWellFormedTyped names base written) (λ same. record {
         fits = λ means. subst (λ one. has_base program procedure one found.expression ≡ true) (same_base_is found.base base same) (kept.fits means);
         few = kept.few;
       })
 
-  wanting_keeps : (names : Environment) (base : Base) (at written : ℕ) (looked : Finding Typed) → IfOk looked (ExpressionKept names written)
-      → IfOk (wanting base at looked) (TypedKept names base written)
+  wanting_keeps : (names : Environment) (base : Base) (at written : ℕ) (looked : Finding Typed) → IfOk looked (IsWellFormedExpression names written)
+      → IfOk (wanting base at looked) (IsWellFormedTyped names base written)
   wanting_keeps names base at written looked h =
-      then_finds looked (of_base base at) (ExpressionKept names written) (TypedKept names base written) h
+      then_finds looked (of_base base at) (IsWellFormedExpression names written) (IsWellFormedTyped names base written) h
       (λ found kept. of_base_keeps names base at written found kept)
 
   scalar_read : (found : Option VariableType) (base : Base) → found ≡ scalar_type base → scalar_by found (same_base base) ≡ true
@@ -227,10 +228,10 @@ module _ (program : Program) (procedure : ProcedureEntry) (signatures : List Sig
 
   module _ (fits : ℕ → Type 0) (longest : ℕ) (names : Environment) where
     pub expression_keeps : (tree : ExpressionTree) → IsWrittenExpression fits longest tree
-        → IfOk (expression_finding names tree) (ExpressionKept names (written_nodes tree))
+        → IfOk (expression_finding names tree) (IsWellFormedExpression names (written_nodes tree))
     unfolding expression_finding
     expression_keeps (IntegerTree at value) written =
-        record { fits = λ means. le-leb value literal_limit written.1; few = omega arith }
+        record { fits = λ means. le-leb value MAX_INTEGER written.1; few = omega arith }
     expression_keeps (TruthTree at value) written = record { fits = λ means. refl; few = omega arith }
     expression_keeps (VariableTree name) written =
         then_finds (scalar_finding (names name.text) name.at) _
@@ -243,8 +244,8 @@ module _ (program : Program) (procedure : ProcedureEntry) (signatures : List Sig
         then_finds (array_finding (names array.text) array.at) _
         (λ (a : ArrayUse). Means names → variable_type program procedure a.variable ≡ array_type a.base a.size) _
         (array_found names array) (λ a stands.
-        then_finds (wanting Int (expression_place index) (expression_finding names index)) _ (TypedKept names Int (written_nodes index)) _
-        (wanting_keeps names Int (expression_place index) (written_nodes index) (expression_finding names index) (expression_keeps index written.1))
+        then_finds (wanting Int (expression_at index) (expression_finding names index)) _ (IsWellFormedTyped names Int (written_nodes index)) _
+        (wanting_keeps names Int (expression_at index) (written_nodes index) (expression_finding names index) (expression_keeps index written.1))
         (λ i kept. record {
           fits =
               λ means. and_from (array_by (variable_type program procedure a.variable) a.size (same_base a.base)) (has_base program procedure Int i)
@@ -253,26 +254,26 @@ module _ (program : Program) (procedure : ProcedureEntry) (signatures : List Sig
         }))
     expression_keeps (UnaryTree at operator operand) written =
         let base = prefix_base (prefix_of operator) in
-        then_finds (wanting base (expression_place operand) (expression_finding names operand)) _ (TypedKept names base (written_nodes operand)) _
-        (wanting_keeps names base (expression_place operand) (written_nodes operand) (expression_finding names operand) (expression_keeps operand written.1))
+        then_finds (wanting base (expression_at operand) (expression_finding names operand)) _ (IsWellFormedTyped names base (written_nodes operand)) _
+        (wanting_keeps names base (expression_at operand) (written_nodes operand) (expression_finding names operand) (expression_keeps operand written.1))
         (λ e kept. record {
           fits = λ means. and_from (same_base base base) (has_base program procedure base e) (same_base_itself base) (kept.fits means);
           few = omega (arith, kept.few);
         })
     expression_keeps (BinaryTree at operator left right) written =
-        then_finds (expression_finding names left) _ (ExpressionKept names (written_nodes left)) _ (expression_keeps left written.1) (λ l left_kept.
+        then_finds (expression_finding names left) _ (IsWellFormedExpression names (written_nodes left)) _ (expression_keeps left written.1) (λ l left_kept.
         let base = operands_base (use_of operator) l.base in
-        then_finds (of_base base (expression_place left) l) _ (TypedKept names base (written_nodes left)) _
-        (of_base_keeps names base (expression_place left) (written_nodes left) l left_kept) (λ d d_kept.
-        then_finds (expression_finding names right) _ (ExpressionKept names (written_nodes right)) _ (expression_keeps right written.2) (λ r right_kept.
-        then_finds (of_base base (expression_place right) r) _ (TypedKept names base (written_nodes right)) _
-        (of_base_keeps names base (expression_place right) (written_nodes right) r right_kept) (λ e e_kept. record {
+        then_finds (of_base base (expression_at left) l) _ (IsWellFormedTyped names base (written_nodes left)) _
+        (of_base_keeps names base (expression_at left) (written_nodes left) l left_kept) (λ d d_kept.
+        then_finds (expression_finding names right) _ (IsWellFormedExpression names (written_nodes right)) _ (expression_keeps right written.2) (λ r right_kept.
+        then_finds (of_base base (expression_at right) r) _ (IsWellFormedTyped names base (written_nodes right)) _
+        (of_base_keeps names base (expression_at right) (written_nodes right) r right_kept) (λ e e_kept. record {
           fits = λ means. combined_fits operator l.base d e (d_kept.fits means) (e_kept.fits means);
           few = omega (arith, combined_nodes operator l.base d e, d_kept.few, e_kept.few);
         }))))
 
     pub typed_keeps : (base : Base) (tree : ExpressionTree) → IsWrittenExpression fits longest tree
-        → IfOk (typed_finding names base tree) (TypedKept names base (written_nodes tree))
+        → IfOk (typed_finding names base tree) (IsWellFormedTyped names base (written_nodes tree))
     unfolding typed_finding
     typed_keeps base tree written =
-        wanting_keeps names base (expression_place tree) (written_nodes tree) (expression_finding names tree) (expression_keeps tree written)
+        wanting_keeps names base (expression_at tree) (written_nodes tree) (expression_finding names tree) (expression_keeps tree written)

@@ -10,6 +10,7 @@ use Rattle.std.proofs.lemmas.List.Folds.{list_all-append}
 use Rattle.std.proofs.lemmas.List.Quantifiers.{position-Some}
 use Rattle.std.proofs.lemmas.List.Sums.{sum_by-cons, sum_by_push}
 use Rattle.std.proofs.lemmas.Result.{IfOk-weaker}
+use Rattle.common.proofs.Cases.{filtered_length}
 use Rattle.principals.specs.ActsFor.{PrincipalHierarchy, number_of}
 use Rattle.labels.specs.Label.{ReaderPolicy, Label}
 use Rattle.labels.specs.Sets.{by_order, with_element, ascending_set}
@@ -72,14 +73,6 @@ set_sum weight cmp [] = omega arith
 set_sum weight cmp (x ∷ xs) =
     omega (arith, with_element_sum weight cmp x (ascending_set cmp xs), set_sum weight cmp xs, sum_by-cons weight x xs)
 
-filter_length : {X : Type 0} (keep : X → Bool) (xs : List X) → length (filter keep xs) ≤ length xs
-filter_length keep [] = omega arith
-filter_length {X = X} keep (x ∷ xs) = go (keep x) (filter_length keep xs)
-  where
-    go : (kept : Bool) → length (filter keep xs) ≤ length xs → length (cond {A = List X} kept (x ∷ filter keep xs) (filter keep xs)) ≤ suc (length xs)
-    go true rest = omega arith
-    go false rest = omega arith
-
 -- ---- what is found of each element
 
 pub all_pushed : {X : Type 0} (test : X → Bool) (xs : List X) (x : X) → list_all test xs ≡ true → test x ≡ true → list_all test (xs ++ x ∷ []) ≡ true
@@ -135,7 +128,7 @@ module _ (h : PrincipalHierarchy) where
             (filter_all is_there (λ reader. not (reader == owner)) (ascending_set nat_cmp readers) (set_all is_there nat_cmp readers readers_there.0)),
         omega (
           arith,
-          filter_length (λ reader. not (reader == owner)) (ascending_set nat_cmp readers),
+          filtered_length (λ reader. not (reader == owner)) (ascending_set nat_cmp readers),
           set_sum one_of nat_cmp readers,
           ones (ascending_set nat_cmp readers),
           ones readers,

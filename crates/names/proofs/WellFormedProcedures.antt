@@ -17,18 +17,18 @@ use Rattle.resolved.specs.declared.expression.Variable.TheVariants.{Local}
 use Rattle.resolved.specs.Program.{Program, ProcedureEntry, SlotEntry, ResultEntry, ThrownEntry}
 use Rattle.resolved.specs.Tree.{Block}
 use Rattle.resolved.specs.WellFormed.{is_exception, label_fits, written_fits, result_fits, size_fits, parameter_fits, throws_fit, block_loops, counts_from, procedure_fits, label_nodes, procedure_nodes}
-use Rattle.resolved.proofs.Parts.{procedure_from_parts}
+use Rattle.resolved.proofs.WellFormedParts.{procedure_from_parts}
 use Rattle.names.specs.declared.scope.Meaning.TheVariants.{Exception, Scalar}
-use Rattle.names.specs.Finding.{demand, along}
+use Rattle.names.specs.Finding.{require, along}
 use Rattle.names.specs.Environment.{Environment, fresh_finding, exception_finding}
 use Rattle.names.specs.Labels.{label_finding, optional_label_finding}
 use Rattle.names.specs.Expressions.{base_of}
 use Rattle.names.specs.Statements.{Signature, Setting, Point, scalar_slot, block_finding}
 use Rattle.names.specs.Resolution.{TopLevel, result_base_of, signature_of, result_finding, next_parameter, parameters_finding, is_thrown, next_thrown, throws_finding, begin_label_of, end_label_of, procedure_entry_finding, frame_cells}
-use Rattle.names.proofs.Passing.{then_finds, demand_finds, any_finds, finds_for_all}
+use Rattle.names.proofs.Passing.{then_finds, require_finds, any_finds, finds_for_all}
 use Rattle.names.proofs.WellFormedExpressions.{given_base, slot_base, Signed, Stands, Means, means_declaring, exception_found}
 use Rattle.names.proofs.WellFormedLabels.{label_there, optional_label_there, joined_all_there, all_pushed}
-use Rattle.names.proofs.WellFormedStatements.{slot_fits, IsPrefix, BlockKept, prefix_before, local_there, block_keeps}
+use Rattle.names.proofs.WellFormedStatements.{slot_fits, IsPrefix, IsWellFormedBlock, prefix_before, local_there, block_keeps}
 use Rattle.common.specs.declared.limits.TheConstants.{MAX_CELLS}
 
 -- ---- lists of exceptions
@@ -111,24 +111,24 @@ parameters_begin program procedure setting names bases all point (parameter ∷ 
     (e ∙ sym (append_assoc bases (base ∷ []) (map parameter_base parameters))) begun_next)
 
 -- exceptions that are there where names mean what they do
-record ThrowsKept (program : Program) (procedure : ProcedureEntry) (signatures : List Signature) (h : PrincipalHierarchy) (names : Environment) (nodes : ℕ) (throws : List ThrownEntry) : Type 0 where
+record AreWellFormedThrows (program : Program) (procedure : ProcedureEntry) (signatures : List Signature) (h : PrincipalHierarchy) (names : Environment) (nodes : ℕ) (throws : List ThrownEntry) : Type 0 where
   pub fit : program.hierarchy ≡ h → Means program procedure signatures names → throws_fit program throws ≡ true
   pub labels : list_all (λ (thrown : ThrownEntry). label_fits h thrown.label) throws ≡ true
   pub few : length throws ≤ nodes
 
 throws_keep : (program : Program) (procedure : ProcedureEntry) (signatures : List Signature) (h : PrincipalHierarchy) (names : Environment) (before nodes : ℕ) (throws : List ThrownEntry) (written : List ThrownTree)
-    → nodes ≡ before + sum_by tree.thrown_nodes written → ThrowsKept program procedure signatures h names before throws
-    → IfOk (along (next_thrown h names) throws written) (ThrowsKept program procedure signatures h names nodes)
+    → nodes ≡ before + sum_by tree.thrown_nodes written → AreWellFormedThrows program procedure signatures h names before throws
+    → IfOk (along (next_thrown h names) throws written) (AreWellFormedThrows program procedure signatures h names nodes)
 throws_keep program procedure signatures h names before nodes throws [] e kept =
     record { fit = kept.fit; labels = kept.labels; few = omega (arith, e, kept.few) }
 throws_keep program procedure signatures h names before nodes throws (thrown ∷ written) e kept =
     then_finds (next_thrown h names throws thrown) (λ next. along (next_thrown h names) next written)
-    (ThrowsKept program procedure signatures h names (before + tree.thrown_nodes thrown)) _
+    (AreWellFormedThrows program procedure signatures h names (before + tree.thrown_nodes thrown)) _
     (then_finds (exception_finding (names thrown.name.text) thrown.name.at) _
     (λ number. Means program procedure signatures names → Stands program procedure signatures (Exception number)) _
     (exception_found program procedure signatures names thrown.name) (λ exception stands.
-    then_finds (demand (not (is_thrown throws exception)) _ thrown.name.at) _ (λ one. not (is_thrown throws exception) ≡ true) _
-    (demand_finds (not (is_thrown throws exception)) _ thrown.name.at) (λ one absent.
+    then_finds (require (not (is_thrown throws exception)) _ thrown.name.at) _ (λ one. not (is_thrown throws exception) ≡ true) _
+    (require_finds (not (is_thrown throws exception)) _ thrown.name.at) (λ one absent.
     then_finds (label_finding h thrown.label) _ (λ found. (label_fits h found ≡ true) × (1 + label_nodes found ≤ tree.label_nodes thrown.label)) _
     (label_there h thrown.label) (λ label there.
     let new : ThrownEntry = record { exception = exception; label = label } in
@@ -169,7 +169,7 @@ pub record World (h : PrincipalHierarchy) (top : TopLevel) : Type 0 where
   pub hierarchy : program.hierarchy ≡ h
   pub means : (procedure : ProcedureEntry) → Means program procedure top.signatures top.names
 
-pub record ProcedureKept (h : PrincipalHierarchy) (top : TopLevel) (written : ProcedureTree) (entry : ProcedureEntry) : Type 0 where
+pub record IsWellFormedProcedure (h : PrincipalHierarchy) (top : TopLevel) (written : ProcedureTree) (entry : ProcedureEntry) : Type 0 where
   pub fits : (world : World h top) → nat_le (frame_cells entry.slots) MAX_CELLS ≡ true → procedure_fits world.program entry ≡ true
   pub signed : Signed entry (signature_of written)
   pub few : procedure_nodes entry ≤ tree.procedure_nodes written
@@ -184,13 +184,13 @@ abbrev setting_for : PrincipalHierarchy → TopLevel → ProcedureTree → Setti
 setting_for h top written = record { hierarchy = h; signatures = top.signatures; result = result_base_of written.result }
 
 -- what was found of the parts of a procedure
-record PartsKept (h : PrincipalHierarchy) (top : TopLevel) (written : ProcedureTree) (result : Option ResultEntry) (begin : Option Label) (point : Point) (end : Option Label) (throws : List ThrownEntry) (done : Point × Block) : Type 0 where
+record AreWellFormedParts (h : PrincipalHierarchy) (top : TopLevel) (written : ProcedureTree) (result : Option ResultEntry) (begin : Option Label) (point : Point) (end : Option Label) (throws : List ThrownEntry) (done : Point × Block) : Type 0 where
   pub result_there : (result_fits h result ≡ true) × (given_base result ≡ result_base_of written.result)
   pub begin_there : written_fits h begin ≡ true
   pub begun : (place : Place h top (result_base_of written.result)) → Begun place.program place.procedure (setting_for h top written) top.names (map parameter_base written.parameters) point
   pub end_there : written_fits h end ≡ true
-  pub throws_kept : (place : Place h top (result_base_of written.result)) → ThrowsKept place.program place.procedure top.signatures h top.names (sum_by tree.thrown_nodes written.throws) throws
-  pub done_kept : (place : Place h top (result_base_of written.result)) → BlockKept place.program place.procedure (setting_for h top written) point (tree.block_nodes written.body) done
+  pub throws_kept : (place : Place h top (result_base_of written.result)) → AreWellFormedThrows place.program place.procedure top.signatures h top.names (sum_by tree.thrown_nodes written.throws) throws
+  pub done_kept : (place : Place h top (result_base_of written.result)) → IsWellFormedBlock place.program place.procedure (setting_for h top written) point (tree.block_nodes written.body) done
 
 abbrev entry_with : ProcedureTree → Option ResultEntry → Option Label → Option Label → List ThrownEntry → Point × Block → ProcedureEntry
 entry_with written result begin end throws done = record {
@@ -210,7 +210,7 @@ parameters_cost : (parameters : List ParameterTree) → length parameters ≤ su
 parameters_cost [] = omega arith
 parameters_cost (parameter ∷ parameters) = omega (arith, sum_by-cons tree.parameter_nodes parameter parameters, parameters_cost parameters)
 
-module _ (h : PrincipalHierarchy) (top : TopLevel) (written : ProcedureTree) (result : Option ResultEntry) (begin : Option Label) (point : Point) (end : Option Label) (throws : List ThrownEntry) (done : Point × Block) (parts : PartsKept h top written result begin point end throws done) where
+module _ (h : PrincipalHierarchy) (top : TopLevel) (written : ProcedureTree) (result : Option ResultEntry) (begin : Option Label) (point : Point) (end : Option Label) (throws : List ThrownEntry) (done : Point × Block) (parts : AreWellFormedParts h top written result begin point end throws done) where
   abbrev setting : Setting
   setting = setting_for h top written
 
@@ -293,7 +293,7 @@ some_program : PrincipalHierarchy → Program
 some_program h = record { hierarchy = h; channels = []; exceptions = []; globals = []; procedures = []; main = 0 }
 
 pub procedure_keeps : (placed : ℕ → Type 0) (longest : ℕ) (h : PrincipalHierarchy) (top : TopLevel) (written : ProcedureTree) → IsWrittenProcedure placed longest written
-    → IfOk (procedure_entry_finding h top written) (ProcedureKept h top written)
+    → IfOk (procedure_entry_finding h top written) (IsWellFormedProcedure h top written)
 unfolding procedure_entry_finding parameters_finding throws_finding
 procedure_keeps placed longest h top written is =
     let setting = setting_for h top written in
@@ -310,17 +310,17 @@ procedure_keeps placed longest h top written is =
     (record { slots_fit = refl; parameters_fit = refl; bases_are = refl; no_loops = refl; means = λ is means. means }))) (λ point begun.
     then_finds (optional_label_finding h written.end) _ (λ found. written_fits h found ≡ true) _ (optional_label_there h written.end) (λ end end_is.
     then_finds (along (next_thrown h top.names) [] written.throws) _
-    (λ throws. (place : Here) → ThrowsKept place.program place.procedure top.signatures h top.names (sum_by tree.thrown_nodes written.throws) throws) _
+    (λ throws. (place : Here) → AreWellFormedThrows place.program place.procedure top.signatures h top.names (sum_by tree.thrown_nodes written.throws) throws) _
     (finds_for_all (along (next_thrown h top.names) [] written.throws)
-    (λ (place : Here) throws. ThrowsKept place.program place.procedure top.signatures h top.names (sum_by tree.thrown_nodes written.throws) throws)
+    (λ (place : Here) throws. AreWellFormedThrows place.program place.procedure top.signatures h top.names (sum_by tree.thrown_nodes written.throws) throws)
     (λ place. throws_keep place.program place.procedure top.signatures h top.names 0 (sum_by tree.thrown_nodes written.throws) [] written.throws (omega arith)
     (record { fit = λ same means. refl; labels = refl; few = omega arith }))) (λ throws throws_kept.
     then_finds (block_finding setting point written.body) _
-    (λ done. (place : Here) → BlockKept place.program place.procedure setting point (tree.block_nodes written.body) done) _
+    (λ done. (place : Here) → IsWellFormedBlock place.program place.procedure setting point (tree.block_nodes written.body) done) _
     (finds_for_all (block_finding setting point written.body)
-    (λ (place : Here) done. BlockKept place.program place.procedure setting point (tree.block_nodes written.body) done)
+    (λ (place : Here) done. IsWellFormedBlock place.program place.procedure setting point (tree.block_nodes written.body) done)
     (λ place. block_keeps place.program place.procedure setting placed longest place.value point written.body is.body)) (λ done done_kept.
-    let parts : PartsKept h top written result begin point end throws done = record {
+    let parts : AreWellFormedParts h top written result begin point end throws done = record {
       result_there = result_is;
       begin_there = begin_is;
       begun = begun;

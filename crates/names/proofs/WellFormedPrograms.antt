@@ -18,9 +18,9 @@ use Rattle.resolved.specs.declared.expression.Base.{Base}
 use Rattle.resolved.specs.declared.expression.Base.TheVariants.{Int, Boolean}
 use Rattle.resolved.specs.declared.expression.Variable.TheVariants.{Global, Local}
 use Rattle.resolved.specs.Program.{Program, ChannelEntry, GlobalEntry, ProcedureEntry}
-use Rattle.resolved.specs.Value.{base_of as base_of_value}
+use Rattle.resolved.specs.Value.{base_of as base_of_value, zero_value}
 use Rattle.resolved.specs.WellFormed.{same_base, VariableType, global_type, parameters_of, same_direction, channel_is, label_fits, is_zero_value, first_fits, main_fits, cell_count, node_limit, size_fits, label_nodes, procedure_nodes, program_nodes, procedure_fits, well_formed}
-use Rattle.resolved.proofs.Parts.{program_from_parts}
+use Rattle.resolved.proofs.WellFormedParts.{program_from_parts}
 use Rattle.names.specs.declared.scope.Meaning.{Meaning}
 use Rattle.names.specs.declared.scope.Meaning.TheVariants.{Input, Output, Exception, Procedure, Scalar, Array}
 use Rattle.names.specs.Finding.{along, give_if}
@@ -28,11 +28,11 @@ use Rattle.names.specs.Environment.{Environment, declaring, fresh_finding}
 use Rattle.names.specs.Labels.{label_finding}
 use Rattle.names.specs.Expressions.{base_of}
 use Rattle.names.specs.Statements.{Signature, signature_at, size_finding}
-use Rattle.names.specs.Resolution.{TopLevel, nothing_declared, built_in, item_name, channel_meaning, global_meaning, item_meaning, signature_of, counted, next_name, top_finding, channel_finding, constant_value, constant_base, constant_place, FirstValue, first_finding, global_finding, zero_of, Tables, next_item, no_tables, items_finding, procedure_entry_finding, main_entry_finding, main_finding, global_cells, next_global_cells, global_cells_finding, frame_cells, next_frame, frames_finding, program_with, resolution}
-use Rattle.names.proofs.Passing.{then_finds, if_finds, demand_finds, any_finds}
+use Rattle.names.specs.Resolution.{TopLevel, nothing_declared, built_in, item_name, channel_meaning, global_meaning, item_meaning, signature_of, counted, next_name, top_finding, channel_finding, constant_value, constant_base, constant_at, FirstValue, first_finding, global_finding, Tables, next_item, no_tables, items_finding, procedure_entry_finding, main_entry_finding, main_finding, global_cells, next_global_cells, global_cells_finding, frame_cells, next_frame, frames_finding, program_with, resolution}
+use Rattle.names.proofs.Passing.{then_finds, if_finds, require_finds, any_finds}
 use Rattle.names.proofs.WellFormedExpressions.{given_base, slot_base, Signed, Stands}
 use Rattle.names.proofs.WellFormedLabels.{label_there, all_pushed}
-use Rattle.names.proofs.WellFormedProcedures.{World, ProcedureKept, procedure_keeps}
+use Rattle.names.proofs.WellFormedProcedures.{World, IsWellFormedProcedure, procedure_keeps}
 use Rattle.common.proofs.Cases.{there_at}
 use Rattle.common.specs.declared.limits.TheConstants.{MAX_ELEMENTS, MAX_CELLS, MAX_PRINCIPALS}
 
@@ -163,14 +163,14 @@ stands_further shape (ProcedureItem procedure) (Array (Local n) base size) e = e
 
 -- ---- the names of the items
 
-record TopKept (shape : Shape) (top : TopLevel) : Type 0 where
+record IsWellFormedTop (shape : Shape) (top : TopLevel) : Type 0 where
   pub channels : top.channels ≡ length shape.directions
   pub exceptions : top.exceptions ≡ shape.exceptions
   pub globals : top.globals ≡ length shape.variables
   pub signatures : top.signatures ≡ shape.signatures
   pub names : MeansIn shape top.names
 
-new_stands : (shape : Shape) (top : TopLevel) (item : ItemTree) → TopKept shape top → StandsIn (shape_with shape item) (item_meaning top item)
+new_stands : (shape : Shape) (top : TopLevel) (item : ItemTree) → IsWellFormedTop shape top → StandsIn (shape_with shape item) (item_meaning top item)
 new_stands shape top (ChannelItem channel) kept = go channel.direction
   where
     go : (direction : Direction) → StandsIn (record shape { directions = shape.directions ++ direction ∷ [] }) (channel_meaning direction top.channels)
@@ -195,8 +195,8 @@ new_stands shape top (ProcedureItem procedure) kept =
     let long : length top.signatures ≡ length shape.signatures = ap length kept.signatures in
     omega (arith, long, length-append shape.signatures (signature_of procedure ∷ []))
 
-counted_kept : (shape : Shape) (top : TopLevel) (item : ItemTree) (names : Environment) → TopKept shape top → MeansIn (shape_with shape item) names
-    → TopKept (shape_with shape item) (record (counted top item) { names = names })
+counted_kept : (shape : Shape) (top : TopLevel) (item : ItemTree) (names : Environment) → IsWellFormedTop shape top → MeansIn (shape_with shape item) names
+    → IsWellFormedTop (shape_with shape item) (record (counted top item) { names = names })
 counted_kept shape top (ChannelItem channel) names kept means = record {
   channels = omega (arith, kept.channels, length-append shape.directions (channel.direction ∷ []));
   exceptions = kept.exceptions;
@@ -226,7 +226,7 @@ counted_kept shape top (ProcedureItem procedure) names kept means = record {
   names = means;
 }
 
-name_kept : (shape : Shape) (top : TopLevel) (item : ItemTree) → TopKept shape top → IfOk (next_name top item) (TopKept (shape_with shape item))
+name_kept : (shape : Shape) (top : TopLevel) (item : ItemTree) → IsWellFormedTop shape top → IfOk (next_name top item) (IsWellFormedTop (shape_with shape item))
 unfolding next_name
 name_kept shape top item kept =
     then_finds (fresh_finding (top.names (item_name item).text) (item_name item).at) _ (λ one. Unit {0}) _
@@ -235,13 +235,13 @@ name_kept shape top item kept =
     (means_in_declaring (shape_with shape item) (item_name item).text (item_meaning top item) top.names (new_stands shape top item kept)
     (λ name meaning e. stands_further shape item meaning (kept.names name meaning e))))
 
-names_kept : (shape : Shape) (top : TopLevel) (items : List ItemTree) → TopKept shape top → IfOk (along next_name top items) (TopKept (shape_all shape items))
+names_kept : (shape : Shape) (top : TopLevel) (items : List ItemTree) → IsWellFormedTop shape top → IfOk (along next_name top items) (IsWellFormedTop (shape_all shape items))
 names_kept shape top [] kept = kept
 names_kept shape top (item ∷ items) kept =
-    then_finds (next_name top item) (λ next. along next_name next items) (TopKept (shape_with shape item)) _ (name_kept shape top item kept)
+    then_finds (next_name top item) (λ next. along next_name next items) (IsWellFormedTop (shape_with shape item)) _ (name_kept shape top item kept)
     (λ next kept_next. names_kept (shape_with shape item) next items kept_next)
 
-built_in_kept : TopKept no_items built_in
+built_in_kept : IsWellFormedTop no_items built_in
 built_in_kept = record {
   channels = refl;
   exceptions = refl;
@@ -264,8 +264,8 @@ channel_there h channel =
     (label_there h channel.label) (λ label there. (there.0, refl, there.1))
 
 -- the first value is of the type, and that of an array is zero
-abbrev FirstKept : Base → GlobalValueTree → FirstValue → Type 0
-FirstKept base value found =
+abbrev IsWellFormedFirst : Base → GlobalValueTree → FirstValue → Type 0
+IsWellFormedFirst base value found =
     (size_fits found.size ≡ true)
     × ((same_base (base_of_value found.first) base && (is_none found.size || is_zero_value found.first)) ≡ true) × (found.size ≡ size_of value)
 
@@ -273,15 +273,15 @@ constant_of_base : (constant : ConstantTree) (base : Base) → same_base (consta
 constant_of_base (IntegerConstant at negative value) base e = e
 constant_of_base (TruthConstant at value) base e = e
 
-zero_fits : (base : Base) → (same_base (base_of_value (zero_of base)) base && is_zero_value (zero_of base)) ≡ true
+zero_fits : (base : Base) → (same_base (base_of_value (zero_value base)) base && is_zero_value (zero_value base)) ≡ true
 zero_fits Int = refl
 zero_fits Boolean = refl
 
-first_there : (base : Base) (value : GlobalValueTree) → IfOk (first_finding base value) (FirstKept base value)
+first_there : (base : Base) (value : GlobalValueTree) → IfOk (first_finding base value) (IsWellFormedFirst base value)
 unfolding first_finding size_finding
 first_there base (ScalarTree constant) =
-    if_finds (same_base (constant_base constant) base) (record { size = None; first = constant_value constant }) _ (constant_place constant)
-    (FirstKept base (ScalarTree constant)) (λ same.
+    if_finds (same_base (constant_base constant) base) (record { size = None; first = constant_value constant }) _ (constant_at constant)
+    (IsWellFormedFirst base (ScalarTree constant)) (λ same.
     (refl, and_from (same_base (base_of_value (constant_value constant)) base) true (constant_of_base constant base same) refl, refl))
 first_there base (ArrayTree size) =
     then_finds (size_finding size) _ (λ long. (size_fits (Some long) ≡ true) × (long ≡ size.size)) _
@@ -301,7 +301,7 @@ global_there h global =
     let base = base_of global.base in
     then_finds (label_finding h global.label) _ (λ found. (label_fits h found ≡ true) × (1 + label_nodes found ≤ tree.label_nodes global.label)) _
     (label_there h global.label) (λ label there.
-    then_finds (first_finding base global.value) _ (FirstKept base global.value) _ (first_there base global.value) (λ value kept. (
+    then_finds (first_finding base global.value) _ (IsWellFormedFirst base global.value) _ (first_there base global.value) (λ value kept. (
       and_from (size_fits value.size && label_fits h label) (same_base (base_of_value value.first) base && (is_none value.size || is_zero_value value.first))
           (and_from (size_fits value.size) (label_fits h label) kept.0 there.0) kept.1,
       (λ i. record { base = base; size = kept.2 i }),
@@ -326,7 +326,7 @@ abbrev table_nodes : Tables → ℕ
 table_nodes tables =
     sum_by channel_nodes tables.channels + length tables.exceptions + length tables.globals + sum_by procedure_nodes tables.procedures
 
-record TablesKept (h : PrincipalHierarchy) (top : TopLevel) (shape : Shape) (nodes : ℕ) (tables : Tables) : Type 0 where
+record AreWellFormedTables (h : PrincipalHierarchy) (top : TopLevel) (shape : Shape) (nodes : ℕ) (tables : Tables) : Type 0 where
   pub directions : map way_of tables.channels ≡ shape.directions
   pub exceptions : 3 + length tables.exceptions ≡ shape.exceptions
   pub variables : map variable_of tables.globals ≡ shape.variables
@@ -340,8 +340,8 @@ signed_is : (entry : ProcedureEntry) (signature : Signature) → Signed entry si
 signed_is entry signature signed = λ i. record { parameters = signed.parameters i; result = signed.value i }
 
 module _ (placed : ℕ → Type 0) (longest : ℕ) (h : PrincipalHierarchy) (top : TopLevel) where
-  item_kept : (shape : Shape) (nodes : ℕ) (tables : Tables) (item : ItemTree) → IsWrittenItem placed longest item → TablesKept h top shape nodes tables
-      → IfOk (next_item h top tables item) (TablesKept h top (shape_with shape item) (nodes + tree.item_nodes item))
+  item_kept : (shape : Shape) (nodes : ℕ) (tables : Tables) (item : ItemTree) → IsWrittenItem placed longest item → AreWellFormedTables h top shape nodes tables
+      → IfOk (next_item h top tables item) (AreWellFormedTables h top (shape_with shape item) (nodes + tree.item_nodes item))
   unfolding next_item
   item_kept shape nodes tables (ChannelItem channel) is kept =
       then_finds (channel_finding h channel) _
@@ -379,7 +379,7 @@ module _ (placed : ℕ → Type 0) (longest : ℕ) (h : PrincipalHierarchy) (top
         few = omega (arith, kept.few, length-append tables.globals (entry ∷ []));
       })
   item_kept shape nodes tables (ProcedureItem procedure) is kept =
-      then_finds (procedure_entry_finding h top procedure) _ (ProcedureKept h top procedure) _ (procedure_keeps placed longest h top procedure is)
+      then_finds (procedure_entry_finding h top procedure) _ (IsWellFormedProcedure h top procedure) _ (procedure_keeps placed longest h top procedure is)
       (λ entry there. record {
         directions = kept.directions;
         exceptions = kept.exceptions;
@@ -394,8 +394,8 @@ module _ (placed : ℕ → Type 0) (longest : ℕ) (h : PrincipalHierarchy) (top
       })
 
   items_kept : (shape : Shape) (before nodes : ℕ) (tables : Tables) (items : List ItemTree) → nodes ≡ before + sum_by tree.item_nodes items
-      → All (IsWrittenItem placed longest) items → TablesKept h top shape before tables
-      → IfOk (along (next_item h top) tables items) (TablesKept h top (shape_all shape items) nodes)
+      → All (IsWrittenItem placed longest) items → AreWellFormedTables h top shape before tables
+      → IfOk (along (next_item h top) tables items) (AreWellFormedTables h top (shape_all shape items) nodes)
   items_kept shape before nodes tables [] e all kept = record {
     directions = kept.directions;
     exceptions = kept.exceptions;
@@ -408,7 +408,7 @@ module _ (placed : ℕ → Type 0) (longest : ℕ) (h : PrincipalHierarchy) (top
   }
   items_kept shape before nodes tables (item ∷ items) e all kept =
       then_finds (next_item h top tables item) (λ next. along (next_item h top) next items)
-      (TablesKept h top (shape_with shape item) (before + tree.item_nodes item)) _
+      (AreWellFormedTables h top (shape_with shape item) (before + tree.item_nodes item)) _
       (item_kept shape before tables item (All-head (IsWrittenItem placed longest) item items all) kept) (λ next kept_next.
       items_kept (shape_with shape item) (before + tree.item_nodes item) nodes next items (omega (arith, e, sum_by-cons tree.item_nodes item items))
       (All-tail (IsWrittenItem placed longest) item items all) kept_next)
@@ -449,7 +449,7 @@ frames_kept : (one : Unit {0}) (procedures : List ProcedureEntry) → IfOk (alon
 frames_kept one [] = refl
 frames_kept one (procedure ∷ procedures) =
     then_finds (next_frame one procedure) (λ next. along next_frame next procedures) (λ next. frame_fits procedure ≡ true) _
-    (demand_finds (frame_fits procedure) _ procedure.at) (λ next fit.
+    (require_finds (frame_fits procedure) _ procedure.at) (λ next fit.
     IfOk-weaker (along next_frame next procedures) (λ done. list_all frame_fits procedures ≡ true) (λ done. list_all frame_fits (procedure ∷ procedures) ≡ true)
     (λ done rest. and_from (frame_fits procedure) (list_all frame_fits procedures) fit rest) (frames_kept next procedures))
 
@@ -496,7 +496,7 @@ type_there : (found : Option GlobalEntry) → global_type found ≡ option_map v
 type_there None = refl
 type_there (Some entry) = refl
 
-module _ (h : PrincipalHierarchy) (top : TopLevel) (shape : Shape) (nodes : ℕ) (tables : Tables) (main : ℕ) (top_kept : TopKept shape top) (kept : TablesKept h top shape nodes tables) where
+module _ (h : PrincipalHierarchy) (top : TopLevel) (shape : Shape) (nodes : ℕ) (tables : Tables) (main : ℕ) (top_kept : IsWellFormedTop shape top) (kept : AreWellFormedTables h top shape nodes tables) where
   abbrev program : Program
   program = program_with h tables main
 
@@ -563,8 +563,8 @@ unfolding resolution top_finding items_finding global_cells_finding frames_findi
 resolution_keeps placed longest h written hierarchy is few =
     let shape = shape_all no_items written.items in
     let nodes = sum_by tree.item_nodes written.items in
-    then_finds (along next_name built_in written.items) _ (TopKept shape) _ (names_kept no_items built_in written.items built_in_kept) (λ top top_kept.
-    then_finds (along (next_item h top) no_tables written.items) _ (TablesKept h top shape nodes) _
+    then_finds (along next_name built_in written.items) _ (IsWellFormedTop shape) _ (names_kept no_items built_in written.items built_in_kept) (λ top top_kept.
+    then_finds (along (next_item h top) no_tables written.items) _ (AreWellFormedTables h top shape nodes) _
     (items_kept placed longest h top no_items 0 nodes no_tables written.items (omega arith) is (record {
       directions = refl;
       exceptions = refl;

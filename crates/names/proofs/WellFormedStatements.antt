@@ -9,8 +9,9 @@ use Rattle.std.proofs.lemmas.List.Elements.{All-head, All-tail}
 use Rattle.std.proofs.lemmas.List.Folds.{list_all-append}
 use Rattle.std.proofs.lemmas.List.Sums.{sum_by-cons, sum_by_push}
 use Rattle.std.proofs.lemmas.Result.{IfOk-weaker}
+use Rattle.std.proofs.lemmas.Option.{same_Some}
 use Rattle.syntax.specs.Nodes as tree
-use Rattle.syntax.specs.Tree.{NameTree, LabelTree, ExpressionTree, CallTree, RightTree, ReceivedTree, CalledTree, ValueTree, SizeTree, StatementTree, DeclareTree, DeclareArrayTree, AssignTree, AssignElementTree, CallTree', ReceiveTree, SendTree, IfTree, IfElseTree, WhileTree, BreakTree, ContinueTree, ThrowTree, ReturnTree, TryTree, NestedTree, BlockTree, BlockOf, StatementTrees, NoStatement, StatementThen, CatchTrees, NoCatch, CatchThen, expression_place}
+use Rattle.syntax.specs.Tree.{NameTree, LabelTree, ExpressionTree, CallTree, RightTree, ReceivedTree, CalledTree, ValueTree, SizeTree, StatementTree, DeclareTree, DeclareArrayTree, AssignTree, AssignElementTree, CallTree', ReceiveTree, SendTree, IfTree, IfElseTree, WhileTree, BreakTree, ContinueTree, ThrowTree, ReturnTree, TryTree, NestedTree, BlockTree, BlockOf, StatementTrees, NoStatement, StatementThen, CatchTrees, NoCatch, CatchThen, expression_at}
 use Rattle.syntax.specs.Written.{IsWrittenExpression, IsWrittenOptionalExpression, IsWrittenCall, IsWrittenRight, IsWrittenStatement, IsWrittenBlock, AreWrittenStatements, AreWrittenCatches}
 use Rattle.resolved.specs.declared.expression.Base.{Base}
 use Rattle.resolved.specs.declared.expression.Base.TheVariants.{Int, Boolean}
@@ -23,13 +24,13 @@ use Rattle.resolved.specs.Tree.{Expression, Statement, Call, If, While, Leave, R
 use Rattle.resolved.specs.WellFormed.{same_base, slot_type, variable_type, scalar_by, array_by, has_base, has_result, target_by, channel_is, is_exception, is_array, arguments_match, call_matches, parameters_of, statement_fits, block_fits, handlers_fit, statement_loops, block_loops, handlers_loops, counts_from, size_fits, written_fits, expression_nodes, statement_nodes, block_nodes, handlers_nodes}
 use Rattle.resolved.proofs.Sound.Values.{same_base_is, same_base_itself}
 use Rattle.names.specs.declared.scope.Meaning.TheVariants.{Input, Output, Exception, Procedure, Scalar, Array}
-use Rattle.names.specs.Finding.{Finding, demand, along}
+use Rattle.names.specs.Finding.{Finding, require, along}
 use Rattle.names.specs.Environment.{Environment, ScalarUse, ArrayUse, fresh_finding, scalar_finding, array_finding, input_finding, output_finding, exception_finding, procedure_finding}
 use Rattle.names.specs.Labels.{optional_label_finding}
 use Rattle.names.specs.Expressions.{Typed, base_of, expression_finding, typed_finding}
 use Rattle.names.specs.Statements.{Setting, Point, signature_at, next_argument, arguments_finding, CallUse, applied_finding, call_finding, gives_base, assigned_finding, scalar_slot, array_slot, declare_finding, size_finding, declare_array_finding, assign_finding, store_finding, call_statement_finding, receive_finding, send_finding, throw_finding, returned_finding, return_finding, staying, in_loop, behind_block, statement_finding, block_finding, statements_finding, catches_finding}
-use Rattle.names.proofs.Passing.{then_finds, if_finds, demand_finds, any_finds}
-use Rattle.names.proofs.WellFormedExpressions.{given_base, slot_base, scalar_type, array_type, Stands, Means, means_declaring, scalar_found, array_found, input_found, output_found, exception_found, procedure_found, TypedKept, ExpressionKept, expression_keeps, typed_keeps}
+use Rattle.names.proofs.Passing.{then_finds, if_finds, require_finds, any_finds}
+use Rattle.names.proofs.WellFormedExpressions.{given_base, slot_base, scalar_type, array_type, Stands, Means, means_declaring, scalar_found, array_found, input_found, output_found, exception_found, procedure_found, IsWellFormedTyped, IsWellFormedExpression, expression_keeps, typed_keeps}
 use Rattle.names.proofs.WellFormedLabels.{optional_label_there}
 use Rattle.common.specs.declared.limits.TheConstants.{MAX_ELEMENTS}
 
@@ -64,7 +65,7 @@ module _ (program : Program) (procedure : ProcedureEntry) (setting : Setting) wh
   MeansHere names = Means program procedure setting.signatures names
 
   abbrev HasBase : Environment → Base → ℕ → Expression → Type 0
-  HasBase names base nodes e = TypedKept program procedure setting.signatures names base nodes e
+  HasBase names base nodes e = IsWellFormedTyped program procedure setting.signatures names base nodes e
 
   -- ---- points
 
@@ -84,15 +85,15 @@ module _ (program : Program) (procedure : ProcedureEntry) (setting : Setting) wh
     pub fits : IsPrefix after.slots → MeansHere point.names → test ≡ true
     pub names : IsPrefix after.slots → MeansHere point.names → MeansHere after.names
 
-  abbrev pub StatementKept : Point → ℕ → Point × Statement → Type 0
-  StatementKept point written done =
+  abbrev pub IsWellFormedStatement : Point → ℕ → Point × Statement → Type 0
+  IsWellFormedStatement point written done =
       Kept point done.0 (statement_fits program procedure done.1) (statement_loops done.1) (statement_nodes done.1) written
 
-  abbrev pub BlockKept : Point → ℕ → Point × Block → Type 0
-  BlockKept point written done = Kept point done.0 (block_fits program procedure done.1) (block_loops done.1) (block_nodes done.1) written
+  abbrev pub IsWellFormedBlock : Point → ℕ → Point × Block → Type 0
+  IsWellFormedBlock point written done = Kept point done.0 (block_fits program procedure done.1) (block_loops done.1) (block_nodes done.1) written
 
-  abbrev pub HandlersKept : Point → ℕ → Point × Handlers → Type 0
-  HandlersKept point written done =
+  abbrev pub AreWellFormedHandlers : Point → ℕ → Point × Handlers → Type 0
+  AreWellFormedHandlers point written done =
       Kept point done.0 (handlers_fit program procedure done.1) (handlers_loops done.1) (handlers_nodes done.1) written
 
   pub prefix_before : (slots more after : List SlotEntry) → after ≡ slots ++ more → IsPrefix after → IsPrefix slots
@@ -191,19 +192,19 @@ module _ (program : Program) (procedure : ProcedureEntry) (setting : Setting) wh
       and_from (has_base program procedure b x) (match_bases (bases ++ base ∷ []) (found ++ e ∷ [])) parts.0
       (match_push bases found base e parts.1 has)
 
-  record ArgumentsKept (names : Environment) (bases : List Base) (written : ℕ) (found : List Expression) : Type 0 where
+  record AreWellFormedArguments (names : Environment) (bases : List Base) (written : ℕ) (found : List Expression) : Type 0 where
     pub fit : MeansHere names → match_bases bases found ≡ true
     pub long : length bases ≡ length found
     pub few : sum_by expression_nodes found ≤ written
 
   module _ (placed : ℕ → Type 0) (longest : ℕ) where
     arguments_keep : (names : Environment) (parameters bases rest : List Base) (found : List Expression) (arguments : List ExpressionTree) (before : ℕ)
-        → parameters ≡ bases ++ rest → ArgumentsKept names bases before found → length rest ≡ length arguments
+        → parameters ≡ bases ++ rest → AreWellFormedArguments names bases before found → length rest ≡ length arguments
         → All (IsWrittenExpression placed longest) arguments
         → IfOk (along (next_argument names parameters) found arguments)
-        (ArgumentsKept names parameters (before + sum_by tree.expression_nodes arguments))
+        (AreWellFormedArguments names parameters (before + sum_by tree.expression_nodes arguments))
     arguments_keep names parameters bases [] found [] before e kept long all =
-        subst (λ one. ArgumentsKept names one (before + 0) found) (sym (e ∙ append-nil bases))
+        subst (λ one. AreWellFormedArguments names one (before + 0) found) (sym (e ∙ append-nil bases))
         (record { fit = kept.fit; long = kept.long; few = omega (arith, kept.few) })
     arguments_keep names parameters bases [] found (argument ∷ arguments) before e kept long all = absurd (cc)
     arguments_keep names parameters bases (base ∷ rest) found [] before e kept long all = absurd (cc)
@@ -211,7 +212,7 @@ module _ (program : Program) (procedure : ProcedureEntry) (setting : Setting) wh
         let wanted = slice_index_or parameters (length found) Int in
         let same : wanted ≡ base = ap (λ one. slice_index_or one (length found) Int) e ∙ index_end bases base rest (length found) Int kept.long in
         then_finds (next_argument names parameters found argument) (λ next. along (next_argument names parameters) next arguments)
-        (ArgumentsKept names (bases ++ base ∷ []) (before + tree.expression_nodes argument)) _
+        (AreWellFormedArguments names (bases ++ base ∷ []) (before + tree.expression_nodes argument)) _
         (then_finds (typed_finding names wanted argument) _ (HasBase names wanted (tree.expression_nodes argument)) _
         (typed_keeps program procedure setting.signatures placed longest names wanted argument (All-head (IsWrittenExpression placed longest) argument arguments all))
         (λ e kept_e. record {
@@ -223,8 +224,8 @@ module _ (program : Program) (procedure : ProcedureEntry) (setting : Setting) wh
         }))
         (λ next kept_next.
         IfOk-weaker (along (next_argument names parameters) next arguments)
-        (ArgumentsKept names parameters (before + tree.expression_nodes argument + sum_by tree.expression_nodes arguments))
-        (ArgumentsKept names parameters (before + sum_by tree.expression_nodes (argument ∷ arguments)))
+        (AreWellFormedArguments names parameters (before + tree.expression_nodes argument + sum_by tree.expression_nodes arguments))
+        (AreWellFormedArguments names parameters (before + sum_by tree.expression_nodes (argument ∷ arguments)))
         (λ made kept_made. record {
           fit = kept_made.fit;
           long = kept_made.long;
@@ -242,23 +243,23 @@ module _ (program : Program) (procedure : ProcedureEntry) (setting : Setting) wh
         (callee : ProcedureEntry) × (slice_get program.procedures made.procedure ≡ Some callee)
         × (arguments_match program procedure (parameters_of callee) made.arguments ≡ true) × (given_base callee.result ≡ made.result)
 
-    record CallKept (names : Environment) (written : ℕ) (made : CallUse) : Type 0 where
+    record IsWellFormedCall (names : Environment) (written : ℕ) (made : CallUse) : Type 0 where
       pub there : MeansHere names → CalledThere made
       pub few : 2 + sum_by expression_nodes made.arguments ≤ written
 
     call_keeps : (names : Environment) (call : CallTree) → IsWrittenCall placed longest call
-        → IfOk (call_finding setting.signatures names call) (CallKept names (tree.call_nodes call))
+        → IfOk (call_finding setting.signatures names call) (IsWellFormedCall names (tree.call_nodes call))
     unfolding call_finding applied_finding arguments_finding
     call_keeps names call written =
         then_finds (procedure_finding (names call.procedure.text) call.procedure.at) _
         (λ number. MeansHere names → Stands program procedure setting.signatures (Procedure number)) _
         (procedure_found program procedure setting.signatures names call.procedure) (λ number stands.
         let signature = signature_at setting.signatures number in
-        then_finds (demand (length signature.parameters == length call.arguments) _ call.procedure.at) _
+        then_finds (require (length signature.parameters == length call.arguments) _ call.procedure.at) _
         (λ one. (length signature.parameters == length call.arguments) ≡ true) _
-        (demand_finds (length signature.parameters == length call.arguments) _ call.procedure.at) (λ one same.
+        (require_finds (length signature.parameters == length call.arguments) _ call.procedure.at) (λ one same.
         then_finds (along (next_argument names signature.parameters) [] call.arguments) _
-        (ArgumentsKept names signature.parameters (0 + sum_by tree.expression_nodes call.arguments)) _
+        (AreWellFormedArguments names signature.parameters (0 + sum_by tree.expression_nodes call.arguments)) _
         (arguments_keep names signature.parameters [] signature.parameters [] call.arguments 0 refl
         (record { fit = λ means. refl; long = refl; few = omega arith }) (eqb-true (length signature.parameters) (length call.arguments) same) written.1)
         (λ arguments kept. record {
@@ -276,13 +277,13 @@ module _ (program : Program) (procedure : ProcedureEntry) (setting : Setting) wh
     -- ---- statements that hold no others
 
     -- a statement that fits where names mean what they do, and that has no loop
-    record PlainKept (names : Environment) (nodes : ℕ) (statement : Statement) : Type 0 where
+    record IsWellFormedPlain (names : Environment) (nodes : ℕ) (statement : Statement) : Type 0 where
       pub fits : MeansHere names → statement_fits program procedure statement ≡ true
       pub no_loops : statement_loops statement ≡ []
       pub few : statement_nodes statement ≤ nodes
 
     -- the same of one with a target of a base type
-    record AssignedKept (names : Environment) (target : Variable) (base : Base) (nodes : ℕ) (statement : Statement) : Type 0 where
+    record IsWellFormedAssigned (names : Environment) (target : Variable) (base : Base) (nodes : ℕ) (statement : Statement) : Type 0 where
       pub fits : MeansHere names → variable_type program procedure target ≡ scalar_type base → statement_fits program procedure statement ≡ true
       pub no_loops : statement_loops statement ≡ []
       pub few : statement_nodes statement ≤ nodes
@@ -311,10 +312,10 @@ module _ (program : Program) (procedure : ProcedureEntry) (setting : Setting) wh
         (target_by program procedure target (λ base. has_result callee.result (same_base base))) matched (takes callee given))
 
     assigned_keeps : (names : Environment) (at : ℕ) (target : Variable) (base : Base) (right : RightTree) → IsWrittenRight placed longest right
-        → IfOk (assigned_finding setting.signatures names at target base right) (AssignedKept names target base (1 + tree.right_nodes right))
+        → IfOk (assigned_finding setting.signatures names at target base right) (IsWellFormedAssigned names target base (1 + tree.right_nodes right))
     unfolding assigned_finding
     assigned_keeps names at target base (ReceivedTree receive_at channel) written =
-        then_finds (demand (same_base Int base) _ receive_at) _ (λ one. same_base Int base ≡ true) _ (demand_finds (same_base Int base) _ receive_at) (λ one same.
+        then_finds (require (same_base Int base) _ receive_at) _ (λ one. same_base Int base ≡ true) _ (require_finds (same_base Int base) _ receive_at) (λ one same.
         then_finds (input_finding (names channel.text) channel.at) _
         (λ number. MeansHere names → Stands program procedure setting.signatures (Input number)) _
         (input_found program procedure setting.signatures names channel) (λ number stands. record {
@@ -325,7 +326,7 @@ module _ (program : Program) (procedure : ProcedureEntry) (setting : Setting) wh
           few = omega arith;
         }))
     assigned_keeps names at target base (CalledTree call) written =
-        then_finds (call_finding setting.signatures names call) _ (CallKept names (tree.call_nodes call)) _ (call_keeps names call written) (λ made kept.
+        then_finds (call_finding setting.signatures names call) _ (IsWellFormedCall names (tree.call_nodes call)) _ (call_keeps names call written) (λ made kept.
         if_finds (gives_base base made.result) (Call at made.procedure made.arguments (Some target)) _ call.procedure.at _ (λ given. record {
           fits =
               λ means e. call_passes made (Some target) (kept.there means) (λ callee same.
@@ -343,14 +344,14 @@ module _ (program : Program) (procedure : ProcedureEntry) (setting : Setting) wh
         })
 
     assign_keeps : (names : Environment) (target : NameTree) (right : RightTree) → IsWrittenRight placed longest right
-        → IfOk (assign_finding setting.signatures names target right) (PlainKept names (2 + tree.right_nodes right))
+        → IfOk (assign_finding setting.signatures names target right) (IsWellFormedPlain names (2 + tree.right_nodes right))
     unfolding assign_finding
     assign_keeps names target right written =
         then_finds (scalar_finding (names target.text) target.at) _
         (λ (x : ScalarUse). MeansHere names → variable_type program procedure x.variable ≡ scalar_type x.base) _
         (scalar_found program procedure setting.signatures names target) (λ x stands.
         IfOk-weaker (assigned_finding setting.signatures names target.at x.variable x.base right)
-        (AssignedKept names x.variable x.base (1 + tree.right_nodes right)) (PlainKept names (2 + tree.right_nodes right))
+        (IsWellFormedAssigned names x.variable x.base (1 + tree.right_nodes right)) (IsWellFormedPlain names (2 + tree.right_nodes right))
         (λ statement kept. record {
           fits = λ means. kept.fits means (stands means);
           no_loops = kept.no_loops;
@@ -360,7 +361,7 @@ module _ (program : Program) (procedure : ProcedureEntry) (setting : Setting) wh
 
     store_keeps : (names : Environment) (array : NameTree) (index right : ExpressionTree) → IsWrittenExpression placed longest index
         → IsWrittenExpression placed longest right
-        → IfOk (store_finding names array index right) (PlainKept names (2 + (tree.expression_nodes index + tree.expression_nodes right)))
+        → IfOk (store_finding names array index right) (IsWellFormedPlain names (2 + (tree.expression_nodes index + tree.expression_nodes right)))
     unfolding store_finding
     store_keeps names array index right index_written right_written =
         then_finds (array_finding (names array.text) array.at) _
@@ -378,16 +379,16 @@ module _ (program : Program) (procedure : ProcedureEntry) (setting : Setting) wh
         })))
 
     call_statement_keeps : (names : Environment) (call : CallTree) → IsWrittenCall placed longest call
-        → IfOk (call_statement_finding setting.signatures names call) (PlainKept names (1 + tree.call_nodes call))
+        → IfOk (call_statement_finding setting.signatures names call) (IsWellFormedPlain names (1 + tree.call_nodes call))
     unfolding call_statement_finding
     call_statement_keeps names call written =
-        then_finds (call_finding setting.signatures names call) _ (CallKept names (tree.call_nodes call)) _ (call_keeps names call written) (λ made kept. record {
+        then_finds (call_finding setting.signatures names call) _ (IsWellFormedCall names (tree.call_nodes call)) _ (call_keeps names call written) (λ made kept. record {
           fits = λ means. call_passes made None (kept.there means) (λ callee same. refl);
           no_loops = refl;
           few = omega (arith, kept.few);
         })
 
-    receive_keeps : (names : Environment) (at : ℕ) (channel : NameTree) → IfOk (receive_finding names at channel) (PlainKept names 2)
+    receive_keeps : (names : Environment) (at : ℕ) (channel : NameTree) → IfOk (receive_finding names at channel) (IsWellFormedPlain names 2)
     unfolding receive_finding
     receive_keeps names at channel =
         then_finds (input_finding (names channel.text) channel.at) _
@@ -399,7 +400,7 @@ module _ (program : Program) (procedure : ProcedureEntry) (setting : Setting) wh
         })
 
     send_keeps : (names : Environment) (at : ℕ) (channel : NameTree) (right : ExpressionTree) → IsWrittenExpression placed longest right
-        → IfOk (send_finding names at channel right) (PlainKept names (2 + tree.expression_nodes right))
+        → IfOk (send_finding names at channel right) (IsWellFormedPlain names (2 + tree.expression_nodes right))
     unfolding send_finding
     send_keeps names at channel right written =
         then_finds (output_finding (names channel.text) channel.at) _
@@ -414,7 +415,7 @@ module _ (program : Program) (procedure : ProcedureEntry) (setting : Setting) wh
           few = omega (arith, kept.few);
         }))
 
-    throw_keeps : (names : Environment) (at : ℕ) (exception : NameTree) → IfOk (throw_finding names at exception) (PlainKept names 2)
+    throw_keeps : (names : Environment) (at : ℕ) (exception : NameTree) → IfOk (throw_finding names at exception) (IsWellFormedPlain names 2)
     unfolding throw_finding
     throw_keeps names at exception =
         then_finds (exception_finding (names exception.text) exception.at) _
@@ -428,17 +429,17 @@ module _ (program : Program) (procedure : ProcedureEntry) (setting : Setting) wh
       no_value (Some entry) e = e
 
       returned_keeps : (names : Environment) (at value_at nodes : ℕ) (found : Typed)
-          → ExpressionKept program procedure setting.signatures names nodes found
-          → IfOk (returned_finding setting.result at value_at found) (PlainKept names (1 + nodes))
+          → IsWellFormedExpression program procedure setting.signatures names nodes found
+          → IfOk (returned_finding setting.result at value_at found) (IsWellFormedPlain names (1 + nodes))
       returned_keeps names at value_at nodes found kept =
           go procedure.result refl setting.result value
         where
           go : (entry : Option ResultEntry) → procedure.result ≡ entry → (result : Option Base) → given_base procedure.result ≡ result
-              → IfOk (returned_finding result at value_at found) (PlainKept names (1 + nodes))
+              → IfOk (returned_finding result at value_at found) (IsWellFormedPlain names (1 + nodes))
           go entry e None given = tt
           go None e (Some base) given = absurd (cc)
           go (Some entry) e (Some base) given =
-              let same : entry.base ≡ base = some_inside entry.base base (sym (ap given_base e) ∙ given) in
+              let same : entry.base ≡ base = same_Some entry.base base (sym (ap given_base e) ∙ given) in
               if_finds (same_base found.base base) (ReturnWith at (Some found.expression)) _ value_at _ (λ is. record {
                 fits =
                     λ means. subst (λ one. has_result one (λ base. has_base program procedure base found.expression) ≡ true) (sym e)
@@ -446,12 +447,9 @@ module _ (program : Program) (procedure : ProcedureEntry) (setting : Setting) wh
                 no_loops = refl;
                 few = omega (arith, kept.few);
               })
-            where
-              some_inside : (a b : Base) → ◌≡◌ {A = Option Base} (Some a) (Some b) → a ≡ b
-              some_inside a b e = cc
 
       return_keeps : (names : Environment) (at : ℕ) (right : Option ExpressionTree) → IsWrittenOptionalExpression placed longest right
-          → IfOk (return_finding setting.result names at right) (PlainKept names (1 + tree.optional_expression_nodes right))
+          → IfOk (return_finding setting.result names at right) (IsWellFormedPlain names (1 + tree.optional_expression_nodes right))
       unfolding return_finding
       return_keeps names at None written =
           if_finds (is_none setting.result) (ReturnWith at None) _ at _ (λ none. record {
@@ -460,13 +458,13 @@ module _ (program : Program) (procedure : ProcedureEntry) (setting : Setting) wh
             few = omega arith;
           })
       return_keeps names at (Some right) written =
-          then_finds (expression_finding names right) _ (ExpressionKept program procedure setting.signatures names (tree.expression_nodes right)) _
+          then_finds (expression_finding names right) _ (IsWellFormedExpression program procedure setting.signatures names (tree.expression_nodes right)) _
           (expression_keeps program procedure setting.signatures placed longest names right written)
-          (λ found kept. returned_keeps names at (expression_place right) (tree.expression_nodes right) found kept)
+          (λ found kept. returned_keeps names at (expression_at right) (tree.expression_nodes right) found kept)
 
       -- ---- declarations
 
-      plain_keeps : (point : Point) (nodes : ℕ) (statement : Statement) → PlainKept point.names nodes statement → StatementKept point nodes (point, statement)
+      plain_keeps : (point : Point) (nodes : ℕ) (statement : Statement) → IsWellFormedPlain point.names nodes statement → IsWellFormedStatement point nodes (point, statement)
       plain_keeps point nodes statement kept = record {
         more = [];
         slots = sym (append-nil point.slots);
@@ -480,20 +478,20 @@ module _ (program : Program) (procedure : ProcedureEntry) (setting : Setting) wh
         names = λ is means. means;
       }
 
-      staying_keeps : (point : Point) (nodes : ℕ) (looked : Finding Statement) → IfOk looked (PlainKept point.names nodes)
-          → IfOk (staying point looked) (StatementKept point nodes)
+      staying_keeps : (point : Point) (nodes : ℕ) (looked : Finding Statement) → IfOk looked (IsWellFormedPlain point.names nodes)
+          → IfOk (staying point looked) (IsWellFormedStatement point nodes)
       staying_keeps point nodes looked h =
-          then_finds looked _ (PlainKept point.names nodes) _ h (λ statement kept. plain_keeps point nodes statement kept)
+          then_finds looked _ (IsWellFormedPlain point.names nodes) _ h (λ statement kept. plain_keeps point nodes statement kept)
 
       declare_keeps : (point : Point) (at : ℕ) (base : Base) (label : Option LabelTree) (name : NameTree) (right : RightTree) → IsWrittenRight placed longest right
-          → IfOk (declare_finding setting point at base label name right) (StatementKept point (2 + (tree.optional_label_nodes label + tree.right_nodes right)))
+          → IfOk (declare_finding setting point at base label name right) (IsWellFormedStatement point (2 + (tree.optional_label_nodes label + tree.right_nodes right)))
       unfolding declare_finding
       declare_keeps point at base label name right written_right =
           let target = Local (length point.slots) in
           then_finds (optional_label_finding setting.hierarchy label) _ (λ found. written_fits setting.hierarchy found ≡ true) _
           (optional_label_there setting.hierarchy label) (λ written there.
           then_finds (fresh_finding (point.names name.text) name.at) _ (λ one. Unit {0}) _ (any_finds (fresh_finding (point.names name.text) name.at)) (λ one nothing.
-          then_finds (assigned_finding setting.signatures point.names at target base right) _ (AssignedKept point.names target base (1 + tree.right_nodes right)) _
+          then_finds (assigned_finding setting.signatures point.names at target base right) _ (IsWellFormedAssigned point.names target base (1 + tree.right_nodes right)) _
           (assigned_keeps point.names at target base right written_right) (λ statement kept.
           let slot = scalar_slot at base written name.text in
           record {
@@ -512,7 +510,7 @@ module _ (program : Program) (procedure : ProcedureEntry) (setting : Setting) wh
           })))
 
       declare_array_keeps : (point : Point) (at : ℕ) (base : Base) (label : Option LabelTree) (name : NameTree) (size : SizeTree)
-          → IfOk (declare_array_finding setting point at base label name size) (StatementKept point (3 + tree.optional_label_nodes label))
+          → IfOk (declare_array_finding setting point at base label name size) (IsWellFormedStatement point (3 + tree.optional_label_nodes label))
       unfolding declare_array_finding size_finding
       declare_array_keeps point at base label name size =
           let target = Local (length point.slots) in
@@ -538,20 +536,20 @@ module _ (program : Program) (procedure : ProcedureEntry) (setting : Setting) wh
       -- ---- statements that hold others
 
       if_keeps : (point : Point) (at nodes : ℕ) (e : Expression) (condition : ℕ) → HasBase point.names Boolean condition e
-          → (done : Point × Block) → BlockKept point nodes done → StatementKept point (1 + (condition + nodes)) (done.0, If at e done.1 Empty)
+          → (done : Point × Block) → IsWellFormedBlock point nodes done → IsWellFormedStatement point (1 + (condition + nodes)) (done.0, If at e done.1 Empty)
       if_keeps point at nodes e condition kept_e done kept =
           weigh (statement_nodes (If at e done.1 Empty)) (1 + (condition + nodes)) (omega (arith, kept_e.few))
           (then_keeps (test_keeps (has_base program procedure Boolean e) kept_e.fits kept) (nothing_keeps done.0))
 
       if_else_keeps : (point : Point) (at nodes others : ℕ) (e : Expression) (condition : ℕ) → HasBase point.names Boolean condition e
-          → (done : Point × Block) → BlockKept point nodes done → (other : Point × Block) → BlockKept done.0 others other
-          → StatementKept point (1 + (condition + (nodes + others))) (other.0, If at e done.1 other.1)
+          → (done : Point × Block) → IsWellFormedBlock point nodes done → (other : Point × Block) → IsWellFormedBlock done.0 others other
+          → IsWellFormedStatement point (1 + (condition + (nodes + others))) (other.0, If at e done.1 other.1)
       if_else_keeps point at nodes others e condition kept_e done kept other kept_other =
           weigh (statement_nodes (If at e done.1 other.1)) (1 + (condition + (nodes + others))) (omega (arith, kept_e.few))
           (then_keeps (test_keeps (has_base program procedure Boolean e) kept_e.fits kept) kept_other)
 
       while_keeps : (point : Point) (at nodes : ℕ) (e : Expression) (condition : ℕ) → HasBase point.names Boolean condition e
-          → (done : Point × Block) → BlockKept (in_loop point) nodes done → StatementKept point (1 + (condition + nodes)) (done.0, While at point.loops e done.1)
+          → (done : Point × Block) → IsWellFormedBlock (in_loop point) nodes done → IsWellFormedStatement point (1 + (condition + nodes)) (done.0, While at point.loops e done.1)
       while_keeps point at nodes e condition kept_e done kept =
           let next : point.loops + 1 ≡ suc point.loops = omega arith in
           record {
@@ -569,17 +567,17 @@ module _ (program : Program) (procedure : ProcedureEntry) (setting : Setting) wh
             names = kept.names;
           }
 
-      try_keeps : (point : Point) (at nodes others : ℕ) (done : Point × Block) → BlockKept point nodes done
-          → (handled : Point × Handlers) → HandlersKept done.0 others handled → StatementKept point (1 + (nodes + others)) (handled.0, Try at done.1 handled.1)
+      try_keeps : (point : Point) (at nodes others : ℕ) (done : Point × Block) → IsWellFormedBlock point nodes done
+          → (handled : Point × Handlers) → AreWellFormedHandlers done.0 others handled → IsWellFormedStatement point (1 + (nodes + others)) (handled.0, Try at done.1 handled.1)
       try_keeps point at nodes others done kept handled kept_handlers =
           weigh (statement_nodes (Try at done.1 handled.1)) (1 + (nodes + others)) (omega arith) (then_keeps kept kept_handlers)
 
-      nested_keeps : (point : Point) (at nodes : ℕ) (done : Point × Block) → BlockKept point nodes done
-          → StatementKept point (1 + nodes) (done.0, Nested at done.1)
+      nested_keeps : (point : Point) (at nodes : ℕ) (done : Point × Block) → IsWellFormedBlock point nodes done
+          → IsWellFormedStatement point (1 + nodes) (done.0, Nested at done.1)
       nested_keeps point at nodes done kept = weigh (statement_nodes (Nested at done.1)) (1 + nodes) (omega arith) kept
 
-      behind_keeps : (point : Point) (nodes : ℕ) (done : Point × Block) → BlockKept point nodes done
-          → BlockKept point (1 + nodes) (behind_block point done.0, done.1)
+      behind_keeps : (point : Point) (nodes : ℕ) (done : Point × Block) → IsWellFormedBlock point nodes done
+          → IsWellFormedBlock point (1 + nodes) (behind_block point done.0, done.1)
       behind_keeps point nodes done kept = record {
         more = kept.more;
         slots = kept.slots;
@@ -592,8 +590,8 @@ module _ (program : Program) (procedure : ProcedureEntry) (setting : Setting) wh
       }
 
       catch_keeps : (point : Point) (at number nodes others : ℕ) → (MeansHere point.names → is_exception program number ≡ true)
-          → (done : Point × Block) → BlockKept point nodes done → (rest : Point × Handlers) → HandlersKept done.0 others rest
-          → HandlersKept point (2 + (nodes + others)) (rest.0, Catch at number done.1 rest.1)
+          → (done : Point × Block) → IsWellFormedBlock point nodes done → (rest : Point × Handlers) → AreWellFormedHandlers done.0 others rest
+          → AreWellFormedHandlers point (2 + (nodes + others)) (rest.0, Catch at number done.1 rest.1)
       catch_keeps point at number nodes others there done kept rest kept_rest =
           weigh (handlers_nodes (Catch at number done.1 rest.1)) (2 + (nodes + others)) (omega arith)
           (then_keeps (test_keeps (is_exception program number) there kept) kept_rest)
@@ -602,7 +600,7 @@ module _ (program : Program) (procedure : ProcedureEntry) (setting : Setting) wh
         unfolding statement_finding block_finding statements_finding catches_finding
 
         pub statement_keeps : (point : Point) (written : StatementTree) → IsWrittenStatement placed longest written
-            → IfOk (statement_finding setting point written) (StatementKept point (tree.statement_nodes written))
+            → IfOk (statement_finding setting point written) (IsWellFormedStatement point (tree.statement_nodes written))
         statement_keeps point (DeclareTree at base label name right) is = declare_keeps point at (base_of base) label name right is.3
         statement_keeps point (DeclareArrayTree at base label name size) is = declare_array_keeps point at (base_of base) label name size
         statement_keeps point (AssignTree target right) is =
@@ -621,19 +619,19 @@ module _ (program : Program) (procedure : ProcedureEntry) (setting : Setting) wh
         statement_keeps point (IfTree at condition body) is =
             then_finds (typed_finding point.names Boolean condition) _ (HasBase point.names Boolean (tree.expression_nodes condition)) _
             (typed_keeps program procedure setting.signatures placed longest point.names Boolean condition is.1) (λ e kept_e.
-            then_finds (block_finding setting point body) _ (BlockKept point (tree.block_nodes body)) _ (block_keeps point body is.2)
+            then_finds (block_finding setting point body) _ (IsWellFormedBlock point (tree.block_nodes body)) _ (block_keeps point body is.2)
             (λ done kept. if_keeps point at (tree.block_nodes body) e (tree.expression_nodes condition) kept_e done kept))
         statement_keeps point (IfElseTree at condition body otherwise) is =
             then_finds (typed_finding point.names Boolean condition) _ (HasBase point.names Boolean (tree.expression_nodes condition)) _
             (typed_keeps program procedure setting.signatures placed longest point.names Boolean condition is.1) (λ e kept_e.
-            then_finds (block_finding setting point body) _ (BlockKept point (tree.block_nodes body)) _ (block_keeps point body is.2) (λ done kept.
-            then_finds (block_finding setting done.0 otherwise) _ (BlockKept done.0 (tree.block_nodes otherwise)) _ (block_keeps done.0 otherwise is.3)
+            then_finds (block_finding setting point body) _ (IsWellFormedBlock point (tree.block_nodes body)) _ (block_keeps point body is.2) (λ done kept.
+            then_finds (block_finding setting done.0 otherwise) _ (IsWellFormedBlock done.0 (tree.block_nodes otherwise)) _ (block_keeps done.0 otherwise is.3)
             (λ other kept_other.
             if_else_keeps point at (tree.block_nodes body) (tree.block_nodes otherwise) e (tree.expression_nodes condition) kept_e done kept other kept_other)))
         statement_keeps point (WhileTree at condition body) is =
             then_finds (typed_finding point.names Boolean condition) _ (HasBase point.names Boolean (tree.expression_nodes condition)) _
             (typed_keeps program procedure setting.signatures placed longest point.names Boolean condition is.1) (λ e kept_e.
-            then_finds (block_finding setting (in_loop point) body) _ (BlockKept (in_loop point) (tree.block_nodes body)) _ (block_keeps (in_loop point) body is.2)
+            then_finds (block_finding setting (in_loop point) body) _ (IsWellFormedBlock (in_loop point) (tree.block_nodes body)) _ (block_keeps (in_loop point) body is.2)
             (λ done kept. while_keeps point at (tree.block_nodes body) e (tree.expression_nodes condition) kept_e done kept))
         statement_keeps point (BreakTree at) is = plain_keeps point 1 (Leave at exits.Break) (record { fits = λ means. refl; no_loops = refl; few = omega arith })
         statement_keeps point (ContinueTree at) is = plain_keeps point 1 (Leave at exits.Continue) (record { fits = λ means. refl; no_loops = refl; few = omega arith })
@@ -643,37 +641,37 @@ module _ (program : Program) (procedure : ProcedureEntry) (setting : Setting) wh
             staying_keeps point (1 + tree.optional_expression_nodes right) (return_finding setting.result point.names at right)
             (return_keeps point.names at right is.1)
         statement_keeps point (TryTree at body catches) is =
-            then_finds (block_finding setting point body) _ (BlockKept point (tree.block_nodes body)) _ (block_keeps point body is.1) (λ done kept.
-            then_finds (catches_finding setting done.0 catches) _ (HandlersKept done.0 (tree.catches_nodes catches)) _ (catches_keep done.0 catches is.2)
+            then_finds (block_finding setting point body) _ (IsWellFormedBlock point (tree.block_nodes body)) _ (block_keeps point body is.1) (λ done kept.
+            then_finds (catches_finding setting done.0 catches) _ (AreWellFormedHandlers done.0 (tree.catches_nodes catches)) _ (catches_keep done.0 catches is.2)
             (λ handled kept_handlers. try_keeps point at (tree.block_nodes body) (tree.catches_nodes catches) done kept handled kept_handlers))
         statement_keeps point (NestedTree (BlockOf at statements)) is =
-            then_finds (block_finding setting point (BlockOf at statements)) _ (BlockKept point (tree.block_nodes (BlockOf at statements))) _
+            then_finds (block_finding setting point (BlockOf at statements)) _ (IsWellFormedBlock point (tree.block_nodes (BlockOf at statements))) _
             (block_keeps point (BlockOf at statements) is)
             (λ done kept. nested_keeps point at (tree.block_nodes (BlockOf at statements)) done kept)
 
         pub block_keeps : (point : Point) (written : BlockTree) → IsWrittenBlock placed longest written
-            → IfOk (block_finding setting point written) (BlockKept point (tree.block_nodes written))
+            → IfOk (block_finding setting point written) (IsWellFormedBlock point (tree.block_nodes written))
         block_keeps point (BlockOf at statements) is =
-            then_finds (statements_finding setting point statements) _ (BlockKept point (tree.statements_nodes statements)) _
+            then_finds (statements_finding setting point statements) _ (IsWellFormedBlock point (tree.statements_nodes statements)) _
             (statements_keep point statements is.1) (λ done kept. behind_keeps point (tree.statements_nodes statements) done kept)
 
         statements_keep : (point : Point) (written : StatementTrees) → AreWrittenStatements placed longest written
-            → IfOk (statements_finding setting point written) (BlockKept point (tree.statements_nodes written))
+            → IfOk (statements_finding setting point written) (IsWellFormedBlock point (tree.statements_nodes written))
         statements_keep point NoStatement is = nothing_keeps point
         statements_keep point (StatementThen statement rest) is =
-            then_finds (statement_finding setting point statement) _ (StatementKept point (tree.statement_nodes statement)) _
+            then_finds (statement_finding setting point statement) _ (IsWellFormedStatement point (tree.statement_nodes statement)) _
             (statement_keeps point statement is.0) (λ first kept.
-            then_finds (statements_finding setting first.0 rest) _ (BlockKept first.0 (tree.statements_nodes rest)) _
+            then_finds (statements_finding setting first.0 rest) _ (IsWellFormedBlock first.0 (tree.statements_nodes rest)) _
             (statements_keep first.0 rest is.1) (λ others kept_others. then_keeps kept kept_others))
 
         catches_keep : (point : Point) (written : CatchTrees) → AreWrittenCatches placed longest written
-            → IfOk (catches_finding setting point written) (HandlersKept point (tree.catches_nodes written))
+            → IfOk (catches_finding setting point written) (AreWellFormedHandlers point (tree.catches_nodes written))
         catches_keep point NoCatch is = nothing_keeps point
         catches_keep point (CatchThen at exception body rest) is =
             then_finds (exception_finding (point.names exception.text) exception.at) _
             (λ number. MeansHere point.names → Stands program procedure setting.signatures (Exception number)) _
             (exception_found program procedure setting.signatures point.names exception) (λ number there.
-            then_finds (block_finding setting point body) _ (BlockKept point (tree.block_nodes body)) _ (block_keeps point body is.2) (λ done kept.
-            then_finds (catches_finding setting done.0 rest) _ (HandlersKept done.0 (tree.catches_nodes rest)) _ (catches_keep done.0 rest is.3)
+            then_finds (block_finding setting point body) _ (IsWellFormedBlock point (tree.block_nodes body)) _ (block_keeps point body is.2) (λ done kept.
+            then_finds (catches_finding setting done.0 rest) _ (AreWellFormedHandlers done.0 (tree.catches_nodes rest)) _ (catches_keep done.0 rest is.3)
             (λ others kept_others.
             catch_keeps point exception.at number (tree.block_nodes body) (tree.catches_nodes rest) there done kept others kept_others)))

@@ -8,7 +8,7 @@ use Rattle.syntax.specs.declared.tree.UnaryOperator.{UnaryOperator}
 use Rattle.syntax.specs.declared.tree.UnaryOperator.TheVariants as unary
 use Rattle.syntax.specs.declared.tree.BinaryOperator.{BinaryOperator}
 use Rattle.syntax.specs.declared.tree.BinaryOperator.TheVariants as binary
-use Rattle.syntax.specs.Tree.{ExpressionTree, IntegerTree, TruthTree, VariableTree, ElementTree, UnaryTree, BinaryTree, expression_place}
+use Rattle.syntax.specs.Tree.{ExpressionTree, IntegerTree, TruthTree, VariableTree, ElementTree, UnaryTree, BinaryTree, expression_at}
 use Rattle.resolved.specs.declared.expression.Base.{Base}
 use Rattle.resolved.specs.declared.expression.Base.TheVariants.{Int, Boolean}
 use Rattle.resolved.specs.declared.expression.Prefix.{Prefix}
@@ -93,18 +93,18 @@ expression_finding names (VariableTree name) = do
   typed (Read x.variable) x.base
 expression_finding names (ElementTree array index) = do
   a ← array_finding (names array.text) array.at
-  i ← wanting Int (expression_place index) (expression_finding names index)
+  i ← wanting Int (expression_at index) (expression_finding names index)
   typed (Element a.variable a.size i) a.base
 expression_finding names (UnaryTree at operator operand) = do
-  e ← wanting (prefix_base (prefix_of operator)) (expression_place operand) (expression_finding names operand)
+  e ← wanting (prefix_base (prefix_of operator)) (expression_at operand) (expression_finding names operand)
   typed (Unary (prefix_of operator) e) (prefix_base (prefix_of operator))
 expression_finding names (BinaryTree at operator left right) = do
   l ← expression_finding names left
-  d ← of_base (operands_base (use_of operator) l.base) (expression_place left) l
+  d ← of_base (operands_base (use_of operator) l.base) (expression_at left) l
   r ← expression_finding names right
-  e ← of_base (operands_base (use_of operator) l.base) (expression_place right) r
+  e ← of_base (operands_base (use_of operator) l.base) (expression_at right) r
   typed (combined (use_of operator) l.base d e) (value_base (use_of operator))
 
 -- an expression at a place that wants a type
 unfoldable pub typed_finding : Environment → Base → ExpressionTree → Finding Expression
-typed_finding names base tree = wanting base (expression_place tree) (expression_finding names tree)
+typed_finding names base tree = wanting base (expression_at tree) (expression_finding names tree)

@@ -31,9 +31,9 @@ abbrev pub give_if : {A : Type 0} → Bool → A → NameDefect → (at : ℕ) �
 give_if test x defect at = if test then give x else refuse defect at
 
 -- nothing but that a test holds
-abbrev pub demand : Bool → NameDefect → (at : ℕ) → Finding (Unit {0})
-demand true defect at = give tt
-demand false defect at = refuse defect at
+abbrev pub require : Bool → NameDefect → (at : ℕ) → Finding (Unit {0})
+require true defect at = give tt
+require false defect at = refuse defect at
 
 -- from state to state along a list
 abbrev pub along : {S X : Type 0} → (S → X → Finding S) → S → List X → Finding S

@@ -5,7 +5,7 @@ use Rattle.common.specs.Exceptions.{built_in_names}
 use Rattle.lexer.specs.Words.{is_name_text}
 use Rattle.principals.specs.ActsFor.{PrincipalHierarchy, IsHierarchy, AllDifferent}
 use Rattle.labels.specs.Canonical.{IsCanonicalLabel}
-use Rattle.syntax.specs.Limits.{IsProgram, longest_name}
+use Rattle.syntax.specs.Limits.{IsProgram}
 use Rattle.syntax.specs.Tree.{ItemTree, ProgramTree}
 use Rattle.resolved.specs.Program.{Program, ChannelEntry, GlobalEntry, ProcedureEntry}
 use Rattle.resolved.specs.WellFormed.{well_formed}
@@ -14,6 +14,7 @@ use Rattle.names.specs.declared.scope.Meaning.{Meaning}
 use Rattle.names.specs.declared.scope.Meaning.TheVariants.{Input, Output, Exception, Procedure, Scalar, Array}
 use Rattle.names.specs.Finding.{give}
 use Rattle.names.specs.Resolution.{TopLevel, item_name, top_finding, resolution}
+use Rattle.common.specs.declared.limits.TheConstants.{MAX_TEXT}
 
 -- the program that a tree stands for is well formed
 abbrev pub WhatIsFoundIsWellFormed : Type 0
@@ -38,7 +39,7 @@ item_names program = program.exceptions ++ (channel_names program ++ (global_nam
 
 -- a name of the language that is not too long
 abbrev pub IsProperName : List ℕ → Type 0
-IsProperName name = IsTrue (is_name_text name) × (length name ≤ longest_name)
+IsProperName name = IsTrue (is_name_text name) × (length name ≤ MAX_TEXT)
 
 -- the names of the items of the program that a tree stands for are names, and they and those of the built-in exceptions are all
 -- different

@@ -1,5 +1,6 @@
 pub use Rattle.syntax.specs.Tree
 pub use Rattle.resolved.specs.CoreOf
+pub mod Defects
 pub mod Finding
 pub mod Environment
 pub mod Labels

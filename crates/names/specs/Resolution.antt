@@ -16,11 +16,12 @@ use Rattle.resolved.specs.declared.expression.Value.{Value}
 use Rattle.resolved.specs.declared.expression.Value.TheVariants.{Number, Truth}
 use Rattle.resolved.specs.declared.expression.Variable.TheVariants.{Global, Local}
 use Rattle.resolved.specs.Program.{Program, ChannelEntry, GlobalEntry, SlotEntry, ResultEntry, ThrownEntry, ProcedureEntry}
+use Rattle.resolved.specs.Value.{zero_value}
 use Rattle.resolved.specs.WellFormed.{same_base, cell_count}
 use Rattle.names.specs.declared.fault.NameDefect.TheVariants as refusals
 use Rattle.names.specs.declared.scope.Meaning.{Meaning}
 use Rattle.names.specs.declared.scope.Meaning.TheVariants as meanings
-use Rattle.names.specs.Finding.{Finding, give, refuse, give_if, demand, along, ◌>>=◌}
+use Rattle.names.specs.Finding.{Finding, give, refuse, give_if, require, along, ◌>>=◌}
 use Rattle.names.specs.Environment.{Environment, declaring, fresh_finding, exception_finding}
 use Rattle.names.specs.Labels.{label_finding, optional_label_finding}
 use Rattle.names.specs.Expressions.{base_of}
@@ -116,14 +117,9 @@ abbrev pub constant_base : ConstantTree → Base
 constant_base (IntegerConstant at negative value) = Int
 constant_base (TruthConstant at value) = Boolean
 
-abbrev pub constant_place : ConstantTree → ℕ
-constant_place (IntegerConstant at negative value) = at
-constant_place (TruthConstant at value) = at
-
--- what each element of an array holds at first
-abbrev pub zero_of : Base → Value
-zero_of Int = Number (pos 0)
-zero_of Boolean = Truth false
+abbrev pub constant_at : ConstantTree → ℕ
+constant_at (IntegerConstant at negative value) = at
+constant_at (TruthConstant at value) = at
 
 -- the length of a global that is an array, and what its cells hold at first
 pub record FirstValue : Type 0 where
@@ -133,10 +129,10 @@ pub record FirstValue : Type 0 where
 unfoldable pub first_finding : Base → GlobalValueTree → Finding FirstValue
 first_finding base (ScalarTree constant) =
     give_if (same_base (constant_base constant) base) (record { size = None; first = constant_value constant })
-    refusals.WrongType (constant_place constant)
+    refusals.WrongType (constant_at constant)
 first_finding base (ArrayTree size) = do
   size_of ← size_finding size
-  give (record { size = Some size_of; first = zero_of base })
+  give (record { size = Some size_of; first = zero_value base })
 
 unfoldable pub global_finding : PrincipalHierarchy → GlobalTree → Finding GlobalEntry
 global_finding h global = do
@@ -183,7 +179,7 @@ is_thrown throws exception = list_any (λ (thrown : ThrownEntry). thrown.excepti
 abbrev pub next_thrown : PrincipalHierarchy → Environment → List ThrownEntry → ThrownTree → Finding (List ThrownEntry)
 next_thrown h names throws thrown = do
   exception ← exception_finding (names thrown.name.text) thrown.name.at
-  _ ← demand (not (is_thrown throws exception)) refusals.DeclaredTwice thrown.name.at
+  _ ← require (not (is_thrown throws exception)) refusals.DeclaredTwice thrown.name.at
   label ← label_finding h thrown.label
   give (throws ++ record { exception = exception; label = label } ∷ [])
 
@@ -287,7 +283,7 @@ abbrev pub frame_cells : List SlotEntry → ℕ
 frame_cells slots = sum_by (λ (slot : SlotEntry). cell_count slot.size) slots
 
 abbrev pub next_frame : Unit {0} → ProcedureEntry → Finding (Unit {0})
-next_frame _ procedure = demand (nat_le (frame_cells procedure.slots) MAX_CELLS) refusals.TooManyCells procedure.at
+next_frame _ procedure = require (nat_le (frame_cells procedure.slots) MAX_CELLS) refusals.TooManyCells procedure.at
 
 unfoldable pub frames_finding : List ProcedureEntry → Finding (Unit {0})
 frames_finding procedures = along next_frame tt procedures

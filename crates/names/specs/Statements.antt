@@ -5,7 +5,7 @@
 use Rattle.std.specs.Prelude.{ℕ, ◌+◌, List, [], ◌∷◌, ◌++◌, length, Bool, false, ◌==◌, ◌&&◌, nat_lt, nat_le, is_none, Option, Some, None, slice_index_or, Ok}
 use Rattle.principals.specs.ActsFor.{PrincipalHierarchy}
 use Rattle.labels.specs.Label.{Label}
-use Rattle.syntax.specs.Tree.{NameTree, LabelTree, ExpressionTree, CallTree, RightTree, ReceivedTree, CalledTree, ValueTree, SizeTree, StatementTree, DeclareTree, DeclareArrayTree, AssignTree, AssignElementTree, CallTree', ReceiveTree, SendTree, IfTree, IfElseTree, WhileTree, BreakTree, ContinueTree, ThrowTree, ReturnTree, TryTree, NestedTree, BlockTree, BlockOf, StatementTrees, NoStatement, StatementThen, CatchTrees, NoCatch, CatchThen, expression_place}
+use Rattle.syntax.specs.Tree.{NameTree, LabelTree, ExpressionTree, CallTree, RightTree, ReceivedTree, CalledTree, ValueTree, SizeTree, StatementTree, DeclareTree, DeclareArrayTree, AssignTree, AssignElementTree, CallTree', ReceiveTree, SendTree, IfTree, IfElseTree, WhileTree, BreakTree, ContinueTree, ThrowTree, ReturnTree, TryTree, NestedTree, BlockTree, BlockOf, StatementTrees, NoStatement, StatementThen, CatchTrees, NoCatch, CatchThen, expression_at}
 use Rattle.resolved.specs.declared.expression.Base.{Base}
 use Rattle.resolved.specs.declared.expression.Base.TheVariants.{Int, Boolean}
 use Rattle.resolved.specs.declared.expression.Variable.{Variable}
@@ -17,7 +17,7 @@ use Rattle.resolved.specs.WellFormed.{same_base}
 use Rattle.names.specs.declared.fault.NameDefect.TheVariants as refusals
 use Rattle.names.specs.declared.scope.Meaning.{Meaning}
 use Rattle.names.specs.declared.scope.Meaning.TheVariants.{Scalar, Array}
-use Rattle.names.specs.Finding.{Finding, give, refuse, give_if, demand, and_then, along, ◌>>=◌}
+use Rattle.names.specs.Finding.{Finding, give, refuse, give_if, require, and_then, along, ◌>>=◌}
 use Rattle.names.specs.Environment.{Environment, declaring, fresh_finding, scalar_finding, array_finding, input_finding, output_finding, exception_finding, procedure_finding}
 use Rattle.names.specs.Labels.{optional_label_finding}
 use Rattle.names.specs.Expressions.{Typed, base_of, expression_finding, typed_finding}
@@ -75,7 +75,7 @@ called procedure signature arguments = record { procedure = procedure; arguments
 -- the count of the arguments is tested before they are looked at
 unfoldable pub applied_finding : Environment → (procedure : ℕ) → Signature → CallTree → Finding CallUse
 applied_finding names procedure signature call = do
-  _ ← demand (length signature.parameters == length call.arguments) refusals.WrongArgumentCount call.procedure.at
+  _ ← require (length signature.parameters == length call.arguments) refusals.WrongArgumentCount call.procedure.at
   arguments ← arguments_finding names signature.parameters call.arguments
   give (called procedure signature arguments)
 
@@ -93,7 +93,7 @@ gives_base base (Some given) = same_base given base
 -- the variable holds another type; the value of a call is tested behind its arguments, at the procedure's name
 unfoldable pub assigned_finding : List Signature → Environment → (at : ℕ) → Variable → Base → RightTree → Finding Statement
 assigned_finding signatures names at target base (ReceivedTree receive_at channel) = do
-  _ ← demand (same_base Int base) refusals.WrongType receive_at
+  _ ← require (same_base Int base) refusals.WrongType receive_at
   number ← input_finding (names channel.text) channel.at
   give (Receive at number (Some target))
 assigned_finding signatures names at target base (CalledTree call) = do
@@ -177,7 +177,7 @@ returned_finding (Some base) at value_at found =
 unfoldable pub return_finding : Option Base → Environment → (at : ℕ) → Option ExpressionTree → Finding Statement
 return_finding result names at None = give_if (is_none result) (ReturnWith at None) refusals.WrongType at
 return_finding result names at (Some value) =
-    and_then (expression_finding names value) (returned_finding result at (expression_place value))
+    and_then (expression_finding names value) (returned_finding result at (expression_at value))
 
 -- ---- statements, blocks and handlers
 

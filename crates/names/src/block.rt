@@ -17,7 +17,12 @@ use resolved::statement::{Exit, Handler, Statement};
 use syntax::{Block, Catch};
 
 impl<'a> Body<'a> {
-    /// A block, whose locals are in scope to its end.
+    /// Resolves a block. Its locals are in scope to its end and keep their slots; behind it the names from before it are in scope
+    /// again. Precondition: slots and loops stay within the most nodes of a program.
+    ///
+    /// # Errors
+    ///
+    /// The first fault of its statements: 301 to 303, 401 to 403 or 703; or out of memory.
     #[cycle(block)]
     #[tactic(auto, unfolding(crate::specs::Statements::block_finding))]
     pub fn resolve_block(&mut self, written: &Block) -> Result<Vec<Statement>, NameFault>

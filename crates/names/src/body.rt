@@ -65,10 +65,8 @@ impl<'a> Body<'a> {
     pub fn look_up(&self, name: &Name) -> Option<Meaning>
         ensures { result ≡ names_of self.now (name_tree name.now).text }
     {
-        match find(&self.locals, name.text.as_str()) {
-            Some(meaning) => Some(meaning),
-            None => find(&self.top.names, name.text.as_str()),
-        }
+        let text = name.text.as_str();
+        find(&self.locals, text).or_else(|| find(&self.top.names, text))
     }
 
     /// Declares a parameter or local, which takes the next slot.

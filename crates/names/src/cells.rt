@@ -1,7 +1,7 @@
 //! How many cells the globals have, and each frame.
 
 ghost use Rattle.common.specs.declared.limits.TheConstants.{MAX_CELLS};
-ghost use Rattle.names.specs.Finding.{demand};
+ghost use Rattle.names.specs.Finding.{require};
 ghost use Rattle.names.specs.Resolution.{frame_cells, frames_finding, global_cells, global_cells_finding, next_global_cells};
 ghost use Rattle.names.specs.Views.{Resolves, itself};
 ghost use Rattle.resolved.specs.ProgramOf.{procedure_entry, slot_entry};

@@ -31,7 +31,11 @@ impl TypedExpression {
         TypedExpression { expression, base }
     }
 
-    /// The expression, whose values have to have a type.
+    /// Requires that the values of the expression have a type, and gives the expression.
+    ///
+    /// # Errors
+    ///
+    /// 401 where they have another one.
     #[tactic(auto, unfolding(crate::specs::Expressions::of_base))]
     pub fn require_base(self, base: Base, at: usize) -> Result<Expression, NameFault>
         ensures { Resolves expression_of result (of_base base at (typed_view self)) }
@@ -48,7 +52,12 @@ impl TypedExpression {
 }
 
 impl<'a> Body<'a> {
-    /// An expression, and the type of its values.
+    /// Resolves an expression, and finds the type of its values. Operands are resolved from the left.
+    ///
+    /// # Errors
+    ///
+    /// The first fault in it: 301 where a name stands for nothing, 403 where it stands for something else than its place wants,
+    /// 401 where an operand or an index has another type than its operator or place wants; or out of memory.
     #[cycle(expression)]
     #[tactic(auto, unfolding(crate::specs::Expressions::expression_finding))]
     pub fn resolve_expression(
@@ -98,7 +107,7 @@ impl<'a> Body<'a> {
         let found = require_array(self.look_up(name), name.at)?;
         let index = self
             .resolve_expression(index)?
-            .require_base(Base::Int, index.place())?;
+            .require_base(Base::Int, index.at())?;
         let index = Box::new(self.alloc, index)?;
         let element = Expression::Element(found.variable, found.size, index);
         Ok(TypedExpression::new(element, found.base))
@@ -119,7 +128,7 @@ impl<'a> Body<'a> {
         let base = base_of_prefix(prefix);
         let operand = self
             .resolve_expression(operand)?
-            .require_base(base, operand.place())?;
+            .require_base(base, operand.at())?;
         let operand = Box::new(self.alloc, operand)?;
         Ok(TypedExpression::new(Expression::Unary(prefix, operand), base))
     }
@@ -140,15 +149,19 @@ impl<'a> Body<'a> {
         let found = self.resolve_expression(left)?;
         let base = operands_base(used, found.base);
         let given = found.base;
-        let left = found.require_base(base, left.place())?;
+        let left = found.require_base(base, left.at())?;
         let right = self
             .resolve_expression(right)?
-            .require_base(base, right.place())?;
+            .require_base(base, right.at())?;
         let made = combine(self.alloc, used, given, left, right)?;
         Ok(TypedExpression::new(made, value_base(used)))
     }
 
-    /// An expression at a place that wants a type.
+    /// Resolves an expression at a place that wants a type.
+    ///
+    /// # Errors
+    ///
+    /// What [`Body::resolve_expression`] reports of it, and then 401 where its values have another type; or out of memory.
     #[tactic(auto, unfolding(crate::specs::Expressions::typed_finding))]
     pub fn type_expression(
         &self,
@@ -159,6 +172,6 @@ impl<'a> Body<'a> {
             (typed_finding (names_of self.now) base (expression_tree written.now)) }
     {
         self.resolve_expression(written)?
-            .require_base(base, written.place())
+            .require_base(base, written.at())
     }
 }

@@ -1,45 +1,86 @@
+ghost use Rattle.names.specs.Defects.{name_defect_number, name_defect_words};
+ghost use Rattle.std.specs.Prelude.{◌≡◌, Some};
+
 use common::OrNoMemory;
-use thiserror::Error;
+use principals::UNKNOWN_PRINCIPAL_WORDS;
+use std::error::Error;
+use std::fmt;
 
 /// What can be wrong with the names, types and sizes of a program.
-#[derive(Clone, Copy, Debug, PartialEq, Eq, Drop, Error)]
+#[derive(Clone, Copy, Debug, PartialEq, Eq, Drop)]
 pub enum NameDefect {
     /// 301: a name that is not declared, or not in scope.
-    #[error("unknown name")]
     UnknownName,
     /// 302: a name that is declared already.
-    #[error("declared twice")]
     DeclaredTwice,
     /// 303: a principal that the hierarchy lacks.
-    #[error("unknown principal")]
     UnknownPrincipal,
     /// 304: no procedure is called `main`, or it has parameters or a value.
-    #[error("no proper main")]
     NoProperMain,
     /// 401: a value of another type than its place wants.
-    #[error("wrong type")]
     WrongType,
     /// 402: a call with more or fewer arguments than its procedure has parameters.
-    #[error("wrong argument count")]
     WrongArgumentCount,
     /// 403: a name that stands for something else than its place wants.
-    #[error("wrong use")]
     WrongUse,
     /// 703: an array without elements, or with more than 65,536.
-    #[error("array size")]
     ArraySize,
     /// 704: more than 1,048,576 cells of the globals, or of the parameters and locals of a procedure.
-    #[error("too many cells")]
     TooManyCells,
 }
 
+impl NameDefect {
+    /// The number that the defect is reported by: 301 to 304, 401 to 403, 703 or 704.
+    pub fn number(self) -> u32
+        ensures { result ≡ name_defect_number self }
+    {
+        match self {
+            NameDefect::UnknownName => 301,
+            NameDefect::DeclaredTwice => 302,
+            NameDefect::UnknownPrincipal => 303,
+            NameDefect::NoProperMain => 304,
+            NameDefect::WrongType => 401,
+            NameDefect::WrongArgumentCount => 402,
+            NameDefect::WrongUse => 403,
+            NameDefect::ArraySize => 703,
+            NameDefect::TooManyCells => 704,
+        }
+    }
+
+    /// The words that the defect is reported by.
+    pub fn words(self) -> &'static str
+        ensures { result.now ≡ name_defect_words self }
+    {
+        match self {
+            NameDefect::UnknownName => "unknown name",
+            NameDefect::DeclaredTwice => "declared twice",
+            NameDefect::UnknownPrincipal => UNKNOWN_PRINCIPAL_WORDS,
+            NameDefect::NoProperMain => "no proper main",
+            NameDefect::WrongType => "wrong type",
+            NameDefect::WrongArgumentCount => "wrong argument count",
+            NameDefect::WrongUse => "wrong use",
+            NameDefect::ArraySize => "array size",
+            NameDefect::TooManyCells => "too many cells",
+        }
+    }
+}
+
 /// Why a syntax tree has no resolved one: what is wrong, and the byte at which it stands.
-#[derive(Clone, Copy, Debug, PartialEq, Eq, Drop, Error)]
-#[error("{defect}")]
+#[derive(Clone, Copy, Debug, PartialEq, Eq, Drop)]
 pub struct NameRefusal {
     pub defect: NameDefect,
     pub at: usize,
 }
+
+impl fmt::Display for NameRefusal {
+    ghost output = { λ refusal. Some (name_defect_words refusal.defect) };
+
+    fn fmt<W: fmt::Write>(&self, f: &mut fmt::Formatter<W>) -> fmt::Result {
+        write!(f, "{}", self.defect.words())
+    }
+}
+
+impl Error for NameRefusal {}
 
 /// Why a syntax tree gave no resolved one.
 pub type NameFault = OrNoMemory<NameRefusal>;

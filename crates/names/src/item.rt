@@ -4,10 +4,11 @@ ghost use Rattle.names.specs.Resolution as spec;
 ghost use Rattle.names.specs.Resolution.{channel_finding, first_finding, global_finding};
 ghost use Rattle.names.specs.Views.{Resolves, first_view};
 ghost use Rattle.resolved.specs.ProgramOf.{channel_entry, global_entry};
+ghost use Rattle.resolved.specs.Value.{zero_value};
 ghost use Rattle.std.specs.Prelude.{◌≡◌};
 ghost use Rattle.syntax.specs.Tree.{channel_tree, constant_tree, global_tree, global_value_tree};
 ghost use Rattle.syntax.specs.Written.{Anywhere, IsWrittenConstant, IsWrittenGlobalValue};
-ghost use Rattle.syntax.specs.Limits.{longest_name};
+ghost use Rattle.common.specs.declared.limits.TheConstants.{MAX_TEXT};
 
 use crate::fault::{NameDefect, NameFault, NameRefusal};
 use crate::label::resolve_label;
@@ -20,7 +21,11 @@ use resolved::tables::{Channel, GlobalVariable};
 use std::alloc::Global;
 use syntax::{Constant, GlobalValue};
 
-/// A channel.
+/// Resolves the declaration of a channel.
+///
+/// # Errors
+///
+/// 303 where its label names a principal that the hierarchy lacks; or out of memory.
 #[tactic(auto, unfolding(crate::specs::Resolution::channel_finding))]
 pub fn resolve_channel(
     alloc: Global,
@@ -40,7 +45,7 @@ pub fn resolve_channel(
 
 /// The value of a constant, and its type.
 fn value_of(constant: Constant) -> (Value, Base)
-    requires small { IsWrittenConstant Anywhere longest_name (constant_tree constant) }
+    requires small { IsWrittenConstant Anywhere MAX_TEXT (constant_tree constant) }
     ensures value { result.0 ≡ spec.constant_value (constant_tree constant) }
     ensures base { result.1 ≡ spec.constant_base (constant_tree constant) }
 {
@@ -60,8 +65,8 @@ fn value_of(constant: Constant) -> (Value, Base)
     }
 }
 
-fn place_of(constant: Constant) -> usize
-    ensures { result ≡ spec.constant_place (constant_tree constant) }
+fn at_of(constant: Constant) -> usize
+    ensures { result ≡ spec.constant_at (constant_tree constant) }
 {
     match constant {
         Constant::Integer { at, .. } | Constant::Truth { at, .. } => at,
@@ -70,7 +75,7 @@ fn place_of(constant: Constant) -> usize
 
 /// What each element of an array holds at first.
 fn zero_of(base: Base) -> Value
-    ensures { result ≡ spec.zero_of base }
+    ensures { result ≡ zero_value base }
 {
     match base {
         Base::Int => Value::Number(0),
@@ -81,7 +86,7 @@ fn zero_of(base: Base) -> Value
 /// The length of a global that is an array, and what its cells hold at first.
 #[tactic(auto, unfolding(crate::specs::Resolution::first_finding))]
 fn resolve_first_value(base: Base, value: &GlobalValue) -> Result<(Option<u32>, Value), NameFault>
-    requires small { IsWrittenGlobalValue Anywhere longest_name (global_value_tree value.now) }
+    requires small { IsWrittenGlobalValue Anywhere MAX_TEXT (global_value_tree value.now) }
     ensures { Resolves first_view result (first_finding base (global_value_tree value.now)) }
 {
     match value {
@@ -92,7 +97,7 @@ fn resolve_first_value(base: Base, value: &GlobalValue) -> Result<(Option<u32>, 
             } else {
                 Err(OrNoMemory::Refused(NameRefusal {
                     defect: NameDefect::WrongType,
-                    at: place_of(*constant),
+                    at: at_of(*constant),
                 }))
             }
         }
@@ -100,14 +105,19 @@ fn resolve_first_value(base: Base, value: &GlobalValue) -> Result<(Option<u32>, 
     }
 }
 
-/// A global.
+/// Resolves the declaration of a global. Precondition: its integers are at most 2147483647.
+///
+/// # Errors
+///
+/// 303 where its label names a principal that the hierarchy lacks, 401 where its first value has another type than the global,
+/// 703 where it is an array of another length than 1 to 65,536; or out of memory.
 #[tactic(auto, unfolding(crate::specs::Resolution::global_finding))]
 pub fn resolve_global(
     alloc: Global,
     hierarchy: &Hierarchy,
     written: &syntax::GlobalVariable,
 ) -> Result<GlobalVariable, NameFault>
-    requires small { IsWrittenGlobalValue Anywhere longest_name
+    requires small { IsWrittenGlobalValue Anywhere MAX_TEXT
         (global_value_tree written.now.value) }
     ensures { Resolves global_entry result
         (global_finding hierarchy.now (global_tree written.now)) }

@@ -75,7 +75,11 @@ fn resolve_policies(
     Ok(policies)
 }
 
-/// A label.
+/// Resolves a label: gives it in canonical form, with principals by their numbers.
+///
+/// # Errors
+///
+/// 303 at the first principal that the hierarchy lacks; or out of memory.
 #[tactic(auto, unfolding(crate::specs::Labels::label_finding))]
 pub fn resolve_label(
     alloc: Global,
@@ -88,7 +92,11 @@ pub fn resolve_label(
     Ok(Label::written(policies))
 }
 
-/// A label that may be left out.
+/// Resolves a label that may be left out: gives none where it is, and else what [`resolve_label`] gives.
+///
+/// # Errors
+///
+/// 303 at the first principal that the hierarchy lacks; or out of memory.
 #[tactic(auto, unfolding(crate::specs::Labels::optional_label_finding))]
 pub fn resolve_optional_label(
     alloc: Global,

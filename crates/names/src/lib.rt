@@ -2,20 +2,20 @@
 //! `resolve` makes a resolved program of a syntax tree.
 #![tactic(auto)]
 
-pub mod block;
-pub mod body;
-pub mod cells;
-pub mod expression;
-pub mod fault;
-pub mod item;
-pub mod label;
+mod block;
+mod body;
+mod cells;
+mod expression;
+mod fault;
+mod item;
+mod label;
 pub mod laws;
-pub mod operator;
-pub mod procedure;
-pub mod program;
-pub mod scope;
-pub mod statement;
-pub mod top;
+mod operator;
+mod procedure;
+mod program;
+mod scope;
+mod statement;
+mod top;
 
 pub use fault::{NameDefect, NameFault, NameRefusal};
 pub use program::resolve;

@@ -20,7 +20,7 @@ pub enum OperatorUse {
     OfTruths(Connective),
 }
 
-/// The type of a resolved program for a written one.
+/// Finds the type in a resolved program that a written type stands for.
 pub fn base_of(base: BaseType) -> Base
     ensures { result ≡ spec.base_of base }
 {
@@ -30,7 +30,7 @@ pub fn base_of(base: BaseType) -> Base
     }
 }
 
-/// A unary operator.
+/// Finds the operator in a resolved program that a written operator before its operand stands for.
 pub fn prefix_of(operator: UnaryOperator) -> Prefix
     ensures { result ≡ spec.prefix_of operator }
 {
@@ -40,7 +40,7 @@ pub fn prefix_of(operator: UnaryOperator) -> Prefix
     }
 }
 
-/// The type of the operand of a unary operator, and of its value.
+/// Finds the type that an operator wants of its one operand, which is that of its value too.
 pub fn base_of_prefix(prefix: Prefix) -> Base
     ensures { result ≡ prefix_base prefix }
 {
@@ -50,7 +50,7 @@ pub fn base_of_prefix(prefix: Prefix) -> Base
     }
 }
 
-/// The type of the value of an operator.
+/// Finds the type of the values that an operator on two operands gives.
 pub fn base_of_result(operator: Operator) -> Base
     ensures { result ≡ result_base operator }
 {
@@ -71,7 +71,7 @@ pub fn base_of_result(operator: Operator) -> Base
     }
 }
 
-/// A binary operator.
+/// Finds what a written operator between its operands is made to, by the types of these.
 pub fn use_of(operator: BinaryOperator) -> OperatorUse
     ensures { result ≡ spec.use_of operator }
 {
@@ -92,7 +92,7 @@ pub fn use_of(operator: BinaryOperator) -> OperatorUse
     }
 }
 
-/// Whether two types are the same.
+/// Tests whether two types are the same.
 pub fn is_same(one: Base, other: Base) -> bool
     ensures { result ≡ same_base one other }
 {
@@ -102,7 +102,7 @@ pub fn is_same(one: Base, other: Base) -> bool
     }
 }
 
-/// The type that the operands of an operator have to have, by that of the left one.
+/// Finds the type that both operands of an operator have to have, where the left one has the type `left`.
 pub fn operands_base(used: OperatorUse, left: Base) -> Base
     ensures { result ≡ spec.operands_base used left }
 {
@@ -113,7 +113,7 @@ pub fn operands_base(used: OperatorUse, left: Base) -> Base
     }
 }
 
-/// The type of the value of an operator.
+/// Finds the type of the values that a written operator between its operands gives.
 pub fn value_base(used: OperatorUse) -> Base
     ensures { result ≡ spec.value_base used }
 {
@@ -123,7 +123,11 @@ pub fn value_base(used: OperatorUse) -> Base
     }
 }
 
-/// An operator on its operands, which have this type.
+/// Makes the expression of an operator on its two operands, which both have the type `base`.
+///
+/// # Errors
+///
+/// Out of memory.
 pub fn combine(
     alloc: Global,
     used: OperatorUse,

@@ -86,7 +86,7 @@ impl<'a> Body<'a> {
     }
 }
 
-/// Puts an exception that a procedure may let out behind those that are named before it, which are the ones of the set.
+/// Puts an exception that a procedure declares behind those that are named before it, which are the ones of the set.
 fn add_thrown(
     alloc: Global,
     hierarchy: &Hierarchy,
@@ -119,7 +119,7 @@ fn add_thrown(
     Ok(())
 }
 
-/// The exceptions that a procedure may let out.
+/// The exceptions that a procedure declares in `throws`.
 #[tactic(auto, unfolding(crate::specs::Resolution::throws_finding))]
 fn resolve_throws(
     alloc: Global,
@@ -190,7 +190,14 @@ fn make_end_label(
     }
 }
 
-/// A procedure, with its body.
+/// Resolves a procedure with its body. A begin label that is left out is the least one; an end label that is left out is the join
+/// of the begin label and of the labels of the declared exceptions. Precondition: it has fewer nodes than a program may have.
+///
+/// # Errors
+///
+/// The first fault of, in this order, the label of its value, its begin label, its parameters, its end label, its declared
+/// exceptions and the statements of its body: 301 to 303, 401 to 403 or 703; or out of memory. The cells of its frame are not
+/// counted here.
 #[tactic(auto, unfolding(crate::specs::Resolution::procedure_entry_finding))]
 pub fn resolve_procedure<'a>(
     alloc: Global,

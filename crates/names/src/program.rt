@@ -7,10 +7,11 @@ ghost use Rattle.names.specs.Views.{Resolves, itself, tables_view, top_view};
 ghost use Rattle.resolved.specs.CoreOf.{program_of};
 ghost use Rattle.resolved.specs.ProgramOf.{procedure_entry};
 ghost use Rattle.std.specs.Prelude.{All, IfErr, IfOk, map, sum_by, ◌<◌, ◌≡◌};
-ghost use Rattle.syntax.specs.Limits.{longest_name, most_nodes};
+ghost use Rattle.syntax.specs.Limits.{most_nodes};
 ghost use Rattle.syntax.specs.Nodes.{item_nodes};
 ghost use Rattle.syntax.specs.Tree.{item_tree, program_tree};
 ghost use Rattle.syntax.specs.Written.{Anywhere, IsWrittenItem};
+ghost use Rattle.common.specs.declared.limits.TheConstants.{MAX_TEXT};
 
 use crate::cells::{count_global_cells, limit_frames};
 use crate::fault::{NameDefect, NameFault, NameRefusal};
@@ -56,7 +57,7 @@ impl ItemTables {
         top: &TopNames,
         item: &Item,
     ) -> Result<(), NameFault>
-        requires written { IsWrittenItem Anywhere longest_name (item_tree item.now) }
+        requires written { IsWrittenItem Anywhere MAX_TEXT (item_tree item.now) }
         requires room { item_nodes (item_tree item.now) < most_nodes }
         ensures { Resolves (λ _. tables_view self.new) result
             (next_item hierarchy.now (top_view top.now) (tables_view self.old)
@@ -85,7 +86,7 @@ impl ItemTables {
         top: &TopNames,
         items: &[Item],
     ) -> Result<ItemTables, NameFault>
-        requires written { All (IsWrittenItem Anywhere longest_name) (map item_tree items.now) }
+        requires written { All (IsWrittenItem Anywhere MAX_TEXT) (map item_tree items.now) }
         requires room { sum_by item_nodes (map item_tree items.now) < most_nodes }
         ensures { Resolves tables_view result
             (items_finding hierarchy.now (top_view top.now) (map item_tree items.now)) }
@@ -132,7 +133,7 @@ fn resolve_tables(
     hierarchy: &Hierarchy,
     items: &[Item],
 ) -> Result<(ItemTables, u32), NameFault>
-    requires written { All (IsWrittenItem Anywhere longest_name) (map item_tree items.now) }
+    requires written { All (IsWrittenItem Anywhere MAX_TEXT) (map item_tree items.now) }
     requires room { sum_by item_nodes (map item_tree items.now) < most_nodes }
     ensures { Resolves (λ found. program_with hierarchy.now (tables_view found.0) found.1) result
         (resolution hierarchy.now (program_tree items.now)) }

@@ -75,7 +75,11 @@ pub fn remove_all(table: &mut Names, names: &[String])
     }
 }
 
-/// Refuses the declaration of a name that stands for something already.
+/// Requires that a name stands for nothing yet, so that it may be declared.
+///
+/// # Errors
+///
+/// 302 where it stands for something already.
 #[tactic(auto, unfolding(crate::specs::Environment::fresh_finding))]
 pub fn require_fresh(found: Option<Meaning>, at: usize) -> Result<(), NameFault>
     ensures made { Resolves (λ _. tt) result (fresh_finding found at) }
@@ -90,7 +94,11 @@ pub fn require_fresh(found: Option<Meaning>, at: usize) -> Result<(), NameFault>
     }
 }
 
-/// A scalar variable.
+/// Requires that a name stands for a scalar, and gives its variable and type.
+///
+/// # Errors
+///
+/// 301 where it stands for nothing, 403 where it stands for something else than a scalar.
 #[tactic(auto, unfolding(crate::specs::Environment::scalar_finding))]
 pub fn require_scalar(found: Option<Meaning>, at: usize) -> Result<FoundScalar, NameFault>
     ensures { Resolves scalar_use result (scalar_finding found at) }
@@ -108,7 +116,11 @@ pub fn require_scalar(found: Option<Meaning>, at: usize) -> Result<FoundScalar, 
     }
 }
 
-/// An array.
+/// Requires that a name stands for an array, and gives its variable, type and length.
+///
+/// # Errors
+///
+/// 301 where it stands for nothing, 403 where it stands for something else than an array.
 #[tactic(auto, unfolding(crate::specs::Environment::array_finding))]
 pub fn require_array(found: Option<Meaning>, at: usize) -> Result<FoundArray, NameFault>
     ensures { Resolves array_use result (array_finding found at) }
@@ -130,7 +142,11 @@ pub fn require_array(found: Option<Meaning>, at: usize) -> Result<FoundArray, Na
     }
 }
 
-/// The number of an input.
+/// Requires that a name stands for an input, and gives its number.
+///
+/// # Errors
+///
+/// 301 where it stands for nothing, 403 where it stands for something else than an input.
 #[tactic(auto, unfolding(crate::specs::Environment::input_finding))]
 pub fn require_input(found: Option<Meaning>, at: usize) -> Result<u32, NameFault>
     ensures { Resolves itself result (input_finding found at) }
@@ -148,7 +164,11 @@ pub fn require_input(found: Option<Meaning>, at: usize) -> Result<u32, NameFault
     }
 }
 
-/// The number of an output.
+/// Requires that a name stands for an output, and gives its number.
+///
+/// # Errors
+///
+/// 301 where it stands for nothing, 403 where it stands for something else than an output.
 #[tactic(auto, unfolding(crate::specs::Environment::output_finding))]
 pub fn require_output(found: Option<Meaning>, at: usize) -> Result<u32, NameFault>
     ensures { Resolves itself result (output_finding found at) }
@@ -166,7 +186,11 @@ pub fn require_output(found: Option<Meaning>, at: usize) -> Result<u32, NameFaul
     }
 }
 
-/// The number of an exception.
+/// Requires that a name stands for an exception, and gives its number.
+///
+/// # Errors
+///
+/// 301 where it stands for nothing, 403 where it stands for something else than an exception.
 #[tactic(auto, unfolding(crate::specs::Environment::exception_finding))]
 pub fn require_exception(found: Option<Meaning>, at: usize) -> Result<u32, NameFault>
     ensures { Resolves itself result (exception_finding found at) }
@@ -184,7 +208,11 @@ pub fn require_exception(found: Option<Meaning>, at: usize) -> Result<u32, NameF
     }
 }
 
-/// The number of a procedure.
+/// Requires that a name stands for a procedure, and gives its number.
+///
+/// # Errors
+///
+/// 301 where it stands for nothing, 403 where it stands for something else than a procedure.
 #[tactic(auto, unfolding(crate::specs::Environment::procedure_finding))]
 pub fn require_procedure(found: Option<Meaning>, at: usize) -> Result<u32, NameFault>
     ensures { Resolves itself result (procedure_finding found at) }

@@ -34,7 +34,11 @@ pub struct UsedCall {
     pub result: Option<Base>,
 }
 
-/// The length of an array.
+/// Requires that the length of an array is 1 to 65,536, and gives it.
+///
+/// # Errors
+///
+/// 703 where it is another one.
 #[tactic(auto, unfolding(crate::specs::Statements::size_finding))]
 pub fn resolve_size(size: Size) -> Result<u32, NameFault>
     ensures { Resolves itself result (size_finding (size_tree size)) }
@@ -140,7 +144,11 @@ impl<'a> Body<'a> {
         }
     }
 
-    /// The slot of a local that is declared next.
+    /// Makes the slot of a parameter or local with these parts. It declares nothing.
+    ///
+    /// # Errors
+    ///
+    /// Out of memory.
     pub fn make_slot(
         &self,
         at: usize,
@@ -167,7 +175,12 @@ impl<'a> Body<'a> {
         })
     }
 
-    /// The declaration of a local with its first value.
+    /// Resolves the declaration of a local with its first value. The local takes the next slot, and is not yet in scope in that
+    /// value. Precondition: fewer slots and loops are taken than a program may have nodes.
+    ///
+    /// # Errors
+    ///
+    /// 303 in its label, 302 where its name is in scope already, then 301 and 401 to 403 in its first value; or out of memory.
     #[tactic(auto, unfolding(crate::specs::Statements::declare_finding))]
     pub fn declare_scalar(
         &mut self,
@@ -193,7 +206,12 @@ impl<'a> Body<'a> {
         Ok(statement)
     }
 
-    /// The declaration of a local that is an array.
+    /// Resolves the declaration of a local that is an array. The local takes the next slot.
+    /// Precondition: fewer slots and loops are taken than a program may have nodes.
+    ///
+    /// # Errors
+    ///
+    /// 303 in its label, 302 where its name is in scope already, then 703 where its length is not 1 to 65,536; or out of memory.
     #[tactic(auto, unfolding(crate::specs::Statements::declare_array_finding))]
     pub fn declare_array(
         &mut self,
@@ -219,7 +237,12 @@ impl<'a> Body<'a> {
         Ok(Statement::Clear(at, number))
     }
 
-    /// An assignment of a value, a call or a `receive` to a scalar: 301, 401 to 403 where a name or a type is wrong.
+    /// Resolves an assignment of a value, a call or a `receive` to a scalar.
+    ///
+    /// # Errors
+    ///
+    /// 301 and 403 where a name stands for nothing or for something of another sort, 401 where a type is wrong, 402 where a call
+    /// has another number of arguments than its procedure has parameters; or out of memory.
     #[tactic(auto, unfolding(crate::specs::Statements::assign_finding))]
     pub fn resolve_assign(&self, target: &Name, value: &RightSide) -> Result<Statement, NameFault>
         ensures { Resolves statement_of result
@@ -230,7 +253,12 @@ impl<'a> Body<'a> {
         self.resolve_right_side(target.at, found.variable, found.base, value)
     }
 
-    /// An assignment to an element of an array.
+    /// Resolves an assignment to an element of an array.
+    ///
+    /// # Errors
+    ///
+    /// 301 and 403 where a name stands for nothing or for something of another sort, 401 where the index is no int, where the
+    /// value has another type than the elements, or where a type within them is wrong; or out of memory.
     #[tactic(auto, unfolding(crate::specs::Statements::store_finding))]
     pub fn resolve_store(
         &self,
@@ -248,7 +276,12 @@ impl<'a> Body<'a> {
         Ok(Statement::Store(name.at, found.variable, found.size, index, value))
     }
 
-    /// A call whose value, if there is one, is left.
+    /// Resolves a call whose value, if there is one, is dropped.
+    ///
+    /// # Errors
+    ///
+    /// 301 and 403 where a name stands for nothing or for something of another sort, 402 where there are more or fewer arguments
+    /// than parameters, 401 where the type of an argument is wrong; or out of memory.
     #[tactic(auto, unfolding(crate::specs::Statements::call_statement_finding))]
     pub fn resolve_call_statement(&self, call: &Call) -> Result<Statement, NameFault>
         ensures { Resolves statement_of result
@@ -259,7 +292,11 @@ impl<'a> Body<'a> {
         Ok(Statement::Call(call.procedure.at, made.procedure, made.arguments, None))
     }
 
-    /// A `receive` whose number is left.
+    /// Resolves a `receive` whose number is dropped.
+    ///
+    /// # Errors
+    ///
+    /// 301 where the name of the channel stands for nothing, 403 where it stands for something else than an input.
     #[tactic(auto, unfolding(crate::specs::Statements::receive_finding))]
     pub fn resolve_receive(&self, at: usize, channel: &Name) -> Result<Statement, NameFault>
         ensures { Resolves statement_of result
@@ -269,7 +306,12 @@ impl<'a> Body<'a> {
         Ok(Statement::Receive(at, number, None))
     }
 
-    /// A `send` of an int to an output.
+    /// Resolves a `send` of an int to an output.
+    ///
+    /// # Errors
+    ///
+    /// 301 and 403 where a name stands for nothing or for something of another sort, 401 where the value is no int or a type
+    /// within it is wrong; or out of memory.
     #[tactic(auto, unfolding(crate::specs::Statements::send_finding))]
     pub fn resolve_send(
         &self,
@@ -285,7 +327,11 @@ impl<'a> Body<'a> {
         Ok(Statement::Send(at, number, self.type_expression(Base::Int, value)?))
     }
 
-    /// A `throw` of an exception.
+    /// Resolves a `throw` of an exception.
+    ///
+    /// # Errors
+    ///
+    /// 301 where its name stands for nothing, 403 where it stands for something else than an exception.
     #[tactic(auto, unfolding(crate::specs::Statements::throw_finding))]
     pub fn resolve_throw(&self, at: usize, name: &Name) -> Result<Statement, NameFault>
         ensures { Resolves statement_of result
@@ -295,7 +341,12 @@ impl<'a> Body<'a> {
         Ok(Statement::Leave(at, Exit::Throw(number)))
     }
 
-    /// A `return`, with a value exactly where the procedure has one.
+    /// Resolves a `return`, which has a value exactly where the procedure gives one.
+    ///
+    /// # Errors
+    ///
+    /// 301, 401 and 403 in the value; then 401 where a value is missing, is not to be given, or has another type than the
+    /// procedure gives; or out of memory.
     #[tactic(auto, unfolding(crate::specs::Statements::return_finding))]
     pub fn resolve_return(
         &self,
@@ -319,7 +370,7 @@ impl<'a> Body<'a> {
                 match self.result {
                     None => Err(OrNoMemory::Refused(NameRefusal {
                         defect: NameDefect::WrongType,
-                        at: value.place(),
+                        at: value.at(),
                     })),
                     Some(base) => {
                         if is_same(found.base, base) {
@@ -327,7 +378,7 @@ impl<'a> Body<'a> {
                         } else {
                             Err(OrNoMemory::Refused(NameRefusal {
                                 defect: NameDefect::WrongType,
-                                at: value.place(),
+                                at: value.at(),
                             }))
                         }
                     }

@@ -11,7 +11,7 @@ use Rattle.syntax.specs.Grammar.{optional, chain, others_of, grouped, name, inde
 use Rattle.syntax.specs.Nesting.{IsNestedExpression}
 use Rattle.syntax.specs.Nodes.{expression_nodes}
 use Rattle.syntax.specs.Symbol.{Expression, Arguments}
-use Rattle.syntax.specs.Tree.{NameTree, ExpressionTree, IntegerTree, TruthTree, VariableTree, ElementTree, UnaryTree, BinaryTree, expression_place}
+use Rattle.syntax.specs.Tree.{NameTree, ExpressionTree, IntegerTree, TruthTree, VariableTree, ElementTree, UnaryTree, BinaryTree, expression_at}
 use Rattle.syntax.specs.Written.{IsWrittenName, IsWrittenExpression}
 use Rattle.parser.proofs.Fits.{Fit, Has, FitExpression, FitExpressions, FitOthers, AreWrittenOthers, AreNestedOthers, others_nodes, from_before, some_fit}
 use Rattle.parser.proofs.FitLabels.{name_fits, integer_fits, truth_fits}
@@ -38,18 +38,18 @@ pred_less (suc room) = omega arith
 grouped_nodes : (left : ExpressionTree) (others : List (BinaryOperator × ExpressionTree)) → expression_nodes (grouped left others) ≡ expression_nodes left + others_nodes others
 grouped_nodes left [] = omega arith
 grouped_nodes left (next ∷ others) =
-    omega (arith, grouped_nodes (BinaryTree (expression_place left) next.0 left next.1) others)
+    omega (arith, grouped_nodes (BinaryTree (expression_at left) next.0 left next.1) others)
 
 grouped_nested : (room r : ℕ) → r ≤ room → (left : ExpressionTree) (others : List (BinaryOperator × ExpressionTree)) → IsNestedExpression room left → AreNestedOthers r others → IsNestedExpression room (grouped left others)
 grouped_nested room r le left [] inner h = inner
 grouped_nested room r le left (next ∷ others) inner h =
-    grouped_nested room (pred r) (omega (arith, le, pred_less r)) (BinaryTree (expression_place left) next.0 left next.1) others (omega (arith, le, h.0), inner, roomier (pred r) (pred room) (pred_le r room le) next.1 h.1) h.2
+    grouped_nested room (pred r) (omega (arith, le, pred_less r)) (BinaryTree (expression_at left) next.0 left next.1) others (omega (arith, le, h.0), inner, roomier (pred r) (pred room) (pred_le r room le) next.1 h.1) h.2
 
 module _ (fits : ℕ → Type 0) (longest : ℕ) where
   abbrev Written : ExpressionTree → Type 0
   Written tree = IsWrittenExpression fits longest tree
 
-  place_fits : (tree : ExpressionTree) → Written tree → fits (expression_place tree)
+  place_fits : (tree : ExpressionTree) → Written tree → fits (expression_at tree)
   place_fits (IntegerTree at value) h = h.0
   place_fits (TruthTree at value) h = h
   place_fits (VariableTree _) h = h.0
@@ -60,7 +60,7 @@ module _ (fits : ℕ → Type 0) (longest : ℕ) where
   grouped_written : (left : ExpressionTree) (others : List (BinaryOperator × ExpressionTree)) → Written left → AreWrittenOthers fits longest others → Written (grouped left others)
   grouped_written left [] inner h = inner
   grouped_written left (next ∷ others) inner h =
-      grouped_written (BinaryTree (expression_place left) next.0 left next.1) others (place_fits left inner, inner, h.0) h.1
+      grouped_written (BinaryTree (expression_at left) next.0 left next.1) others (place_fits left inner, inner, h.0) h.1
 
   module _ (room : ℕ) where
     abbrev Having : {A : Type 0} → Form A → A → ℕ → Type 0

@@ -3,9 +3,10 @@ use Rattle.std.proofs.Common.{◌≡◌, ℕ, ◌+◌, ◌≤◌, List, [], ◌�
 use Rattle.std.specs.Prelude.{Option, None, Some}
 use Rattle.std.specs.List.{All}
 use Rattle.std.proofs.lemmas.List.Sums.{sum_by-cons}
+use Rattle.std.proofs.lemmas.Option.{cond_some}
 use Rattle.lexer.specs.declared.token.Kind.{Kind}
 use Rattle.lexer.specs.declared.token.Kind.TheVariants as kinds
-use Rattle.lexer.specs.Lexeme.{greatest_literal}
+use Rattle.common.specs.declared.limits.TheConstants.{MAX_INTEGER}
 use Rattle.lexer.specs.Listing as listing
 use Rattle.syntax.specs.declared.tree.BaseType.{BaseType}
 use Rattle.syntax.specs.Form.{Form, ◌·◌, only, shape, same_kind}
@@ -19,20 +20,15 @@ use Rattle.parser.proofs.Fits.{Fit, Has, from_at, from_after, from_before, some_
 abbrev pub Nothing : {A : Type 0} → A → Type 0
 Nothing tree = Unit {0}
 
--- a token that is a name
-only_same : (kind other : Kind) (b : Bool) → same_kind other kind ≡ b → (value : Unit {0}) → cond b (Some tt) None ≡ Some value → same_kind other kind ≡ true
-only_same kind other true e value f = e
-only_same kind other false e value f = absurd cc
-
 shape_name : (kind : Kind) → shape kind ≡ kinds.Name → kind ≡ kinds.Name
 shape_name (kinds.Integer value) e = absurd cc
 shape_name kinds.Name e = e
 shape_name _ e = e
 
 name_is : (kind : Kind) (value : Unit {0}) → only kinds.Name (shape kind) ≡ Some value → kind ≡ kinds.Name
-name_is kind value e = shape_name kind (same_kind-equal (shape kind) kinds.Name (only_same kinds.Name (shape kind) _ refl value e))
+name_is kind value e = shape_name kind (same_kind-equal (shape kind) kinds.Name (cond_some (same_kind (shape kind) kinds.Name) tt value e).0)
 
-value_small : (kind : Kind) (text : List ℕ) → listing.SpellsToken kind text → value_of kind ≤ greatest_literal
+value_small : (kind : Kind) (text : List ℕ) → listing.SpellsToken kind text → value_of kind ≤ MAX_INTEGER
 value_small (kinds.Integer value) text h = h.2
 value_small kinds.Name text h = omega arith
 value_small _ text h = omega arith
@@ -103,11 +99,11 @@ module _ (fits : ℕ → Type 0) (longest room : ℕ) where
   unfolding base
   base_fits found k h = (subst (λ (pair : ℕ × BaseType). fits pair.0) (sym h.2) h.1.0.place, h.1.2)
 
-  pub integer_fits : (found : ℕ × ℕ) (k : ℕ) → Having integer found k → fits found.0 × (found.1 ≤ greatest_literal) × (k ≡ 1)
+  pub integer_fits : (found : ℕ × ℕ) (k : ℕ) → Having integer found k → fits found.0 × (found.1 ≤ MAX_INTEGER) × (k ≡ 1)
   unfolding integer
   integer_fits found k h = (
     subst (λ (pair : ℕ × ℕ). fits pair.0) (sym h.2) h.1.0.place,
-    subst (λ (pair : ℕ × ℕ). pair.1 ≤ greatest_literal) (sym h.2) (value_small h.0.0.kind h.0.0.text h.1.0.spelled),
+    subst (λ (pair : ℕ × ℕ). pair.1 ≤ MAX_INTEGER) (sym h.2) (value_small h.0.0.kind h.0.0.text h.1.0.spelled),
     h.1.2,
   )
 

@@ -6,7 +6,6 @@ use Rattle.lexer.specs.Terminal.{IsTerminated, terminal_of, terminals_of}
 use Rattle.common.specs.declared.fault.OrNoMemory.{OrNoMemory}
 use Rattle.common.specs.declared.fault.OrNoMemory.TheVariants.{NoMemory, Refused}
 use Rattle.parser.specs.declared.fault.ParseRefusal.{ParseRefusal}
-use Rattle.parser.specs.declared.fault.ParseRefusal.TheVariants.{Unexpected, TooDeep}
 use Rattle.common.specs.Answers.{IfRefused}
 use Rattle.common.proofs.Casting.{refused-weaker}
 use Rattle.parser.specs.OfText.{IsOfText}
@@ -47,9 +46,7 @@ module _ (tokens : List Token) (terminated : IsTerminated (terminals_of tokens))
 
   pub fault_refused : (fault : OrNoMemory ParseRefusal) (left : List Token) → WasRead (Err fault) left → IfRefused (AreTokensRefused (terminals_of tokens)) fault
   fault_refused NoMemory left e = tt
-  fault_refused (Refused (Unexpected at)) left e =
-      (subst (Verdict (terminals_of tokens)) e (verdict (terminals_of tokens) terminated)).0
-  fault_refused (Refused (TooDeep at)) left e =
+  fault_refused (Refused refusal) left e =
       (subst (Verdict (terminals_of tokens)) e (verdict (terminals_of tokens) terminated)).0
 
   pub fault_complete : (fault : OrNoMemory ParseRefusal) (left : List Token) → WasRead (Err fault) left → (tree : ProgramTree)

@@ -11,7 +11,7 @@ use Rattle.lexer.specs.Cut.{IsCut}
 use Rattle.lexer.specs.Listing.{IsSpelled, IsSliceOf}
 use Rattle.lexer.specs.Terminal.{Terminal}
 use Rattle.syntax.specs.Grammar.{SpellsProgram, program}
-use Rattle.syntax.specs.Limits.{IsProgram, longest_name}
+use Rattle.syntax.specs.Limits.{IsProgram}
 use Rattle.syntax.specs.Nesting.{IsNested}
 use Rattle.syntax.specs.Nodes.{program_nodes}
 use Rattle.syntax.specs.Tree.{ProgramTree}
@@ -21,6 +21,7 @@ use Rattle.parser.proofs.Holds.{spelled_taken}
 use Rattle.parser.proofs.Fits.{Fit, Fitting, Fits}
 use Rattle.parser.proofs.FitStatements.{symbols_fit}
 use Rattle.parser.proofs.FitItems.{program_fits}
+use Rattle.common.specs.declared.limits.TheConstants.{MAX_TEXT}
 
 abbrev IsShort : ℕ → Terminal → Type 0
 IsShort longest token = length token.text ≤ longest
@@ -44,7 +45,7 @@ spelled_written_there longest tokens tree d spelled short =
 
 pub spelled_program : (tokens : List Terminal) (tree : ProgramTree) → IsOfText tokens → SpellsProgram tokens tree → IsProgram tree
 spelled_program tokens tree text d =
-    let fit = spelled_fits Anywhere longest_name tokens tree d (λ k token lt. record { place = tt; spelled = text.spelled k token lt; short = text.short k token lt }) in
+    let fit = spelled_fits Anywhere MAX_TEXT tokens tree d (λ k token lt. record { place = tt; spelled = text.spelled k token lt; short = text.short k token lt }) in
     record { written = fit.written; few = omega (arith, fit.few, text.few); nested = fit.nested }
 
 -- no text is longer than all together
@@ -75,12 +76,12 @@ slice_short source longest few token slice =
     omega (arith, few, ap length slice, length-take (token.end - token.start) (drop token.start source), length-drop token.start source)
 
 -- those of a text of at most 1 MiB are as a parse wants them
-pub cut_of_text : (source : List ℕ) (tokens : List Terminal) → IsUtf8 source → IsCut source tokens → length source ≤ longest_name → IsOfText tokens
+pub cut_of_text : (source : List ℕ) (tokens : List Terminal) → IsUtf8 source → IsCut source tokens → length source ≤ MAX_TEXT → IsOfText tokens
 cut_of_text source tokens ok cut few =
     let each = listed source tokens ok cut in
     record {
       spelled = each.spelled;
-      short = All-weaker (IsSliceOf source) (IsShort longest_name) (slice_short source longest_name few) tokens each.slices;
+      short = All-weaker (IsSliceOf source) (IsShort MAX_TEXT) (slice_short source MAX_TEXT few) tokens each.slices;
       few = omega (arith, few, each.count);
     }
 

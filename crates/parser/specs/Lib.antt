@@ -3,6 +3,7 @@ pub use Rattle.syntax.specs.Grammar
 pub use Rattle.syntax.specs.Form
 pub use Rattle.syntax.specs.Symbol
 pub use Rattle.syntax.specs.Tree
+pub mod Defects
 pub mod Laws
 pub mod OfText
 pub mod Reading

@@ -1,15 +1,12 @@
 -- What a walk finds of each form of statement, from what it finds of the blocks in it.
 use Rattle.std.proofs.Common.{◌≡◌, sym, ap, ◌∙◌, subst, ℕ, List, [], ◌∷◌, ◌++◌, Bool, false, ◌||◌, filter, length}
-use Rattle.std.specs.Prelude.{◌==◌, Option, Some, None, Vec}
-use Rattle.std.specs.declared.alloc.Global.{Global}
-use Rattle.resolved.specs.declared.expression.Expression as E
+use Rattle.std.specs.Prelude.{◌==◌, Option, Some, None}
+use Rattle.std.proofs.lemmas.List.Folds.{list_any-append}
 use Rattle.resolved.specs.declared.statement.Statement as S
-use Rattle.resolved.specs.declared.statement.Handler.{Handler}
 use Rattle.resolved.specs.declared.statement.Exit.{Exit}
 use Rattle.resolved.specs.declared.statement.Exit.TheVariants.{Normal, Return}
-use Rattle.resolved.specs.Tree.{Expression, Statement, If, While, Try, Nested, ReturnWith, Block, Handlers}
-use Rattle.resolved.specs.TreeOf.{expression_of, statement_of, block_of, handlers_of}
-use Rattle.resolved.proofs.Views.{at_if, at_while, at_try, at_nested}
+use Rattle.resolved.specs.Tree.{Expression, Statement, If, While, Try, ReturnWith, Block, Handlers}
+use Rattle.resolved.specs.TreeOf.{statement_of}
 use Rattle.resolved.specs.Program.{Program}
 use Rattle.resolved.specs.Ends.{thrown_ends, leaves_loop, raises, index_can_raise, index_raises, statement_ends, block_ends, handlers_ends}
 use Rattle.resolved.specs.EndFaults.{inner_faults}
@@ -17,13 +14,13 @@ use Rattle.path_map.specs.declared.exits.Raised.{Raised}
 use Rattle.path_map.specs.declared.exits.Exits.{Exits}
 use Rattle.common.specs.declared.fault.OrNoMemory.{OrNoMemory}
 use Rattle.common.specs.Answers.{IfRefused}
-use Rattle.path_map.specs.declared.fault.EndRefusal.{EndRefusal as CodeRefusal}
+use Rattle.resolved.specs.declared.fault.EndRefusal.{EndRefusal}
 use Rattle.path_map.specs.FirstFault.{IsFirstEndFault}
 use Rattle.path_map.specs.Joins.{join, of_loop, raised_list, raises_some}
 use Rattle.path_map.specs.Paths.{inner_paths, block_paths, handlers_paths}
 use Rattle.path_map.specs.Sets.{row_has, IsSum, IsSummaryOf, is_one_of, throws}
 use Rattle.path_map.specs.Walks.{IsFound, AreThrown, AreLeft}
-use Rattle.path_map.proofs.Summary.{any-append, loop-thrown}
+use Rattle.path_map.proofs.Summary.{loop-thrown}
 use Rattle.path_map.proofs.Walking.{both, looped, try-found}
 
 -- what is found of a tree is found of the statement that stands for it
@@ -36,37 +33,13 @@ module _ (program : Program) (s : S.Statement) (tree : Statement) (is : statemen
   pub faults-at : (in_loop : Bool) → inner_faults program in_loop tree ≡ [] → inner_faults program in_loop (statement_of s) ≡ []
   faults-at in_loop none = ap (inner_faults program in_loop) is ∙ none
 
-  pub first-at : (in_loop : Bool) (fault : OrNoMemory CodeRefusal) → IfRefused (IsFirstEndFault (inner_faults program in_loop tree)) fault
+  pub first-at : (in_loop : Bool) (fault : OrNoMemory EndRefusal) → IfRefused (IsFirstEndFault (inner_faults program in_loop tree)) fault
       → IfRefused (IsFirstEndFault (inner_faults program in_loop (statement_of s))) fault
   first-at in_loop fault first = subst (λ t. IfRefused (IsFirstEndFault (inner_faults program in_loop t)) fault) (sym is) first
 
 pub found-same : (ends : List Exit) (paths : List (List Exit)) (e0 e1 : List Exits) (r0 r1 : List ℕ) (x y : Exits)
     → y ≡ x → IsFound ends paths e0 e1 r0 r1 x → IsFound ends paths e0 e1 r0 r1 y
 found-same ends paths e0 e1 r0 r1 x y is found = subst (λ z. IsFound ends paths e0 e1 r0 r1 z) (sym is) found
-
--- the trees, by the lists that the walk goes along
-pub tree-if : (s : S.Statement) (at : ℕ) (e : E.Expression) (yes_block no_block : Vec S.Statement Global) (ys ns : List S.Statement)
-    → s ≡ S.If at e yes_block no_block → ys ≡ yes_block.items → ns ≡ no_block.items
-    → statement_of s ≡ If at (expression_of e) (block_of ys) (block_of ns)
-tree-if s at e yes_block no_block ys ns is first second =
-    at_if (λ t. t) yes_block no_block is
-    ∙ (ap (λ list. If at (expression_of e) (block_of list) (block_of no_block.items)) (sym first)
-    ∙ ap (λ list. If at (expression_of e) (block_of ys) (block_of list)) (sym second))
-
-pub tree-while : (s : S.Statement) (at loop : ℕ) (e : E.Expression) (body : Vec S.Statement Global) (list : List S.Statement)
-    → s ≡ S.While at loop e body → list ≡ body.items → statement_of s ≡ While at loop (expression_of e) (block_of list)
-tree-while s at loop e body list is lent =
-    at_while (λ t. t) body is ∙ ap (λ l. While at loop (expression_of e) (block_of l)) (sym lent)
-
-pub tree-try : (s : S.Statement) (at : ℕ) (block : Vec S.Statement Global) (handlers : Vec Handler Global) (bs : List S.Statement) (hs : List Handler)
-    → s ≡ S.Try at block handlers → bs ≡ block.items → hs ≡ handlers.items → statement_of s ≡ Try at (block_of bs) (handlers_of hs)
-tree-try s at block handlers bs hs is first second =
-    at_try (λ t. t) block handlers is
-    ∙ (ap (λ list. Try at (block_of list) (handlers_of handlers.items)) (sym first) ∙ ap (λ list. Try at (block_of bs) (handlers_of list)) (sym second))
-
-pub tree-nested : (s : S.Statement) (at : ℕ) (block : Vec S.Statement Global) (list : List S.Statement)
-    → s ≡ S.Nested at block → list ≡ block.items → statement_of s ≡ Nested at (block_of list)
-tree-nested s at block list is lent = at_nested (λ t. t) block is ∙ ap (λ l. Nested at (block_of l)) (sym lent)
 
 -- a return, with a value or without one
 pub return-found : (program : Program) (at : ℕ) (value : Option Expression) (e0 e1 : List Exits) (r0 r1 : List ℕ) (x : Exits)
@@ -85,8 +58,8 @@ store-same index value length can first second both_first all is p q r t e =
     t e
     ∙ ap (λ b. b || is_one_of (raised_list false can) e) (r e ∙ (ap (λ b. b || is_one_of second e) (p e) ∙ ap (λ b. is_one_of (raises index) e || b) (q e)))
     ∙ ap (λ b. (is_one_of (raises index) e || is_one_of (raises value) e) || is_one_of (raised_list false b) e) is
-    ∙ ap (λ b. b || is_one_of (index_raises index length) e) (sym (any-append (λ other. e == other) (raises index) (raises value)))
-    ∙ sym (any-append (λ other. e == other) (raises index ++ raises value) (index_raises index length))
+    ∙ ap (λ b. b || is_one_of (index_raises index length) e) (sym (list_any-append (λ other. e == other) (raises index) (raises value)))
+    ∙ sym (list_any-append (λ other. e == other) (raises index ++ raises value) (index_raises index length))
 
 -- the forms with blocks
 pub if-found : (program : Program) (at : ℕ) (e : Expression) (yes_block no_block : Block) (e0 e1 e2 : List Exits) (r0 r1 r2 r3 : List ℕ) (x y z j k : Exits)

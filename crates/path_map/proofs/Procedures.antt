@@ -6,8 +6,8 @@ use Rattle.std.proofs.lemmas.List.{map-append, take_more, take-append-drop}
 use Rattle.std.proofs.Math.ListN.{drop_of_length-le}
 use Rattle.std.proofs.Math.Seq.{drop-cons}
 use Rattle.std.proofs.Math.Numerals.{add-one}
-use Rattle.std.proofs.lemmas.Bool.{and_parts}
 use Rattle.std.proofs.Math.Bool.{or-true, or-false}
+use Rattle.std.proofs.lemmas.List.Folds.{list_any-append}
 use Rattle.resolved.specs.declared.statement.Exit.{Exit}
 use Rattle.resolved.specs.declared.statement.Exit.TheVariants.{Normal, Return, Break, Continue, Throw}
 use Rattle.resolved.specs.declared.statement.Statement as S
@@ -17,42 +17,31 @@ use Rattle.resolved.specs.declared.tables.Thrown.{Thrown}
 use Rattle.resolved.specs.declared.tables.Procedure.{Procedure}
 use Rattle.resolved.specs.Program.{Program, ProcedureEntry, ThrownEntry}
 use Rattle.resolved.specs.ProgramOf.{result_entry, thrown_entry, procedure_entry}
-use Rattle.resolved.specs.Ends.{same_exit, has_end, declared_by, block_ends}
-use Rattle.resolved.specs.EndFaults.{NoValueReturned, Undeclared, fault_unless, may_end, block_faults, procedure_faults}
+use Rattle.resolved.specs.Ends.{has_end, declared_by, block_ends}
+use Rattle.resolved.specs.EndFaults.{fault_unless, may_end, block_faults, procedure_faults}
+use Rattle.resolved.specs.declared.fault.EndDefect.TheVariants.{NoValueReturned, Undeclared}
 use Rattle.path_map.specs.declared.exits.Raised.TheVariants.{Several}
 use Rattle.path_map.specs.declared.exits.Exits.{Exits}
-use Rattle.path_map.specs.declared.fault.EndDefect.TheVariants as defect
 use Rattle.common.specs.declared.fault.OrNoMemory.{OrNoMemory}
 use Rattle.common.specs.declared.fault.OrNoMemory.TheVariants.{Refused}
 use Rattle.common.specs.Answers.{IfRefused}
-use Rattle.path_map.specs.declared.fault.EndRefusal.{EndRefusal as CodeRefusal}
+use Rattle.resolved.specs.declared.fault.EndRefusal.{EndRefusal}
 use Rattle.path_map.specs.FirstFault.{IsFirstEndFault}
 use Rattle.path_map.specs.Exits.{exits_of, raised_by}
 use Rattle.path_map.specs.Joins.{join_raised}
 use Rattle.path_map.specs.Paths.{block_paths}
 use Rattle.path_map.specs.Sets.{AreDeclared, is_one_of, row_has, throws}
 use Rattle.path_map.specs.Walks.{IsFound}
-use Rattle.path_map.proofs.Summary.{same-number, any-append, raised-append, throws-thrown}
+use Rattle.path_map.proofs.Summary.{same-number, raised-append, throws-thrown}
 use Rattle.path_map.proofs.Walking.{first-left}
-use Rattle.resolved.proofs.Exits.{same-exit}
-
--- what all ends are, one of them is
-one-of-all : (f : Exit → Bool) (ends : List Exit) (x : Exit) → has_end ends x ≡ true → list_all f ends ≡ true → f x ≡ true
-one-of-all f [] x there all = absurd (let no : false ≡ true = there in cc)
-one-of-all f (y ∷ ends) x there all =
-    let parts = and_parts (f y) (list_all f ends) all in
-    go (same_exit x y) refl parts.0 (λ more. one-of-all f ends x more parts.1)
-  where
-    go : (b : Bool) → same_exit x y ≡ b → f y ≡ true → (has_end ends x ≡ true → f x ≡ true) → f x ≡ true
-    go true e here more = ap f (same-exit x y e) ∙ here
-    go false e here more = more (rw e at there)
+use Rattle.resolved.proofs.Exits.{all-has}
 
 not-all : (f : Exit → Bool) (ends : List Exit) (x : Exit) → has_end ends x ≡ true → f x ≡ false → list_all f ends ≡ false
 not-all f ends x there is = go (list_all f ends) refl
   where
     go : (b : Bool) → list_all f ends ≡ b → list_all f ends ≡ false
     go false e = e
-    go true e = absurd (let no : true ≡ false = sym (one-of-all f ends x there e) ∙ is in cc)
+    go true e = absurd (let no : true ≡ false = sym (all-has f ends x e there) ∙ is in cc)
 
 module _ (procedure : ProcedureEntry) where
   throw-ends : (e : ℕ) → may_end procedure (Throw e) ≡ is_one_of (declared_by procedure.throws) e
@@ -92,7 +81,7 @@ module _ (program : Program) (procedure : ProcedureEntry) where
   ends_here : List Exit
   ends_here = block_ends program procedure.body
 
-  pub body-first : (fault : OrNoMemory CodeRefusal) → IfRefused (IsFirstEndFault (block_faults program false true procedure.body)) fault → IfRefused (IsFirstEndFault (procedure_faults program procedure)) fault
+  pub body-first : (fault : OrNoMemory EndRefusal) → IfRefused (IsFirstEndFault (block_faults program false true procedure.body)) fault → IfRefused (IsFirstEndFault (procedure_faults program procedure)) fault
   body-first fault first =
       first-left (block_faults program false true procedure.body
       ++ fault_unless (not (is_some procedure.result && has_end (block_ends program procedure.body) Normal)) NoValueReturned procedure.at)
@@ -102,13 +91,13 @@ module _ (program : Program) (procedure : ProcedureEntry) where
 
   pub no-value-first : block_faults program false true procedure.body ≡ []
       → (is_some procedure.result && has_end (block_ends program procedure.body) Normal) ≡ true
-      → IfRefused (IsFirstEndFault (procedure_faults program procedure)) (Refused (record { defect = defect.NoValueReturned; at = procedure.at }))
+      → IfRefused (IsFirstEndFault (procedure_faults program procedure)) (Refused (record { defect = NoValueReturned; at = procedure.at }))
   no-value-first clean value = rw (clean, value) refl
 
   pub undeclared-first : block_faults program false true procedure.body ≡ []
       → (is_some procedure.result && has_end (block_ends program procedure.body) Normal) ≡ false
       → list_all (may_end procedure) (block_ends program procedure.body) ≡ false
-      → IfRefused (IsFirstEndFault (procedure_faults program procedure)) (Refused (record { defect = defect.Undeclared; at = procedure.at }))
+      → IfRefused (IsFirstEndFault (procedure_faults program procedure)) (Refused (record { defect = Undeclared; at = procedure.at }))
   undeclared-first clean value ends = rw (clean, value, ends) refl
 
   pub no-faults : block_faults program false true procedure.body ≡ []
@@ -163,7 +152,7 @@ module _ (program : Program) (all : List ProcedureEntry) where
     faults = refl;
   }
 
-  pub beside-first : (procedure : ProcedureEntry) (tail : List ProcedureEntry) (now : List Exits) (fault : OrNoMemory CodeRefusal) → Beside program all (procedure ∷ tail) now
+  pub beside-first : (procedure : ProcedureEntry) (tail : List ProcedureEntry) (now : List Exits) (fault : OrNoMemory EndRefusal) → Beside program all (procedure ∷ tail) now
       → IfRefused (IsFirstEndFault (procedure_faults program procedure)) fault → IfRefused (IsFirstEndFault (flat_map (procedure_faults program) all)) fault
   beside-first procedure tail now fault along first =
       subst (λ faults. IfRefused (IsFirstEndFault faults) fault) along.faults
@@ -191,11 +180,6 @@ module _ (program : Program) (all : List ProcedureEntry) where
   beside-clean now along = sym along.faults
 
 -- along declared exceptions
-pub not-more : (a b c : Bool) → ((a && not b) && not c) ≡ (a && not (b || c))
-not-more false b c = refl
-not-more true true c = refl
-not-more true false c = refl
-
 pub declared-more : (throws : List Thrown) (i : ℕ) (thrown : Thrown) → i < length throws → thrown ≡ get_or throws i thrown → (e : ℕ)
     → is_one_of (declared_by (map thrown_entry (take (i + 1) throws))) e
     ≡ (is_one_of (declared_by (map thrown_entry (take i throws))) e || (e == thrown.exception))
@@ -203,7 +187,7 @@ declared-more throws i thrown inside is e =
     ap (λ list. is_one_of (declared_by (map thrown_entry list)) e) (take_more throws i thrown inside ∙ ap (λ t. take i throws ++ t ∷ []) (sym is))
     ∙ ap (λ list. is_one_of (declared_by list) e) (map-append thrown_entry (take i throws) (thrown ∷ []))
     ∙ ap (λ list. is_one_of list e) (map-append (λ (entry : ThrownEntry). entry.exception) (map thrown_entry (take i throws)) (map thrown_entry (thrown ∷ [])))
-    ∙ any-append (λ other. e == other) (declared_by (map thrown_entry (take i throws))) (thrown.exception ∷ [])
+    ∙ list_any-append (λ other. e == other) (declared_by (map thrown_entry (take i throws))) (thrown.exception ∷ [])
     ∙ ap (λ b. is_one_of (declared_by (map thrown_entry (take i throws))) e || b) (or-false (e == thrown.exception))
 
 -- along procedures

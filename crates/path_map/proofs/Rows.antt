@@ -11,7 +11,7 @@ use Rattle.std.proofs.lemmas.Int.{int_wrap_fits}
 use Rattle.std.proofs.lemmas.Nat.Bits.{bit_at_set_same, bit_at_set_other, bit_at_clear_same, bit_at_clear_other, bit_at_or, bit_at-lt, bit_at-zero, bit_at-trailing_zeros, and_pow}
 use Rattle.std.proofs.lemmas.List.{get_or-set_same, get_or-set_other, get_or_past, get_or-take, length-take}
 use Rattle.std.proofs.lemmas.Bool.{eqb-true, eqb-false, eq-eqb, ne_eqb, ltb-true, ltb-false, and_parts, or_cases, cases_eq}
-use Rattle.std.proofs.Math.Bool.{or-true, or-false}
+use Rattle.std.proofs.Math.Bool.{or-true, or-false, and-true, and-false}
 use mir.Syntax.{w32, w64}
 use Rattle.path_map.specs.declared.exits.Raised.{Raised}
 use Rattle.path_map.specs.declared.exits.Raised.TheVariants.{Nothing, One, Several}
@@ -34,9 +34,6 @@ read-same : (words : List ℕ) (e other : ℕ) → other / 64 ≡ e / 64
     → row_has words other ≡ (bit_at (get_or words (e / 64) 0) (other % 64) == 1)
 read-same words e other same = ap (λ i. bit_at (get_or words i 0) (other % 64) == 1) same
 
-same-exception : (e other : ℕ) → other / 64 ≡ e / 64 → other % 64 ≡ e % 64 → other ≡ e
-same-exception e other p q = omega arith
-
 -- a bit that was set
 module _ (words : List ℕ) (e word v : ℕ) (inside : e / 64 < length words) (was : word ≡ get_or words (e / 64) 0)
     (is : v ≡ bit_or word (1 * 2 ^ (e % 64) % 2 ^ 64)) where
@@ -50,7 +47,7 @@ module _ (words : List ℕ) (e word v : ℕ) (inside : e / 64 < length words) (w
           write-other words e other v (eqb-false (other / 64) (e / 64) f)
           ∙ sym (ap (λ b. row_has words other || b) differs ∙ or-false (row_has words other))
       go true f true g =
-          let same : other ≡ e = same-exception e other (eqb-true (other / 64) (e / 64) f) (eqb-true (other % 64) (e % 64) g) in
+          let same : other ≡ e = omega (arith, eqb-true (other / 64) (e / 64) f, eqb-true (other % 64) (e % 64) g) in
           let bit : bit_at v (other % 64) ≡ 1 =
           ap (λ k. bit_at v k) (eqb-true (other % 64) (e % 64) g) ∙ ap (λ n. bit_at n (e % 64)) is
           ∙ bit_at_set_same w64 word (e % 64) (omega arith) in
@@ -73,28 +70,20 @@ module _ (words : List ℕ) (e word v : ℕ) (inside : e / 64 < length words) (w
   pub remove-row : (other : ℕ) → row_has (set words (e / 64) v) other ≡ (row_has words other && not (other == e))
   remove-row other = go (nat_eq (other / 64) (e / 64)) refl (nat_eq (other % 64) (e % 64)) refl
     where
-      and_true : (b : Bool) → b ≡ (b && true)
-      and_true true = refl
-      and_true false = refl
-
-      and_false : (b : Bool) → false ≡ (b && false)
-      and_false true = refl
-      and_false false = refl
-
       go : (p : Bool) → nat_eq (other / 64) (e / 64) ≡ p → (q : Bool) → nat_eq (other % 64) (e % 64) ≡ q
           → row_has (set words (e / 64) v) other ≡ (row_has words other && not (other == e))
       go false f q g =
           let differs : (other == e) ≡ false = ne_eqb other e (λ same. eqb-false (other / 64) (e / 64) f (ap (λ n. n / 64) same)) in
           write-other words e other v (eqb-false (other / 64) (e / 64) f)
-          ∙ (and_true (row_has words other) ∙ ap (λ b. row_has words other && not b) (sym differs))
+          ∙ (sym (and-true (row_has words other)) ∙ ap (λ b. row_has words other && not b) (sym differs))
       go true f true g =
-          let same : other ≡ e = same-exception e other (eqb-true (other / 64) (e / 64) f) (eqb-true (other % 64) (e % 64) g) in
+          let same : other ≡ e = omega (arith, eqb-true (other / 64) (e / 64) f, eqb-true (other % 64) (e % 64) g) in
           let bit : bit_at v (other % 64) ≡ 0 =
           ap (λ k. bit_at v k) (eqb-true (other % 64) (e % 64) g) ∙ ap (λ n. bit_at n (e % 64)) is
           ∙ bit_at_clear_same w64 word (e % 64) (omega arith) in
           write-same words e other v inside (eqb-true (other / 64) (e / 64) f)
           ∙ ap (λ n. n == 1) bit
-          ∙ (and_false (row_has words other) ∙ ap (λ b. row_has words other && not b) (sym (eq-eqb other e same)))
+          ∙ (sym (and-false (row_has words other)) ∙ ap (λ b. row_has words other && not b) (sym (eq-eqb other e same)))
       go true f false g =
           let differs : (other == e) ≡ false = ne_eqb other e (λ same. eqb-false (other % 64) (e % 64) g (ap (λ n. n % 64) same)) in
           let bit : bit_at v (other % 64) ≡ bit_at word (other % 64) =
@@ -103,7 +92,13 @@ module _ (words : List ℕ) (e word v : ℕ) (inside : e / 64 < length words) (w
           write-same words e other v inside (eqb-true (other / 64) (e / 64) f)
           ∙ ap (λ n. n == 1) (bit ∙ ap (λ n. bit_at n (other % 64)) was)
           ∙ sym (read-same words e other (eqb-true (other / 64) (e / 64) f))
-          ∙ (and_true (row_has words other) ∙ ap (λ b. row_has words other && not b) (sym differs))
+          ∙ (sym (and-true (row_has words other)) ∙ ap (λ b. row_has words other && not b) (sym differs))
+
+-- two bits cleared
+pub not-more : (a b c : Bool) → ((a && not b) && not c) ≡ (a && not (b || c))
+not-more false b c = refl
+not-more true true c = refl
+not-more true false c = refl
 
 -- the test of a bit
 pub test-bit : (word k mask : ℕ) → k < 64 → mask ≡ 1 * 2 ^ k % 2 ^ 64 → not (bit_and word mask == 0) ≡ (bit_at word k == 1)
@@ -179,11 +174,7 @@ module _ (words : List ℕ) (i word v : ℕ) (inside : i < length words) (is : v
 -- the exceptions of one word
 pub word-nothing : (index e : ℕ) → word_has 0 index e ≡ false
 word-nothing index e =
-    ap (λ bit. (e / 64 == index) && (bit == 1)) (bit_at-zero (e % 64)) ∙ go (e / 64 == index)
-  where
-    go : (b : Bool) → (b && false) ≡ false
-    go true = refl
-    go false = refl
+    ap (λ bit. (e / 64 == index) && (bit == 1)) (bit_at-zero (e % 64)) ∙ and-false (e / 64 == index)
 
 word-member : (word index bit e : ℕ) → e / 64 ≡ index → e % 64 ≡ bit → bit_at word bit ≡ 1 → word_has word index e ≡ true
 word-member word index bit e at_index at_bit set_bit =

@@ -1,9 +1,10 @@
 -- The summary of ends, of lists that are put together.
 use Rattle.std.proofs.Common.{◌≡◌, ◌≢◌, refl, sym, ap, ◌∙◌, ℕ, List, [], ◌∷◌, ◌++◌, Bool, true, false, not, ◌&&◌, ◌||◌, filter, append_assoc}
 use Rattle.std.specs.Prelude.{◌==◌, if◌then◌else◌}
-use Rattle.std.specs.List.{list_all, list_any}
+use Rattle.std.specs.List.{list_all}
 use Rattle.std.proofs.lemmas.Bool.{eqb-true, eqb-false, eq-eqb, and_parts}
-use Rattle.std.proofs.Math.Bool.{or-true, or-false, and-false, or_assoc, and_assoc}
+use Rattle.std.proofs.Math.Bool.{or-true, or-false, and-false, or_assoc}
+use Rattle.std.proofs.lemmas.List.Folds.{list_any-append, list_all-append}
 use Rattle.resolved.specs.declared.statement.Exit.{Exit}
 use Rattle.resolved.specs.declared.statement.Exit.TheVariants.{Normal, Return, Break, Continue, Throw}
 use Rattle.resolved.specs.Tree.{Handlers}
@@ -21,15 +22,6 @@ or-same false = refl
 
 pub same-number : (n : ℕ) → (n == n) ≡ true
 same-number n = eq-eqb n n refl
-
--- tests of lists that are put together
-pub any-append : {A : Type 0} (f : A → Bool) (xs ys : List A) → list_any f (xs ++ ys) ≡ (list_any f xs || list_any f ys)
-any-append f [] ys = refl
-any-append f (x ∷ xs) ys = ap (λ b. f x || b) (any-append f xs ys) ∙ sym (or_assoc (f x) (list_any f xs) (list_any f ys))
-
-pub all-append : {A : Type 0} (f : A → Bool) (xs ys : List A) → list_all f (xs ++ ys) ≡ (list_all f xs && list_all f ys)
-all-append f [] ys = refl
-all-append f (x ∷ xs) ys = ap (λ b. f x && b) (all-append f xs ys) ∙ sym (and_assoc (f x) (list_all f xs) (list_all f ys))
 
 pub thrown-append : (xs ys : List Exit) → thrown_in (xs ++ ys) ≡ thrown_in xs ++ thrown_in ys
 thrown-append [] ys = refl
@@ -66,17 +58,17 @@ raised-append (x ∷ xs) ys = go (list_all (λ other. x == other) xs) refl
     go : (all : Bool) → list_all (λ other. x == other) xs ≡ all
         → (if list_all (λ other. x == other) (xs ++ ys) then One x else Several)
         ≡ join_raised (if list_all (λ other. x == other) xs then One x else Several) (raised_by ys)
-    go false e = rw (all-append (λ other. x == other) xs ys, e) refl
-    go true e = rw (all-append (λ other. x == other) xs ys, e) (first-with x ys)
+    go false e = rw (list_all-append (λ other. x == other) xs ys, e) refl
+    go true e = rw (list_all-append (λ other. x == other) xs ys, e) (first-with x ys)
 
 -- ends that are put together
 pub exits-append : (xs ys : List Exit) → exits_of (xs ++ ys) ≡ join (exits_of xs) (exits_of ys)
 exits-append xs ys =
     rw (
-      any-append (same_exit Normal) xs ys,
-      any-append (same_exit Return) xs ys,
-      any-append (same_exit Break) xs ys,
-      any-append (same_exit Continue) xs ys,
+      list_any-append (same_exit Normal) xs ys,
+      list_any-append (same_exit Return) xs ys,
+      list_any-append (same_exit Break) xs ys,
+      list_any-append (same_exit Continue) xs ys,
       thrown-append xs ys,
       raised-append (thrown_in xs) (thrown_in ys),
     ) refl
@@ -289,7 +281,7 @@ throws-then first rest e = go (has_end first Normal) refl
     go : (b : Bool) → has_end first Normal ≡ b → throws (then_ends first rest) e ≡ (throws first e || (has_end first Normal && throws rest e))
     go false f = rw f (sym (or-false (throws first e)))
     go true f =
-        rw f (any-append (same_exit (Throw e)) (filter (λ exit. not (same_exit Normal exit)) first) rest
+        rw f (list_any-append (same_exit (Throw e)) (filter (λ exit. not (same_exit Normal exit)) first) rest
         ∙ ap (λ b. b || throws rest e) (throws-out first e))
 
 -- the summary of a loop

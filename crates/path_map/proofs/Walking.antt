@@ -3,28 +3,31 @@ use Rattle.std.proofs.Common.{◌≡◌, refl, sym, ap, ◌∙◌, subst, ℕ, �
 use Rattle.std.specs.Prelude.{◌==◌}
 use Rattle.std.proofs.lemmas.Bool.{eqb-true, eqb-false, eq-eqb, ne_eqb}
 use Rattle.std.proofs.lemmas.List.{map-append, length-append}
-use Rattle.std.proofs.Math.Bool.{or-false, and-false, or_assoc}
+use Rattle.std.proofs.Math.Bool.{or-false, and-false, or_assoc, and-true}
+use Rattle.std.proofs.Math.Seq.{set-append_seam}
+use Rattle.std.proofs.lemmas.List.Folds.{list_any-append}
 use Rattle.resolved.specs.declared.statement.Exit.{Exit}
 use Rattle.resolved.specs.declared.statement.Exit.TheVariants.{Normal, Return, Break, Continue, Throw}
 use Rattle.resolved.specs.Tree.{Statement, Block, Empty, Then, Handlers, NoMore, Catch, place_of}
 use Rattle.resolved.specs.Program.{Program}
 use Rattle.resolved.specs.Ends.{same_exit, has_end, thrown_ends, then_ends, leaves_loop, handles, passes, statement_ends, block_ends, handlers_ends}
-use Rattle.resolved.specs.EndFaults.{EndRefusal, may_stand, inner_faults, block_faults, handlers_faults}
+use Rattle.resolved.specs.EndFaults.{may_stand, inner_faults, block_faults, handlers_faults}
+use Rattle.resolved.specs.declared.fault.EndRefusal.{EndRefusal}
 use Rattle.path_map.specs.declared.exits.Raised.{Raised}
 use Rattle.path_map.specs.declared.exits.Raised.TheVariants.{Nothing}
 use Rattle.path_map.specs.declared.exits.Exits.{Exits}
-use Rattle.path_map.specs.declared.fault.EndDefect.TheVariants as defect
+use Rattle.resolved.specs.declared.fault.EndDefect.TheVariants as defect
 use Rattle.common.specs.declared.fault.OrNoMemory.{OrNoMemory}
 use Rattle.common.specs.declared.fault.OrNoMemory.TheVariants.{NoMemory, Refused}
 use Rattle.common.specs.Answers.{IfRefused}
-use Rattle.path_map.specs.declared.fault.EndRefusal.{EndRefusal as CodeRefusal}
 use Rattle.path_map.specs.FirstFault.{IsFirstEndFault}
 use Rattle.path_map.specs.Exits.{exits_of, raised_by, thrown_in}
 use Rattle.path_map.specs.Joins.{join, join_raised, after, only_raised, of_loop}
 use Rattle.path_map.specs.Paths.{statement_paths, block_paths, rest_paths, handlers_paths}
 use Rattle.path_map.specs.Sets.{row_has, IsSum, IsSummaryOf, is_one_of, throws}
 use Rattle.path_map.specs.Walks.{IsFound, AreThrown, AreLeft}
-use Rattle.path_map.proofs.Summary.{any-append, exits-append, exits-assoc, exits-then, throws-then, after-assoc, after-normal, join-none, loop-summary, loop-throws, exits-pass, throws-pass, throws-in, throws-thrown, exits-thrown, raised-same, raised-append, summary-is}
+use Rattle.path_map.proofs.Summary.{exits-append, exits-assoc, exits-then, throws-then, after-assoc, after-normal, join-none, loop-summary, loop-throws, exits-pass, throws-pass, throws-in, throws-thrown, exits-thrown, raised-same, raised-append, summary-is}
+use Rattle.path_map.proofs.Rows.{not-more}
 
 -- sums of sets
 pub sum-then : (a b c : List ℕ) (f g h : ℕ → Bool) → IsSum a f b → IsSum b g c → ((e : ℕ) → h e ≡ (f e || g e)) → IsSum a h c
@@ -40,11 +43,6 @@ sum-same a b f g sum each = record { has = λ e. sum.has e ∙ ap (λ x. row_has
 pub sum-none : (a : List ℕ) → IsSum a (λ e. false) a
 sum-none a = record { has = λ e. sym (or-false (row_has a e)) }
 
--- an entry for which room was made
-set-at : {A : Type 0} (old : List A) (p : A) (rest : List A) (x : A) → set (old ++ p ∷ rest) (length old) x ≡ old ++ x ∷ rest
-set-at [] p rest x = refl
-set-at (o ∷ old) p rest x = ap (λ xs. o ∷ xs) (set-at old p rest x)
-
 pub reserved : (ends : List Exit) (paths : List (List Exit)) (old room new : List Exits) (p : Exits) (at : ℕ) (had has : List ℕ) (found : Exits)
     → room ≡ old ++ p ∷ [] → at ≡ length old → IsFound ends paths room new had has found
     → IsFound ends (ends ∷ paths) old (set new at found) had has found
@@ -53,7 +51,7 @@ reserved ends paths old room new p at had has found made number piece = record {
   entries =
       ap (λ xs. set xs at found) (piece.entries ∙ ap (λ xs. xs ++ map exits_of paths) made ∙ append_assoc old (p ∷ []) (map exits_of paths))
       ∙ ap (λ i. set (old ++ p ∷ map exits_of paths) i found) number
-      ∙ set-at old p (map exits_of paths) found
+      ∙ set-append_seam old p (map exits_of paths) found
       ∙ ap (λ x. old ++ x ∷ map exits_of paths) piece.summary;
   raised = piece.raised;
 }
@@ -71,7 +69,7 @@ both a b ps qs e0 e1 e2 r0 r1 r2 x y first second = record {
   entries =
       second.entries ∙ ap (λ xs. xs ++ map exits_of qs) first.entries
       ∙ append_assoc e0 (map exits_of ps) (map exits_of qs) ∙ ap (λ xs. e0 ++ xs) (sym (map-append exits_of ps qs));
-  raised = sum-then r0 r1 r2 (throws a) (throws b) (throws (a ++ b)) first.raised second.raised (λ e. any-append (same_exit (Throw e)) a b);
+  raised = sum-then r0 r1 r2 (throws a) (throws b) (throws (a ++ b)) first.raised second.raised (λ e. list_any-append (same_exit (Throw e)) a b);
 }
 
 -- a loop by its condition and body
@@ -123,17 +121,17 @@ module _ (b h : List Exit) (handlers : Handlers) (pb ph : List (List Exit)) (e0 
               united.has e ∙ ap (λ z. z || row_has i2 e) (handled.raised.has e)
               ∙ or-swap (row_has r0 e) (throws h e) (row_has i2 e)
               ∙ ap (λ z. row_has r0 e || (z || throws h e)) (sym (pass-throws e))
-              ∙ ap (λ z. row_has r0 e || z) (sym (any-append (same_exit (Throw e)) passing h));
+              ∙ ap (λ z. row_has r0 e || z) (sym (list_any-append (same_exit (Throw e)) passing h));
         };
       }
 
 -- the first of faults that are put together
-pub first-left : (a b : List EndRefusal) (fault : OrNoMemory CodeRefusal) → IfRefused (IsFirstEndFault a) fault → IfRefused (IsFirstEndFault (a ++ b)) fault
+pub first-left : (a b : List EndRefusal) (fault : OrNoMemory EndRefusal) → IfRefused (IsFirstEndFault a) fault → IfRefused (IsFirstEndFault (a ++ b)) fault
 first-left a b NoMemory first = tt
 first-left [] b (Refused refusal) first = absurd (cc)
 first-left (x ∷ a) b (Refused refusal) first = first
 
-pub first-right : (a b : List EndRefusal) (fault : OrNoMemory CodeRefusal) → a ≡ [] → IfRefused (IsFirstEndFault b) fault → IfRefused (IsFirstEndFault (a ++ b)) fault
+pub first-right : (a b : List EndRefusal) (fault : OrNoMemory EndRefusal) → a ≡ [] → IfRefused (IsFirstEndFault b) fault → IfRefused (IsFirstEndFault (a ++ b)) fault
 first-right a b fault none first = subst (λ xs. IfRefused (IsFirstEndFault (xs ++ b)) fault) (sym none) first
 
 pub none-both : (a b : List EndRefusal) → a ≡ [] → b ≡ [] → a ++ b ≡ []
@@ -169,7 +167,7 @@ module _ (program : Program) (in_loop : Bool) (block : Block) (old : List Exits)
         subst (λ faults. IfRefused (IsFirstEndFault faults) (Refused (record { defect = defect.Unreachable; at = place_of statement }))) along.faults
         (rw (stands, reached) refl)
 
-    pub inside : may_stand in_loop statement ≡ true → so_far.normal ≡ true → (fault : OrNoMemory CodeRefusal) → IfRefused (IsFirstEndFault (inner_faults program in_loop statement)) fault
+    pub inside : may_stand in_loop statement ≡ true → so_far.normal ≡ true → (fault : OrNoMemory EndRefusal) → IfRefused (IsFirstEndFault (inner_faults program in_loop statement)) fault
         → IfRefused (IsFirstEndFault (block_faults program in_loop true block)) fault
     inside stands reached fault first =
         subst (λ faults. IfRefused (IsFirstEndFault faults) fault) along.faults
@@ -274,7 +272,7 @@ module _ (program : Program) (in_loop : Bool) (handlers : Handlers) (old : List 
         let none : throws there.ends handled ≡ false = sym (there.are.has handled) ∙ absent in
         subst (λ faults. IfRefused (IsFirstEndFault faults) (Refused (record { defect = defect.NeverRaised; at = at }))) there.same (rw none refl)
 
-    pub in-handler : row_has row handled ≡ true → (fault : OrNoMemory CodeRefusal) → IfRefused (IsFirstEndFault (block_faults program in_loop true body)) fault
+    pub in-handler : row_has row handled ≡ true → (fault : OrNoMemory EndRefusal) → IfRefused (IsFirstEndFault (block_faults program in_loop true body)) fault
         → (ends : List Exit) → AreThrown was ends → IfRefused (IsFirstEndFault (handlers_faults program in_loop ends handlers)) fault
     in-handler present fault first ends are =
         let there = along.remaining ends are in
@@ -304,11 +302,11 @@ module _ (program : Program) (in_loop : Bool) (handlers : Handlers) (old : List 
           raised = λ e.
               ap (λ b. b || throws rest e) (piece.raised.has e)
               ∙ or_assoc (row_has has e) (throws ends e) (throws rest e)
-              ∙ ap (λ b. row_has has e || b) (sym (any-append (same_exit (Throw e)) ends rest))
+              ∙ ap (λ b. row_has has e || b) (sym (list_any-append (same_exit (Throw e)) ends rest))
               ∙ along.raised e;
           left = λ e.
               ap (λ b. b && not (handles tail e)) (without e)
-              ∙ not-or (row_has row e) (e == handled) (handles tail e)
+              ∙ not-more (row_has row e) (e == handled) (handles tail e)
               ∙ along.left e;
           remaining = λ given are.
               let there = along.remaining given are in
@@ -322,11 +320,6 @@ module _ (program : Program) (in_loop : Bool) (handlers : Handlers) (old : List 
                 same = sym (rw (some, clean) refl) ∙ there.same;
               };
         }
-      where
-        not-or : (a b c : Bool) → ((a && not b) && not c) ≡ (a && not (b || c))
-        not-or false b c = refl
-        not-or true true c = refl
-        not-or true false c = refl
 
   pub handling-end : (now : List Exits) (has row : List ℕ) (so_far : Exits) → Handling program in_loop handlers NoMore old now had has was row so_far
       → IsFound (handlers_ends program handlers) (handlers_paths program handlers) old now had has so_far
@@ -339,10 +332,6 @@ module _ (program : Program) (in_loop : Bool) (handlers : Handlers) (old : List 
   pub handling-left : (now : List Exits) (has row : List ℕ) (so_far : Exits) → Handling program in_loop handlers NoMore old now had has was row so_far
       → AreLeft was row handlers
   handling-left now has row so_far along = record { has = λ e. sym (and-true (row_has row e)) ∙ along.left e }
-    where
-      and-true : (b : Bool) → (b && true) ≡ b
-      and-true true = refl
-      and-true false = refl
 
   pub handling-clean : (now : List Exits) (has row : List ℕ) (so_far : Exits) → Handling program in_loop handlers NoMore old now had has was row so_far
       → (ends : List Exit) → AreThrown was ends → handlers_faults program in_loop ends handlers ≡ []
@@ -389,5 +378,5 @@ call-found listed exceptions declared same own other own_is other_is had mid has
     ∙ sym (raised-append exceptions declared))
     had has
     (sum-then had mid has (is_one_of listed) (is_one_of declared) (is_one_of (exceptions ++ declared)) first second
-    (λ e. any-append (λ other. e == other) exceptions declared ∙ ap (λ b. b || is_one_of declared e) (sym (same e))))
+    (λ e. list_any-append (λ other. e == other) exceptions declared ∙ ap (λ b. b || is_one_of declared e) (sym (same e))))
     exits entries made

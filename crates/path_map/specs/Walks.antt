@@ -9,7 +9,8 @@ use Rattle.resolved.specs.CoreOf.{program_of}
 use Rattle.resolved.specs.TreeOf.{statement_of, block_of, handlers_of}
 use Rattle.resolved.specs.Tree.{Handlers}
 use Rattle.resolved.specs.Ends.{handles, statement_ends, block_ends, handlers_ends}
-use Rattle.resolved.specs.EndFaults.{EndRefusal, inner_faults, block_faults, handlers_faults}
+use Rattle.resolved.specs.EndFaults.{inner_faults, block_faults, handlers_faults}
+use Rattle.resolved.specs.declared.fault.EndRefusal.{EndRefusal}
 use Rattle.path_map.specs.declared.exits.Exits.{Exits}
 use Rattle.path_map.specs.Exits.{exits_of}
 use Rattle.path_map.specs.Paths.{statement_paths, inner_paths, block_paths, rest_paths, handlers_paths}

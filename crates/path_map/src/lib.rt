@@ -10,6 +10,7 @@ mod set;
 mod walk;
 
 pub use exits::{Exits, Raised};
-pub use fault::{EndDefect, EndRefusal, EndsFault};
+pub use fault::EndFault;
 pub use map::{PathMap, find_ends};
 pub use raises::Raises;
+pub use resolved::{EndDefect, EndRefusal};

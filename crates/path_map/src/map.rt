@@ -12,9 +12,10 @@ ghost use Rattle.std.specs.Prelude.{IfErr, IfOk, OnOk, [], is_some, map, not, �
 
 use crate::calls::Walk;
 use crate::exits::{Exits, Raised};
-use crate::fault::{EndDefect, EndsFault};
+use crate::fault::EndFault;
 use crate::set::ExceptionSet;
 use crate::walk::{refuse, walk_block};
+use resolved::EndDefect;
 use resolved::program::Core;
 use resolved::tables::{Procedure, Thrown};
 use std::alloc::Global;
@@ -30,7 +31,7 @@ pub struct PathMap {
 /// The path map of a program, or the first fault of its ends.
 ///
 /// It takes time and memory in proportion to the program, and for each call and each `try` one step more for each 64 exceptions.
-pub fn find_ends(alloc: Global, core: &Core) -> Result<PathMap, EndsFault>
+pub fn find_ends(alloc: Global, core: &Core) -> Result<PathMap, EndFault>
     ensures found { IfOk result (λ found. found.entries.items
         ≡ map exits_of (program_paths (program_of core.now))) }
     ensures accepted { OnOk result (end_faults (program_of core.now) ≡ []) }
@@ -50,7 +51,7 @@ fn walk_procedure(
     walk: &Walk,
     procedure: &Procedure,
     entries: &mut Vec<Exits>,
-) -> Result<(), EndsFault>
+) -> Result<(), EndFault>
     ensures found { OnOk result (entries.new.items ≡ entries.old.items ++ map exits_of
         (block_paths (program_of walk.now.core.now) (procedure_entry procedure.now).body)) }
     ensures accepted { OnOk result (procedure_faults

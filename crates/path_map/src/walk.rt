@@ -11,20 +11,21 @@ ghost use Rattle.resolved.specs.EndFaults.{may_stand};
 ghost use Rattle.resolved.specs.Ends.{declared_by, raises, thrown_ends};
 ghost use Rattle.resolved.specs.Program.{procedure_at};
 ghost use Rattle.resolved.specs.TreeOf.{expression_of, handlers_of, statement_of};
-ghost use Rattle.resolved.specs.Value.{end_exception};
+ghost use Rattle.common.specs.declared.exceptions.TheConstants.{END};
 ghost use Rattle.resolved.specs.declared.statement.Exit.{Exit};
 ghost use Rattle.resolved.specs.declared.statement.Exit.TheVariants.{Normal, Return, Throw};
 ghost use Rattle.std.specs.Prelude.{IfErr, IfOk, List, OnOk, [], length, ℕ, ◌++◌, ◌∷◌, ◌≡◌};
 
 use crate::calls::Walk;
 use crate::exits::{Exits, Raised};
-use crate::fault::{EndDefect, EndRefusal, EndsFault};
+use crate::fault::EndFault;
 use crate::raises::{Raises, index_can_raise, raises_of, raises_of_all, raises_of_some};
 use crate::set::ExceptionSet;
 use common::OrNoMemory;
 use common::exceptions::END;
 use resolved::expression::Expression;
 use resolved::statement::{Exit, Handler, Statement};
+use resolved::{EndDefect, EndRefusal};
 use std::alloc::AllocError;
 
 // Finds the ends of a block and of what is in it. The block's own entry is the first of the new ones. Its exceptions are added to
@@ -36,7 +37,7 @@ pub(crate) fn walk_block(
     block: &[Statement],
     entries: &mut Vec<Exits>,
     raised: &mut ExceptionSet,
-) -> Result<Exits, EndsFault>
+) -> Result<Exits, EndFault>
     ensures found { IfOk result (IsBlockFound walk.now.core.now block.now
         entries.old.items entries.new.items raised.old.words.items raised.new.words.items) }
     ensures accepted { OnOk result (faults_of_block walk.now.core.now in_loop block.now ≡ []) }
@@ -57,7 +58,7 @@ fn walk_statements(
     block: &[Statement],
     entries: &mut Vec<Exits>,
     raised: &mut ExceptionSet,
-) -> Result<Exits, EndsFault>
+) -> Result<Exits, EndFault>
     ensures found { IfOk result (AreStatementsFound walk.now.core.now block.now
         entries.old.items entries.new.items raised.old.words.items raised.new.words.items) }
     ensures accepted { OnOk result (faults_of_block walk.now.core.now in_loop block.now ≡ []) }
@@ -86,7 +87,7 @@ fn walk_statement(
     statement: &Statement,
     entries: &mut Vec<Exits>,
     raised: &mut ExceptionSet,
-) -> Result<Exits, EndsFault>
+) -> Result<Exits, EndFault>
     ensures found { IfOk result (IsStatementFound walk.now.core.now statement.now
         entries.old.items entries.new.items raised.old.words.items raised.new.words.items) }
     ensures accepted { OnOk result (faults_within walk.now.core.now in_loop statement.now ≡ []) }
@@ -107,7 +108,7 @@ fn walk_form(
     statement: &Statement,
     entries: &mut Vec<Exits>,
     raised: &mut ExceptionSet,
-) -> Result<Exits, EndsFault>
+) -> Result<Exits, EndFault>
     ensures found { IfOk result (IsFormFound walk.now.core.now statement.now
         entries.old.items entries.new.items raised.old.words.items raised.new.words.items) }
     ensures accepted { OnOk result (faults_within walk.now.core.now in_loop statement.now ≡ []) }
@@ -162,7 +163,7 @@ fn walk_handlers(
     inner: &mut ExceptionSet,
     entries: &mut Vec<Exits>,
     raised: &mut ExceptionSet,
-) -> Result<Exits, EndsFault>
+) -> Result<Exits, EndFault>
     ensures found { IfOk result (AreHandlersFound walk.now.core.now handlers.now
         entries.old.items entries.new.items raised.old.words.items raised.new.words.items) }
     ensures left { OnOk result (AreLeft inner.old.words.items inner.new.words.items
@@ -223,7 +224,7 @@ fn test(condition: &Expression, raised: &mut ExceptionSet) -> Result<Exits, Allo
 
 // The ends of a receive.
 fn receive(raised: &mut ExceptionSet) -> Result<Exits, AllocError>
-    ensures { IfOk result (IsFoundAlone (Normal ∷ Throw end_exception ∷ [])
+    ensures { IfOk result (IsFoundAlone (Normal ∷ Throw END ∷ [])
         raised.old.words.items raised.new.words.items) }
 {
     raised.insert(END)?;
@@ -279,7 +280,7 @@ fn may_stand(in_loop: bool, statement: &Statement) -> bool
 }
 
 // Refuses the ends of a program for this defect at this byte.
-pub(crate) fn refuse(defect: EndDefect, at: usize) -> EndsFault
+pub(crate) fn refuse(defect: EndDefect, at: usize) -> EndFault
     ensures { result ≡ Refused (record { defect = defect; at = at }) }
 {
     OrNoMemory::Refused(EndRefusal { defect, at })

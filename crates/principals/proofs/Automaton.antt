@@ -11,7 +11,7 @@ use Rattle.lexer.specs.declared.token.Kind.TheVariants as kind
 use Rattle.principals.specs.HierarchyText.{Entry, Declares, Relates, IsWord, IsPrincipalName, Nonterminal, Items, Names, Derives, Finish, Declaration, Relation, OneMore, Last, IsPrefixOfForm}
 use Rattle.principals.specs.declared.reading.Role.{Role}
 use Rattle.principals.specs.declared.reading.Role.TheVariants.{Principal, ActsFor, Name, Comma, Semicolon, End}
-use Rattle.principals.specs.Reading.{role_by, role_of, ReadingState, Fresh, Declaring, Listed, Subject, Verb, Complete, Ended, next_by, next, said, run}
+use Rattle.principals.specs.Reading.{role_by, role_of, ReadingState, Fresh, Declaring, Listed, Subject, Verb, Complete, Ended, next_by, next, finished_entries, run}
 
 -- ---- what a token is
 
@@ -61,12 +61,12 @@ cond_word P true c h k l = h
 cond_word P false true h k l = k
 cond_word P false false h k l = l
 
-abbrev Tells : Kind → Role → Type 0
-Tells k r = (r ≡ Comma → k ≡ kind.Comma) × (r ≡ Semicolon → k ≡ kind.Semicolon) × (r ≡ End → k ≡ kind.End)
+abbrev RoleHasKind : Kind → Role → Type 0
+RoleHasKind k r = (r ≡ Comma → k ≡ kind.Comma) × (r ≡ Semicolon → k ≡ kind.Semicolon) × (r ≡ End → k ≡ kind.End)
 
-by_kind : (k : Kind) (text : List ℕ) → Tells k (role_by k text)
+by_kind : (k : Kind) (text : List ℕ) → RoleHasKind k (role_by k text)
 by_kind kind.Name text =
-    cond_word (Tells kind.Name) (bytes_eq text (codes "principal")) (bytes_eq text (codes "actsfor"))
+    cond_word (RoleHasKind kind.Name) (bytes_eq text (codes "principal")) (bytes_eq text (codes "actsfor"))
     (λ h. cc, λ h. cc, λ h. cc) (λ h. cc, λ h. cc, λ h. cc) (λ h. cc, λ h. cc, λ h. cc)
 by_kind kind.Comma text = (λ h. refl, λ h. cc, λ h. cc)
 by_kind kind.Semicolon text = (λ h. cc, λ h. refl, λ h. cc)
@@ -125,29 +125,29 @@ onto-then entries rest (Some (s, es)) = onto-onto entries es (run s rest)
 pub run-append : (s : ReadingState) (front rest : List Terminal) → run s (front ++ rest) ≡ then_run rest (run s front)
 run-append s [] rest = sym (onto-nil (run s rest))
 run-append s (t ∷ front) rest =
-    let on : (o : Option ReadingState) → option_and_then (λ after. onto (said s t) (run after (front ++ rest))) o
-    ≡ then_run rest (option_and_then (λ after. onto (said s t) (run after front)) o) =
-    λ o. elim o as (λ o'. option_and_then (λ after. onto (said s t) (run after (front ++ rest))) o'
-    ≡ then_run rest (option_and_then (λ after. onto (said s t) (run after front)) o')) [
+    let on : (o : Option ReadingState) → option_and_then (λ after. onto (finished_entries s t) (run after (front ++ rest))) o
+    ≡ then_run rest (option_and_then (λ after. onto (finished_entries s t) (run after front)) o) =
+    λ o. elim o as (λ o'. option_and_then (λ after. onto (finished_entries s t) (run after (front ++ rest))) o'
+    ≡ then_run rest (option_and_then (λ after. onto (finished_entries s t) (run after front)) o')) [
       | None ↦ refl
-      | Some after ↦ ap (onto (said s t)) (run-append after front rest) ∙ onto-then (said s t) rest (run after front)
+      | Some after ↦ ap (onto (finished_entries s t)) (run-append after front rest) ∙ onto-then (finished_entries s t) rest (run after front)
     ] in
     on (next s t)
 
 -- one token more
 pub run-push : (s : ReadingState) (front : List Terminal) (t : Terminal) (end after : ReadingState) (es : List Entry) → run s front ≡ Some (end, es) →
-    next end t ≡ Some after → run s (front ++ t ∷ []) ≡ Some (after, es ++ said end t)
+    next end t ≡ Some after → run s (front ++ t ∷ []) ≡ Some (after, es ++ finished_entries end t)
 run-push s front t end after es h k =
     run-append s front (t ∷ []) ∙ ap (then_run (t ∷ [])) h
-    ∙ ap (λ o. onto es (option_and_then (λ x. onto (said end t) (run x [])) o)) k
-    ∙ ap (λ x. Some (after, es ++ x)) (append-nil (said end t))
+    ∙ ap (λ o. onto es (option_and_then (λ x. onto (finished_entries end t) (run x [])) o)) k
+    ∙ ap (λ x. Some (after, es ++ x)) (append-nil (finished_entries end t))
 
 -- no token more, whatever comes behind it
 pub run-stop : (s : ReadingState) (front : List Terminal) (t : Terminal) (rest : List Terminal) (end : ReadingState) (es : List Entry) → run s front ≡ Some (end, es) →
     next end t ≡ None → run s (front ++ t ∷ rest) ≡ None
 run-stop s front t rest end es h k =
     run-append s front (t ∷ rest) ∙ ap (then_run (t ∷ rest)) h
-    ∙ ap (λ o. onto es (option_and_then (λ x. onto (said end t) (run x rest)) o)) k
+    ∙ ap (λ o. onto es (option_and_then (λ x. onto (finished_entries end t) (run x rest)) o)) k
 
 -- ---- what the grammar derives is read
 
@@ -158,10 +158,10 @@ at_start Names = Declaring
 
 -- one token of a run, by its role
 one : (s : ReadingState) (t : Terminal) (r : Role) (after : ReadingState) (rest : List Terminal) (es : List Entry) → role_of t ≡ r → next_by s r t ≡ Some after →
-    run after rest ≡ Some (Ended, es) → run s (t ∷ rest) ≡ Some (Ended, said s t ++ es)
+    run after rest ≡ Some (Ended, es) → run s (t ∷ rest) ≡ Some (Ended, finished_entries s t ++ es)
 one s t r after rest es role step h =
     let e : next s t ≡ Some after = ap (λ x. next_by s x t) role ∙ step in
-    ap (λ o. option_and_then (λ x. onto (said s t) (run x rest)) o) e ∙ ap (onto (said s t)) h
+    ap (λ o. option_and_then (λ x. onto (finished_entries s t) (run x rest)) o) e ∙ ap (onto (finished_entries s t)) h
 
 pub derived_is_read : {n : Nonterminal} {tokens : List Terminal} {entries : List Entry} → Derives n tokens entries → run (at_start n) tokens ≡ Some (Ended, entries)
 derived_is_read (Finish end h) = one Fresh end End Ended [] [] (kind_role end kind.End End (λ _. refl) h) refl refl
@@ -196,7 +196,7 @@ none : {P : Type 0} (s : ReadingState) → None ≡ Some s → P
 none s h = absurd (none-some s h)
 
 open_step : (s : ReadingState) (t : Terminal) (r : Role) (after : ReadingState) (rest : List Terminal) (es : List Entry) → role_of t ≡ r → next_by s r t ≡ Some after →
-    Open after rest es → Open s (t ∷ rest) (said s t ++ es)
+    Open after rest es → Open s (t ∷ rest) (finished_entries s t ++ es)
 open_step Fresh t Principal after rest es role h o = Declaration t rest es (role_is_principal t role) (subst (λ s. Open s rest es) (sym (same_Some _ _ h)) o)
 open_step Fresh t Name after rest es role h o = subst (λ s. Open s rest es) (sym (same_Some _ _ h)) o (role_is_name t role)
 open_step Fresh t End after rest es role h o = subst (λ s. Open s rest es) (sym (same_Some _ _ h)) o t ((by_kind t.kind t.text).2 role)
@@ -218,16 +218,16 @@ read_is_open [] s es h =
     let parts = some_pair_parts s Ended [] es h in
     subst (λ x. Open x [] es) (sym parts.0) (subst (λ x. Open Ended [] x) parts.1 (λ end k. Finish end k))
 read_is_open (t ∷ rest) s es h =
-    let on_end : (after : ReadingState) → next s t ≡ Some after → (o : Option (ReadingState × List Entry)) → run after rest ≡ o → onto (said s t) o ≡ Some (Ended, es) → Open s (t ∷ rest) es =
-    λ after step o. elim o as (λ o'. run after rest ≡ o' → onto (said s t) o' ≡ Some (Ended, es) → Open s (t ∷ rest) es) [
+    let on_end : (after : ReadingState) → next s t ≡ Some after → (o : Option (ReadingState × List Entry)) → run after rest ≡ o → onto (finished_entries s t) o ≡ Some (Ended, es) → Open s (t ∷ rest) es =
+    λ after step o. elim o as (λ o'. run after rest ≡ o' → onto (finished_entries s t) o' ≡ Some (Ended, es) → Open s (t ∷ rest) es) [
       | None ↦ λ k g. absurd (none-some _ g)
       | Some end ↦ λ k g.
-          let parts = some_pair_parts end.0 Ended (said s t ++ end.1) es g in
+          let parts = some_pair_parts end.0 Ended (finished_entries s t ++ end.1) es g in
           let last : run after rest ≡ Some (Ended, end.1) = k ∙ ap (λ x. Some (x, end.1)) parts.0 in
           subst (λ x. Open s (t ∷ rest) x) parts.1 (open_step s t (role_of t) after rest end.1 refl step (read_is_open rest after end.1 last))
     ] in
-    let on_step : (o : Option ReadingState) → next s t ≡ o → option_and_then (λ after. onto (said s t) (run after rest)) o ≡ Some (Ended, es) → Open s (t ∷ rest) es =
-    λ o. elim o as (λ o'. next s t ≡ o' → option_and_then (λ after. onto (said s t) (run after rest)) o' ≡ Some (Ended, es) → Open s (t ∷ rest) es) [
+    let on_step : (o : Option ReadingState) → next s t ≡ o → option_and_then (λ after. onto (finished_entries s t) (run after rest)) o ≡ Some (Ended, es) → Open s (t ∷ rest) es =
+    λ o. elim o as (λ o'. next s t ≡ o' → option_and_then (λ after. onto (finished_entries s t) (run after rest)) o' ≡ Some (Ended, es) → Open s (t ∷ rest) es) [
       | None ↦ λ k g. absurd (none-some _ g)
       | Some after ↦ λ k g. on_end after k (run after rest) refl g
     ] in
@@ -288,11 +288,11 @@ ends_by Ended t after h = none after h
 pub run_ends : (tokens : List Terminal) (s end : ReadingState) (es : List Entry) → IsTerminated tokens → run s tokens ≡ Some (end, es) → end ≡ Ended
 run_ends [] s end es t h = absurd t
 run_ends (t ∷ rest) s end es terminated h =
-    let on_end : (after : ReadingState) → next s t ≡ Some after → (o : Option (ReadingState × List Entry)) → run after rest ≡ o → onto (said s t) o ≡ Some (end, es) → end ≡ Ended =
-    λ after step o. elim o as (λ o'. run after rest ≡ o' → onto (said s t) o' ≡ Some (end, es) → end ≡ Ended) [
+    let on_end : (after : ReadingState) → next s t ≡ Some after → (o : Option (ReadingState × List Entry)) → run after rest ≡ o → onto (finished_entries s t) o ≡ Some (end, es) → end ≡ Ended =
+    λ after step o. elim o as (λ o'. run after rest ≡ o' → onto (finished_entries s t) o' ≡ Some (end, es) → end ≡ Ended) [
       | None ↦ λ k g. absurd (none-some _ g)
       | Some last ↦ λ k g.
-          let parts = some_pair_parts last.0 end (said s t ++ last.1) es g in
+          let parts = some_pair_parts last.0 end (finished_entries s t ++ last.1) es g in
           ⊎_elim
           (λ marker.
           let by_end : next_by s End t ≡ Some after = ap (λ r. next_by s r t) (sym (kind_role t kind.End End (λ _. refl) marker.0)) ∙ step in
@@ -301,8 +301,8 @@ run_ends (t ∷ rest) s end es terminated h =
           (λ later. sym parts.0 ∙ run_ends rest after last.0 last.1 later.1 k)
           terminated
     ] in
-    let on_step : (o : Option ReadingState) → next s t ≡ o → option_and_then (λ after. onto (said s t) (run after rest)) o ≡ Some (end, es) → end ≡ Ended =
-    λ o. elim o as (λ o'. next s t ≡ o' → option_and_then (λ after. onto (said s t) (run after rest)) o' ≡ Some (end, es) → end ≡ Ended) [
+    let on_step : (o : Option ReadingState) → next s t ≡ o → option_and_then (λ after. onto (finished_entries s t) (run after rest)) o ≡ Some (end, es) → end ≡ Ended =
+    λ o. elim o as (λ o'. next s t ≡ o' → option_and_then (λ after. onto (finished_entries s t) (run after rest)) o' ≡ Some (end, es) → end ≡ Ended) [
       | None ↦ λ k g. absurd (none-some _ g)
       | Some after ↦ λ k g. on_end after k (run after rest) refl g
     ] in

@@ -7,13 +7,13 @@ use Rattle.std.proofs.lemmas.List.Quantifiers.{all_pairs_push}
 use Rattle.std.proofs.lemmas.Option.{slice_get_within, none-some}
 use Rattle.lexer.specs.Terminal.{Terminal}
 use Rattle.principals.specs.ActsFor.{PrincipalHierarchy, AllDifferent}
-use Rattle.principals.specs.HierarchyText.{Entry, Declares, Relates, IsEntryRefusal, Twice, Crowded, UnknownLeft, UnknownRight, AllAccepted, IsFirstRefusal, IsSaid, declared, written}
+use Rattle.principals.specs.HierarchyText.{Entry, Declares, Relates, IsEntryRefusal, Twice, Crowded, UnknownLeft, UnknownRight, AllAccepted, IsFirstRefusal, IsDescribedBy, declared, written}
 use Rattle.std.proofs.Common.{take, drop}
 use Rattle.std.proofs.lemmas.List.{take-append-drop, drop_more, take_more, map-append, map_push}
-use Rattle.principals.specs.Reading.{Built, HaveNames, entry_of, entries_of}
+use Rattle.common.proofs.Cases.{contained_at}
+use Rattle.principals.specs.Reading.{IsHierarchyOfEntries, HaveNames, entry_of, entries_of}
 use Rattle.principals.specs.declared.reading.Statement.{Statement}
 use Rattle.principals.specs.declared.fault.HierarchyRefusal.{HierarchyRefusal}
-use Rattle.principals.proofs.Names.{contains_number}
 
 -- ---- lists
 
@@ -87,7 +87,7 @@ have-push names (t ∷ texts) (p ∷ pairs) text pair h l r = (h.0, have-push na
 
 -- ---- the steps
 
-pub built_nothing : Built [] [] []
+pub built_nothing : IsHierarchyOfEntries [] [] []
 built_nothing = record {
   same_names = refl;
   few = omega arith;
@@ -111,8 +111,8 @@ pair_accepted : (names : List (List ℕ)) (left right : Terminal) (fault : Hiera
 pair_accepted names left right fault l r (UnknownLeft _ _ h) = h l
 pair_accepted names left right fault l r (UnknownRight _ _ h k) = k r
 
-pub built_name : (es : List Entry) (names : List (List ℕ)) (pairs : List (ℕ × ℕ)) (name : Terminal) → Built es names pairs →
-    (Contains names name.text → ⊥) → length names < 256 → Built (es ++ Declares name ∷ []) (names ++ name.text ∷ []) pairs
+pub built_name : (es : List Entry) (names : List (List ℕ)) (pairs : List (ℕ × ℕ)) (name : Terminal) → IsHierarchyOfEntries es names pairs →
+    (Contains names name.text → ⊥) → length names < 256 → IsHierarchyOfEntries (es ++ Declares name ∷ []) (names ++ name.text ∷ []) pairs
 built_name es names pairs name built new room = record {
   same_names = ap (λ x. x ++ name.text ∷ []) built.same_names ∙ sym (declared-push_name es name);
   few = omega (arith, length_push names name.text);
@@ -130,8 +130,8 @@ built_name es names pairs name built new room = record {
   same_pairs = subst (λ x. HaveNames (names ++ name.text ∷ []) x pairs) (sym (written-push_name es name)) (have-more names name.text (written es) pairs built.same_pairs);
 }
 
-pub built_pair : (es : List Entry) (names : List (List ℕ)) (pairs : List (ℕ × ℕ)) (left right : Terminal) (a b : ℕ) → Built es names pairs →
-    slice_get names a ≡ Some left.text → slice_get names b ≡ Some right.text → Built (es ++ Relates left right ∷ []) names (pairs ++ (a, b) ∷ [])
+pub built_pair : (es : List Entry) (names : List (List ℕ)) (pairs : List (ℕ × ℕ)) (left right : Terminal) (a b : ℕ) → IsHierarchyOfEntries es names pairs →
+    slice_get names a ≡ Some left.text → slice_get names b ≡ Some right.text → IsHierarchyOfEntries (es ++ Relates left right ∷ []) names (pairs ++ (a, b) ∷ [])
 built_pair es names pairs left right a b built l r = record {
   same_names = built.same_names ∙ sym (declared-push_pair es left right);
   few = built.few;
@@ -139,14 +139,14 @@ built_pair es names pairs left right a b built l r = record {
   there = All-push (λ pair. (pair.0 < length names) × (pair.1 < length names)) pairs (a, b) built.there
       (slice_get_within names a left.text l, slice_get_within names b right.text r);
   accepted = accepted-push es (Relates left right) built.accepted (λ fault refused. pair_accepted (declared es) left right fault
-      (subst (λ x. Contains x left.text) built.same_names (contains_number names a left.text l))
-      (subst (λ x. Contains x right.text) built.same_names (contains_number names b right.text r)) refused);
+      (subst (λ x. Contains x left.text) built.same_names (contained_at names a left.text l))
+      (subst (λ x. Contains x right.text) built.same_names (contained_at names b right.text r)) refused);
   same_pairs = subst (λ x. HaveNames names x (pairs ++ (a, b) ∷ [])) (sym (written-push_pair es left right))
       (have-push names (written es) pairs (left.text, right.text) (a, b) built.same_pairs l r);
 }
 
 -- the first entry that can't be added is the first refusal
-pub built_refused : (es after : List Entry) (names : List (List ℕ)) (pairs : List (ℕ × ℕ)) (entry : Entry) (fault : HierarchyRefusal) → Built es names pairs →
+pub built_refused : (es after : List Entry) (names : List (List ℕ)) (pairs : List (ℕ × ℕ)) (entry : Entry) (fault : HierarchyRefusal) → IsHierarchyOfEntries es names pairs →
     IsEntryRefusal names entry fault → IsFirstRefusal (es ++ entry ∷ after) fault
 built_refused es after names pairs entry fault built refused = record {
   before = es;
@@ -157,9 +157,9 @@ built_refused es after names pairs entry fault built refused = record {
   refused = subst (λ x. IsEntryRefusal x entry fault) built.same_names refused;
 }
 
--- when all entries are added the hierarchy is what they say
-pub built_said : (es : List Entry) (hierarchy : PrincipalHierarchy) → Built es hierarchy.names hierarchy.pairs → IsSaid es hierarchy
-built_said es hierarchy built = record { accepted = built.accepted; names = built.same_names; pairs = built.same_pairs }
+-- when all entries are added the hierarchy is the one that they describe
+pub built_described : (es : List Entry) (hierarchy : PrincipalHierarchy) → IsHierarchyOfEntries es hierarchy.names hierarchy.pairs → IsDescribedBy es hierarchy
+built_described es hierarchy built = record { accepted = built.accepted; names = built.same_names; pairs = built.same_pairs }
 
 -- ---- statements
 
@@ -175,6 +175,6 @@ pub entries_more : (statements : List Statement) (i : ℕ) (d : Statement) → i
 entries_more statements i d h = ap entries_of (take_more statements i d h) ∙ map_push entry_of (take i statements) (get_or statements i d)
 
 pub built_same : {es es' : List Entry} {names names' : List (List ℕ)} {pairs pairs' : List (ℕ × ℕ)} → es ≡ es' → names ≡ names' → pairs ≡ pairs' →
-    Built es' names' pairs' → Built es names pairs
+    IsHierarchyOfEntries es' names' pairs' → IsHierarchyOfEntries es names pairs
 built_same {es} {es'} {names} {names'} {pairs} {pairs'} e n p built =
-    subst (λ x. Built x names pairs) (sym e) (subst (λ x. Built es' x pairs) (sym n) (subst (λ x. Built es' names' x) (sym p) built))
+    subst (λ x. IsHierarchyOfEntries x names pairs) (sym e) (subst (λ x. IsHierarchyOfEntries es' x pairs) (sym n) (subst (λ x. IsHierarchyOfEntries es' names' x) (sym p) built))

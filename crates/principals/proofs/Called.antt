@@ -1,12 +1,11 @@
 -- The names of a hierarchy text are names.
-use Rattle.std.proofs.Common.{◌≡◌, ℕ, ◌+◌, ◌-◌, ◌≤◌, true, List, [], ◌∷◌, ◌++◌, length, drop, get_or, refl, sym, ap, subst, arith}
-use Rattle.std.proofs.lemmas.Bool.{and_parts, and_from}
+use Rattle.std.proofs.Common.{◌≡◌, ℕ, ◌+◌, ◌-◌, ◌≤◌, true, List, [], ◌∷◌, length, drop, get_or, refl, sym, ap, subst, arith}
 use Rattle.std.proofs.lemmas.List.{length-take, length-drop}
 use Rattle.std.proofs.lemmas.List.Elements.{All-from_recursion, All-append, All-cons, All-nil, All-head, All-tail}
 use Rattle.std.proofs.lemmas.Str.{scalars-chars, IsUtf8-nil}
 use Rattle.std.specs.List.{AllByRecursion, All}
 use Rattle.std.specs.Str.{chars, IsUtf8, all_scalars}
-use Rattle.lexer.proofs.Listed.{listed}
+use Rattle.lexer.proofs.Listed.{listed, scalars_parts}
 use Rattle.lexer.specs.Cut.{Cuts, Nothing, Token, Between, IsCut, terminal_at, size}
 use Rattle.lexer.specs.Listing as listing
 use Rattle.lexer.specs.Listing.{IsSliceOf, IsSpelled}
@@ -15,13 +14,6 @@ use Rattle.lexer.specs.declared.token.Kind.TheVariants.{Name, End}
 use Rattle.principals.specs.ActsFor.{PrincipalHierarchy}
 use Rattle.principals.specs.HierarchyText.{Entry, Nonterminal, Derives, Finish, Declaration, Relation, OneMore, Last, declared, IsHierarchyOf}
 use Rattle.principals.specs.Laws.{IsNameWithin}
-
-scalars_parts : (xs ys : List ℕ) → all_scalars (xs ++ ys) ≡ true → (all_scalars xs ≡ true) × (all_scalars ys ≡ true)
-scalars_parts [] ys e = (refl, e)
-scalars_parts (x ∷ xs) ys e =
-    let (first, others) = and_parts _ _ e in
-    let (front, rest) = scalars_parts xs ys others in
-    (and_from _ _ first front, rest)
 
 -- the text of a token is UTF-8
 abbrev IsText : Terminal → Type 0
@@ -70,7 +62,7 @@ name_within text token slice spelled characters kind = record {
 
 pub names_are_names : (text : List ℕ) (hierarchy : PrincipalHierarchy) → IsUtf8 text → IsHierarchyOf text hierarchy → All (IsNameWithin (length text)) hierarchy.names
 names_are_names text hierarchy ok h =
-    let tokens = h.says.tokens in
-    let each = listed text tokens ok h.says.cut in
-    let texts = token_texts text tokens ok h.says.cut in
-    subst (All (IsNameWithin (length text))) (sym h.said.names) (declared_hold (IsNameWithin (length text)) _ tokens h.entries h.says.form (λ k d lt. name_within text (get_or tokens k d) (each.slices k d lt) (each.spelled k d lt) (texts k d lt)))
+    let tokens = h.has_entries.tokens in
+    let each = listed text tokens ok h.has_entries.cut in
+    let texts = token_texts text tokens ok h.has_entries.cut in
+    subst (All (IsNameWithin (length text))) (sym h.described.names) (declared_hold (IsNameWithin (length text)) _ tokens h.entries h.has_entries.form (λ k d lt. name_within text (get_or tokens k d) (each.slices k d lt) (each.spelled k d lt) (texts k d lt)))

@@ -3,9 +3,10 @@ use Rattle.std.proofs.Common.{◌≡◌, ◌↔◌, ℕ, List, [], get_or, subst
 use Rattle.std.specs.Prelude.{All, Contains}
 use Rattle.std.proofs.lemmas.List.Elements.{All-contains, Contains-get_or}
 use Rattle.std.proofs.lemmas.Option.{slice_get-get_or}
+use Rattle.common.proofs.Cases.{contained_at, contained_place}
 use Rattle.principals.specs.ActsFor.{PrincipalHierarchy, ActsFor, itself, written, through, HasName, IsHierarchy, ContainsHierarchy}
 use Rattle.principals.proofs.Closure.{ActsFor-least}
-use Rattle.principals.proofs.Names.{one_number, contains_number, number_contained}
+use Rattle.principals.proofs.Names.{one_number}
 
 module _ (whole part : PrincipalHierarchy) (here : List ℕ) (number_here : (n : ℕ) (name : List ℕ) → HasName part n name → HasName whole (get_or here n 0) name) where
   -- acts-for of the numbers that two principals of the part have in the whole
@@ -22,8 +23,8 @@ module _ (whole part : PrincipalHierarchy) (here : List ℕ) (number_here : (n :
       h in
       record {
         principals = λ name h.
-            let n = number_contained part.names name h in
-            contains_number whole.names (get_or here n.0 0) name (number_here n.0 name n.1);
+            let n = contained_place part.names name h in
+            contained_at whole.names (get_or here n.0 0) name (number_here n.0 name n.1);
         acts = λ first second h. (get_or here h.0 0, get_or here h.1 0, number_here h.0 first h.2, number_here h.1 second h.3, each h.0 h.1 h.4);
       }
 

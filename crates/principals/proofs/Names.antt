@@ -1,18 +1,17 @@
 -- Names and their numbers.
 use Rattle.std.proofs.Common.{◌≡◌, ◌≢◌, ◌↔◌, ◌⊎◌, ℕ, ◌+◌, ◌<◌, ◌≤◌, Bool, true, false, not, cond, ltb, List, [], ◌∷◌, map, length, get_or, take, Option, None, Some, String, Global, refl, sym, ap, ◌∙◌, subst, ⊎_elim, inl, inr, arith, lt-ltb, length-take-le, get_or-take}
 use Rattle.std.specs.Prelude.{Contains, slice_get, position, bytes_eq, string_bytes}
-use Rattle.std.proofs.lemmas.List.Elements.{length_all_zip}
 use Rattle.std.specs.List.{AllZip, list_any, prefix_len, position_or_len}
 use Rattle.std.specs.String.{string_eq}
 use Rattle.std.proofs.lemmas.Bool.{cases_order, false_from_ne_true, cond-true}
 use Rattle.std.proofs.lemmas.List.{length-map, get_or-map}
-use Rattle.std.proofs.lemmas.List.Elements.{Contains-get_or}
 use Rattle.std.proofs.lemmas.List.Folds.{list_any_none}
 use Rattle.std.proofs.lemmas.List.Quantifiers.{position-Some}
 use Rattle.std.proofs.lemmas.List.Sums.{position_or_len_is}
 use Rattle.std.proofs.lemmas.Option.{none-some, slice_get_within, slice_get-get_or, get_or_from_slice_get}
 use Rattle.std.proofs.lemmas.Slice.Eq.{bytes_eq-Decides}
 use Rattle.std.proofs.lemmas.Bool.{or_cases, or_left, or_right, false≢true}
+use Rattle.common.proofs.Cases.{contained_at, contained_place}
 use Rattle.principals.specs.ActsFor.{AllDifferent}
 use Rattle.principals.proofs.Closure.{none_in_nil, Contains-cons_cases, Contains-first, Contains-later}
 
@@ -33,14 +32,6 @@ one_number names different m n name h k =
 
 different_bytes : (a b : List ℕ) → a ≢ b → bytes_eq a b ≡ false
 different_bytes a b h = false_from_ne_true (bytes_eq a b) (λ e. h ((bytes_eq-Decides a b).0 e))
-
--- a list contains a name where some number has it
-pub contains_number : (names : List (List ℕ)) (n : ℕ) (name : List ℕ) → slice_get names n ≡ Some name → Contains names name
-contains_number names n name h =
-    subst (λ x. Contains names x) (get_or_from_slice_get names n name name h) (Contains-get_or names n name (slice_get_within names n name h))
-
-pub number_contained : (names : List (List ℕ)) (name : List ℕ) → Contains names name → (n : ℕ) × (slice_get names n ≡ Some name)
-number_contained names name h = (h.0, slice_get-get_or names h.0 name h.1 ∙ ap Some h.2)
 
 -- ---- the number of a name
 
@@ -73,11 +64,11 @@ pub no_number_iff : (names : List (List ℕ)) → AllDifferent names → (name :
     (r ≡ None) ↔ (¬ Contains names name)
 no_number_iff names different name r e = (
   λ h c.
-      let n = number_contained names name c in
+      let n = contained_place names name c in
       none-some n.0 (sym h ∙ e ∙ position_of_name names different name n.0 n.1),
   λ h. ⊎_elim
       (λ none. none)
-      (λ some. absurd (h (contains_number names some.0 name (position_has_name names name some.0 (sym e ∙ some.1)))))
+      (λ some. absurd (h (contained_at names some.0 name (position_has_name names name some.0 (sym e ∙ some.1)))))
       (option_cases r),
 )
 
@@ -117,9 +108,6 @@ same_bytes bytes [] [] h = refl
 same_bytes bytes [] (y ∷ ys) h = absurd h
 same_bytes bytes (x ∷ xs) [] h = absurd h
 same_bytes bytes (x ∷ xs) (y ∷ ys) h = λ i. h.0 i ∷ same_bytes bytes xs ys h.1 i
-
-pub AllZip-length : {X : Type 0} (R : X → X → Type 0) (xs ys : List X) → AllZip R xs ys → length ys ≡ length xs
-AllZip-length R xs ys h = sym (length_all_zip R xs ys h)
 
 -- the bytes at a place are those of the text there
 pub bytes_at : {X : Type 0} (bytes : X → List ℕ) (xs : List X) (k : ℕ) (d : X) (name : List ℕ) → slice_get (map bytes xs) k ≡ Some name →

@@ -1,31 +1,31 @@
--- Acts-for by ways from one number to another, with more and more numbers allowed between.
+-- Acts-for by paths from one number to another, with more and more numbers allowed between.
 use Rattle.std.proofs.Common.{◌≡◌, ℕ, zero, suc, ◌<◌, Bool, ◌&&◌, ◌⊎◌, eqb, List, [], ◌∷◌, refl, sym, ap, subst, inl, inr, ⊎_elim, arith, not-suc-le-zero}
 use Rattle.std.specs.Prelude.{IsTrue, Contains, All}
 use Rattle.std.specs.List.{list_any}
 use Rattle.std.proofs.lemmas.Bool.{eqb-true, eq-eqb, or_left, or_right, or_cases, and_from, and_parts, cases_eq}
 use Rattle.std.proofs.lemmas.Bool.Decides.{same_from_decides}
 use Rattle.principals.specs.ActsFor.{acts_for}
-use Rattle.principals.specs.Table.{is_written, by_way_below}
+use Rattle.principals.specs.Table.{is_written, has_path_below}
 use Rattle.principals.proofs.Closure.{none_in_nil, Contains-cons_cases, Contains-first, Contains-later, acts_for-itself, acts_for-through, acts_for-written, acts_for-least, acts_for-below}
 
--- ---- ways by steps of any relation
+-- ---- paths by steps of any relation
 
--- there is a way from a to b by numbers below k
+-- there is a path from a to b through numbers below k
 abbrev Way : (ℕ → ℕ → Bool) → ℕ → ℕ → ℕ → Type 0
-Way step k a b = IsTrue (by_way_below k step a b)
+Way step k a b = IsTrue (has_path_below k step a b)
 
 module _ (step : ℕ → ℕ → Bool) where
   way_without : (k a b : ℕ) → Way step k a b → Way step (suc k) a b
-  way_without k a b h = or_left (by_way_below k step a b) _ h
+  way_without k a b h = or_left (has_path_below k step a b) _ h
 
   way_with : (k a b : ℕ) → Way step k a k → Way step k k b → Way step (suc k) a b
-  way_with k a b h g = or_right (by_way_below k step a b) _ (and_from _ _ h g)
+  way_with k a b h g = or_right (has_path_below k step a b) _ (and_from _ _ h g)
 
   way_cases : (k a b : ℕ) → Way step (suc k) a b → Way step k a b ⊎ (Way step k a k × Way step k k b)
   way_cases k a b h =
-      ⊎_elim inl (λ g. inr (and_parts (by_way_below k step a k) (by_way_below k step k b) g)) (or_cases (by_way_below k step a b) _ h)
+      ⊎_elim inl (λ g. inr (and_parts (has_path_below k step a k) (has_path_below k step k b) g)) (or_cases (has_path_below k step a b) _ h)
 
-  -- a way to the newest number, or from it, needs no way through it
+  -- a path to the newest number, or from it, needs no path through it
   way_to : (k a : ℕ) → Way step (suc k) a k → Way step k a k
   way_to k a h = ⊎_elim (λ g. g) (λ g. g.0) (way_cases k a k h)
 
@@ -36,7 +36,7 @@ module _ (step : ℕ → ℕ → Bool) where
   way_at_once zero a b h = h
   way_at_once (suc k) a b h = way_without k a b (way_at_once k a b h)
 
-  -- two ways that meet at a number below k are one
+  -- two paths that meet at a number below k are one
   ways_join : (k m a b : ℕ) → m < k → Way step k a m → Way step k m b → Way step k a b
   ways_join zero m a b l h g = absurd (not-suc-le-zero l)
   ways_join (suc k) m a b l h g =
@@ -58,7 +58,7 @@ module _ (step : ℕ → ℕ → Bool) where
       (way_cases k a m h))
       (cases_eq m k)
 
-  -- a transitive relation that has the steps has the ways
+  -- a transitive relation that has the steps has the paths
   way_within : (R : ℕ → ℕ → Type 0) → ((a b c : ℕ) → R a b → R b c → R a c) → ((a b : ℕ) → IsTrue (step a b) → R a b) →
       (k a b : ℕ) → Way step k a b → R a b
   way_within R transitive steps zero a b h = steps a b h
@@ -68,7 +68,7 @@ module _ (step : ℕ → ℕ → Bool) where
       (λ g. transitive a k b (way_within R transitive steps k a k g.0) (way_within R transitive steps k k b g.1))
       (way_cases k a b h)
 
--- ---- ways by written pairs
+-- ---- paths by written pairs
 
 pub is_pair : (pair : ℕ × ℕ) (a b : ℕ) → IsTrue (eqb pair.0 a && eqb pair.1 b) → pair ≡ (a, b)
 is_pair pair a b h =
@@ -100,10 +100,10 @@ written_is_answered pairs a b h =
     (λ g. acts_for-written pairs a b (listed_is_contained pairs a b g))
     (or_cases (eqb a b) _ h)
 
--- where every number of a pair is below the limit, the ways by numbers below it are acts-for
-pub by_way_below-all : (limit : ℕ) (pairs : List (ℕ × ℕ)) → All (λ pair. (pair.0 < limit) × (pair.1 < limit)) pairs →
-    (a b : ℕ) → by_way_below limit (is_written pairs) a b ≡ acts_for pairs a b
-by_way_below-all limit pairs below a b =
+-- where every number of a pair is below the limit, the paths through numbers below it are acts-for
+pub has_path_below-all : (limit : ℕ) (pairs : List (ℕ × ℕ)) → All (λ pair. (pair.0 < limit) × (pair.1 < limit)) pairs →
+    (a b : ℕ) → has_path_below limit (is_written pairs) a b ≡ acts_for pairs a b
+has_path_below-all limit pairs below a b =
     let way_is_answered : (x y : ℕ) → Way (is_written pairs) limit x y → IsTrue (acts_for pairs x y) =
     way_within (is_written pairs) (λ x y. IsTrue (acts_for pairs x y)) (acts_for-through pairs) (written_is_answered pairs) limit in
     let join : (x y z : ℕ) → Way (is_written pairs) limit x y → Way (is_written pairs) limit y z → Way (is_written pairs) limit x z =
@@ -111,7 +111,7 @@ by_way_below-all limit pairs below a b =
     (λ e. subst (λ w. Way (is_written pairs) limit w z) (sym e) g)
     (λ (l : (x < limit) × (y < limit)). ways_join (is_written pairs) limit y x z l.1 h g)
     (acts_for-below limit pairs below x y (way_is_answered x y h)) in
-    same_from_decides {P = IsTrue (acts_for pairs a b)} (by_way_below limit (is_written pairs) a b) (acts_for pairs a b) (
+    same_from_decides {P = IsTrue (acts_for pairs a b)} (has_path_below limit (is_written pairs) a b) (acts_for pairs a b) (
       way_is_answered a b,
       λ h. acts_for-least (Way (is_written pairs) limit) pairs
           (λ x. way_at_once (is_written pairs) limit x x (or_left (eqb x x) _ (eq-eqb x x refl)))

@@ -5,29 +5,29 @@ use Rattle.std.specs.Int.{bit_at}
 use Rattle.std.specs.List.{list_any}
 use Rattle.std.proofs.lemmas.Bool.{cases_eq}
 use Rattle.std.proofs.lemmas.Nat.Bits.{bit_at-zero}
-use Rattle.principals.specs.declared.row.Row.{Row}
+use Rattle.principals.specs.declared.principal_set.PrincipalSet.{PrincipalSet}
 use Rattle.principals.specs.Table.{has, related, is_written}
 
-pub related-get_or : (rows : List Row) (a b : ℕ) (d : Row) → a < length rows → related rows a b ≡ has (get_or rows a d) b
+pub related-get_or : (rows : List PrincipalSet) (a b : ℕ) (d : PrincipalSet) → a < length rows → related rows a b ≡ has (get_or rows a d) b
 related-get_or [] a b d h = absurd (not-suc-le-zero h)
 related-get_or (row ∷ rows) zero b d h = refl
 related-get_or (row ∷ rows) (suc a) b d h = related-get_or rows a b d (le_of_suc-le-suc h)
 
-pub related-push_old : (rows : List Row) (row : Row) (a b : ℕ) → a < length rows → related (rows ++ row ∷ []) a b ≡ related rows a b
+pub related-push_old : (rows : List PrincipalSet) (row : PrincipalSet) (a b : ℕ) → a < length rows → related (rows ++ row ∷ []) a b ≡ related rows a b
 related-push_old [] row a b h = absurd (not-suc-le-zero h)
 related-push_old (first ∷ rows) row zero b h = refl
 related-push_old (first ∷ rows) row (suc a) b h = related-push_old rows row a b (le_of_suc-le-suc h)
 
-pub related-push_new : (rows : List Row) (row : Row) (b : ℕ) → related (rows ++ row ∷ []) (length rows) b ≡ has row b
+pub related-push_new : (rows : List PrincipalSet) (row : PrincipalSet) (b : ℕ) → related (rows ++ row ∷ []) (length rows) b ≡ has row b
 related-push_new [] row b = refl
 related-push_new (first ∷ rows) row b = related-push_new rows row b
 
-pub related-set_same : (rows : List Row) (row : Row) (a b : ℕ) → a < length rows → related (set rows a row) a b ≡ has row b
+pub related-set_same : (rows : List PrincipalSet) (row : PrincipalSet) (a b : ℕ) → a < length rows → related (set rows a row) a b ≡ has row b
 related-set_same [] row a b h = absurd (not-suc-le-zero h)
 related-set_same (first ∷ rows) row zero b h = refl
 related-set_same (first ∷ rows) row (suc a) b h = related-set_same rows row a b (le_of_suc-le-suc h)
 
-pub related-set_other : (rows : List Row) (row : Row) (i a b : ℕ) → a ≢ i → related (set rows i row) a b ≡ related rows a b
+pub related-set_other : (rows : List PrincipalSet) (row : PrincipalSet) (i a b : ℕ) → a ≢ i → related (set rows i row) a b ≡ related rows a b
 related-set_other [] row i a b h = refl
 related-set_other (first ∷ rows) row zero zero b h = absurd (h refl)
 related-set_other (first ∷ rows) row zero (suc a) b h = refl
@@ -43,7 +43,7 @@ zero_word (suc (suc zero)) = refl
 zero_word (suc (suc (suc zero))) = refl
 zero_word (suc (suc (suc (suc k)))) = refl
 
-abbrev pub empty_row : Row
+abbrev pub empty_row : PrincipalSet
 empty_row = record { words = 0 ∷ 0 ∷ 0 ∷ 0 ∷ [] }
 
 pub has-empty : (b : ℕ) → has empty_row b ≡ false
@@ -58,13 +58,13 @@ eqb-turned a b =
     (cases_eq a b)
 
 -- a row of one number and a list without pairs say the same
-alone : (row empty : Row) (a : ℕ) → ((b : ℕ) → has empty b ≡ false) → ((b : ℕ) → has row b ≡ (eqb b a || has empty b)) →
+alone : (row empty : PrincipalSet) (a : ℕ) → ((b : ℕ) → has empty b ≡ false) → ((b : ℕ) → has row b ≡ (eqb b a || has empty b)) →
     (b : ℕ) → has row b ≡ is_written [] a b
 alone row empty a none only b = only b ∙ (λ i. eqb-turned b a i || none b i)
 
 -- ---- steps of the loops
 
-pub related-alone : (rows : List Row) (row empty : Row) (n : ℕ) → length rows ≡ n →
+pub related-alone : (rows : List PrincipalSet) (row empty : PrincipalSet) (n : ℕ) → length rows ≡ n →
     ((a b : ℕ) → a < n → related rows a b ≡ is_written [] a b) →
     ((b : ℕ) → has empty b ≡ false) → ((b : ℕ) → has row b ≡ (eqb b n || has empty b)) →
     (a b : ℕ) → a < n + 1 → related (rows ++ row ∷ []) a b ≡ is_written [] a b
@@ -91,7 +91,7 @@ list_any-push p [] pair = refl
 list_any-push p (first ∷ pairs) pair = ap (λ x. p first || x) (list_any-push p pairs pair) ∙ or_left_comm (p first) (p pair) (list_any p pairs)
 
 -- one pair more is one more number in the row of its left side
-pub related-written : (rows : List Row) (row : Row) (count : ℕ) (pairs : List (ℕ × ℕ)) (pair : ℕ × ℕ) → length rows ≡ count →
+pub related-written : (rows : List PrincipalSet) (row : PrincipalSet) (count : ℕ) (pairs : List (ℕ × ℕ)) (pair : ℕ × ℕ) → length rows ≡ count →
     ((a b : ℕ) → a < count → related rows a b ≡ is_written pairs a b) → pair.0 < count →
     ((b : ℕ) → has row b ≡ (eqb b pair.1 || related rows pair.0 b)) →
     (a b : ℕ) → a < count → related (set rows pair.0 row) a b ≡ is_written (pairs ++ pair ∷ []) a b
@@ -112,7 +112,7 @@ related-written rows row count pairs pair long each there more a b h =
     (cases_eq a pair.0)
 
 -- one row more was joined to what another row has
-pub related-joined : (old now : List Row) (row added d : Row) (between i : ℕ) → i < length now →
+pub related-joined : (old now : List PrincipalSet) (row added d : PrincipalSet) (between i : ℕ) → i < length now →
     ((a b : ℕ) → a < i → related now a b ≡ (related old a b || (related old a between && has added b))) →
     ((a b : ℕ) → i ≤ a → related now a b ≡ related old a b) →
     ((b : ℕ) → has row b ≡ (has (get_or now i d) b || (has (get_or now i d) between && has added b))) →

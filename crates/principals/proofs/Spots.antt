@@ -3,15 +3,12 @@ use Rattle.std.proofs.Common.{ℕ, List, [], ◌∷◌, ◌++◌, sym, subst, �
 use Rattle.std.specs.List.{AllByRecursion}
 use Rattle.std.specs.Str.{IsUtf8, IsCharBoundary}
 use Rattle.std.proofs.lemmas.List.Elements.{recursion_from_All}
+use Rattle.std.proofs.lemmas.Str.{IsCharBoundary-start}
 use Rattle.lexer.specs.Cut.{IsCut}
-use Rattle.lexer.specs.Listing.{IsRefusedAtCharacter}
 use Rattle.lexer.specs.Terminal.{Terminal}
-use Rattle.lexer.specs.declared.fault.LexRefusal.{LexRefusal}
-use Rattle.lexer.specs.declared.fault.LexRefusal.TheVariants as lex
 use Rattle.lexer.proofs.Listed.{listed, refused_at}
-use Rattle.principals.specs.HierarchyText.{Entry, Declares, Relates, Nonterminal, Derives, Finish, Declaration, Relation, OneMore, Last, IsEntryRefusal, Twice, Crowded, UnknownLeft, UnknownRight, IsFirstRefusal, Says, IsLexRefusalAt, IsSyntaxRefusal, IsRefusedText, HasBoundary}
+use Rattle.principals.specs.HierarchyText.{Entry, Declares, Relates, Nonterminal, Derives, Finish, Declaration, Relation, OneMore, Last, IsEntryRefusal, Twice, Crowded, UnknownLeft, UnknownRight, IsFirstRefusal, HasEntries, IsSyntaxRefusal, IsRefusedText, Long, Formless, Wrong, HasBoundary}
 use Rattle.principals.specs.declared.fault.HierarchyRefusal.{HierarchyRefusal}
-use Rattle.principals.specs.declared.fault.HierarchyRefusal.TheVariants as fault
 
 -- ---- tokens
 
@@ -20,11 +17,6 @@ StartsIn source t = IsCharBoundary source t.start
 
 token_spots : (text : List ℕ) (tokens : List Terminal) → IsUtf8 text → IsCut text tokens → AllByRecursion (StartsIn text) tokens
 token_spots text tokens ok cut = recursion_from_All (StartsIn text) tokens (listed text tokens ok cut).at_characters
-
-fault_spot : (text : List ℕ) (f : LexRefusal) (at : ℕ) → IsRefusedAtCharacter text f → IsLexRefusalAt f at → IsCharBoundary text at
-fault_spot text (lex.NoToken place) at spot h = subst (λ k. IsCharBoundary text k) (sym h) spot
-fault_spot text (lex.LiteralTooLarge place) at spot h = subst (λ k. IsCharBoundary text k) (sym h) spot
-fault_spot text (lex.UnclosedComment place) at spot h = subst (λ k. IsCharBoundary text k) (sym h) spot
 
 -- ---- entries
 
@@ -52,25 +44,23 @@ refusal_spot text names entry f spot (Crowded name h k) = spot
 refusal_spot text names entry f spot (UnknownLeft left right h) = spot.0
 refusal_spot text names entry f spot (UnknownRight left right h k) = spot.1
 
-wrong_spot : (text : List ℕ) (f : HierarchyRefusal) (es : List Entry) → IsUtf8 text → Says text es → IsFirstRefusal es f → HasBoundary text f
-wrong_spot text f es ok says first =
+wrong_spot : (text : List ℕ) (f : HierarchyRefusal) (es : List Entry) → IsUtf8 text → HasEntries text es → IsFirstRefusal es f → HasBoundary text f
+wrong_spot text f es ok has_entries first =
     refusal_spot text _ first.entry f
     (middle (EntryStartsIn text) first.before first.after first.entry
-    (subst (AllByRecursion (EntryStartsIn text)) first.entries_are (entry_spots text says.form (token_spots text says.tokens ok says.cut))))
+    (subst (AllByRecursion (EntryStartsIn text)) first.entries_are (entry_spots text has_entries.form (token_spots text has_entries.tokens ok has_entries.cut))))
     first.refused
 
 syntax_spot : (text : List ℕ) (at : ℕ) → IsUtf8 text → IsSyntaxRefusal text at → IsCharBoundary text at
 syntax_spot text at ok s =
     ⊎_elim
-    (λ l. fault_spot text l.0 at (refused_at text l.0 ok l.1) l.2)
+    (λ l. subst (λ k. IsCharBoundary text k) (sym l.2) (refused_at text l.0 ok l.1))
     (λ t. subst (λ k. IsCharBoundary text k) (sym t.2.place)
     (middle (StartsIn text) t.2.before t.2.after t.2.token (subst (AllByRecursion (StartsIn text)) t.2.tokens_are (token_spots text t.0 ok t.1))))
     s
 
 -- a refusal of a text stands at a boundary
 pub refused_spot : (text : List ℕ) → IsUtf8 text → (f : HierarchyRefusal) → IsRefusedText text f → HasBoundary text f
-refused_spot text ok fault.TooLong h = tt
-refused_spot text ok (fault.Syntax at) h = syntax_spot text at ok h.1
-refused_spot text ok (fault.DeclaredTwice at) h = wrong_spot text (fault.DeclaredTwice at) h.0 ok h.1 h.2
-refused_spot text ok (fault.UnknownPrincipal at) h = wrong_spot text (fault.UnknownPrincipal at) h.0 ok h.1 h.2
-refused_spot text ok (fault.TooManyPrincipals at) h = wrong_spot text (fault.TooManyPrincipals at) h.0 ok h.1 h.2
+refused_spot text ok _ (Long long) = IsCharBoundary-start text ok
+refused_spot text ok _ (Formless at fits syntax) = syntax_spot text at ok syntax
+refused_spot text ok f (Wrong es _ has_entries first) = wrong_spot text f es ok has_entries first

@@ -5,24 +5,22 @@ use Rattle.std.proofs.lemmas.Bool.{cases_lt, false≢true}
 use Rattle.std.proofs.lemmas.List.Elements.{All-cons, All-nil}
 use Rattle.std.proofs.lemmas.Option.{slice_get_within}
 use Rattle.std.proofs.lemmas.Slice.Eq.{bytes_eq-Decides}
-use Rattle.lexer.specs.Cut.{IsCut, IsTextRefused}
+use Rattle.lexer.specs.Cut.{IsCut}
 use Rattle.lexer.specs.Terminal.{Terminal, IsTerminated}
-use Rattle.lexer.specs.declared.fault.LexRefusal.{LexRefusal}
-use Rattle.lexer.specs.declared.fault.LexRefusal.TheVariants as lex
 use Rattle.lexer.proofs.Listed.{listed}
 use Rattle.lexer.proofs.Total.{is_cut_or_refused}
 use Rattle.principals.specs.ActsFor.{PrincipalHierarchy, IsHierarchy, AllBelow, AllDifferent}
-use Rattle.principals.specs.HierarchyText.{Entry, Declares, Relates, IsHierarchyForm, IsUnexpectedInHierarchyAt, IsEntryRefusal, Twice, Crowded, UnknownLeft, UnknownRight, IsFirstRefusal, IsSaid, declared, written, Says, IsHierarchyOf, IsRefusedText}
+use Rattle.principals.specs.HierarchyText.{Entry, Declares, Relates, IsHierarchyForm, IsUnexpectedInHierarchyAt, IsEntryRefusal, Twice, Crowded, UnknownLeft, UnknownRight, IsFirstRefusal, IsDescribedBy, written, HasEntries, IsHierarchyOf, IsRefusedText, Long, Formless, Wrong, refusal_for, refusal_of_lex}
 use Rattle.principals.specs.Laws.{HasOneHierarchy, IsReadOrRefused}
-use Rattle.principals.specs.Reading.{Built, HaveNames, ReadingState, Fresh, Ended, next, run, said}
+use Rattle.principals.specs.Reading.{IsHierarchyOfEntries, HaveNames, ReadingState, Fresh, Ended, next, run, finished_entries}
 use Rattle.principals.specs.declared.fault.HierarchyRefusal.{HierarchyRefusal}
-use Rattle.principals.specs.declared.fault.HierarchyRefusal.TheVariants as fault
+use Rattle.principals.specs.declared.fault.HierarchyDefect.TheVariants as defect
 use Rattle.principals.proofs.Automaton.{run-push, read_is_open, is_prefix, stops, run_ends}
-use Rattle.principals.proofs.Building.{built_nothing, built_name, built_pair, built_refused, built_said}
+use Rattle.principals.proofs.Building.{built_nothing, built_name, built_pair, built_refused, built_described}
 use Rattle.principals.proofs.Closure.{none_in_nil, Contains-cons_cases, Contains-first, Contains-later}
-use Rattle.principals.proofs.Names.{number_contained}
 use Rattle.principals.proofs.Uniqueness.{hierarchy_once}
 use Rattle.common.specs.declared.limits.TheConstants.{MAX_TEXT}
+use Rattle.common.proofs.Cases.{contained_place}
 
 -- ---- entries
 
@@ -45,35 +43,35 @@ among (first ∷ names) name = by (bytes_eq first name) refl (among names name)
 -- what entries build, or their first refusal
 abbrev Outcome : List Entry → Type 0
 Outcome entries =
-    ((names : List (List ℕ)) × (pairs : List (ℕ × ℕ)) × Built entries names pairs) ⊎ ((f : HierarchyRefusal) × IsFirstRefusal entries f)
+    ((names : List (List ℕ)) × (pairs : List (ℕ × ℕ)) × IsHierarchyOfEntries entries names pairs) ⊎ ((f : HierarchyRefusal) × IsFirstRefusal entries f)
 
 -- one entry more is built, or refused
 record Refused (names : List (List ℕ)) (entry : Entry) : Type 0 where
   why : HierarchyRefusal
   refused : IsEntryRefusal names entry why
 
-one_entry : (es : List Entry) (names : List (List ℕ)) (pairs : List (ℕ × ℕ)) (entry : Entry) → Built es names pairs
-    → ((more : List (List ℕ)) × (others : List (ℕ × ℕ)) × Built (es ++ entry ∷ []) more others) ⊎ Refused names entry
+one_entry : (es : List Entry) (names : List (List ℕ)) (pairs : List (ℕ × ℕ)) (entry : Entry) → IsHierarchyOfEntries es names pairs
+    → ((more : List (List ℕ)) × (others : List (ℕ × ℕ)) × IsHierarchyOfEntries (es ++ entry ∷ []) more others) ⊎ Refused names entry
 one_entry es names pairs (Declares name) built = by (among names name.text) (cases_lt (length names) 256)
   where
     by : Contains names name.text ⊎ (Contains names name.text → ⊥) → (length names < 256) ⊎ (256 ≤ length names)
-        → ((more : List (List ℕ)) × (others : List (ℕ × ℕ)) × Built (es ++ Declares name ∷ []) more others) ⊎ Refused names (Declares name)
-    by (inl there) room = inr (record { why = fault.DeclaredTwice name.start; refused = Twice name there })
+        → ((more : List (List ℕ)) × (others : List (ℕ × ℕ)) × IsHierarchyOfEntries (es ++ Declares name ∷ []) more others) ⊎ Refused names (Declares name)
+    by (inl there) room = inr (record { why = refusal_for defect.DeclaredTwice name.start; refused = Twice name there })
     by (inr new) (inl room) = inl (names ++ name.text ∷ [], pairs, built_name es names pairs name built new room)
-    by (inr new) (inr full) = inr (record { why = fault.TooManyPrincipals name.start; refused = Crowded name new full })
+    by (inr new) (inr full) = inr (record { why = refusal_for defect.TooManyPrincipals name.start; refused = Crowded name new full })
 one_entry es names pairs (Relates left right) built = by (among names left.text) (among names right.text)
   where
     by : Contains names left.text ⊎ (Contains names left.text → ⊥) → Contains names right.text ⊎ (Contains names right.text → ⊥)
-        → ((more : List (List ℕ)) × (others : List (ℕ × ℕ)) × Built (es ++ Relates left right ∷ []) more others) ⊎ Refused names (Relates left right)
-    by (inr none) there = inr (record { why = fault.UnknownPrincipal left.start; refused = UnknownLeft left right none })
-    by (inl first) (inr none) = inr (record { why = fault.UnknownPrincipal right.start; refused = UnknownRight left right first none })
+        → ((more : List (List ℕ)) × (others : List (ℕ × ℕ)) × IsHierarchyOfEntries (es ++ Relates left right ∷ []) more others) ⊎ Refused names (Relates left right)
+    by (inr none) there = inr (record { why = refusal_for defect.UnknownPrincipal left.start; refused = UnknownLeft left right none })
+    by (inl first) (inr none) = inr (record { why = refusal_for defect.UnknownPrincipal right.start; refused = UnknownRight left right first none })
     by (inl first) (inl second) =
-        let a = number_contained names left.text first in
-        let b = number_contained names right.text second in
+        let a = contained_place names left.text first in
+        let b = contained_place names right.text second in
         inl (names, pairs ++ (a.0, b.0) ∷ [], built_pair es names pairs left right a.0 b.0 built a.1 b.1)
 
-build : (es rest : List Entry) (names : List (List ℕ)) (pairs : List (ℕ × ℕ)) → Built es names pairs → Outcome (es ++ rest)
-build es [] names pairs built = inl (names, pairs, subst (λ (x : List Entry). Built x names pairs) (sym (append-nil es)) built)
+build : (es rest : List Entry) (names : List (List ℕ)) (pairs : List (ℕ × ℕ)) → IsHierarchyOfEntries es names pairs → Outcome (es ++ rest)
+build es [] names pairs built = inl (names, pairs, subst (λ (x : List Entry). IsHierarchyOfEntries x names pairs) (sym (append-nil es)) built)
 build es (entry ∷ rest) names pairs built =
     ⊎_elim
     (λ more. subst Outcome (append_assoc es (entry ∷ []) rest) (build (es ++ entry ∷ []) rest more.0 more.1 more.2))
@@ -83,7 +81,7 @@ build es (entry ∷ rest) names pairs built =
 entries_outcome : (es : List Entry) → Outcome es
 entries_outcome es = build [] es [] [] built_nothing
 
--- ---- what is said is a hierarchy
+-- ---- what is described is a hierarchy
 
 below : (names : List (List ℕ)) (texts : List (List ℕ × List ℕ)) (pairs : List (ℕ × ℕ)) → HaveNames names texts pairs → AllBelow (length names) pairs
 below names [] [] h = All-nil (λ pair. (pair.0 < length names) × (pair.1 < length names))
@@ -94,8 +92,8 @@ below names (text ∷ texts) (pair ∷ pairs) h =
     (slice_get_within names pair.0 text.0 h.0.0, slice_get_within names pair.1 text.1 h.0.1)
     (below names texts pairs h.1)
 
-pub said_is_hierarchy : (es : List Entry) (h : PrincipalHierarchy) → IsSaid es h → IsHierarchy h
-said_is_hierarchy es h is =
+pub described_is_hierarchy : (es : List Entry) (h : PrincipalHierarchy) → IsDescribedBy es h → IsHierarchy h
+described_is_hierarchy es h is =
     ⊎_elim
     (λ built.
     let same : built.0 ≡ h.names = built.2.same_names ∙ sym is.names in
@@ -120,7 +118,7 @@ walk before [] s es terminated h =
 walk before (t ∷ rest) s es terminated h =
     by (next s t) refl
     (λ after e. subst Formed (append_assoc before (t ∷ []) rest)
-    (walk (before ++ t ∷ []) rest after (es ++ said s t)
+    (walk (before ++ t ∷ []) rest after (es ++ finished_entries s t)
     (subst IsTerminated (sym (append_assoc before (t ∷ []) rest)) terminated)
     (run-push Fresh before t s after es h e)))
   where
@@ -148,43 +146,31 @@ form_outcome tokens terminated = walk [] tokens Fresh [] terminated refl
 abbrev Read : List ℕ → Type 0
 Read text = ((hierarchy : PrincipalHierarchy) × IsHierarchyOf text hierarchy) ⊎ ((f : HierarchyRefusal) × IsRefusedText text f)
 
-refused_entry : (text : List ℕ) (es : List Entry) (names : List (List ℕ)) (entry : Entry) (f : HierarchyRefusal) → IsEntryRefusal names entry f
-    → Says text es → IsFirstRefusal es f → IsRefusedText text f
-refused_entry text es names entry f (Twice name h) says first = (es, says, first)
-refused_entry text es names entry f (Crowded name h full) says first = (es, says, first)
-refused_entry text es names entry f (UnknownLeft left right h) says first = (es, says, first)
-refused_entry text es names entry f (UnknownRight left right h k) says first = (es, says, first)
-
-not_lexed : (text : List ℕ) (f : LexRefusal) → length text ≤ MAX_TEXT → IsTextRefused text f → Read text
-not_lexed text (lex.NoToken at) fits r = inr (fault.Syntax at, (fits, inl (lex.NoToken at, r, refl)))
-not_lexed text (lex.LiteralTooLarge at) fits r = inr (fault.Syntax at, (fits, inl (lex.LiteralTooLarge at, r, refl)))
-not_lexed text (lex.UnclosedComment at) fits r = inr (fault.Syntax at, (fits, inl (lex.UnclosedComment at, r, refl)))
-
 lexed : (text : List ℕ) (tokens : List Terminal) → IsUtf8 text → length text ≤ MAX_TEXT → IsCut text tokens → Read text
 lexed text tokens utf8 fits cut =
     ⊎_elim
     (λ form.
-    let says : Says text form.0 = record { fits = fits; tokens = tokens; cut = cut; form = form.1 } in
+    let has_entries : HasEntries text form.0 = record { fits = fits; tokens = tokens; cut = cut; form = form.1 } in
     ⊎_elim
     (λ built. inl (
       record { names = built.0; pairs = built.1 },
-      record { entries = form.0; says = says; said = built_said form.0 (record { names = built.0; pairs = built.1 }) built.2 },
+      record { entries = form.0; has_entries = has_entries; described = built_described form.0 (record { names = built.0; pairs = built.1 }) built.2 },
     ))
-    (λ refused. inr (refused.0, refused_entry text form.0 (declared refused.1.before) refused.1.entry refused.0 refused.1.refused says refused.1))
+    (λ refused. inr (refused.0, Wrong form.0 refused.0 has_entries refused.1))
     (entries_outcome form.0))
-    (λ at. inr (fault.Syntax at.0, (fits, inr (tokens, cut, at.1))))
+    (λ at. inr (refusal_for defect.Syntax at.0, Formless at.0 fits (inr (tokens, cut, at.1))))
     (form_outcome tokens (listed text tokens utf8 cut).terminated)
 
 pub is_read_or_refused : IsReadOrRefused
 is_read_or_refused text utf8 =
     ⊎_elim
-    (λ long. inr (fault.TooLong, long))
+    (λ long. inr (refusal_for defect.TooLong 0, Long long))
     (λ fits. ⊎_elim
     (λ cut. lexed text cut.0 utf8 fits cut.1)
-    (λ refused. not_lexed text refused.0 fits refused.1)
+    (λ refused. inr (refusal_of_lex refused.0, Formless refused.0.at fits (inl (refused.0, refused.1, refl))))
     (is_cut_or_refused text utf8))
     (cases_lt MAX_TEXT (length text))
 
 pub has_one_hierarchy : HasOneHierarchy
 has_one_hierarchy text hierarchy other first second =
-    hierarchy_once text hierarchy other (said_is_hierarchy first.entries hierarchy first.said) first second
+    hierarchy_once text hierarchy other (described_is_hierarchy first.entries hierarchy first.described) first second

@@ -9,13 +9,12 @@ use Rattle.std.specs.List.{AllZip}
 use Rattle.std.proofs.lemmas.Option.{some_pair_parts}
 use Rattle.lexer.specs.Terminal.{Terminal}
 use Rattle.lexer.specs.declared.fault.LexRefusal.{LexRefusal}
-use Rattle.lexer.specs.declared.fault.LexRefusal.TheVariants as lex
 use Rattle.lexer.proofs.Cutting.{has_one_cut, not_cut_and_refused, has_one_refusal}
 use Rattle.principals.specs.ActsFor.{PrincipalHierarchy, HasName, IsHierarchy}
-use Rattle.principals.specs.HierarchyText.{Entry, IsHierarchyForm, IsPrefixOfForm, IsUnexpectedInHierarchyAt, IsEntryRefusal, Twice, Crowded, UnknownLeft, UnknownRight, IsFirstRefusal, IsSaid, declared, written, Says, IsHierarchyOf, IsLexRefusalAt, IsSyntaxRefusal, IsRefusedText, refusal_of_lex}
+use Rattle.principals.specs.HierarchyText.{Entry, IsHierarchyForm, IsPrefixOfForm, IsUnexpectedInHierarchyAt, IsEntryRefusal, Twice, Crowded, UnknownLeft, UnknownRight, IsFirstRefusal, IsDescribedBy, declared, written, HasEntries, IsHierarchyOf, IsSyntaxRefusal, IsRefusedText, Long, Formless, Wrong, refusal_for, refusal_of_lex}
 use Rattle.principals.specs.Reading.{Ended, IsFormRefusal}
 use Rattle.principals.specs.declared.fault.HierarchyRefusal.{HierarchyRefusal}
-use Rattle.principals.specs.declared.fault.HierarchyRefusal.TheVariants as fault
+use Rattle.principals.specs.declared.fault.HierarchyDefect.TheVariants as defect
 use Rattle.principals.proofs.Automaton.{derived_is_read}
 use Rattle.principals.proofs.Names.{one_number}
 use Rattle.common.specs.declared.limits.TheConstants.{MAX_TEXT}
@@ -62,8 +61,8 @@ first_once es f g a b =
     (λ later. absurd (a.accepted b.before later.0 b.entry g later.1 b.refused)))
     (two_places a.before b.before a.after b.after a.entry b.entry (sym a.entries_are ∙ b.entries_are))
 
-said_not_refused : (es : List Entry) (h : PrincipalHierarchy) (f : HierarchyRefusal) → IsSaid es h → IsFirstRefusal es f → ⊥
-said_not_refused es h f said first = said.accepted first.before first.after first.entry f first.entries_are first.refused
+described_not_refused : (es : List Entry) (h : PrincipalHierarchy) (f : HierarchyRefusal) → IsDescribedBy es h → IsFirstRefusal es f → ⊥
+described_not_refused es h f described first = described.accepted first.before first.after first.entry f first.entries_are first.refused
 
 same_pairs : (h : PrincipalHierarchy) → IsHierarchy h → (texts : List (List ℕ × List ℕ)) (pairs others : List (ℕ × ℕ)) →
     AllZip (λ text pair. HasName h pair.0 text.0 × HasName h pair.1 text.1) texts pairs →
@@ -78,8 +77,8 @@ same_pairs h kept (t ∷ texts) (p ∷ pairs) (o ∷ others) a b =
     let right : o.1 ≡ p.1 = one_number h.names kept.different o.1 p.1 t.1 b.0.1 a.0.1 in
     λ i. (left i, right i) ∷ same_pairs h kept texts pairs others a.1 b.1 i
 
-said_once : (es : List Entry) (h k : PrincipalHierarchy) → IsHierarchy h → IsSaid es h → IsSaid es k → h ≡ k
-said_once es h k kept a b =
+described_once : (es : List Entry) (h k : PrincipalHierarchy) → IsHierarchy h → IsDescribedBy es h → IsDescribedBy es k → h ≡ k
+described_once es h k kept a b =
     let names : k.names ≡ h.names = b.names ∙ sym a.names in
     let there : AllZip (λ text pair. HasName h pair.0 text.0 × HasName h pair.1 text.1) (written es) k.pairs =
     subst (λ x. AllZip (λ text pair. (slice_get x pair.0 ≡ Some text.0) × (slice_get x pair.1 ≡ Some text.1)) (written es) k.pairs) names b.pairs in
@@ -119,20 +118,15 @@ unexpected_once tokens at other a b =
 
 -- ---- the text
 
-says_once : (text : List ℕ) (es fs : List Entry) → Says text es → Says text fs → es ≡ fs
-says_once text es fs a b =
+entries_once : (text : List ℕ) (es fs : List Entry) → HasEntries text es → HasEntries text fs → es ≡ fs
+entries_once text es fs a b =
     form_once a.tokens es fs a.form (subst (λ x. IsHierarchyForm x fs) (has_one_cut text b.tokens a.tokens b.cut a.cut) b.form)
-
-lex_fault_once : (f : LexRefusal) (at other : ℕ) → IsLexRefusalAt f at → IsLexRefusalAt f other → at ≡ other
-lex_fault_once (lex.NoToken place) at other a b = a ∙ sym b
-lex_fault_once (lex.LiteralTooLarge place) at other a b = a ∙ sym b
-lex_fault_once (lex.UnclosedComment place) at other a b = a ∙ sym b
 
 syntax_once : (text : List ℕ) (at other : ℕ) → IsSyntaxRefusal text at → IsSyntaxRefusal text other → at ≡ other
 syntax_once text at other a b =
     ⊎_elim
     (λ la. ⊎_elim
-    (λ lb. lex_fault_once la.0 at other la.2 (subst (λ x. IsLexRefusalAt x other) (has_one_refusal text lb.0 la.0 lb.1 la.1) lb.2))
+    (λ lb. la.2 ∙ ap (λ (r : LexRefusal). r.at) (has_one_refusal text la.0 lb.0 la.1 lb.1) ∙ sym lb.2)
     (λ tb. absurd (not_cut_and_refused text tb.0 la.0 tb.1 la.1))
     b)
     (λ ta. ⊎_elim
@@ -141,94 +135,49 @@ syntax_once text at other a b =
     b)
     a
 
-says_not_syntax : (text : List ℕ) (es : List Entry) (at : ℕ) → Says text es → IsSyntaxRefusal text at → ⊥
-says_not_syntax text es at says s =
+entries_not_syntax : (text : List ℕ) (es : List Entry) (at : ℕ) → HasEntries text es → IsSyntaxRefusal text at → ⊥
+entries_not_syntax text es at has_entries s =
     ⊎_elim
-    (λ l. not_cut_and_refused text says.tokens l.0 says.cut l.1)
-    (λ t. form_is_expected says.tokens es at says.form (subst (λ x. IsUnexpectedInHierarchyAt x at) (has_one_cut text t.0 says.tokens t.1 says.cut) t.2))
+    (λ l. not_cut_and_refused text has_entries.tokens l.0 has_entries.cut l.1)
+    (λ t. form_is_expected has_entries.tokens es at has_entries.form (subst (λ x. IsUnexpectedInHierarchyAt x at) (has_one_cut text t.0 has_entries.tokens t.1 has_entries.cut) t.2))
     s
-
--- the three ways in which a text is refused
-abbrev Long : List ℕ → HierarchyRefusal → Type 0
-Long text f = (f ≡ fault.TooLong) × (MAX_TEXT < length text)
-
-abbrev Formless : List ℕ → HierarchyRefusal → Type 0
-Formless text f = (at : ℕ) × (f ≡ fault.Syntax at) × (length text ≤ MAX_TEXT) × IsSyntaxRefusal text at
-
-abbrev Wrong : List ℕ → HierarchyRefusal → Type 0
-Wrong text f = (es : List Entry) × Says text es × IsFirstRefusal es f
-
-ways : (text : List ℕ) (f : HierarchyRefusal) → IsRefusedText text f → Long text f ⊎ (Formless text f ⊎ Wrong text f)
-ways text fault.TooLong h = inl (refl, h)
-ways text (fault.Syntax at) h = inr (inl (at, refl, h.0, h.1))
-ways text (fault.DeclaredTwice at) h = inr (inr h)
-ways text (fault.UnknownPrincipal at) h = inr (inr h)
-ways text (fault.TooManyPrincipals at) h = inr (inr h)
 
 too_long : {P : Type 0} (text : List ℕ) → MAX_TEXT < length text → length text ≤ MAX_TEXT → P
 too_long text h k = absurd (omega arith)
 
 pub refused_text_once : (text : List ℕ) (f g : HierarchyRefusal) → IsRefusedText text f → IsRefusedText text g → f ≡ g
-refused_text_once text f g a b =
-    ⊎_elim
-    (λ la. ⊎_elim
-    (λ lb. la.0 ∙ sym lb.0)
-    (⊎_elim (λ fb. too_long text la.1 fb.2) (λ wb. too_long text la.1 wb.1.fits))
-    (ways text g b))
-    (⊎_elim
-    (λ fa. ⊎_elim
-    (λ lb. too_long text lb.1 fa.2)
-    (⊎_elim
-    (λ fb. fa.1 ∙ ap (λ x. fault.Syntax x) (syntax_once text fa.0 fb.0 fa.3 fb.3) ∙ sym fb.1)
-    (λ wb. absurd (says_not_syntax text wb.0 fa.0 wb.1 fa.3)))
-    (ways text g b))
-    (λ wa. ⊎_elim
-    (λ lb. too_long text lb.1 wa.1.fits)
-    (⊎_elim
-    (λ fb. absurd (says_not_syntax text wa.0 fb.0 wa.1 fb.3))
-    (λ wb. first_once wa.0 f g wa.2 (subst (λ x. IsFirstRefusal x g) (says_once text wb.0 wa.0 wb.1 wa.1) wb.2)))
-    (ways text g b)))
-    (ways text f a)
+refused_text_once text _ _ (Long long) (Long again) = refl
+refused_text_once text _ _ (Long long) (Formless at fits syntax) = too_long text long fits
+refused_text_once text _ g (Long long) (Wrong es _ has_entries first) = too_long text long has_entries.fits
+refused_text_once text _ _ (Formless at fits syntax) (Long long) = too_long text long fits
+refused_text_once text _ _ (Formless at fits syntax) (Formless other again syntax_too) =
+    ap (λ x. refusal_for defect.Syntax x) (syntax_once text at other syntax syntax_too)
+refused_text_once text _ g (Formless at fits syntax) (Wrong es _ has_entries first) = absurd (entries_not_syntax text es at has_entries syntax)
+refused_text_once text f _ (Wrong es _ has_entries first) (Long long) = too_long text long has_entries.fits
+refused_text_once text f _ (Wrong es _ has_entries first) (Formless at fits syntax) = absurd (entries_not_syntax text es at has_entries syntax)
+refused_text_once text f g (Wrong es _ has_entries first) (Wrong others _ has_too first_too) =
+    first_once es f g first (subst (λ x. IsFirstRefusal x g) (entries_once text others es has_too has_entries) first_too)
 
 pub hierarchy_not_refused : (text : List ℕ) (h : PrincipalHierarchy) (f : HierarchyRefusal) → IsHierarchyOf text h → IsRefusedText text f → ⊥
-hierarchy_not_refused text h f of refused =
-    ⊎_elim
-    (λ l. too_long text l.1 of.says.fits)
-    (⊎_elim
-    (λ s. says_not_syntax text of.entries s.0 of.says s.3)
-    (λ w. said_not_refused of.entries h f of.said (subst (λ x. IsFirstRefusal x f) (says_once text w.0 of.entries w.1 of.says) w.2)))
-    (ways text f refused)
+hierarchy_not_refused text h _ of (Long long) = too_long text long of.has_entries.fits
+hierarchy_not_refused text h _ of (Formless at fits syntax) = entries_not_syntax text of.entries at of.has_entries syntax
+hierarchy_not_refused text h f of (Wrong es _ has_entries first) =
+    described_not_refused of.entries h f of.described (subst (λ x. IsFirstRefusal x f) (entries_once text es of.entries has_entries of.has_entries) first)
 
 pub hierarchy_once : (text : List ℕ) (h k : PrincipalHierarchy) → IsHierarchy h → IsHierarchyOf text h → IsHierarchyOf text k → h ≡ k
 hierarchy_once text h k kept a b =
-    said_once a.entries h k kept a.said (subst (λ x. IsSaid x k) (says_once text b.entries a.entries b.says a.says) b.said)
+    described_once a.entries h k kept a.described (subst (λ x. IsDescribedBy x k) (entries_once text b.entries a.entries b.has_entries a.has_entries) b.described)
 
--- ---- what the entries' fault is of the text
+-- ---- what refused tokens are of the text
 
-no_other_refusal : (names : List (List ℕ)) (entry : Entry) (f : HierarchyRefusal) → IsEntryRefusal names entry f → (f ≡ fault.TooLong → ⊥) × ((at : ℕ) → f ≡ fault.Syntax at → ⊥)
-no_other_refusal names entry f (Twice name h) = (λ e. cc, λ at e. cc)
-no_other_refusal names entry f (Crowded name h k) = (λ e. cc, λ at e. cc)
-no_other_refusal names entry f (UnknownLeft left right h) = (λ e. cc, λ at e. cc)
-no_other_refusal names entry f (UnknownRight left right h k) = (λ e. cc, λ at e. cc)
-
-pub entries_refused : (text : List ℕ) (es : List Entry) (f : HierarchyRefusal) → Says text es → IsFirstRefusal es f → IsRefusedText text f
-entries_refused text es fault.TooLong says h = absurd ((no_other_refusal (declared h.before) h.entry fault.TooLong h.refused).0 refl)
-entries_refused text es (fault.Syntax at) says h = absurd ((no_other_refusal (declared h.before) h.entry (fault.Syntax at) h.refused).1 at refl)
-entries_refused text es (fault.DeclaredTwice at) says h = (es, says, h)
-entries_refused text es (fault.UnknownPrincipal at) says h = (es, says, h)
-entries_refused text es (fault.TooManyPrincipals at) says h = (es, says, h)
-
--- and what refused tokens are
 pub tokens_refused : (text : List ℕ) (r : LexRefusal) (f : HierarchyRefusal) → length text ≤ MAX_TEXT → f ≡ refusal_of_lex r → IsTextRefused text r
     → IsRefusedText text f
-tokens_refused text (lex.NoToken at) f fits is refused = rw is (fits, inl (lex.NoToken at, refused, refl))
-tokens_refused text (lex.LiteralTooLarge at) f fits is refused = rw is (fits, inl (lex.LiteralTooLarge at, refused, refl))
-tokens_refused text (lex.UnclosedComment at) f fits is refused = rw is (fits, inl (lex.UnclosedComment at, refused, refl))
+tokens_refused text r f fits is refused = subst (IsRefusedText text) (sym is) (Formless r.at fits (inl (r, refused, refl)))
 
 -- and what an unexpected token is
 pub form_refused : (text : List ℕ) (tokens : List Terminal) (f : HierarchyRefusal) → length text ≤ MAX_TEXT → IsCut text tokens → IsFormRefusal tokens f
     → IsRefusedText text f
-form_refused text tokens f fits cut (at, is, unexpected) = rw is (fits, inr (tokens, cut, unexpected))
+form_refused text tokens f fits cut (at, is, unexpected) = subst (IsRefusedText text) (sym is) (Formless at fits (inr (tokens, cut, unexpected)))
 
 -- ---- what a reader has to meet
 
@@ -240,4 +189,4 @@ read_complete text h of (Err f) a b e = refused-weaker (IsRefusedText text) (λ 
 pub read_first : (text : List ℕ) (f : HierarchyRefusal) → IsRefusedText text f → (r : Result PrincipalHierarchy (OrNoMemory HierarchyRefusal)) →
     IfOk r (IsHierarchyOf text) → IfErr r (IfRefused (IsRefusedText text)) → Answers (λ _. ⊥) (λ found. found ≡ f) r
 read_first text f first (Ok found) a e = hierarchy_not_refused text found f a first
-read_first text f first (Err told) a e = refused-weaker (IsRefusedText text) (λ g. g ≡ f) (λ g k. refused_text_once text g f k first) told e
+read_first text f first (Err reported) a e = refused-weaker (IsRefusedText text) (λ g. g ≡ f) (λ g k. refused_text_once text g f k first) reported e

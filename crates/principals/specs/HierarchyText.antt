@@ -5,11 +5,11 @@ use Rattle.std.specs.List.{AllZip}
 use Rattle.lexer.specs.Cut.{IsCut, IsTextRefused}
 use Rattle.lexer.specs.Terminal.{Terminal}
 use Rattle.lexer.specs.declared.fault.LexRefusal.{LexRefusal}
-use Rattle.lexer.specs.declared.fault.LexRefusal.TheVariants.{NoToken, LiteralTooLarge, UnclosedComment}
 use Rattle.lexer.specs.declared.token.Kind.TheVariants.{Name, Comma, Semicolon, End}
 use Rattle.principals.specs.ActsFor.{PrincipalHierarchy, HasName}
 use Rattle.principals.specs.declared.fault.HierarchyRefusal.{HierarchyRefusal}
-use Rattle.principals.specs.declared.fault.HierarchyRefusal.TheVariants.{TooLong, Syntax, DeclaredTwice, TooManyPrincipals, UnknownPrincipal}
+use Rattle.principals.specs.declared.fault.HierarchyDefect.{HierarchyDefect}
+use Rattle.principals.specs.declared.fault.HierarchyDefect.TheVariants.{TooLong, Syntax, DeclaredTwice, TooManyPrincipals, UnknownPrincipal}
 
 -- ---- the form of the text
 
@@ -35,7 +35,7 @@ pub data Nonterminal : Type 0 where
   Items : Nonterminal
   Names : Nonterminal
 
--- the tokens are derived from a nonterminal, and say these entries
+-- the tokens are derived from a nonterminal, and have these entries
 pub data Derives : Nonterminal → List Terminal → List Entry → Type 0 where
   Finish : (end : Terminal) → end.kind ≡ End → Derives Items (end ∷ []) []
   Declaration : (word : Terminal) (rest : List Terminal) (entries : List Entry) → IsWord (codes "principal") word
@@ -49,7 +49,7 @@ pub data Derives : Nonterminal → List Terminal → List Entry → Type 0 where
       → semicolon.kind ≡ Semicolon → Derives Items rest entries
       → Derives Names (name ∷ semicolon ∷ rest) (Declares name ∷ entries)
 
--- the tokens of a whole text of this form, which says these entries
+-- the tokens of a whole text of this form, with these entries
 abbrev pub IsHierarchyForm : List Terminal → List Entry → Type 0
 IsHierarchyForm tokens entries = Derives Items tokens entries
 
@@ -83,15 +83,19 @@ written [] = []
 written (Declares name ∷ entries) = written entries
 written (Relates left right ∷ entries) = (left.text, right.text) ∷ written entries
 
+-- the refusal for a defect at a byte
+abbrev pub refusal_for : HierarchyDefect → (at : ℕ) → HierarchyRefusal
+refusal_for defect at = record { defect = defect; at = at }
+
 -- an entry is refused, where these names are declared before it; of two refusals of one entry the first is reported
 pub data IsEntryRefusal (names : List (List ℕ)) : Entry → HierarchyRefusal → Type 0 where
-  Twice : (name : Terminal) → Contains names name.text → IsEntryRefusal names (Declares name) (DeclaredTwice name.start)
+  Twice : (name : Terminal) → Contains names name.text → IsEntryRefusal names (Declares name) (refusal_for DeclaredTwice name.start)
   Crowded : (name : Terminal) → (Contains names name.text → ⊥) → MAX_PRINCIPALS ≤ length names
-      → IsEntryRefusal names (Declares name) (TooManyPrincipals name.start)
+      → IsEntryRefusal names (Declares name) (refusal_for TooManyPrincipals name.start)
   UnknownLeft : (left right : Terminal) → (Contains names left.text → ⊥)
-      → IsEntryRefusal names (Relates left right) (UnknownPrincipal left.start)
+      → IsEntryRefusal names (Relates left right) (refusal_for UnknownPrincipal left.start)
   UnknownRight : (left right : Terminal) → Contains names left.text → (Contains names right.text → ⊥)
-      → IsEntryRefusal names (Relates left right) (UnknownPrincipal right.start)
+      → IsEntryRefusal names (Relates left right) (refusal_for UnknownPrincipal right.start)
 
 -- no entry is refused
 abbrev pub AllAccepted : List Entry → Type 0
@@ -107,8 +111,8 @@ pub record IsFirstRefusal (entries : List Entry) (refusal : HierarchyRefusal) : 
   pub accepted : AllAccepted before
   pub refused : IsEntryRefusal (declared before) entry refusal
 
--- the hierarchy that the entries say: its names are the declared ones, and its pairs are the numbers of the written ones
-pub record IsSaid (entries : List Entry) (hierarchy : PrincipalHierarchy) : Type 0 where
+-- the hierarchy that the entries describe: its names are the declared ones, and its pairs are the numbers of the written ones
+pub record IsDescribedBy (entries : List Entry) (hierarchy : PrincipalHierarchy) : Type 0 where
   pub accepted : AllAccepted entries
   pub names : hierarchy.names ≡ declared entries
   pub pairs : AllZip (λ names pair. HasName hierarchy pair.0 names.0 × HasName hierarchy pair.1 names.1) (written entries) hierarchy.pairs
@@ -116,7 +120,7 @@ pub record IsSaid (entries : List Entry) (hierarchy : PrincipalHierarchy) : Type
 -- ---- the whole text
 
 -- a text of this form, with its entries
-pub record Says (text : List ℕ) (entries : List Entry) : Type 0 where
+pub record HasEntries (text : List ℕ) (entries : List Entry) : Type 0 where
   pub fits : length text ≤ MAX_TEXT
   pub tokens : List Terminal
   pub cut : IsCut text tokens
@@ -125,43 +129,26 @@ pub record Says (text : List ℕ) (entries : List Entry) : Type 0 where
 -- the hierarchy of a text
 pub record IsHierarchyOf (text : List ℕ) (hierarchy : PrincipalHierarchy) : Type 0 where
   pub entries : List Entry
-  pub says : Says text entries
-  pub said : IsSaid entries hierarchy
+  pub has_entries : HasEntries text entries
+  pub described : IsDescribedBy entries hierarchy
 
 -- the refusal of a text whose tokens are refused
 abbrev pub refusal_of_lex : LexRefusal → HierarchyRefusal
-refusal_of_lex (NoToken at) = Syntax at
-refusal_of_lex (LiteralTooLarge at) = Syntax at
-refusal_of_lex (UnclosedComment at) = Syntax at
-
--- the byte at which a text is refused that has no tokens
-abbrev pub IsLexRefusalAt : LexRefusal → ℕ → Type 0
-IsLexRefusalAt (NoToken place) at = at ≡ place
-IsLexRefusalAt (LiteralTooLarge place) at = at ≡ place
-IsLexRefusalAt (UnclosedComment place) at = at ≡ place
+refusal_of_lex refusal = refusal_for Syntax refusal.at
 
 -- a text without tokens, or the first token with which no text of this form goes on
 abbrev pub IsSyntaxRefusal : List ℕ → ℕ → Type 0
 IsSyntaxRefusal text at =
-    ((refusal : LexRefusal) × IsTextRefused text refusal × IsLexRefusalAt refusal at)
+    ((refusal : LexRefusal) × IsTextRefused text refusal × (at ≡ refusal.at))
     ⊎ ((tokens : List Terminal) × IsCut text tokens × IsUnexpectedInHierarchyAt tokens at)
 
--- what a text says is refused first for this
-abbrev pub SaysRefused : List ℕ → HierarchyRefusal → Type 0
-SaysRefused text refusal = (entries : List Entry) × Says text entries × IsFirstRefusal entries refusal
-
--- the first refusal of a text
-abbrev pub IsRefusedText : List ℕ → HierarchyRefusal → Type 0
-IsRefusedText text TooLong = MAX_TEXT < length text
-IsRefusedText text (Syntax at) = (length text ≤ MAX_TEXT) × IsSyntaxRefusal text at
-IsRefusedText text (DeclaredTwice at) = SaysRefused text (DeclaredTwice at)
-IsRefusedText text (UnknownPrincipal at) = SaysRefused text (UnknownPrincipal at)
-IsRefusedText text (TooManyPrincipals at) = SaysRefused text (TooManyPrincipals at)
+-- the first refusal of a text: that it is too long, that it is not of this form, or that of the first entry that is refused
+pub data IsRefusedText (text : List ℕ) : HierarchyRefusal → Type 0 where
+  Long : MAX_TEXT < length text → IsRefusedText text (refusal_for TooLong 0)
+  Formless : (at : ℕ) → length text ≤ MAX_TEXT → IsSyntaxRefusal text at → IsRefusedText text (refusal_for Syntax at)
+  Wrong : (entries : List Entry) (refusal : HierarchyRefusal) → HasEntries text entries → IsFirstRefusal entries refusal
+      → IsRefusedText text refusal
 
 -- the place of a refusal is a character boundary of the text, so that its line and its column can be found
 abbrev pub HasBoundary : List ℕ → HierarchyRefusal → Type 0
-HasBoundary text TooLong = Unit {0}
-HasBoundary text (Syntax at) = IsCharBoundary text at
-HasBoundary text (DeclaredTwice at) = IsCharBoundary text at
-HasBoundary text (UnknownPrincipal at) = IsCharBoundary text at
-HasBoundary text (TooManyPrincipals at) = IsCharBoundary text at
+HasBoundary text refusal = IsCharBoundary text refusal.at

@@ -9,7 +9,7 @@ abbrev pub hierarchy_of : Inside → PrincipalHierarchy
 hierarchy_of inside = record { names = names_of inside.names; pairs = inside.pairs.items }
 
 -- the table has a row for each principal, which answers acts-for
-pub record IsKeptHierarchy (inside : Inside) : Type 0 where
+pub record IsStoredHierarchy (inside : Inside) : Type 0 where
   pub hierarchy : IsHierarchy (hierarchy_of inside)
   pub rows : length inside.table.items ≡ length inside.names.keys
   pub answers : (a b : ℕ) → a < length inside.names.keys → related inside.table.items a b ≡ acts_for inside.pairs.items a b

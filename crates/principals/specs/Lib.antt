@@ -1,6 +1,7 @@
 pub mod ActsFor
 pub mod Table
 pub mod Inside
+pub mod Defects
 pub mod HierarchyText
 pub mod Laws
 pub mod Reading

@@ -7,9 +7,9 @@ use Rattle.std.specs.Option.{option_and_then}
 use Rattle.lexer.specs.Terminal.{Terminal, terminal_of}
 use Rattle.lexer.specs.declared.token.Kind.{Kind}
 use Rattle.lexer.specs.declared.token.Kind.TheVariants.{Name as NameKind, Comma as CommaKind, Semicolon as SemicolonKind, End as EndKind}
-use Rattle.principals.specs.HierarchyText.{Entry, Declares, Relates, IsUnexpectedInHierarchyAt, AllAccepted, declared, written}
+use Rattle.principals.specs.HierarchyText.{Entry, Declares, Relates, IsUnexpectedInHierarchyAt, AllAccepted, declared, written, refusal_for}
 use Rattle.principals.specs.declared.fault.HierarchyRefusal.{HierarchyRefusal}
-use Rattle.principals.specs.declared.fault.HierarchyRefusal.TheVariants.{Syntax}
+use Rattle.principals.specs.declared.fault.HierarchyDefect.TheVariants.{Syntax}
 use Rattle.principals.specs.declared.reading.Role.{Role}
 use Rattle.principals.specs.declared.reading.Role.TheVariants.{Principal, ActsFor, Name, Comma, Semicolon, End, Other}
 use Rattle.principals.specs.declared.reading.Progress.{Progress}
@@ -56,16 +56,16 @@ abbrev pub next : ReadingState → Terminal → Option ReadingState
 next state token = next_by state (role_of token) token
 
 -- the entry that one more token makes whole
-abbrev pub said : ReadingState → Terminal → List Entry
-said Declaring token = Declares token ∷ []
-said (Verb left) token = Relates left token ∷ []
-said _ token = []
+abbrev pub finished_entries : ReadingState → Terminal → List Entry
+finished_entries Declaring token = Declares token ∷ []
+finished_entries (Verb left) token = Relates left token ∷ []
+finished_entries _ token = []
 
--- the state after tokens, and what they say
+-- the state after tokens, and the entries that they finish
 abbrev pub run : ReadingState → List Terminal → Option (ReadingState × List Entry)
 run state [] = Some (state, [])
 run state (token ∷ rest) =
-    option_and_then (λ after. option_map (λ end. (end.0, said state token ++ end.1)) (run after rest)) (next state token)
+    option_and_then (λ after. option_map (λ end. (end.0, finished_entries state token ++ end.1)) (run after rest)) (next state token)
 
 -- the code's states and statements, without references
 abbrev pub state_of : Progress → ReadingState
@@ -86,14 +86,14 @@ entries_of statements = map entry_of statements
 
 -- the refusal of the form alone: the first token with which no text of this form goes on
 abbrev pub IsFormRefusal : List Terminal → HierarchyRefusal → Type 0
-IsFormRefusal tokens refusal = (at : ℕ) × (refusal ≡ Syntax at) × IsUnexpectedInHierarchyAt tokens at
+IsFormRefusal tokens refusal = (at : ℕ) × (refusal ≡ refusal_for Syntax at) × IsUnexpectedInHierarchyAt tokens at
 
 -- the pairs are the numbers of these pairs of names
 abbrev pub HaveNames : List (List ℕ) → List (List ℕ × List ℕ) → List (ℕ × ℕ) → Type 0
 HaveNames names texts pairs = AllZip (λ text pair. (slice_get names pair.0 ≡ Some text.0) × (slice_get names pair.1 ≡ Some text.1)) texts pairs
 
--- what entries that are all accepted build
-pub record Built (entries : List Entry) (names : List (List ℕ)) (pairs : List (ℕ × ℕ)) : Type 0 where
+-- the names and the pairs of the hierarchy that entries describe, which are all accepted
+pub record IsHierarchyOfEntries (entries : List Entry) (names : List (List ℕ)) (pairs : List (ℕ × ℕ)) : Type 0 where
   pub same_names : names ≡ declared entries
   pub few : length names ≤ MAX_PRINCIPALS
   pub different : AllDifferent names

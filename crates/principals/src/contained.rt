@@ -4,7 +4,7 @@ ghost use Rattle.principals.specs.ActsFor.{ActsFor, AllBelow, ContainsHierarchy,
 ghost use Rattle.std.specs.Prelude.{All, Contains, IsFalse, IsTrue, List, Some, length, map, slice_get, slice_index, string_bytes, ℕ, ◌↔◌, ◌≡◌, ◌≤◌};
 
 use crate::Hierarchy;
-use crate::row::Row;
+use crate::principal_set::PrincipalSet;
 
 impl Hierarchy {
     /// Whether each principal of `other` is here by name and each acts-for of `other` holds here by name.
@@ -14,7 +14,7 @@ impl Hierarchy {
         ensures { IsTrue result ↔ ContainsHierarchy self.now other.now }
     {
         let _ = &self.names;
-        let mut here = [0; Row::LIMIT];
+        let mut here = [0; PrincipalSet::LIMIT];
         self.find_all(other.names.as_slice(), &mut here)
             && self.relates_all(&here, other.pairs.as_slice())
     }

@@ -1,18 +1,18 @@
-//! The hierarchy that the statements of a text say.
+//! The hierarchy that the statements of a text describe.
 
 ghost use Rattle.common.specs.Answers.{IfRefused};
 ghost use Rattle.lexer.specs.Terminal.{terminal_of};
 ghost use Rattle.principals.specs.ActsFor.{IsHierarchy};
-ghost use Rattle.principals.specs.HierarchyText.{Declares, IsEntryRefusal, IsFirstRefusal, IsSaid, Relates};
+ghost use Rattle.principals.specs.HierarchyText.{Declares, IsDescribedBy, IsEntryRefusal, IsFirstRefusal, Relates, refusal_for};
 ghost use Rattle.principals.specs.Reading.{entries_of};
 ghost use Rattle.principals.specs.Table.{names_of};
-ghost use Rattle.principals.specs.declared.fault.HierarchyRefusal.TheVariants.{UnknownPrincipal};
+ghost use Rattle.principals.specs.declared.fault.HierarchyDefect.TheVariants.{UnknownPrincipal};
 ghost use Rattle.std.specs.Prelude.{Contains, IfErr, IfOk, OnOk, Some, [], ◌∷◌, ◌++◌, length, slice_get, ◌<◌, ◌≡◌, ◌≤◌};
 
 use crate::Hierarchy;
-use crate::fault::{HierarchyFault, HierarchyRefusal};
+use crate::fault::{HierarchyDefect, HierarchyFault, HierarchyRefusal};
+use crate::principal_set::PrincipalSet;
 use crate::reading::Statement;
-use crate::row::Row;
 use common::OrNoMemory;
 use common::limits::MAX_PRINCIPALS;
 use indexmap::IndexSet;
@@ -32,13 +32,15 @@ fn declare(
     ensures rejected { IfErr result (IfRefused
         (IsEntryRefusal (names_of names.old) (Declares (terminal_of name.now)))) }
 {
-    let full = names.len() >= Row::LIMIT;
+    let full = names.len() >= PrincipalSet::LIMIT;
     let at = name.span.start;
     if names.contains(name.text) {
-        return Err(OrNoMemory::Refused(HierarchyRefusal::DeclaredTwice(at)));
+        let defect = HierarchyDefect::DeclaredTwice;
+        return Err(OrNoMemory::Refused(HierarchyRefusal { defect, at }));
     }
     if full {
-        return Err(OrNoMemory::Refused(HierarchyRefusal::TooManyPrincipals(at)));
+        let defect = HierarchyDefect::TooManyPrincipals;
+        return Err(OrNoMemory::Refused(HierarchyRefusal { defect, at }));
     }
     names.insert(String::from_str(alloc, name.text)?)?;
     Ok(())
@@ -49,12 +51,15 @@ fn find_number(names: &IndexSet<String>, name: &Token<'_>) -> Result<u32, Hierar
     requires { length (names_of names.now) ≤ MAX_PRINCIPALS }
     ensures found { IfOk result (λ number. slice_get (names_of names.now) number
         ≡ Some name.now.text.now) }
-    ensures unknown { IfErr result (λ refusal. (refusal ≡ UnknownPrincipal name.now.span.start)
-        × (¬ Contains (names_of names.now) name.now.text.now)) }
+    ensures unknown { IfErr result (λ refusal. (refusal ≡ refusal_for UnknownPrincipal
+        name.now.span.start) × (¬ Contains (names_of names.now) name.now.text.now)) }
 {
     match names.get_index_of(name.text) {
         Some(number) => Ok(number as u32),
-        None => Err(HierarchyRefusal::UnknownPrincipal(name.span.start)),
+        None => Err(HierarchyRefusal {
+            defect: HierarchyDefect::UnknownPrincipal,
+            at: name.span.start,
+        }),
     }
 }
 
@@ -77,12 +82,12 @@ fn find_pair(
     Ok((first, second))
 }
 
-/// The hierarchy that statements say, or the first of them that is refused.
+/// The hierarchy that statements describe, or the first of them that is refused.
 pub(crate) fn hierarchy_of(
     alloc: Global,
     statements: &[Statement<'_>],
 ) -> Result<Hierarchy, HierarchyFault>
-    ensures said { IfOk result (IsSaid (entries_of statements.now)) }
+    ensures described { IfOk result (IsDescribedBy (entries_of statements.now)) }
     ensures kept { IfOk result IsHierarchy }
     ensures first_fault { IfErr result (IfRefused (IsFirstRefusal (entries_of statements.now))) }
 {

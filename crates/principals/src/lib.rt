@@ -9,15 +9,17 @@ mod contained;
 mod declaring;
 pub mod fault;
 pub mod laws;
+mod principal_set;
 mod read;
 mod reading;
-mod row;
 mod table;
 
 use common::limits::MAX_PRINCIPALS;
-pub use fault::{HierarchyFault, HierarchyRefusal, UNKNOWN_PRINCIPAL, UNKNOWN_PRINCIPAL_WORDS};
+pub use fault::{
+    HierarchyDefect, HierarchyFault, HierarchyRefusal, UNKNOWN_PRINCIPAL, UNKNOWN_PRINCIPAL_WORDS,
+};
 use indexmap::IndexSet;
-pub use row::Row;
+pub use principal_set::PrincipalSet;
 use std::alloc::{AllocError, Global};
 use std::marker::Model;
 
@@ -27,7 +29,7 @@ use std::marker::Model;
 pub struct Hierarchy {
     names: IndexSet<String>,
     pairs: Vec<(u32, u32)>,
-    table: Vec<Row>,
+    table: Vec<PrincipalSet>,
 }
 
 impl Model for Hierarchy {
@@ -35,11 +37,11 @@ impl Model for Hierarchy {
 
     ghost Value = { PrincipalHierarchy };
 
-    ghost use Rattle.principals.specs.Inside.{hierarchy_of, IsKeptHierarchy};
+    ghost use Rattle.principals.specs.Inside.{hierarchy_of, IsStoredHierarchy};
 
     ghost view = { hierarchy_of };
 
-    ghost invariant = { IsKeptHierarchy };
+    ghost invariant = { IsStoredHierarchy };
 }
 
 impl Clone for Hierarchy {
@@ -165,7 +167,7 @@ impl Hierarchy {
     }
 
     /// Whether `a` acts for some number of a set, for all of them in a few steps.
-    pub fn acts_for_some(&self, a: u32, numbers: &Row) -> bool
+    pub fn acts_for_some(&self, a: u32, numbers: &PrincipalSet) -> bool
         ensures { IsTrue result ↔
             ((b : ℕ) × IsTrue (has numbers.now b) × ActsFor self.now.pairs a b) }
     {

@@ -6,7 +6,7 @@ ghost use Rattle.principals.specs.HierarchyText.{IsHierarchyForm};
 ghost use Rattle.principals.specs.Reading.{entries_of, IsFormRefusal, role_of};
 ghost use Rattle.std.specs.Prelude.{IfErr, IfOk, ◌≡◌};
 
-use crate::fault::{HierarchyFault, HierarchyRefusal};
+use crate::fault::{HierarchyDefect, HierarchyFault, HierarchyRefusal};
 use common::OrNoMemory;
 use lexer::{Kind, Token};
 use std::alloc::Global;
@@ -71,7 +71,7 @@ fn role_of(token: &Token<'_>) -> Role
 
 impl<'a> Progress<'a> {
     ghost use Rattle.lexer.specs.Terminal.{terminal_of};
-    ghost use Rattle.principals.specs.Reading.{entry_of, next, said, state_of};
+    ghost use Rattle.principals.specs.Reading.{entry_of, finished_entries, next, state_of};
     ghost use Rattle.std.specs.Prelude.{map, option_map, option_to_list, ◌≡◌};
 
     /// What was read after one more token, or `None` where no text of the form goes on with it.
@@ -114,7 +114,7 @@ impl<'a> Progress<'a> {
     /// The statement that one more token makes whole.
     fn finish(self, token: Token<'a>) -> Option<Statement<'a>>
         ensures { map (λ statement. entry_of statement) (option_to_list result)
-            ≡ said (state_of self.entry) (terminal_of token.entry) }
+            ≡ finished_entries (state_of self.entry) (terminal_of token.entry) }
     {
         match self {
             Progress::Declaring => Some(Statement::Declares(token)),
@@ -139,7 +139,8 @@ pub(crate) fn read_statements<'a>(
     for token in tokens {
         let Some(after) = progress.next(*token) else {
             let at = token.span.start;
-            return Err(OrNoMemory::Refused(HierarchyRefusal::Syntax(at)));
+            let defect = HierarchyDefect::Syntax;
+            return Err(OrNoMemory::Refused(HierarchyRefusal { defect, at }));
         };
         if let Some(statement) = progress.finish(*token) {
             statements.push(statement)?;

@@ -1,11 +1,16 @@
 -- Ways out of statements: which are the same, those of exceptions, and that a test of an end holds where there is no fault.
-use Rattle.std.proofs.Common.{◌≡◌, ℕ, Bool, true, false, List, [], ◌∷◌, ◌++◌, refl, ap, eq-eqb, eqb-true}
+use Rattle.std.proofs.Common.{◌≡◌, ℕ, Bool, true, false, not, ◌&&◌, List, [], ◌∷◌, ◌++◌, filter, refl, sym, ap, ◌∙◌, ⊎_elim, eq-eqb, eqb-true}
+use Rattle.std.specs.List.{list_all}
+use Rattle.std.proofs.lemmas.Bool.{and_parts, or_cases, or_left}
+use Rattle.std.proofs.lemmas.List.Folds.{list_any-append}
+use Rattle.std.proofs.lemmas.Map.Views.{any-filter_same}
 use Rattle.resolved.specs.declared.statement.Exit.{Exit}
 use Rattle.resolved.specs.declared.statement.Exit.TheVariants.{Normal, Return, Break, Continue, Throw}
-use Rattle.resolved.specs.EndFaults.{EndDefect, fault_unless}
-use Rattle.resolved.specs.Ends.{has_end, same_exit, thrown_ends}
+use Rattle.resolved.specs.EndFaults.{fault_unless}
+use Rattle.resolved.specs.declared.fault.EndDefect.{EndDefect}
+use Rattle.resolved.specs.Ends.{has_end, same_exit, then_ends, thrown_ends}
 
--- ways out that the test takes for the same are the same
+-- ends that the test takes for the same are the same
 pub same-exit : (a b : Exit) → same_exit a b ≡ true → a ≡ b
 same-exit Normal Normal e = refl
 same-exit Return Return e = refl
@@ -21,7 +26,7 @@ same_exit-itself Break = refl
 same_exit-itself Continue = refl
 same_exit-itself (Throw a) = eq-eqb a a refl
 
--- an exception is no other way out
+-- an exception is no other end
 pub thrown-normal : (xs : List ℕ) → has_end (thrown_ends xs) Normal ≡ false
 thrown-normal [] = refl
 thrown-normal (x ∷ xs) = thrown-normal xs
@@ -41,3 +46,26 @@ thrown-append (x ∷ xs) ys = ap (λ ends. Throw x ∷ ends) (thrown-append xs y
 pub no_fault-test : (test : Bool) (defect : EndDefect) (at : ℕ) → fault_unless test defect at ≡ [] → test ≡ true
 no_fault-test true defect at e = refl
 no_fault-test false defect at e = absurd (cc)
+
+-- what all ends are, one of them is
+pub all-has : (p : Exit → Bool) (ends : List Exit) (exit : Exit) → list_all p ends ≡ true → has_end ends exit ≡ true → p exit ≡ true
+all-has p [] exit h f = let e : true ≡ false = sym f in absurd (cc)
+all-has p (first ∷ rest) exit h f =
+    let parts = and_parts (p first) (list_all p rest) h in
+    ⊎_elim (λ g. rw (same-exit exit first g) parts.0) (all-has p rest exit parts.1) (or_cases (same_exit exit first) (has_end rest exit) f)
+
+-- the ends of a list that pass a test
+pub end-filter : (p : Exit → Bool) (ends : List Exit) (exit : Exit) → has_end (filter p ends) exit ≡ (p exit && has_end ends exit)
+end-filter p ends exit = any-filter_same (same_exit exit) p (p exit) (λ e h. sym (ap p (same-exit exit e h))) ends
+
+-- an end other than the normal one is an end of what follows too
+pub then-other : (first rest : List Exit) (exit : Exit) → same_exit Normal exit ≡ false → has_end first exit ≡ true
+    → has_end (then_ends first rest) exit ≡ true
+then-other first rest exit other h = go (has_end first Normal) refl
+  where
+    go : (b : Bool) → has_end first Normal ≡ b → has_end (then_ends first rest) exit ≡ true
+    go true e =
+        let passing = filter (λ x. not (same_exit Normal x)) first in
+        rw e (list_any-append (same_exit exit) passing rest ∙ or_left (has_end passing exit) (has_end rest exit)
+        (end-filter (λ x. not (same_exit Normal x)) first exit ∙ rw (other, h) refl))
+    go false e = rw e h

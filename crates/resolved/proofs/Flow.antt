@@ -5,7 +5,7 @@ use Rattle.std.specs.List.{list_all}
 use Rattle.std.proofs.lemmas.Bool.{and_parts, not-false, not-true}
 use Rattle.principals.specs.ActsFor.{PrincipalHierarchy}
 use Rattle.std.proofs.lemmas.List.Elements.{Contains-append_cases}
-use Rattle.std.proofs.Math.Bool.{and-false}
+use Rattle.std.proofs.Math.Bool.{and-false, or-false}
 use Rattle.principals.proofs.Closure.{Contains-later, Contains-first, none_in_nil}
 use Rattle.labels.specs.Label.{ReaderPolicy, Label, Covers, covers, flows}
 use Rattle.labels.specs.Constraints.{Written, Unknown, Atom, is_written, value, join_of, holds, FitsAll, first_unmet, IsRefusedAt, StandsFor, OneByOne, outer, Linked, ends, label_lattice, renamed, reported_steps, reported_gathered}
@@ -200,10 +200,6 @@ first-is_written h labels (d ∷ ds) last fits e =
     let parts = and_parts (is_written d.right || holds (label_lattice h) labels d) (list_all (λ (d : Demand). is_written d.right || holds (label_lattice h) labels d) ds) fits in
     go (holds (label_lattice h) labels d) refl parts.0 e (first-is_written h labels ds last parts.1)
   where
-    turned : (b : Bool) → (b || false) ≡ true → b ≡ true
-    turned true f = refl
-    turned false f = f
-
     go : (b : Bool) → holds (label_lattice h) labels d ≡ b → (is_written d.right || holds (label_lattice h) labels d) ≡ true →
         find (λ (d : Demand). not (holds (label_lattice h) labels d)) (d ∷ ds) ≡ Some last →
         (find (λ (d : Demand). not (holds (label_lattice h) labels d)) ds ≡ Some last →
@@ -215,7 +211,7 @@ first-is_written h labels (d ∷ ds) last fits e =
     go false f fit e later =
         let is : Some d ≡ Some last = sym (rw f refl) ∙ e in
         let same : d ≡ last = cc in
-        let written : is_written d.right ≡ true = turned (is_written d.right) (rw f at fit) in
+        let written : is_written d.right ≡ true = sym (or-false (is_written d.right)) ∙ (rw f at fit) in
         (rw (f, written) (ap (λ x. Some x) same), subst (λ x. Contains (d ∷ ds) x) same (Contains-first d ds), ap (λ (x : Demand). is_written x.right) (sym same) ∙ written)
 
 -- ---- what was gathered decides

@@ -2,7 +2,7 @@ pub mod Cases
 pub mod Views
 pub mod Sound
 pub mod Exits
-pub mod Parts
+pub mod WellFormedParts
 pub mod Growing
 pub mod Flow
 mod ExceptionNames

@@ -1,9 +1,8 @@
 -- What the tree of each statement of the code is, by the lists of the code.
-use Rattle.std.proofs.Common.{◌≡◌, ℕ, suc, ◌+◌, ◌<◌, List, ◌∷◌, drop, get_or, length, refl, ap, sym, ◌∙◌}
-use Rattle.std.proofs.Math.Numerals.{add-one}
-use Rattle.std.proofs.Math.Seq.{drop-cons}
+use Rattle.std.proofs.Common.{◌≡◌, ℕ, ◌+◌, ◌<◌, List, drop, get_or, length, refl, ap, sym, ◌∙◌}
 use Rattle.std.specs.Prelude.{Vec}
 use Rattle.std.specs.declared.alloc.Global.{Global}
+use Rattle.common.proofs.Cases.{drop_next}
 use mathlib.Core.Former
 use Rattle.resolved.specs.declared.expression.Expression.{Expression}
 use Rattle.resolved.specs.declared.statement.Statement as S
@@ -71,19 +70,39 @@ pub at_nested : {A : Type 0} (f : Statement → A) {s : S.Statement} {at : ℕ} 
     → s ≡ S.Nested at block → f (statement_of s) ≡ f (Nested at (block_of block.items))
 at_nested f block is = ap (λ t. f (statement_of t)) is ∙ ap f (statement_of_nested _ block)
 
--- ---- what is next in a list
+-- the trees of statements, by lists of what stands in them
+pub tree-if : (s : S.Statement) (at : ℕ) (e : Expression) (yes_block no_block : Vec S.Statement Global) (ys ns : List S.Statement)
+    → s ≡ S.If at e yes_block no_block → ys ≡ yes_block.items → ns ≡ no_block.items
+    → statement_of s ≡ If at (expression_of e) (block_of ys) (block_of ns)
+tree-if s at e yes_block no_block ys ns is first second =
+    at_if (λ t. t) yes_block no_block is
+    ∙ (ap (λ list. If at (expression_of e) (block_of list) (block_of no_block.items)) (sym first)
+    ∙ ap (λ list. If at (expression_of e) (block_of ys) (block_of list)) (sym second))
 
-pub next : {A : Type 0} (xs : List A) (i : ℕ) (x : A) → i < length xs → x ≡ get_or xs i x → drop i xs ≡ x ∷ drop (i + 1) xs
-next xs i x inside is =
-    drop-cons xs i x inside ∙ (ap (λ y. y ∷ drop (suc i) xs) (sym is) ∙ ap (λ n. x ∷ drop n xs) (sym (add-one i)))
+pub tree-while : (s : S.Statement) (at loop : ℕ) (e : Expression) (body : Vec S.Statement Global) (list : List S.Statement)
+    → s ≡ S.While at loop e body → list ≡ body.items → statement_of s ≡ While at loop (expression_of e) (block_of list)
+tree-while s at loop e body list is lent =
+    at_while (λ t. t) body is ∙ ap (λ l. While at loop (expression_of e) (block_of l)) (sym lent)
+
+pub tree-try : (s : S.Statement) (at : ℕ) (block : Vec S.Statement Global) (handlers : Vec Handler Global) (bs : List S.Statement) (hs : List Handler)
+    → s ≡ S.Try at block handlers → bs ≡ block.items → hs ≡ handlers.items → statement_of s ≡ Try at (block_of bs) (handlers_of hs)
+tree-try s at block handlers bs hs is first second =
+    at_try (λ t. t) block handlers is
+    ∙ (ap (λ list. Try at (block_of list) (handlers_of handlers.items)) (sym first) ∙ ap (λ list. Try at (block_of bs) (handlers_of list)) (sym second))
+
+pub tree-nested : (s : S.Statement) (at : ℕ) (block : Vec S.Statement Global) (list : List S.Statement)
+    → s ≡ S.Nested at block → list ≡ block.items → statement_of s ≡ Nested at (block_of list)
+tree-nested s at block list is lent = at_nested (λ t. t) block is ∙ ap (λ l. Nested at (block_of l)) (sym lent)
+
+-- ---- what is next in a list
 
 pub next-statement : (block : List S.Statement) (i : ℕ) (statement : S.Statement) → i < length block → statement ≡ get_or block i statement
     → block_of (drop i block) ≡ Then (statement_of statement) (block_of (drop (i + 1) block))
-next-statement block i statement inside is = ap block_of (next block i statement inside is)
+next-statement block i statement inside is = ap block_of (drop_next block i statement inside is)
 
 pub next-handler : (handlers : List Handler) (i : ℕ) (handler : Handler) (body : List S.Statement) → i < length handlers → handler ≡ get_or handlers i handler
     → body ≡ handler.body.items
     → handlers_of (drop i handlers) ≡ Catch handler.at handler.exception (block_of body) (handlers_of (drop (i + 1) handlers))
 next-handler handlers i handler body inside is lent =
-    ap handlers_of (next handlers i handler inside is)
+    ap handlers_of (drop_next handlers i handler inside is)
     ∙ ap (λ list. Catch handler.at handler.exception (block_of list) (handlers_of (drop (i + 1) handlers))) (sym lent)

@@ -2,25 +2,14 @@
 -- Source: our own.
 use Rattle.std.specs.Prelude.{ℕ, List, [], ◌∷◌, ◌++◌, Bool, true, false, not, ◌&&◌, filter, flat_map, if◌then◌else◌, is_some}
 use Rattle.std.specs.List.{list_all}
+use Rattle.resolved.specs.declared.fault.EndDefect.{EndDefect}
+use Rattle.resolved.specs.declared.fault.EndDefect.TheVariants.{OutsideLoop, Unreachable, NeverRaised, NoValueReturned, Undeclared}
+use Rattle.resolved.specs.declared.fault.EndRefusal.{EndRefusal}
 use Rattle.resolved.specs.declared.statement.Exit.{Exit}
 use Rattle.resolved.specs.declared.statement.Exit.TheVariants.{Normal, Return, Break, Continue, Throw}
 use Rattle.resolved.specs.Tree.{Statement, Assign, Clear, Store, Receive, Send, Call, If, While, Leave, ReturnWith, Try, Nested, Block, Empty, Then, Handlers, NoMore, Catch, place_of}
 use Rattle.resolved.specs.Program.{Program, ProcedureEntry}
 use Rattle.resolved.specs.Ends.{same_exit, has_end, thrown_ends, declared_by, statement_ends, block_ends}
-
--- `break` or `continue` outside a loop; a statement that is never reached; a handler of an exception that does not come; a
--- procedure with a value that can end without one; a procedure that lets out an exception which it does not declare
-pub data EndDefect : Type 0 where
-  OutsideLoop : EndDefect
-  Unreachable : EndDefect
-  NeverRaised : EndDefect
-  NoValueReturned : EndDefect
-  Undeclared : EndDefect
-
--- a defect and the byte of the token at which it stands
-pub record EndRefusal : Type 0 where
-  pub defect : EndDefect
-  pub at : ℕ
 
 -- a fault, unless a test holds
 abbrev pub fault_unless : Bool → EndDefect → (at : ℕ) → List EndRefusal

@@ -9,17 +9,37 @@ use Rattle.resolved.specs.declared.statement.Exit.{Exit}
 use Rattle.resolved.specs.declared.statement.Exit.TheVariants.{Normal, Return, Break, Continue, Throw}
 use Rattle.resolved.specs.Tree.{Expression, Integer, Logical, Read, Element, Unary, Binary, Short, Statement, Assign, Clear, Store, Receive, Send, Call, If, While, Leave, ReturnWith, Try, Nested, Block, Empty, Then, Handlers, NoMore, Catch}
 use Rattle.resolved.specs.Program.{Program, ThrownEntry, procedure_at}
-use Rattle.resolved.specs.Value.{literal_number, in_range, arith_exception, bounds_exception, end_exception}
+use Rattle.resolved.specs.Value.{literal_number, in_range}
 use Rattle.common.specs.Integers.{is_zero}
+use Rattle.common.specs.declared.exceptions.TheConstants.{ARITH, BOUNDS, END}
 
 -- whether two exits are the same
 abbrev pub same_exit : Exit → Exit → Bool
 same_exit Normal Normal = true
+same_exit Normal Return = false
+same_exit Normal Break = false
+same_exit Normal Continue = false
+same_exit Normal (Throw b) = false
+same_exit Return Normal = false
 same_exit Return Return = true
+same_exit Return Break = false
+same_exit Return Continue = false
+same_exit Return (Throw b) = false
+same_exit Break Normal = false
+same_exit Break Return = false
 same_exit Break Break = true
+same_exit Break Continue = false
+same_exit Break (Throw b) = false
+same_exit Continue Normal = false
+same_exit Continue Return = false
+same_exit Continue Break = false
 same_exit Continue Continue = true
+same_exit Continue (Throw b) = false
+same_exit (Throw a) Normal = false
+same_exit (Throw a) Return = false
+same_exit (Throw a) Break = false
+same_exit (Throw a) Continue = false
 same_exit (Throw a) (Throw b) = a == b
-same_exit _ _ = false
 
 -- whether an exit is among these
 abbrev pub has_end : List Exit → Exit → Bool
@@ -69,10 +89,10 @@ is_division Different = false
 
 -- the exceptions of an access with this index, and of an operator with this right operand
 abbrev pub index_raises : Expression → (length : ℕ) → List ℕ
-index_raises index length = if index_can_raise index length then bounds_exception ∷ [] else []
+index_raises index length = if index_can_raise index length then BOUNDS ∷ [] else []
 
 abbrev pub operator_raises : Operator → Expression → List ℕ
-operator_raises operator e = if is_division operator then (if divisor_can_raise e then arith_exception ∷ [] else []) else []
+operator_raises operator e = if is_division operator then (if divisor_can_raise e then ARITH ∷ [] else []) else []
 
 -- the exceptions that an expression can raise: those of all its parts
 abbrev pub raises : Expression → List ℕ
@@ -128,7 +148,7 @@ abbrev mutual
   statement_ends program (Clear at slot) = Normal ∷ []
   statement_ends program (Store at array length index e) =
       Normal ∷ thrown_ends (raises index ++ raises e ++ index_raises index length)
-  statement_ends program (Receive at channel target) = Normal ∷ Throw end_exception ∷ []
+  statement_ends program (Receive at channel target) = Normal ∷ Throw END ∷ []
   statement_ends program (Send at channel e) = Normal ∷ thrown_ends (raises e)
   statement_ends program (Call at procedure arguments target) =
       Normal ∷ thrown_ends (raises_all arguments ++ declared_by (procedure_at program procedure).throws)

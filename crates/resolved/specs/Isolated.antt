@@ -1,9 +1,9 @@
 -- Isolation: what a principal can learn of the inputs that it may not read from what it sees of the outputs.
 -- Source: our own, for runs that may be stopped anywhere; noninterference after Volpano, Smith and Irvine 1996.
-use Rattle.std.specs.Prelude.{◌≡◌, ℕ, ◌<◌, length, ◌⊎◌, IsTrue}
+use Rattle.std.specs.Prelude.{◌≡◌, ℕ, ◌<◌, length, IsTrue}
 use Rattle.principals.specs.ActsFor.{PrincipalHierarchy}
 use Rattle.labels.specs.Label.{Label, may_read}
-use Rattle.labels.specs.Sent.{IsPrefix, pairs_for}
+use Rattle.labels.specs.Sent.{OneIsPrefix, pairs_for}
 use Rattle.common.specs.declared.direction.Direction.TheVariants.{Input}
 use Rattle.resolved.specs.Program.{Program, channel_at}
 use Rattle.resolved.specs.SourceState.{World}
@@ -23,8 +23,7 @@ Agree h label_of program p first second =
 abbrev pub IsolatedUnder : PrincipalHierarchy → (ℕ → Label) → Program → Type 0
 IsolatedUnder h label_of program =
     (p : ℕ) (first second : World) → Agree h label_of program p first second → (k m : ℕ)
-    → IsPrefix (pairs_for h label_of p (sent_by program first k)) (pairs_for h label_of p (sent_by program second m))
-    ⊎ IsPrefix (pairs_for h label_of p (sent_by program second m)) (pairs_for h label_of p (sent_by program first k))
+    → OneIsPrefix (pairs_for h label_of p (sent_by program first k)) (pairs_for h label_of p (sent_by program second m))
 
 -- an isolated program, under its own hierarchy and labels
 abbrev pub Isolated : Program → Type 0

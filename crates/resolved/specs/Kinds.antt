@@ -35,7 +35,7 @@ abbrev pub GivesBase : Base → Evaluated Value → Type 0
 GivesBase base (Yields v) = base_of v ≡ base
 GivesBase base (Raises exception) = Unit {0}
 
--- a returned value stands at this way out alone, and has the base type of a procedure's value
+-- a returned value stands at this end alone, and has the base type of a procedure's value
 abbrev pub ReturnedFits : Exit → Option ResultEntry → Outcome → Type 0
 ReturnedFits place result (Ended exit (Some v) s) = IsTrue (same_exit place exit && has_result result (same_base (base_of v)))
 ReturnedFits place result (Ended exit None s) = Unit {0}

@@ -4,7 +4,7 @@
 -- that at which a statement has evaluated its expressions, and X gives each end of a statement its label. The rules are numbered:
 -- 1 assignment, 2 declaration of an array, 3 store, 4 receive, 5 send, 6 call, 7 if, 8 while, 9 leave, 10 return, 11 try, 12 block
 -- (in braces), and 13 the ends of a procedure. Each of q, X and the demands has a clause for each rule, in this order.
--- Source: our own rules; a label for each way out as in JFlow (Myers 1999), simple security and confinement after Volpano,
+-- Source: our own rules; a label for each end as in JFlow (Myers 1999), simple security and confinement after Volpano,
 -- Smith and Irvine 1996.
 use Rattle.std.specs.Prelude.{ℕ, suc, List, [], ◌∷◌, ◌++◌, Bool, true, false, not, map, flat_map, ◌==◌, ◌&&◌, if◌then◌else◌, Option, Some, None}
 use Rattle.principals.specs.ActsFor.{PrincipalHierarchy}

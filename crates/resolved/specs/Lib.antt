@@ -6,6 +6,7 @@ pub mod Value
 pub mod SourceState
 pub mod Meaning
 pub mod Ends
+pub mod Defects
 pub mod EndFaults
 pub mod Labelled
 pub mod Isolated

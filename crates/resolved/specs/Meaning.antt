@@ -1,6 +1,7 @@
 -- What a program does: the meaning of statements with a bound on the turns of each loop and on the frames, and what a program
 -- has sent.
 -- Source: our own; a big-step meaning with counted turns, as textbooks give it for programs that may not end.
+use Rattle.common.specs.Functions.{updated}
 use Rattle.std.specs.Prelude.{ℕ, zero, suc, List, [], ◌∷◌, ◌++◌, ℤ, ◌==◌, if◌then◌else◌, Option, Some, None, replicate, slice_get}
 use Rattle.common.specs.declared.limits.TheConstants.{MAX_FRAMES}
 use Rattle.labels.specs.declared.sent.Pair.{Pair}
@@ -13,8 +14,9 @@ use Rattle.common.specs.declared.direction.Direction.{Direction}
 use Rattle.common.specs.declared.direction.Direction.TheVariants.{Input, Output}
 use Rattle.resolved.specs.Tree.{Statement, Assign, Clear, Store, Receive, Send, Call, If, While, Leave, ReturnWith, Try, Nested, Block, Empty, Then, Handlers, NoMore, Catch}
 use Rattle.resolved.specs.Program.{Program, ChannelEntry, GlobalEntry, SlotEntry, ProcedureEntry, procedure_at}
-use Rattle.resolved.specs.Value.{Evaluated, Yields, Raises, number_in, truth_in, zero_value, checked_index, end_exception}
-use Rattle.resolved.specs.SourceState.{World, SourceState, updated, assigned, stored, cleared, value_of, values_of}
+use Rattle.resolved.specs.Value.{Evaluated, Yields, Raises, number_in, truth_in, zero_value, checked_index}
+use Rattle.resolved.specs.SourceState.{World, SourceState, assigned, stored, cleared, value_of, values_of}
+use Rattle.common.specs.declared.exceptions.TheConstants.{END}
 
 -- why a run stops before its end: a call beyond the frames that there may be, or a loop that would make one turn more than the
 -- bound
@@ -22,7 +24,7 @@ pub data Stop : Type 0 where
   Deep : Stop
   OutOfTurns : Stop
 
--- what a statement comes to: the way out that it takes, with the value that it returns if it does, and the state then; or a
+-- what a statement comes to: the end that it takes, with the value that it returns if it does, and the state then; or a
 -- stop, which nothing catches
 pub data Outcome : Type 0 where
   Ended : (exit : Exit) (returned : Option Value) → SourceState → Outcome
@@ -81,7 +83,7 @@ kept_in (Some x) v s = assigned s x v
 
 -- takes the next number of an input, or raises `End`
 abbrev pub received : List ℤ → (channel : ℕ) → Option Variable → SourceState → Outcome
-received [] channel target s = thrown end_exception s
+received [] channel target s = thrown END s
 received (z ∷ rest) channel target s =
     normally (kept_in target (Number z) (record s { inputs = updated s.inputs channel rest }))
 

@@ -11,7 +11,7 @@ use Rattle.resolved.specs.declared.expression.Variable.TheVariants.{Local}
 use Rattle.resolved.specs.declared.statement.Exit.TheVariants.{Throw}
 use Rattle.common.specs.declared.direction.Direction.TheVariants.{Output}
 use Rattle.resolved.specs.Tree.{Expression, Integer, Read, Binary, Short, Statement, Assign, Send, Call, If, Leave, ReturnWith, Try, Block, Empty, Then, NoMore, Catch}
-use Rattle.resolved.specs.Value.{arith_exception}
+use Rattle.common.specs.declared.exceptions.TheConstants.{ARITH}
 use Rattle.resolved.specs.Program.{Program, ProcedureEntry, SlotEntry}
 use Rattle.resolved.specs.WellFormed.{well_formed}
 use Rattle.resolved.specs.EndFaults.{end_faults}
@@ -82,7 +82,7 @@ short_circuit = program_with
     (Binary Equal (Binary Divide (Integer 1) (local 0)) (local 1))
     (Binary LessThan (local 1) (Integer 9))))
     (Then send_one Empty))
-    (Catch 0 arith_exception Empty NoMore)) Empty))))
+    (Catch 0 ARITH Empty NoMore)) Empty))))
     nothing_else
 
 -- `void f(int{} n) : {Alice:} { }` and `int{} y = 3; try { f(1 / y); send pub, 1; } catch (Arith) { }`: the argument raises, and f
@@ -94,7 +94,7 @@ raising_argument = program_with
     (Then (Try 0
     (Then (Call 0 1 (Binary Divide (Integer 1) (local 0) ∷ []) None)
     (Then send_one Empty))
-    (Catch 0 arith_exception Empty NoMore)) Empty)))
+    (Catch 0 ARITH Empty NoMore)) Empty)))
     (procedure secret 1 (int_slot [] ∷ []) Empty)
 
 -- `void g(int{Alice:} x) { if (x > 0) { return; } x = 1; }` and `g(5); send pub, 1;`: whether it returns or ends normally is secret,
@@ -116,6 +116,6 @@ handler_of_one = program_with
     (Then (Try 0
     (Then (Assign 0 (Local 0) (Binary Divide (Integer 1) (local 0)))
     (Then (If 0 (Binary GreaterThan (local 1) (Integer 0)) (Then (Leave 0 (Throw oops)) Empty) Empty) Empty))
-    (Catch 0 arith_exception (Then send_one Empty)
+    (Catch 0 ARITH (Then send_one Empty)
     (Catch 0 oops Empty NoMore))) Empty))))
     nothing_else

@@ -1,6 +1,7 @@
 -- The world in which a program runs, its state, and the value of an expression in a state.
 -- Source: our own; the big-step meaning of expressions of textbooks, with exceptions.
-use Rattle.std.specs.Prelude.{ℕ, List, [], ◌∷◌, ℤ, pos, map, slice_index_or, slice_set, ◌==◌, if◌then◌else◌}
+use Rattle.common.specs.Functions.{updated}
+use Rattle.std.specs.Prelude.{ℕ, List, [], ◌∷◌, ℤ, pos, map, slice_index_or, slice_set, if◌then◌else◌}
 use Rattle.labels.specs.declared.sent.Pair.{Pair}
 use Rattle.resolved.specs.declared.expression.Variable.{Variable}
 use Rattle.resolved.specs.declared.expression.Variable.TheVariants.{Global, Local}
@@ -20,10 +21,6 @@ pub record SourceState : Type 0 where
   pub locals : ℕ → List Value
   pub inputs : World
   pub sent : List Pair
-
--- a table with another entry in one place
-abbrev pub updated : {A : Type 0} → (ℕ → A) → ℕ → A → ℕ → A
-updated table n entry m = if m == n then entry else table m
 
 -- the cells of a variable
 abbrev pub cells : SourceState → Variable → List Value

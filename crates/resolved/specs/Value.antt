@@ -1,7 +1,8 @@
 -- Values, and what the operators make of them.
 -- Source: our own language; whole numbers reduced to 32 bits, with division toward zero.
-use Rattle.std.specs.Prelude.{ℕ, Bool, true, false, not, ℤ, pos, negsuc, ◌+ℤ◌, ◌-ℤ◌, ◌*ℤ◌, neg_ℤ, int_lt, int_le, int_div, int_rem, nat_lt, if◌then◌else◌}
-use Rattle.common.specs.declared.exceptions.TheConstants.{ARITH, BOUNDS, END}
+use Rattle.common.specs.Functions.{same_truth}
+use Rattle.std.specs.Prelude.{ℕ, Bool, false, not, ℤ, pos, negsuc, ◌+ℤ◌, ◌-ℤ◌, ◌*ℤ◌, neg_ℤ, int_lt, int_le, int_div, int_rem, nat_lt, if◌then◌else◌}
+use Rattle.common.specs.declared.exceptions.TheConstants.{ARITH, BOUNDS}
 use Rattle.std.specs.Int.{int_wrap}
 use Rattle.std.specs.Ordering.{int_eq}
 use mir.Syntax.{w32}
@@ -16,16 +17,6 @@ use Rattle.resolved.specs.declared.expression.Operator.TheVariants.{Add, Subtrac
 use Rattle.resolved.specs.declared.expression.Connective.{Connective}
 use Rattle.resolved.specs.declared.expression.Connective.TheVariants.{And, Or}
 use Rattle.common.specs.Integers.{is_zero}
-
--- the built-in exceptions
-abbrev pub arith_exception : ℕ
-arith_exception = ARITH
-
-abbrev pub bounds_exception : ℕ
-bounds_exception = BOUNDS
-
-abbrev pub end_exception : ℕ
-end_exception = END
 
 -- what evaluation comes to: a result, or the exception that was raised
 pub data Evaluated (A : Type 0) : Type 0 where
@@ -70,11 +61,7 @@ prefix_value Not v = Truth (not (truth_in v))
 
 -- what a division gives, which raises `Arith` where the divisor is 0
 abbrev pub unless_zero : ℤ → ℤ → Evaluated Value
-unless_zero divisor result = if is_zero divisor then Raises arith_exception else Yields (Number result)
-
-abbrev pub bool_eq : Bool → Bool → Bool
-bool_eq true b = b
-bool_eq false b = not b
+unless_zero divisor result = if is_zero divisor then Raises ARITH else Yields (Number result)
 
 -- an operator on both its operands. Division truncates toward zero, a remainder has the dividend's sign
 abbrev pub operator_value : Operator → Value → Value → Evaluated Value
@@ -89,8 +76,8 @@ operator_value GreaterThan v w = Yields (Truth (int_lt (number_in w) (number_in 
 operator_value AtLeast v w = Yields (Truth (int_le (number_in w) (number_in v)))
 operator_value Equal v w = Yields (Truth (int_eq (number_in v) (number_in w)))
 operator_value Unequal v w = Yields (Truth (not (int_eq (number_in v) (number_in w))))
-operator_value Same v w = Yields (Truth (bool_eq (truth_in v) (truth_in w)))
-operator_value Different v w = Yields (Truth (not (bool_eq (truth_in v) (truth_in w))))
+operator_value Same v w = Yields (Truth (same_truth (truth_in v) (truth_in w)))
+operator_value Different v w = Yields (Truth (not (same_truth (truth_in v) (truth_in w))))
 
 -- whether the left operand alone decides: `false` does for `&&` and `true` for `||`, and then it is the result
 abbrev pub decides : Connective → Value → Bool
@@ -110,4 +97,4 @@ position_of (negsuc i) = 0
 -- an index that is in range, or `Bounds`
 abbrev pub checked_index : Value → ℕ → Evaluated ℕ
 checked_index v length =
-    if in_range (number_in v) length then Yields (position_of (number_in v)) else Raises bounds_exception
+    if in_range (number_in v) length then Yields (position_of (number_in v)) else Raises BOUNDS

@@ -27,10 +27,6 @@ use Rattle.resolved.specs.Program.{Program, ProcedureEntry, SlotEntry, ResultEnt
 use Rattle.resolved.specs.Value.{base_of}
 use Rattle.common.specs.Integers.{is_zero}
 
--- the greatest literal
-abbrev pub literal_limit : ℕ
-literal_limit = MAX_INTEGER
-
 -- ---- types
 abbrev pub same_base : Base → Base → Bool
 same_base Int Int = true
@@ -105,7 +101,7 @@ array_by (Some type) length test = has_length type.size length && test type.base
 
 -- 401 wrong type: an expression of a base type. Its variables are there (301), of the kind that is wanted (403)
 abbrev pub has_base : Program → ProcedureEntry → Base → Expression → Bool
-has_base program procedure base (Integer n) = same_base Int base && nat_le n literal_limit
+has_base program procedure base (Integer n) = same_base Int base && nat_le n MAX_INTEGER
 has_base program procedure base (Logical b) = same_base Boolean base
 has_base program procedure base (Read x) = scalar_by (variable_type program procedure x) (same_base base)
 has_base program procedure base (Element array length index) =

@@ -3,9 +3,12 @@
 
 pub mod exceptions;
 pub mod expression;
+pub mod fault;
 pub mod laws;
 pub mod lookup;
 pub mod program;
 pub mod statement;
 pub mod tables;
 pub mod target;
+
+pub use fault::{EndDefect, EndRefusal};

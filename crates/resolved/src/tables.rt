@@ -41,7 +41,7 @@ pub struct ResultType {
     pub label: Label,
 }
 
-/// An exception that a procedure may let out, and its label.
+/// An exception that a procedure declares in `throws`, and its label.
 #[derive(Drop)]
 pub struct Thrown {
     pub exception: u32,

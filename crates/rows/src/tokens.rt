@@ -59,11 +59,7 @@ fn write_refusal(
     refusal: LexRefusal,
     answer: &mut Vec<u8>,
 ) -> Result<(), LineFault> {
-    let (at, words) = match refusal {
-        LexRefusal::NoToken(at) => (at, "no token"),
-        LexRefusal::LiteralTooLarge(at) => (at, "literal too large"),
-        LexRefusal::UnclosedComment(at) => (at, "open comment"),
-    };
-    let line = format!(in alloc; "= refused\n! {at} {words}\n")?;
+    let at = refusal.at;
+    let line = format!(in alloc; "= refused\n! {at} {refusal}\n")?;
     write(answer, line.as_bytes())
 }

@@ -1,4 +1,4 @@
--- The way back along a trail.
+-- The chain back along a trail.
 use Rattle.std.proofs.Common.{◌≡◌, refl, sym, ap, ◌∙◌, subst, ℕ, suc, ◌<◌, ◌≤◌, ◌-◌, length, get_or, List, [], ◌∷◌, ◌++◌, reverse, arith}
 use Rattle.std.proofs.lemmas.List.{reverse-append}
 use Rattle.solver.specs.Reach.{CameFrom, EndsAt, IsTrail, LeadsTo, LeadsOn, ParentsFall, earlier, ends, goes_on, itself, nothing_found}

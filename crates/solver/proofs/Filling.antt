@@ -9,7 +9,7 @@ use Rattle.solver.specs.Reach.{ReachesBy, directly, edge, onward}
 use Rattle.solver.specs.Rows.{AreRows, AreSized, has_at}
 use Rattle.solver.specs.Spread.{AreMasks, mask_at}
 use Rattle.solver.specs.declared.edges.Edges.{Edges}
-use Rattle.solver.specs.declared.row.Row.{Row}
+use Rattle.solver.specs.declared.number_set.NumberSet.{NumberSet}
 use Rattle.solver.specs.declared.system.Atom.TheVariants.{Unknown}
 use Rattle.solver.proofs.Spreading.{row_at-inside}
 use Rattle.common.proofs.Cases.{last_cases}
@@ -22,31 +22,31 @@ ltb-ge a b h = go (nat_lt a b) refl
     go false e = e
 
 -- ---- reading rows
-pub has_at-read : (rows : List Row) (u n : ℕ) (d : Row) → u < length rows → has_bit (get_or rows u d).words.items n ≡ has_at rows u n
+pub has_at-read : (rows : List NumberSet) (u n : ℕ) (d : NumberSet) → u < length rows → has_bit (get_or rows u d).words.items n ≡ has_at rows u n
 has_at-read [] u n d h = absurd (omega (arith, h))
 has_at-read (row ∷ rows) zero n d h = refl
 has_at-read (row ∷ rows) (suc u) n d h = has_at-read rows u n d (omega (arith, h))
 
-pub has_at-same : (rows : List Row) (u n : ℕ) (row : Row) → u < length rows → has_at (set rows u row) u n ≡ has_bit row.words.items n
+pub has_at-same : (rows : List NumberSet) (u n : ℕ) (row : NumberSet) → u < length rows → has_at (set rows u row) u n ≡ has_bit row.words.items n
 has_at-same [] u n row h = absurd (omega (arith, h))
 has_at-same (r ∷ rows) zero n row h = refl
 has_at-same (r ∷ rows) (suc u) n row h = has_at-same rows u n row (omega (arith, h))
 
-pub has_at-other : (rows : List Row) (u w n : ℕ) (row : Row) → w ≢ u → has_at (set rows u row) w n ≡ has_at rows w n
+pub has_at-other : (rows : List NumberSet) (u w n : ℕ) (row : NumberSet) → w ≢ u → has_at (set rows u row) w n ≡ has_at rows w n
 has_at-other [] u w n row ne = refl
 has_at-other (r ∷ rows) zero zero n row ne = absurd (ne refl)
 has_at-other (r ∷ rows) zero (suc w) n row ne = refl
 has_at-other (r ∷ rows) (suc u) zero n row ne = refl
 has_at-other (r ∷ rows) (suc u) (suc w) n row ne = has_at-other rows u w n row (λ e. ne (ap suc e))
 
-pub has_at-more : (rows : List Row) (row : Row) → ((n : ℕ) → has_bit row.words.items n ≡ false) → ((u n : ℕ) → has_at rows u n ≡ false) →
+pub has_at-more : (rows : List NumberSet) (row : NumberSet) → ((n : ℕ) → has_bit row.words.items n ≡ false) → ((u n : ℕ) → has_at rows u n ≡ false) →
     (u n : ℕ) → has_at (rows ++ row ∷ []) u n ≡ false
 has_at-more [] row none each zero n = none n
 has_at-more [] row none each (suc u) n = refl
 has_at-more (r ∷ rows) row none each zero n = each zero n
 has_at-more (r ∷ rows) row none each (suc u) n = has_at-more rows row none (λ u n. each (suc u) n) u n
 
-pub has_at-beyond : (rows : List Row) (u n : ℕ) → length rows ≤ u → has_at rows u n ≡ false
+pub has_at-beyond : (rows : List NumberSet) (u n : ℕ) → length rows ≤ u → has_at rows u n ≡ false
 has_at-beyond [] u n h = refl
 has_at-beyond (row ∷ rows) zero n h = absurd (omega (arith, h))
 has_at-beyond (row ∷ rows) (suc u) n h = has_at-beyond rows u n (omega (arith, h))
@@ -57,7 +57,7 @@ mask_at-beyond (m ∷ masks) zero h = absurd (omega (arith, h))
 mask_at-beyond (m ∷ masks) (suc u) h = mask_at-beyond masks u (omega (arith, h))
 
 -- ---- words of a block
-abbrev pub put : List Row → (block : ℕ) → List ℕ → (u n : ℕ) → Bool
+abbrev pub put : List NumberSet → (block : ℕ) → List ℕ → (u n : ℕ) → Bool
 put rows block masks u n = if n / 64 == block then (bit_at (mask_at masks u) (n % 64) == 1) else has_at rows u n
 
 word-put : (words : List ℕ) (block word n : ℕ) → block < length words →
@@ -70,11 +70,11 @@ word-put words block word n h = go (nat_eq (n / 64) block) refl
         rw e (ap (λ x. bit_at x (n % 64) == 1) (ap (λ j. get_or (set words block word) j 0) same ∙ get_or-set_same words block word 0 h))
     go false e = rw e (ap (λ x. bit_at x (n % 64) == 1) (get_or-set_other words block (n / 64) word 0 (eqb-false (n / 64) block e)))
 
-pub record IsPut (old : List Row) (block : ℕ) (masks : List ℕ) (rows : List Row) (u : ℕ) : Type 0 where
+pub record IsPut (old : List NumberSet) (block : ℕ) (masks : List ℕ) (rows : List NumberSet) (u : ℕ) : Type 0 where
   pub done : (w n : ℕ) → w < u → has_at rows w n ≡ put old block masks w n
   pub rest : (w n : ℕ) → u ≤ w → has_at rows w n ≡ has_at old w n
 
-pub put-step : (old : List Row) (block : ℕ) (masks : List ℕ) (rows : List Row) (u : ℕ) (before after : Row) (word : ℕ) → u < length rows → IsPut old block masks rows u →
+pub put-step : (old : List NumberSet) (block : ℕ) (masks : List ℕ) (rows : List NumberSet) (u : ℕ) (before after : NumberSet) (word : ℕ) → u < length rows → IsPut old block masks rows u →
     before ≡ get_or rows u before → block < length before.words.items → after.words.items ≡ set before.words.items block word → word ≡ mask_at masks u →
     IsPut old block masks (set rows u after) (u + 1)
 put-step old block masks rows u before after word h so_far is inside after_is word_is = record {
@@ -86,7 +86,7 @@ put-step old block masks rows u before after word h so_far is inside after_is wo
 }
   where
     before_has : (n : ℕ) → has_bit before.words.items n ≡ has_at old u n
-    before_has n = ap (λ (r : Row). has_bit r.words.items n) is ∙ (has_at-read rows u n before h ∙ so_far.rest u n (omega arith))
+    before_has n = ap (λ (r : NumberSet). has_bit r.words.items n) is ∙ (has_at-read rows u n before h ∙ so_far.rest u n (omega arith))
 
     here : (n : ℕ) → has_at (set rows u after) u n ≡ put old block masks u n
     here n =
@@ -96,7 +96,7 @@ put-step old block masks rows u before after word h so_far is inside after_is wo
         ∙ (ap (λ b. if n / 64 == block then (bit_at word (n % 64) == 1) else b) (before_has n)
         ∙ ap (λ x. if n / 64 == block then (bit_at x (n % 64) == 1) else has_at old u n) word_is)))
 
-pub put-end : (old : List Row) (block : ℕ) (masks : List ℕ) (rows : List Row) (u : ℕ) → IsPut old block masks rows u → length masks ≤ u → length old ≤ u →
+pub put-end : (old : List NumberSet) (block : ℕ) (masks : List ℕ) (rows : List NumberSet) (u : ℕ) → IsPut old block masks rows u → length masks ≤ u → length old ≤ u →
     (w n : ℕ) → has_at rows w n ≡ put old block masks w n
 put-end old block masks rows u is_put len len' w n =
     ⊎_elim (λ (lt : w < u). is_put.done w n lt)
@@ -113,13 +113,13 @@ put-end old block masks rows u is_put len len' w n =
         go false e = rw e refl
 
 -- ---- all blocks
-pub record AreFilled (edges : Edges) (rows : List Row) (block : ℕ) : Type 0 where
+pub record AreFilled (edges : Edges) (rows : List NumberSet) (block : ℕ) : Type 0 where
   pub all : length rows ≡ length edges.unknown.items
   pub sized : AreSized (length edges.written.items) rows
   pub sound : (u n : ℕ) → IsTrue (has_at rows u n) → ReachesBy edges n u
   pub complete : (u n : ℕ) → n < 64 * block → ReachesBy edges n u → IsTrue (has_at rows u n)
 
-pub filled-start : (edges : Edges) (rows : List Row) → length rows ≡ length edges.unknown.items → AreSized (length edges.written.items) rows → ((u n : ℕ) → has_at rows u n ≡ false) →
+pub filled-start : (edges : Edges) (rows : List NumberSet) → length rows ≡ length edges.unknown.items → AreSized (length edges.written.items) rows → ((u n : ℕ) → has_at rows u n ≡ false) →
     AreFilled edges rows 0
 filled-start edges rows all sized none = record {
   all = all;
@@ -128,7 +128,7 @@ filled-start edges rows all sized none = record {
   complete = λ u n lt r. absurd (omega (arith, lt));
 }
 
-pub filled-step : (edges : Edges) (rows rows' : List Row) (block : ℕ) (masks : List ℕ) → AreFilled edges rows block → length rows' ≡ length rows → AreSized (length edges.written.items) rows' →
+pub filled-step : (edges : Edges) (rows rows' : List NumberSet) (block : ℕ) (masks : List ℕ) → AreFilled edges rows block → length rows' ≡ length rows → AreSized (length edges.written.items) rows' →
     AreMasks edges (block * 64) masks → ((u n : ℕ) → has_at rows' u n ≡ put rows block masks u n) → AreFilled edges rows' (block + 1)
 filled-step edges rows rows' block masks so_far all sized found words = record {
   all = all ∙ so_far.all;
@@ -158,7 +158,7 @@ pub reaches-inside : (edges : Edges) (n u : ℕ) → ReachesBy edges n u → n <
 reaches-inside edges n u (directly by _ leads) = row_at-inside edges.written.items n (edge by (Unknown u)) leads
 reaches-inside edges n u (onward by w _ r leads) = reaches-inside edges n w r
 
-pub filled-end : (edges : Edges) (rows : List Row) (block : ℕ) → AreFilled edges rows block → length edges.written.items < 64 * block → AreRows edges rows
+pub filled-end : (edges : Edges) (rows : List NumberSet) (block : ℕ) → AreFilled edges rows block → length edges.written.items < 64 * block → AreRows edges rows
 filled-end edges rows block filled h = record {
   all = filled.all;
   sized = filled.sized;

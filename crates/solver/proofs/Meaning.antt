@@ -4,6 +4,7 @@ use Rattle.std.proofs.Common.{◌≡◌, refl, sym, ap, ◌∙◌, subst, ℕ, z
 use Rattle.std.specs.Prelude.{Contains, slice_get}
 use Rattle.std.proofs.lemmas.Bool.{eqb-true, eq-eqb}
 use Rattle.std.proofs.lemmas.List.Elements.{Contains-append_cases, Contains-append_left, Contains-append_right, All-contains}
+use Rattle.std.proofs.lemmas.Option.{same_Some}
 use Rattle.principals.proofs.Closure.{none_in_nil, Contains-cons_cases, Contains-later, Contains-first}
 use Rattle.labels.specs.Constraints.{Lattice, Reaches, onward}
 use Rattle.labels.specs.Constraints as formal
@@ -17,42 +18,18 @@ use Rattle.solver.specs.declared.edges.Edges.{Edges}
 use Rattle.solver.specs.declared.system.Atom.{Atom}
 use Rattle.solver.specs.declared.system.Atom.TheVariants.{Unknown, Written}
 use Rattle.solver.specs.declared.system.Constraint.{Constraint}
-use Rattle.common.proofs.Cases.{same_some, contained_map}
+use Rattle.common.proofs.Cases.{contained_map, contained_map_only, contained_place, contained_at}
 
 -- ---- lists
-
-pub Contains-map_only : {X Y : Type 0} (f : X → Y) (xs : List X) (y : Y) → Contains (map f xs) y → (x : X) × Contains xs x × (f x ≡ y)
-Contains-map_only f [] y h = absurd (none_in_nil y h)
-Contains-map_only f (x ∷ xs) y h =
-    ⊎_elim (λ is. (x, Contains-first x xs, is))
-    (λ k. let found = Contains-map_only f xs y k in (found.0, Contains-later x xs found.0 found.1, found.2))
-    (Contains-cons_cases (f x) (map f xs) y h)
-
-pub Contains-at : {X : Type 0} (xs : List X) (x : X) → Contains xs x → (i : ℕ) × (slice_get xs i ≡ Some x)
-Contains-at [] x h = absurd (none_in_nil x h)
-Contains-at (y ∷ ys) x h =
-    ⊎_elim (λ (is : y ≡ x). (0, ap Some is))
-    (λ k. let found = Contains-at ys x k in (suc found.0, found.1))
-    (Contains-cons_cases y ys x h)
 
 abbrev some_or : {X : Type 0} → X → Option X → X
 some_or d None = d
 some_or d (Some x) = x
 
-pub at-contains : {X : Type 0} (xs : List X) (i : ℕ) (x : X) → slice_get xs i ≡ Some x → Contains xs x
-at-contains [] i x e = absurd (cc)
-at-contains {X} (y ∷ ys) zero x e = subst (λ (z : X). Contains (y ∷ ys) z) (same_some y x e) (Contains-first y ys)
-at-contains (y ∷ ys) (suc i) x e = Contains-later y ys x (at-contains ys i x e)
-
 pub at-map : {X Y : Type 0} (f : X → Y) (xs : List X) (i : ℕ) (x : X) → slice_get xs i ≡ Some x → slice_get (map f xs) i ≡ Some (f x)
 at-map f [] i x e = absurd (cc)
-at-map f (y ∷ ys) zero x e = ap (λ z. Some (f z)) (same_some y x e)
+at-map f (y ∷ ys) zero x e = ap (λ z. Some (f z)) (same_Some y x e)
 at-map f (y ∷ ys) (suc i) x e = at-map f ys i x e
-
-pub at-map_only : {X Y : Type 0} (f : X → Y) (xs : List X) (i : ℕ) (y : Y) → slice_get (map f xs) i ≡ Some y → (x : X) × (slice_get xs i ≡ Some x) × (f x ≡ y)
-at-map_only f [] i y e = absurd (cc)
-at-map_only f (x ∷ xs) zero y e = (x, refl, same_some (f x) y e)
-at-map_only f (x ∷ xs) (suc i) y e = at-map_only f xs i y e
 
 -- ---- atoms
 pub same-itself : (a : Atom) → same a a ≡ true
@@ -107,7 +84,7 @@ links_of-only k [] from by to h = absurd (none_in_nil (link from by to) h)
 links_of-only {T} k (c ∷ cs) from by to h =
     ⊎_elim
     (λ here.
-    let found = Contains-map_only (λ a. link a k c.right) c.left.items (link from by to) here in (
+    let found = contained_map_only (λ a. link a k c.right) c.left.items (link from by to) here in (
       0,
       sym (ap (λ (x : Link). x.by) found.2) ∙ sym (add-zero k),
       record {
@@ -126,7 +103,7 @@ pub links_of-has : {T : Type 0} (k : ℕ) (cs : List (Constraint T)) (i : ℕ) (
     Contains (links_of k cs) (link from (k + i) c.right)
 links_of-has k [] i c from at part = absurd (cc)
 links_of-has {T} k (d ∷ cs) zero c from at part =
-    let here : d ≡ c = same_some d c at in
+    let here : d ≡ c = same_Some d c at in
     subst (λ n. Contains (links_of k (d ∷ cs)) (link from n c.right)) (sym (add-zero k))
     (Contains-append_left (left_links k d.right d.left.items) (links_of (suc k) cs) (link from k c.right)
     (subst (λ (x : Constraint T). Contains (left_links k x.right x.left.items) (link from k c.right)) (sym here) (contained_map (λ a. link a k c.right) c.left.items from part)))
@@ -179,12 +156,12 @@ module _ {T V : Type 0} (l : Lattice V) (table : List V) (cs : List (Constraint 
   reaches-to n u (reach.directly by _ h) =
       let part = leads-part cs edges are (Written n) by (Unknown u) h in
       formal.directly (constraint_of l table part.constraint) u
-      (contained_map (constraint_of l table) cs part.constraint (at-contains cs by part.constraint part.at))
+      (contained_map (constraint_of l table) cs part.constraint (contained_at cs by part.constraint part.at))
       (contained_map (atom_of l table) part.constraint.left.items (Written n) part.part) (ap (atom_of l table) part.right)
   reaches-to n u (reach.onward by w _ r h) =
       let part = leads-part cs edges are (Unknown w) by (Unknown u) h in
       formal.onward (constraint_of l table part.constraint) w u (reaches-to n w r)
-      (contained_map (constraint_of l table) cs part.constraint (at-contains cs by part.constraint part.at))
+      (contained_map (constraint_of l table) cs part.constraint (contained_at cs by part.constraint part.at))
       (contained_map (atom_of l table) part.constraint.left.items (Unknown w) part.part) (ap (atom_of l table) part.right)
 
   pub in_table : (c : Constraint T) (n : ℕ) → Contains cs c → Contains c.left.items (Written n) → n < length table
@@ -194,12 +171,12 @@ module _ {T V : Type 0} (l : Lattice V) (table : List V) (cs : List (Constraint 
 
   pub reaches-from : (v : V) (u : ℕ) → Reaches meant v u → (n : ℕ) × (n < length table) × (written_at l table n ≡ v) × ReachesBy edges n u
   reaches-from v u (formal.directly d _ h from is) =
-      let source = Contains-map_only (constraint_of l table) cs d h in
+      let source = contained_map_only (constraint_of l table) cs d h in
       let c = source.0 in
-      let part = Contains-map_only (atom_of l table) c.left.items (formal.Written v) (subst (λ (x : formal.Constraint T ℕ V). Contains x.left (formal.Written v)) (sym source.2) from) in
+      let part = contained_map_only (atom_of l table) c.left.items (formal.Written v) (subst (λ (x : formal.Constraint T ℕ V). Contains x.left (formal.Written v)) (sym source.2) from) in
       let number = written-is part.0 v part.2 in
       let here : Contains c.left.items (Written number.0) = subst (λ a. Contains c.left.items a) number.1 part.1 in
-      let at = Contains-at cs c source.1 in
+      let at = contained_place cs c source.1 in
       let right : c.right ≡ Unknown u = unknown-is c.right u (ap (λ (x : formal.Constraint T ℕ V). x.right) source.2 ∙ is) in (
         number.0,
         in_table c number.0 source.1 here,
@@ -208,11 +185,11 @@ module _ {T V : Type 0} (l : Lattice V) (table : List V) (cs : List (Constraint 
       )
   reaches-from v u (formal.onward d w _ r h from is) =
       let before = reaches-from v w r in
-      let source = Contains-map_only (constraint_of l table) cs d h in
+      let source = contained_map_only (constraint_of l table) cs d h in
       let c = source.0 in
-      let part = Contains-map_only (atom_of l table) c.left.items (formal.Unknown w) (subst (λ (x : formal.Constraint T ℕ V). Contains x.left (formal.Unknown w)) (sym source.2) from) in
+      let part = contained_map_only (atom_of l table) c.left.items (formal.Unknown w) (subst (λ (x : formal.Constraint T ℕ V). Contains x.left (formal.Unknown w)) (sym source.2) from) in
       let here : Contains c.left.items (Unknown w) = subst (λ a. Contains c.left.items a) (unknown-is part.0 w part.2) part.1 in
-      let at = Contains-at cs c source.1 in
+      let at = contained_place cs c source.1 in
       let right : c.right ≡ Unknown u = unknown-is c.right u (ap (λ (x : formal.Constraint T ℕ V). x.right) source.2 ∙ is) in (
         before.0,
         before.1,

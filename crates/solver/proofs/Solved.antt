@@ -5,6 +5,7 @@ use Rattle.std.specs.Prelude.{Contains, slice_get, IsTrue, IsFalse, find}
 use Rattle.std.specs.List.{list_any}
 use Rattle.std.proofs.lemmas.Bool.{eqb-true, eq-eqb, or_left, or_right, or_cases}
 use Rattle.std.proofs.lemmas.List.Elements.{All-contains}
+use Rattle.std.proofs.lemmas.Option.{same_Some}
 use Rattle.principals.proofs.Closure.{none_in_nil, Contains-cons_cases, Contains-later, Contains-first}
 use Rattle.labels.specs.Constraints.{FitsAll, IsLeast, IsRefusedAt, Linked, LatticeLaws, Lattice, holds, is_written, join_of, value}
 use Rattle.labels.specs.Constraints as formal
@@ -17,17 +18,17 @@ use Rattle.solver.specs.Reach.{CameFrom, IsTrail, LeadsTo, LeadsOn, ReachesBy, L
 use Rattle.solver.specs.Rows.{AreRows, atom_has, has_at, left_has, reached_by, unknowns_with}
 use Rattle.solver.specs.System.{Picks, atom_of, constraint_of, is_among, row_join, rows_with, values_of}
 use Rattle.solver.specs.declared.edges.Edges.{Edges}
-use Rattle.solver.specs.declared.row.Row.{Row}
+use Rattle.solver.specs.declared.number_set.NumberSet.{NumberSet}
 use Rattle.solver.specs.declared.search.Found.{Found}
 use Rattle.solver.specs.declared.system.Atom.{Atom}
 use Rattle.solver.specs.declared.system.Atom.TheVariants.{Unknown, Written}
 use Rattle.solver.specs.declared.system.Constraint.{Constraint}
-use Rattle.solver.proofs.Meaning.{AreEdges, Contains-at, Contains-map_only, at-contains, at-map, at-map_only, in_table, leads-part, part-leads, reaches-to}
+use Rattle.solver.proofs.Meaning.{AreEdges, at-map, in_table, leads-part, part-leads, reaches-to}
 use Rattle.solver.proofs.Values.{is_among-row}
-use Rattle.common.proofs.Cases.{same_some, by_test, contained_map}
+use Rattle.common.proofs.Cases.{by_test, contained_map, contained_map_only, contained_place, contained_at, there_map_only}
 
 -- ---- the written elements in whose row an unknown stands
-rows_with-has : (k count : ℕ) (rows : List Row) (u i : ℕ) → i < count → IsTrue (has_at rows u (k + i)) → Contains (rows_with k (reached_by k count rows) u) (k + i)
+rows_with-has : (k count : ℕ) (rows : List NumberSet) (u i : ℕ) → i < count → IsTrue (has_at rows u (k + i)) → Contains (rows_with k (reached_by k count rows) u) (k + i)
 rows_with-has k zero rows u i h has = absurd (omega (arith, h))
 rows_with-has k (suc count) rows u zero h has =
     let first : is_among u (unknowns_with k 0 rows) ≡ true = is_among-row rows k u ∙ (ap (has_at rows u) (sym (add-zero k)) ∙ has) in
@@ -43,7 +44,7 @@ rows_with-has k (suc count) rows u (suc i) h has =
     go true e more = rw e (Contains-later k (rows_with (suc k) (reached_by (suc k) count rows) u) (k + suc i) more)
     go false e more = rw e more
 
-rows_with-only : (k count : ℕ) (rows : List Row) (u n : ℕ) → Contains (rows_with k (reached_by k count rows) u) n → (n < k + count) × IsTrue (has_at rows u n)
+rows_with-only : (k count : ℕ) (rows : List NumberSet) (u n : ℕ) → Contains (rows_with k (reached_by k count rows) u) n → (n < k + count) × IsTrue (has_at rows u n)
 rows_with-only k zero rows u n h = absurd (none_in_nil n h)
 rows_with-only k (suc count) rows u n h = go (is_among u (unknowns_with k 0 rows)) refl (rows_with-only (suc k) count rows u n)
   where
@@ -97,7 +98,7 @@ find-at : {X : Type 0} (test : X → Bool) (xs : List X) (i : ℕ) (x : X) → s
     ((j : ℕ) (y : X) → j < i → slice_get xs j ≡ Some y → test y ≡ false) → find test xs ≡ Some x
 find-at test [] i x at passes before = absurd (cc)
 find-at {X} test (y ∷ ys) zero x at passes before =
-    let is : y ≡ x = same_some y x at in
+    let is : y ≡ x = same_Some y x at in
     let y_passes : test y ≡ true = ap test is ∙ passes in
     rw y_passes (ap Some is)
 find-at test (y ∷ ys) (suc i) x at passes before =
@@ -118,7 +119,7 @@ right-below : {T : Type 0} (cs : List (Constraint T)) (edges : Edges) → AreEdg
 right-below {T} cs edges are written unknowns range from by to leads =
     let part = leads-part cs edges are from by to leads in
     subst (λ r. IsBelow written unknowns r) part.right
-    (All-contains (λ (c : Constraint T). AreBelow written unknowns c.left.items × IsBelow written unknowns c.right) cs part.constraint range (at-contains cs by part.constraint part.at)).1
+    (All-contains (λ (c : Constraint T). AreBelow written unknowns c.left.items × IsBelow written unknowns c.right) cs part.constraint range (contained_at cs by part.constraint part.at)).1
 
 pub unknowns-inside : {T : Type 0} (cs : List (Constraint T)) (edges : Edges) → AreEdges cs edges → (written unknowns : ℕ) → InRange written unknowns cs →
     length edges.unknown.items ≡ unknowns → LeadsInside edges
@@ -131,7 +132,7 @@ rights-inside cs edges are written unknowns range count is from by n leads =
     subst (λ m. n < m) (sym is) (right-below cs edges are written unknowns range from by (Written n) leads)
 
 module _ {T V : Type 0} (l : Lattice V) (laws : LatticeLaws l) (table : List V) (cs : List (Constraint T)) (edges : Edges) (are : AreEdges cs edges) (unknowns : ℕ)
-    (range : InRange (length table) unknowns cs) (rows : List Row) (are_rows : AreRows edges rows) where
+    (range : InRange (length table) unknowns cs) (rows : List NumberSet) (are_rows : AreRows edges rows) where
   abbrev all_meant : List (formal.Constraint T ℕ V)
   all_meant = map (constraint_of l table) cs
 
@@ -152,47 +153,47 @@ module _ {T V : Type 0} (l : Lattice V) (laws : LatticeLaws l) (table : List V) 
   join-is [] = refl
   join-is (n ∷ ns) = ap (λ x. l.join (written_at l table n) x) (join-is ns)
 
-  below-vals : (n u : ℕ) → n < length table → ReachesBy edges n u → IsTrue (l.leq (written_at l table n) (vals u))
+  below-vals : (n u : ℕ) → n < length table → ReachesBy edges n u → IsTrue (l.lies_below (written_at l table n) (vals u))
   below-vals n u h r =
       let has = are_rows.complete u n r in
       let in' : Contains (reaching u) n =
       subst (λ m. Contains (reaching u) m) (zero-add n) (rows_with-has 0 (length table) rows u n h (subst (λ m. IsTrue (has_at rows u m)) (sym (zero-add n)) has)) in
-      subst (λ x. IsTrue (l.leq (written_at l table n) x)) (sym (join-is (reaching u)))
+      subst (λ x. IsTrue (l.lies_below (written_at l table n) x)) (sym (join-is (reaching u)))
       (join_all-above l laws (map (written_at l table) (reaching u)) (written_at l table n) (contained_map (written_at l table) (reaching u) n in'))
 
   row-reaches : (u n : ℕ) → Contains (reaching u) n → (n < length table) × ReachesBy edges n u
   row-reaches u n h = let found = rows_with-only 0 (length table) rows u n h in (omega (arith, found.0), are_rows.sound u n found.1)
 
-  vals-least : (u : ℕ) (b : V) → ((n : ℕ) → n < length table → ReachesBy edges n u → IsTrue (l.leq (written_at l table n) b)) → IsTrue (l.leq (vals u) b)
+  vals-least : (u : ℕ) (b : V) → ((n : ℕ) → n < length table → ReachesBy edges n u → IsTrue (l.lies_below (written_at l table n) b)) → IsTrue (l.lies_below (vals u) b)
   vals-least u b each =
-      subst (λ x. IsTrue (l.leq x b)) (sym (join-is (reaching u)))
+      subst (λ x. IsTrue (l.lies_below x b)) (sym (join-is (reaching u)))
       (join_all-least l laws (map (written_at l table) (reaching u)) b (λ v h.
-      let source = Contains-map_only (written_at l table) (reaching u) v h in
+      let source = contained_map_only (written_at l table) (reaching u) v h in
       let r = row-reaches u source.0 source.1 in
-      subst (λ x. IsTrue (l.leq x b)) source.2 (each source.0 r.0 r.1)))
+      subst (λ x. IsTrue (l.lies_below x b)) source.2 (each source.0 r.0 r.1)))
 
-  vals-not_below : (u : ℕ) (b : V) → IsFalse (l.leq (vals u) b) → (n : ℕ) × (n < length table) × ReachesBy edges n u × IsFalse (l.leq (written_at l table n) b)
+  vals-not_below : (u : ℕ) (b : V) → IsFalse (l.lies_below (vals u) b) → (n : ℕ) × (n < length table) × ReachesBy edges n u × IsFalse (l.lies_below (written_at l table n) b)
   vals-not_below u b fails =
-      let one = not_below-one l laws (map (written_at l table) (reaching u)) b (subst (λ x. IsFalse (l.leq x b)) (join-is (reaching u)) fails) in
-      let source = Contains-map_only (written_at l table) (reaching u) one.0 one.1 in
+      let one = not_below-one l laws (map (written_at l table) (reaching u)) b (subst (λ x. IsFalse (l.lies_below x b)) (join-is (reaching u)) fails) in
+      let source = contained_map_only (written_at l table) (reaching u) one.0 one.1 in
       let r = row-reaches u source.0 source.1 in
-      (source.0, r.0, r.1, subst (λ x. IsFalse (l.leq x b)) (sym source.2) one.2)
+      (source.0, r.0, r.1, subst (λ x. IsFalse (l.lies_below x b)) (sym source.2) one.2)
 
   -- ---- least
   part-fits : (i : ℕ) (c : Constraint T) (u : ℕ) → slice_get cs i ≡ Some c → c.right ≡ Unknown u → (a : Atom) → Contains c.left.items a →
-      IsTrue (l.leq (value vals (atom_of l table a)) (vals u))
+      IsTrue (l.lies_below (value vals (atom_of l table a)) (vals u))
   part-fits i c u at right (Written n) part =
-      below-vals n u (in_table l table cs edges are unknowns range c n (at-contains cs i c at) part)
+      below-vals n u (in_table l table cs edges are unknowns range c n (contained_at cs i c at) part)
       (reach.directly i u (subst (λ r. LeadsTo edges (Written n) i r) right (part-leads cs edges are i c (Written n) at part)))
   part-fits i c u at right (Unknown w) part =
       vals-least w (vals u) (λ n h r. below-vals n u h (reach.onward i w u r (subst (λ x. LeadsTo edges (Unknown w) i x) right (part-leads cs edges are i c (Unknown w) at part))))
 
   unknown-fits : (i : ℕ) (c : Constraint T) (u : ℕ) → slice_get cs i ≡ Some c → c.right ≡ Unknown u → IsTrue (holds l vals (one_meant c))
   unknown-fits i c u at right =
-      subst (λ r. IsTrue (l.leq (join_of l.join l.least vals (map (atom_of l table) c.left.items)) (value vals (atom_of l table r)))) (sym right)
+      subst (λ r. IsTrue (l.lies_below (join_of l.join l.least vals (map (atom_of l table) c.left.items)) (value vals (atom_of l table r)))) (sym right)
       (join_of-least l laws vals (map (atom_of l table) c.left.items) (vals u) (λ atom h.
-      let source = Contains-map_only (atom_of l table) c.left.items atom h in
-      subst (λ x. IsTrue (l.leq (value vals x) (vals u))) source.2 (part-fits i c u at right source.0 source.1)))
+      let source = contained_map_only (atom_of l table) c.left.items atom h in
+      subst (λ x. IsTrue (l.lies_below (value vals x) (vals u))) source.2 (part-fits i c u at right source.0 source.1)))
 
   fit-right : (i : ℕ) (c : Constraint T) (r : Atom) → slice_get cs i ≡ Some c → c.right ≡ r → IsTrue (is_written (one_meant c).right || holds l vals (one_meant c))
   fit-right i c (Written n) at right = or_left (is_written (one_meant c).right) (holds l vals (one_meant c)) (ap (λ r. is_written (atom_of l table r)) right)
@@ -201,8 +202,8 @@ module _ {T V : Type 0} (l : Lattice V) (laws : LatticeLaws l) (table : List V) 
   pub solved-least : IsLeast l all_meant vals
   solved-least = record {
     fits = all-from (λ d. is_written d.right || holds l vals d) all_meant (λ d h.
-        let source = Contains-map_only one_meant cs d h in
-        let at = Contains-at cs source.0 source.1 in
+        let source = contained_map_only one_meant cs d h in
+        let at = contained_place cs source.0 source.1 in
         subst (λ (x : formal.Constraint T ℕ V). IsTrue (is_written x.right || holds l vals x)) source.2 (fit-right at.0 source.0 source.0.right at.1 refl));
     below = λ others fits u occurs. vals-least u (others u) (λ n h r.
         reaches-below l laws all_meant others fits (written_at l table n) u (reaches-to l table cs edges are unknowns range n u r));
@@ -216,10 +217,10 @@ module _ {T V : Type 0} (l : Lattice V) (laws : LatticeLaws l) (table : List V) 
     pub fails : below number to ≡ false
 
   unbroken-part : (i : ℕ) (c : Constraint T) (to : ℕ) → slice_get cs i ≡ Some c → (a : Atom) → Contains c.left.items a →
-      IsFalse (l.leq (value vals (atom_of l table a)) (written_at l table to)) → PartBreaks c to
+      IsFalse (l.lies_below (value vals (atom_of l table a)) (written_at l table to)) → PartBreaks c to
   unbroken-part i c to at (Written n) part fails = record {
     number = n;
-    inside = in_table l table cs edges are unknowns range c n (at-contains cs i c at) part;
+    inside = in_table l table cs edges are unknowns range c n (contained_at cs i c at) part;
     member = list_any-has (atom_has rows n) c.left.items (Written n) part (eq-eqb n n refl);
     fails = fails;
   }
@@ -238,15 +239,15 @@ module _ {T V : Type 0} (l : Lattice V) (laws : LatticeLaws l) (table : List V) 
   unbroken-holds i c (Written to) at right none =
       by_test (holds l vals (one_meant c)) (λ e. e) (λ fails.
       let part = not_below-part l laws vals (map (atom_of l table) c.left.items) (written_at l table to)
-      (subst (λ r. IsFalse (l.leq (join_of l.join l.least vals (map (atom_of l table) c.left.items)) (value vals (atom_of l table r)))) right fails) in
-      let source = Contains-map_only (atom_of l table) c.left.items part.0 part.1 in
-      let found = unbroken-part i c to at source.0 source.1 (subst (λ x. IsFalse (l.leq (value vals x) (written_at l table to))) (sym source.2) part.2) in
+      (subst (λ r. IsFalse (l.lies_below (join_of l.join l.least vals (map (atom_of l table) c.left.items)) (value vals (atom_of l table r)))) right fails) in
+      let source = contained_map_only (atom_of l table) c.left.items part.0 part.1 in
+      let found = unbroken-part i c to at source.0 source.1 (subst (λ x. IsFalse (l.lies_below (value vals x) (written_at l table to))) (sym source.2) part.2) in
       absurd (none found.number found.inside (record { constraint = c; at = at; sides = record { to = to; is = right; member = found.member; fails = found.fails } })))
 
   pub solved-fits : ((n i : ℕ) → n < length table → Breaks below rows cs n i → ⊥) → FitsAll l all_meant vals
   solved-fits none = all-from (λ d. holds l vals d) all_meant (λ d h.
-      let source = Contains-map_only one_meant cs d h in
-      let at = Contains-at cs source.0 source.1 in
+      let source = contained_map_only one_meant cs d h in
+      let at = contained_place cs source.0 source.1 in
       subst (λ (x : formal.Constraint T ℕ V). IsTrue (holds l vals x)) source.2 (unbroken-holds at.0 source.0 source.0.right at.1 refl (λ n h' breaks. none n at.0 h' breaks)))
 
   -- along edges
@@ -267,7 +268,7 @@ module _ {T V : Type 0} (l : Lattice V) (laws : LatticeLaws l) (table : List V) 
       }
 
   -- a constraint that is broken along edges does not hold
-  arrives-below : (n : ℕ) (from : Atom) → n < length table → Arrives edges n from → IsTrue (l.leq (written_at l table n) (value vals (atom_of l table from)))
+  arrives-below : (n : ℕ) (from : Atom) → n < length table → Arrives edges n from → IsTrue (l.lies_below (written_at l table n) (value vals (atom_of l table from)))
   arrives-below n _ h itself = laws.reflexive (written_at l table n)
   arrives-below n _ h (onward u r) = below-vals n u h r
 
@@ -275,14 +276,14 @@ module _ {T V : Type 0} (l : Lattice V) (laws : LatticeLaws l) (table : List V) 
       (c.right ≡ Written to) × IsFalse (holds l vals (one_meant c))
   broken-fails n i to from h arrives leads fails c at =
       let part = leads-part cs edges are from i (Written to) leads in
-      let same_c : part.constraint ≡ c = same_some part.constraint c (sym part.at ∙ at) in
+      let same_c : part.constraint ≡ c = same_Some part.constraint c (sym part.at ∙ at) in
       let right : c.right ≡ Written to = ap (λ (x : Constraint T). x.right) (sym same_c) ∙ part.right in
       let here : Contains c.left.items from = subst (λ (x : Constraint T). Contains x.left.items from) same_c part.part in (
         right,
         by_test (holds l vals (one_meant c)) (λ held.
             let flows = laws.transitive (written_at l table n) (value vals (atom_of l table from)) (value vals (atom_of l table c.right)) (arrives-below n from h arrives)
             (part-below l laws all_meant vals (one_meant c) held (atom_of l table from) (contained_map (atom_of l table) c.left.items from here)) in
-            let flows_to : l.leq (written_at l table n) (written_at l table to) ≡ true = subst (λ r. IsTrue (l.leq (written_at l table n) (value vals (atom_of l table r)))) right flows in
+            let flows_to : l.lies_below (written_at l table n) (written_at l table to) ≡ true = subst (λ r. IsTrue (l.lies_below (written_at l table n) (value vals (atom_of l table r)))) right flows in
             let no : true ≡ false = sym flows_to ∙ fails in absurd (cc))
             (λ e. e),
       )
@@ -292,11 +293,11 @@ module _ {T V : Type 0} (l : Lattice V) (laws : LatticeLaws l) (table : List V) 
       (picked : List (formal.Constraint T ℕ V)) × Picks all_meant chain picked × Linked all_meant (atom_of l table from) picked (one_meant c)
   leads-joined _ _ _ _ (reach.ends from to by leads) c at =
       let part = leads-part cs edges are from by to leads in
-      let same_c : part.constraint ≡ c = same_some part.constraint c (sym part.at ∙ at) in
+      let same_c : part.constraint ≡ c = same_Some part.constraint c (sym part.at ∙ at) in
       let here : Contains c.left.items from = subst (λ (x : Constraint T). Contains x.left.items from) same_c part.part in (
         one_meant c ∷ [],
         (at-map one_meant cs by c at, tt),
-        formal.ends (atom_of l table from) (one_meant c) (contained_map one_meant cs c (at-contains cs by c at)) (contained_map (atom_of l table) c.left.items from here),
+        formal.ends (atom_of l table from) (one_meant c) (contained_map one_meant cs c (contained_at cs by c at)) (contained_map (atom_of l table) c.left.items from here),
       )
   leads-joined _ _ _ _ (reach.goes_on from to by u last rest leads more) c at =
       let part = leads-part cs edges are from by (Unknown u) leads in
@@ -304,7 +305,7 @@ module _ {T V : Type 0} (l : Lattice V) (laws : LatticeLaws l) (table : List V) 
       let onward = leads-joined (Unknown u) rest last to more c at in (
         one_meant d ∷ onward.0,
         (at-map one_meant cs by d part.at, onward.1),
-        formal.goes_on (atom_of l table from) (one_meant d) u onward.0 (one_meant c) (contained_map one_meant cs d (at-contains cs by d part.at))
+        formal.goes_on (atom_of l table from) (one_meant d) u onward.0 (one_meant c) (contained_map one_meant cs d (contained_at cs by d part.at))
             (contained_map (atom_of l table) d.left.items from part.part) (ap (atom_of l table) part.right) onward.2,
       )
 
@@ -342,7 +343,7 @@ module _ {T V : Type 0} (l : Lattice V) (laws : LatticeLaws l) (table : List V) 
           values = vals;
           least = solved-least;
           first = find-at (λ d. is_written d.right && not (holds l vals d)) all_meant is.last (one_meant c) (at-map one_meant cs is.last c part.at) passes (λ j d lt at.
-              let source = at-map_only one_meant cs j d at in
+              let source = there_map_only one_meant cs j d at in
               let held : holds l vals d ≡ true = subst (λ (x : formal.Constraint T ℕ V). IsTrue (holds l vals x)) source.2
               (unbroken-holds j source.0 source.0.right source.1 refl (λ m h breaks. first.before m j h (omega (arith, lt, before)) breaks)) in
               holding-fails (is_written d.right) (holds l vals d) held);

@@ -300,7 +300,3 @@ module _ (edges : Edges) (first block : ℕ) (masks : List ℕ) (s : Spreading e
 
   pub spreading-end : AreMasks edges first masks
   spreading-end = record { all = s.inside; sound = s.sound; complete = λ u k h r. reach-set (first + k) k u refl h r }
-
-pub none-left : (xs : List ℕ) → length xs ≡ 0 → xs ≡ []
-none-left [] e = refl
-none-left (x ∷ xs) e = absurd (omega (arith, e))

@@ -1,19 +1,20 @@
 -- The join of written elements one after the other, in place of all together.
-use Rattle.std.proofs.Common.{◌≡◌, ◌≢◌, refl, sym, ap, ◌∙◌, subst, ℕ, zero, suc, ◌<◌, ◌+◌, length, List, [], ◌∷◌, ◌++◌, Bool, true, false, arith, add-zero, zero-add, add-one, append-nil, ⊎_elim, eq-eqb}
+use Rattle.std.proofs.Common.{◌≡◌, ◌≢◌, refl, sym, ap, ◌∙◌, subst, ℕ, zero, suc, ◌<◌, ◌+◌, length, List, [], ◌∷◌, ◌++◌, Bool, true, false, arith, add-zero, zero-add, add-one, ⊎_elim, eq-eqb}
 use Rattle.std.specs.Prelude.{Contains, if◌then◌else◌, IsTrue, ◌==◌}
 use Rattle.std.proofs.lemmas.Bool.{or_left}
 use Rattle.std.proofs.lemmas.List.Elements.{Contains-append_cases, Contains-append_left, Contains-append_right}
 use Rattle.principals.proofs.Closure.{none_in_nil, Contains-cons_cases, Contains-later, Contains-first}
-use Rattle.labels.specs.Constraints.{LatticeLaws, Lattice}
+use Rattle.labels.specs.Constraints.{IsJoin, LatticeLaws, Lattice}
 use Rattle.solver.specs.Bits.{has_bit}
 use Rattle.solver.specs.Broken.{written_at}
 use Rattle.solver.specs.Rows.{has_at, reached_by, unknowns_with}
-use Rattle.solver.specs.System.{AreAlike, JoinTo, is_among, row_join, rows_with}
-use Rattle.solver.specs.declared.row.Row.{Row}
+use Rattle.solver.specs.System.{AreAlike, is_among, row_join, rows_with}
+use Rattle.solver.specs.declared.number_set.NumberSet.{NumberSet}
 use Rattle.solver.proofs.Members.{neq-eqb}
 
-abbrev pub one_row : ℕ → ℕ → Bool → List ℕ
-one_row n u t = if t then (n ∷ []) else []
+-- a number, or none
+abbrev pub one_row : ℕ → Bool → List ℕ
+one_row n t = if t then (n ∷ []) else []
 
 rows_with-append : (k : ℕ) (a b : List (List ℕ)) (u : ℕ) → rows_with k (a ++ b) u ≡ rows_with k a u ++ rows_with (k + length a) b u
 rows_with-append k [] b u = ap (λ n. rows_with n b u) (sym (add-zero k))
@@ -29,7 +30,7 @@ rows_with-append k (row ∷ a) b u = go (is_among u row) refl (rows_with-append 
         rw e (more ∙ ap (λ m. rows_with (suc k) a u ++ rows_with m b u) n)
 
 -- ---- rows by unknowns and by written elements
-none_before : (rows : List Row) (n from u : ℕ) → u < from → is_among u (unknowns_with n from rows) ≡ false
+none_before : (rows : List NumberSet) (n from u : ℕ) → u < from → is_among u (unknowns_with n from rows) ≡ false
 none_before [] n from u h = refl
 none_before (row ∷ rows) n from u h = go (has_bit row.words.items n) refl (none_before rows n (suc from) u (omega (arith, h)))
   where
@@ -40,7 +41,7 @@ none_before (row ∷ rows) n from u h = go (has_bit row.words.items n) refl (non
     go true e more = rw (e, apart) more
     go false e more = rw e more
 
-among_from : (rows : List Row) (n from u : ℕ) → is_among (from + u) (unknowns_with n from rows) ≡ has_at rows u n
+among_from : (rows : List NumberSet) (n from u : ℕ) → is_among (from + u) (unknowns_with n from rows) ≡ has_at rows u n
 among_from [] n from u = refl
 among_from (row ∷ rows) n from zero = go (has_bit row.words.items n) refl
   where
@@ -60,33 +61,44 @@ among_from (row ∷ rows) n from (suc u) = go (has_bit row.words.items n) refl (
     go true e more = rw (e, apart) (ap (λ w. is_among w (unknowns_with n (suc from) rows)) (sym next) ∙ more)
     go false e more = rw e (ap (λ w. is_among w (unknowns_with n (suc from) rows)) (sym next) ∙ more)
 
-pub is_among-row : (rows : List Row) (n u : ℕ) → is_among u (unknowns_with n 0 rows) ≡ has_at rows u n
+pub is_among-row : (rows : List NumberSet) (n u : ℕ) → is_among u (unknowns_with n 0 rows) ≡ has_at rows u n
 is_among-row rows n u = ap (λ w. is_among w (unknowns_with n 0 rows)) (sym (zero-add u)) ∙ among_from rows n 0 u
 
-pub length-reached_by : (n count : ℕ) (rows : List Row) → length (reached_by n count rows) ≡ count
+pub length-reached_by : (n count : ℕ) (rows : List NumberSet) → length (reached_by n count rows) ≡ count
 length-reached_by n zero rows = refl
 length-reached_by n (suc count) rows = ap suc (length-reached_by (suc n) count rows)
 
-more_from : (n count : ℕ) (rows : List Row) → reached_by n (suc count) rows ≡ reached_by n count rows ++ unknowns_with (n + count) 0 rows ∷ []
+more_from : (n count : ℕ) (rows : List NumberSet) → reached_by n (suc count) rows ≡ reached_by n count rows ++ unknowns_with (n + count) 0 rows ∷ []
 more_from n zero rows = ap (λ m. unknowns_with m 0 rows ∷ []) (sym (add-zero n))
 more_from n (suc count) rows =
     let next : suc n + count ≡ n + suc count = omega arith in
     ap (λ (ls : List (List ℕ)). unknowns_with n 0 rows ∷ ls) (more_from (suc n) count rows ∙ ap (λ m. reached_by (suc n) count rows ++ unknowns_with m 0 rows ∷ []) next)
 
-pub reached_by-more : (i : ℕ) (rows : List Row) → reached_by 0 (i + 1) rows ≡ reached_by 0 i rows ++ unknowns_with i 0 rows ∷ []
+pub reached_by-more : (i : ℕ) (rows : List NumberSet) → reached_by 0 (i + 1) rows ≡ reached_by 0 i rows ++ unknowns_with i 0 rows ∷ []
 reached_by-more i rows =
     ap (λ m. reached_by 0 m rows) (add-one i) ∙ (more_from 0 i rows ∙ ap (λ m. reached_by 0 i rows ++ unknowns_with m 0 rows ∷ []) (zero-add i))
 
+pub rows_with-more : (rows : List NumberSet) (i u : ℕ) (t : Bool) → t ≡ has_at rows u i →
+    rows_with 0 (reached_by 0 (i + 1) rows) u ≡ rows_with 0 (reached_by 0 i rows) u ++ one_row i t
+rows_with-more rows i u t is =
+    let before = rows_with 0 (reached_by 0 i rows) u in
+    let last = unknowns_with i 0 rows in
+    let test : t ≡ is_among u last = is ∙ sym (is_among-row rows i u) in
+    let len : 0 + length (reached_by 0 i rows) ≡ i = zero-add (length (reached_by 0 i rows)) ∙ length-reached_by 0 i rows in
+    ap (λ (ls : List (List ℕ)). rows_with 0 ls u) (reached_by-more i rows)
+    ∙ (rows_with-append 0 (reached_by 0 i rows) (last ∷ []) u
+    ∙ (ap (λ n. before ++ rows_with n (last ∷ []) u) len ∙ ap (λ b. before ++ one_row i b) (sym test)))
+
 -- above each of these written elements, and below all that are
 pub record IsLeastAbove {V : Type 0} (l : Lattice V) (table : List V) (value : V) (ns : List ℕ) : Type 0 where
-  pub above : (n : ℕ) → Contains ns n → IsTrue (l.leq (written_at l table n) value)
-  pub least : (b : V) → ((n : ℕ) → Contains ns n → IsTrue (l.leq (written_at l table n) b)) → IsTrue (l.leq value b)
+  pub above : (n : ℕ) → Contains ns n → IsTrue (l.lies_below (written_at l table n) value)
+  pub least : (b : V) → ((n : ℕ) → Contains ns n → IsTrue (l.lies_below (written_at l table n) b)) → IsTrue (l.lies_below value b)
 
 module _ {V : Type 0} (l : Lattice V) (laws : LatticeLaws l) (table : List V) where
   pub least-above_none : (value : V) → value ≡ l.least → IsLeastAbove l table value []
   least-above_none value e = record {
     above = λ n h. absurd (none_in_nil n h);
-    least = λ b each. subst (λ v. IsTrue (l.leq v b)) (sym e) (laws.below_all b);
+    least = λ b each. subst (λ v. IsTrue (l.lies_below v b)) (sym e) (laws.below_all b);
   }
 
   pub row_join-least_above : (ns : List ℕ) → IsLeastAbove l table (row_join l table ns) ns
@@ -95,44 +107,37 @@ module _ {V : Type 0} (l : Lattice V) (laws : LatticeLaws l) (table : List V) wh
       let rest = row_join-least_above ns in
       record {
         above = λ m h. ⊎_elim
-            (λ (is : n ≡ m). subst (λ x. IsTrue (l.leq (written_at l table x) (row_join l table (n ∷ ns)))) is (laws.above_left (written_at l table n) (row_join l table ns)))
+            (λ (is : n ≡ m). subst (λ x. IsTrue (l.lies_below (written_at l table x) (row_join l table (n ∷ ns)))) is (laws.above_left (written_at l table n) (row_join l table ns)))
             (λ k. laws.transitive (written_at l table m) (row_join l table ns) (row_join l table (n ∷ ns)) (rest.above m k) (laws.above_right (written_at l table n) (row_join l table ns)))
             (Contains-cons_cases n ns m h);
         least = λ b each. laws.least_above (written_at l table n) (row_join l table ns) b (each n (Contains-first n ns)) (rest.least b (λ m k. each m (Contains-later n ns m k)));
       }
 
-  pub alike : (value other : V) (ns : List ℕ) → IsLeastAbove l table value ns → IsLeastAbove l table other ns → AreAlike l other value
-  alike value other ns one two = record { to = two.least value one.above; from = one.least other two.above }
+  pub alike-none : (value : V) → value ≡ l.least → AreAlike l (row_join l table []) value
+  alike-none value e = record {
+    to = laws.below_all value;
+    from = subst (λ v. IsTrue (l.lies_below v l.least)) (sym e) (laws.below_all l.least);
+  }
 
-  -- one more row
-  pub least-above_more : (value result : V) (ns : List ℕ) (n u : ℕ) (t : Bool) (element : V) → element ≡ written_at l table n → IsLeastAbove l table value ns → JoinTo l t value element result →
-      IsLeastAbove l table result (ns ++ one_row n u t)
-  least-above_more value result ns n u false element is so_far e =
-      subst (λ xs. IsLeastAbove l table result xs) (sym (append-nil ns)) (subst (λ v. IsLeastAbove l table v ns) (sym e) so_far)
-  least-above_more value result ns n u true element is so_far join =
+  pub alike-one : (element value : V) (n : ℕ) → element ≡ written_at l table n → IsJoin l l.least element value → AreAlike l (row_join l table (n ∷ [])) value
+  alike-one element value n is join = record {
+    to = laws.least_above (written_at l table n) l.least value (subst (λ v. IsTrue (l.lies_below v value)) is join.above_right) (laws.below_all value);
+    from = join.least_above (row_join l table (n ∷ [])) (laws.below_all _)
+        (subst (λ v. IsTrue (l.lies_below v (row_join l table (n ∷ [])))) (sym is) (laws.above_left (written_at l table n) l.least));
+  }
+
+  pub alike-both : (left right value : V) (xs ys : List ℕ) → AreAlike l (row_join l table xs) left → AreAlike l (row_join l table ys) right → IsJoin l left right value →
+      AreAlike l (row_join l table (xs ++ ys)) value
+  alike-both left right value xs ys one two join =
+      let all = row_join-least_above (xs ++ ys) in
+      let first = row_join-least_above xs in
+      let second = row_join-least_above ys in
       record {
-        above = λ m h. ⊎_elim
-            (λ k. laws.transitive (written_at l table m) value result (so_far.above m k) join.above_left)
-            (λ k. ⊎_elim
-            (λ (same : n ≡ m). subst (λ x. IsTrue (l.leq (written_at l table x) result)) same (subst (λ v. IsTrue (l.leq v result)) is join.above_right))
-            (λ no. absurd (none_in_nil m no))
-            (Contains-cons_cases n [] m k))
-            (Contains-append_cases ns (n ∷ []) m h);
-        least = λ b each. join.least_above b
-            (so_far.least b (λ m k. each m (Contains-append_left ns (n ∷ []) m k)))
-            (subst (λ v. IsTrue (l.leq v b)) (sym is) (each n (Contains-append_right ns (n ∷ []) n (Contains-first n []))));
+        to = all.least value (λ n h. ⊎_elim
+            (λ k. laws.transitive _ _ _ (first.above n k) (laws.transitive _ _ _ one.to join.above_left))
+            (λ k. laws.transitive _ _ _ (second.above n k) (laws.transitive _ _ _ two.to join.above_right))
+            (Contains-append_cases xs ys n h));
+        from = join.least_above (row_join l table (xs ++ ys))
+            (laws.transitive _ _ _ one.from (first.least _ (λ n k. all.above n (Contains-append_left xs ys n k))))
+            (laws.transitive _ _ _ two.from (second.least _ (λ n k. all.above n (Contains-append_right xs ys n k))));
       }
-
-  pub values_step : (rows : List Row) (i u : ℕ) (t : Bool) (element value result : V) → t ≡ has_at rows u i → element ≡ written_at l table i →
-      IsLeastAbove l table value (rows_with 0 (reached_by 0 i rows) u) → JoinTo l t value element result →
-      IsLeastAbove l table result (rows_with 0 (reached_by 0 (i + 1) rows) u)
-  values_step rows i u t element value result t_is is so_far join =
-      let before = rows_with 0 (reached_by 0 i rows) u in
-      let last = unknowns_with i 0 rows in
-      let test : t ≡ is_among u last = t_is ∙ sym (is_among-row rows i u) in
-      let len : 0 + length (reached_by 0 i rows) ≡ i = zero-add (length (reached_by 0 i rows)) ∙ length-reached_by 0 i rows in
-      let longer : rows_with 0 (reached_by 0 (i + 1) rows) u ≡ before ++ one_row i u t =
-      ap (λ (ls : List (List ℕ)). rows_with 0 ls u) (reached_by-more i rows)
-      ∙ (rows_with-append 0 (reached_by 0 i rows) (last ∷ []) u
-      ∙ (ap (λ n. before ++ rows_with n (last ∷ []) u) len ∙ ap (λ b. before ++ one_row i u b) (sym test))) in
-      subst (λ xs. IsLeastAbove l table result xs) (sym longer) (least-above_more value result before i u t element is so_far join)

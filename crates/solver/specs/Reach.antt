@@ -1,4 +1,4 @@
--- What a written element reaches along edges, and the ways to it, as a search finds them.
+-- What a written element reaches along edges, and the chains to it that a search finds.
 -- Source: our own.
 use Rattle.std.specs.Prelude.{◌≡◌, ℕ, suc, ◌<◌, ◌≤◌, List, [], ◌∷◌, ◌++◌, length, set, Bool, true, false, IsTrue, Contains, slice_index_or}
 use Rattle.solver.specs.Links.{row_at}
@@ -34,7 +34,7 @@ pub data ReachesBy (edges : Edges) (n : ℕ) : ℕ → Type 0 where
 abbrev pub nothing_found : Found
 nothing_found = record { unknown = 0; by = 0; parent = 0 }
 
--- where the way to what was found goes on from: the written element, or an unknown found earlier
+-- what was found is reached by an edge from here: the written element, or an unknown found earlier
 pub data CameFrom (n : ℕ) (found : List Found) (before : ℕ) : ℕ → Atom → Type 0 where
   itself : CameFrom n found before 0 (Written n)
   earlier : (p u : ℕ) → p < before → (slice_index_or found p nothing_found).unknown ≡ u → CameFrom n found before (suc p) (Unknown u)
@@ -68,7 +68,7 @@ pub data Grows (edges : List Edge) (parent : ℕ) (marks : List Bool) (found : L
 abbrev pub AllMarked : List Edge → List Bool → Type 0
 AllMarked edges marks = (by u : ℕ) → Contains edges (edge by (Unknown u)) → IsTrue (slice_index_or marks u false)
 
--- ---- ways back: what was found came from what was found before it
+-- ---- chains back: what was found came from what was found before it
 abbrev pub ParentsFall : List Found → Type 0
 ParentsFall found = (k : ℕ) → k < length found → (slice_index_or found k nothing_found).parent ≤ k
 

@@ -1,6 +1,6 @@
 -- What stored constraints mean: constraints over the lattice's elements, the least values that a solution stands for, and a refusal.
 -- Source: our own.
-use Rattle.std.specs.Prelude.{◌≡◌, ℕ, suc, List, [], ◌∷◌, length, map, Bool, true, false, Some, if◌then◌else◌, ◌==◌, slice_get, IsTrue}
+use Rattle.std.specs.Prelude.{◌≡◌, ℕ, suc, List, [], ◌∷◌, length, map, Bool, Some, if◌then◌else◌, ◌==◌, slice_get, IsTrue}
 use Rattle.std.specs.List.{list_any}
 use Rattle.labels.specs.Constraints.{FitsAll, IsJoin, IsLeast, IsRefusedAt, Lattice}
 use Rattle.labels.specs.Constraints as formal
@@ -48,13 +48,8 @@ values_of l table reached u = row_join l table (rows_with 0 reached u)
 
 -- two values that lie below each other
 pub record AreAlike {V : Type 0} (l : Lattice V) (a b : V) : Type 0 where
-  pub to : IsTrue (l.leq a b)
-  pub from : IsTrue (l.leq b a)
-
--- the join with an element, or the value itself
-abbrev pub JoinTo : {V : Type 0} → Lattice V → Bool → V → V → V → Type 0
-JoinTo l true value element result = IsJoin l value element result
-JoinTo l false value element result = result ≡ value
+  pub to : IsTrue (l.lies_below a b)
+  pub from : IsTrue (l.lies_below b a)
 
 -- the constraints at these indices
 abbrev pub Picks : {X : Type 0} → List X → List ℕ → List X → Type 0

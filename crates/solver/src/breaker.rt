@@ -1,6 +1,6 @@
 //! A written element that breaks a constraint with a written right side: it reaches the left side, and does not lie below the right
 //! side.
-ghost use Rattle.solver.specs.Breaker.{AreKept, IsAbove, IsAboveInWord, IsBreakerOf, IsFirstBreaker, IsKeptRow, IsKnown};
+ghost use Rattle.solver.specs.Breaker.{AreKnownRows, IsAbove, IsAboveInWord, IsBreakerOf, IsFirstBreaker, IsKnownRow, IsKnown};
 ghost use Rattle.solver.specs.Broken.{is_below};
 ghost use Rattle.solver.specs.Links.{AreBelow, InRange, IsBelow};
 ghost use Rattle.solver.specs.Bits.{has_bit};
@@ -8,7 +8,7 @@ ghost use Rattle.solver.specs.Rows.{AreSized, atom_has, left_has};
 ghost use Rattle.std.specs.Prelude.{Bool, IfOk, IsTrue, OnOk, Some, false, length, true, ℕ, ◌+◌, ◌/◌, ◌<◌, ◌||◌, ◌≡◌};
 
 use crate::broken::lies_below;
-use crate::row::Row;
+use crate::number_set::NumberSet;
 use crate::system::{Atom, Constraint};
 use labels::Lattice;
 use std::alloc::{AllocError, Global};
@@ -18,9 +18,9 @@ use std::alloc::{AllocError, Global};
 pub fn first_breaker<L: Lattice, T>(
     alloc: Global,
     lattice: &L,
-    written: &[L::Elem],
+    written: &[L::Element],
     constraints: &[Constraint<T>],
-    rows: &[Row],
+    rows: &[NumberSet],
 ) -> Result<Option<usize>, AllocError>
     requires range { InRange (length written.now) (length rows.now) constraints.now }
     requires sized { AreSized (length written.now) rows.now }
@@ -41,19 +41,19 @@ pub fn first_breaker<L: Lattice, T>(
 fn breaker_of<L: Lattice, T>(
     alloc: Global,
     lattice: &L,
-    written: &[L::Elem],
+    written: &[L::Element],
     constraint: &Constraint<T>,
-    rows: &[Row],
-    known: &mut Vec<Option<Row>>,
+    rows: &[NumberSet],
+    known: &mut Vec<Option<NumberSet>>,
 ) -> Result<Option<usize>, AllocError>
     requires left { AreBelow (length written.now) (length rows.now) constraint.now.left.items }
     requires right { IsBelow (length written.now) (length rows.now) constraint.now.right }
     requires sized { AreSized (length written.now) rows.now }
     requires all { length known.old.items ≡ length written.now }
-    requires kept { AreKept (is_below (L.order lattice.now) written.now)
+    requires kept { AreKnownRows (is_below (L.order lattice.now) written.now)
         (length written.now) known.old.items }
     ensures all { OnOk result (length known.new.items ≡ length written.now) }
-    ensures kept { OnOk result (AreKept (is_below (L.order lattice.now) written.now)
+    ensures kept { OnOk result (AreKnownRows (is_below (L.order lattice.now) written.now)
         (length written.now) known.new.items) }
     ensures breaker { IfOk result (IsBreakerOf (is_below (L.order lattice.now) written.now)
         (length written.now) rows.now constraint.now.left.items constraint.now.right) }
@@ -67,9 +67,10 @@ fn breaker_of<L: Lattice, T>(
 }
 
 // For each written element, that nothing is known yet of what lies below it.
-fn nothing_known(alloc: Global, count: usize) -> Result<Vec<Option<Row>>, AllocError>
+fn nothing_known(alloc: Global, count: usize) -> Result<Vec<Option<NumberSet>>, AllocError>
     ensures all { IfOk result (λ known. length known.items ≡ count) }
-    ensures kept { IfOk result (λ known. (below : ℕ → ℕ → Bool) → AreKept below count known.items) }
+    ensures kept { IfOk result (λ known. (below : ℕ → ℕ → Bool) →
+        AreKnownRows below count known.items) }
 {
     let mut known = Vec::with_capacity(alloc, count)?;
     for _n in 0..count {
@@ -79,14 +80,19 @@ fn nothing_known(alloc: Global, count: usize) -> Result<Vec<Option<Row>>, AllocE
 }
 
 // The written elements that are a part of a left side or reach one.
-fn left_row(alloc: Global, left: &[Atom], rows: &[Row], count: usize) -> Result<Row, AllocError>
+fn left_row(
+    alloc: Global,
+    left: &[Atom],
+    rows: &[NumberSet],
+    count: usize,
+) -> Result<NumberSet, AllocError>
     requires range { AreBelow count (length rows.now) left.now }
     requires sized { AreSized count rows.now }
     ensures count { IfOk result (λ row. row.count ≡ count) }
     ensures members { IfOk result (λ row. (n : ℕ) → has_bit row.words.items n
         ≡ left_has rows.now left.now n) }
 {
-    let mut row = Row::new(alloc, count)?;
+    let mut row = NumberSet::new(alloc, count)?;
     for atom in left {
         add_atom(&mut row, *atom, rows);
     }
@@ -94,7 +100,7 @@ fn left_row(alloc: Global, left: &[Atom], rows: &[Row], count: usize) -> Result<
 }
 
 // Adds the written elements of one atom.
-fn add_atom(row: &mut Row, atom: Atom, rows: &[Row])
+fn add_atom(row: &mut NumberSet, atom: Atom, rows: &[NumberSet])
     requires range { IsBelow row.old.count (length rows.now) atom }
     requires sized { AreSized row.old.count rows.now }
     ensures count { row.new.count ≡ row.old.count }
@@ -113,16 +119,16 @@ fn add_atom(row: &mut Row, atom: Atom, rows: &[Row])
 fn first_above<L: Lattice>(
     alloc: Global,
     lattice: &L,
-    written: &[L::Elem],
-    left: &Row,
-    known: &mut Option<Row>,
+    written: &[L::Element],
+    left: &NumberSet,
+    known: &mut Option<NumberSet>,
     to: usize,
 ) -> Result<Option<usize>, AllocError>
     requires to { to < length written.now }
     requires left { left.now.count ≡ length written.now }
-    requires known { IsKeptRow (is_below (L.order lattice.now) written.now)
+    requires known { IsKnownRow (is_below (L.order lattice.now) written.now)
         (length written.now) to known.old }
-    ensures known { OnOk result (IsKeptRow (is_below (L.order lattice.now) written.now)
+    ensures known { OnOk result (IsKnownRow (is_below (L.order lattice.now) written.now)
         (length written.now) to known.new) }
     ensures above { IfOk result (IsAbove (is_below (L.order lattice.now) written.now)
         (length written.now) left.now.words.items to) }
@@ -137,22 +143,22 @@ fn first_above<L: Lattice>(
 }
 
 // What is known, as a row.
-fn known_row(alloc: Global, known: Option<Row>, count: usize) -> Result<Row, AllocError>
-    ensures { IfOk result (λ row. (below : ℕ → ℕ → Bool) (to : ℕ) → IsKeptRow below count to known →
-        IsKeptRow below count to (Some row)) }
+fn known_row(alloc: Global, known: Option<NumberSet>, count: usize) -> Result<NumberSet, AllocError>
+    ensures { IfOk result (λ row. (below : ℕ → ℕ → Bool) (to : ℕ) →
+        IsKnownRow below count to known → IsKnownRow below count to (Some row)) }
 {
     match known {
         Some(row) => Ok(row),
-        None => Ok(Row::new(alloc, count)?),
+        None => Ok(NumberSet::new(alloc, count)?),
     }
 }
 
 // The same, given what is known to lie below. A word of which all members are known costs one step.
 fn compare<L: Lattice>(
     lattice: &L,
-    written: &[L::Elem],
-    left: &Row,
-    known: &mut Row,
+    written: &[L::Element],
+    left: &NumberSet,
+    known: &mut NumberSet,
     to: usize,
 ) -> Option<usize>
     requires to { to < length written.now }
@@ -175,9 +181,9 @@ fn compare<L: Lattice>(
 // The same of the 64 numbers of one word.
 fn compare_word<L: Lattice>(
     lattice: &L,
-    written: &[L::Elem],
-    left: &Row,
-    known: &mut Row,
+    written: &[L::Element],
+    left: &NumberSet,
+    known: &mut NumberSet,
     to: usize,
     at: usize,
 ) -> Option<usize>
@@ -207,9 +213,9 @@ fn compare_word<L: Lattice>(
 // Whether a number is no member of a row, or its element lies below another one. It is then known.
 fn stays_below<L: Lattice>(
     lattice: &L,
-    written: &[L::Elem],
-    left: &Row,
-    known: &mut Row,
+    written: &[L::Element],
+    left: &NumberSet,
+    known: &mut NumberSet,
     to: usize,
     n: usize,
 ) -> bool

@@ -1,4 +1,4 @@
-//! The way back from a constraint to the written element that reaches it.
+//! The chain back from a constraint to the written element that reaches it.
 ghost use Rattle.solver.specs.Reach.{EndsAt, IsTrail, LeadsOn, ParentsFall};
 ghost use Rattle.solver.specs.declared.edges.Edges.{Edges};
 ghost use Rattle.solver.specs.declared.system.Atom.{Atom};

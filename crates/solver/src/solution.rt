@@ -1,9 +1,9 @@
 //! The least values of the unknowns.
 ghost use Rattle.solver.specs.Rows.{AreSized, has_at, reached_by};
-ghost use Rattle.solver.specs.System.{AreAlike, JoinTo, values_of};
-ghost use Rattle.std.specs.Prelude.{IfOk, length, ◌<◌, ◌≡◌, ◌≤◌};
+ghost use Rattle.solver.specs.System.{AreAlike, row_join, rows_with, values_of};
+ghost use Rattle.std.specs.Prelude.{All, IfOk, length, ◌<◌, ◌≡◌, ◌≤◌};
 
-use crate::row::Row;
+use crate::number_set::NumberSet;
 use labels::Lattice;
 use std::alloc::{AllocError, Global};
 use std::marker::Model;
@@ -15,7 +15,7 @@ use std::marker::Model;
 pub struct Solution {
     /// How many written elements there are.
     count: usize,
-    rows: Vec<Row>,
+    rows: Vec<NumberSet>,
     ghost sized: { AreSized count rows.items },
 }
 
@@ -31,7 +31,7 @@ impl Model for Solution {
 
 impl Solution {
     // The solution with these rows of numbers below this.
-    pub(crate) fn of(count: usize, rows: Vec<Row>) -> Solution
+    pub(crate) fn of(count: usize, rows: Vec<NumberSet>) -> Solution
         requires { AreSized count rows.items }
         ensures { result ≡ reached_by 0 count rows.items }
     {
@@ -44,20 +44,21 @@ impl Solution {
         &self,
         alloc: Global,
         lattice: &L,
-        written: &[L::Elem],
+        written: &[L::Element],
         unknown: u32,
-    ) -> Result<L::Elem, AllocError>
+    ) -> Result<L::Element, AllocError>
         requires { length self.now ≤ length written.now }
         ensures { IfOk result (AreAlike (L.order lattice.now)
             (values_of (L.order lattice.now) written.now self.now unknown)) }
     {
         let rows = self.rows.as_slice();
-        value_in(alloc, lattice, written, self.count, rows, unknown as usize)
+        let numbers = numbers_of(alloc, self.count, rows, unknown as usize)?;
+        join_all(alloc, lattice, written, &numbers)
     }
 }
 
 // Whether a number is in the row of an unknown.
-fn reaches(rows: &[Row], count: usize, unknown: usize, number: usize) -> bool
+fn reaches(rows: &[NumberSet], count: usize, unknown: usize, number: usize) -> bool
     requires sized { AreSized count rows.now }
     requires inside { number < count }
     ensures { result ≡ has_at rows.now unknown number }
@@ -65,41 +66,49 @@ fn reaches(rows: &[Row], count: usize, unknown: usize, number: usize) -> bool
     unknown < rows.len() && rows[unknown].has(number)
 }
 
-// The join with a written element, if it is one that reaches the unknown.
-fn join_if<L: Lattice>(
+// The numbers of the written elements that reach an unknown, in order.
+fn numbers_of(
     alloc: Global,
-    lattice: &L,
-    value: L::Elem,
-    element: &L::Elem,
-    reaches: bool,
-) -> Result<L::Elem, AllocError>
-    ensures { IfOk result (JoinTo (L.order lattice.now) reaches value element.now) }
+    count: usize,
+    rows: &[NumberSet],
+    unknown: usize,
+) -> Result<Vec<usize>, AllocError>
+    requires { AreSized count rows.now }
+    ensures numbers { IfOk result (λ numbers. numbers.items
+        ≡ rows_with 0 (reached_by 0 count rows.now) unknown) }
+    ensures inside { IfOk result (λ numbers. All (λ number. number < count) numbers.items) }
 {
-    if reaches {
-        return lattice.join(alloc, &value, element);
+    let mut numbers = Vec::new(alloc);
+    for number in 0..count {
+        if reaches(rows, count, unknown, number) {
+            numbers.push(number)?;
+        }
     }
-    Ok(value)
+    Ok(numbers)
 }
 
-// The join of the written elements that stand in the row of an unknown.
-fn value_in<L: Lattice>(
+// The join of the written elements with these numbers. The joins of both halves are joined, so that each element goes through few
+// joins and not through that of each later one. The halves end at single numbers, 64 levels down at most.
+fn join_all<L: Lattice>(
     alloc: Global,
     lattice: &L,
-    written: &[L::Elem],
-    count: usize,
-    rows: &[Row],
-    unknown: usize,
-) -> Result<L::Elem, AllocError>
-    requires count { count ≤ length written.now }
-    requires sized { AreSized count rows.now }
-    ensures { IfOk result (AreAlike (L.order lattice.now) (values_of (L.order lattice.now)
-        written.now (reached_by 0 count rows.now) unknown)) }
+    written: &[L::Element],
+    numbers: &[usize],
+) -> Result<L::Element, AllocError>
+    requires { All (λ number. number < length written.now) numbers.now }
+    ensures { IfOk result (AreAlike (L.order lattice.now)
+        (row_join (L.order lattice.now) written.now numbers.now)) }
 {
     lattice.keep_laws();
-    let mut value = lattice.least(alloc);
-    for n in 0..count {
-        let reaches = reaches(rows, count, unknown, n);
-        value = join_if(alloc, lattice, value, &written[n], reaches)?;
+    let least = lattice.least(alloc);
+    if numbers.is_empty() {
+        return Ok(least);
     }
-    Ok(value)
+    if numbers.len() == 1 {
+        return lattice.join(alloc, &least, &written[numbers[0]]);
+    }
+    let (left, right) = numbers.split_at(numbers.len() / 2);
+    let left = join_all(alloc, lattice, written, left)?;
+    let right = join_all(alloc, lattice, written, right)?;
+    lattice.join(alloc, &left, &right)
 }

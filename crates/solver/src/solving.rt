@@ -30,7 +30,7 @@ use std::alloc::{AllocError, Global};
 pub fn solve<L: Lattice, T>(
     alloc: Global,
     lattice: &L,
-    system: &System<L::Elem, T>,
+    system: &System<L::Element, T>,
 ) -> Result<Solution, SolveFault>
     requires { InRange (length system.now.written.items) system.now.unknowns
         system.now.constraints.items }
@@ -58,7 +58,7 @@ pub fn solve<L: Lattice, T>(
 fn find_refusal<L: Lattice>(
     alloc: Global,
     lattice: &L,
-    written: &[L::Elem],
+    written: &[L::Element],
     edges: &Edges,
     value: usize,
 ) -> Result<SolveRefusal, AllocError>

@@ -11,6 +11,6 @@ pub use globals::Globals;
 pub use point::Point;
 pub use shape::{Shape, Span, cells_of, count_of, repeat};
 pub use slab::{
-    Back, Place, Site, Stand, Waiting, call_on, give_back_on, leave_on, operand_on, point_of,
-    site_of,
+    Registers, ReturnState, SavedFrame, StackFrame, StackState, call_on, give_back_on, leave_on,
+    operand_on, point_of, stack_state_of,
 };

@@ -97,8 +97,8 @@ pub fn cells_of(slots: &[Slot]) -> Result<usize, AllocError>
 
 /// Adds a cell so many times.
 pub fn repeat(cells: &mut Vec<Cell>, cell: Cell, count: usize) -> Result<(), AllocError>
-    ensures ok { OnOk result (cells.new.items ≡ cells.old.items ++ replicate count cell) }
-    ensures err { OnErr result (cells.new.items ≡ cells.old.items) }
+    ensures accepted { OnOk result (cells.new.items ≡ cells.old.items ++ replicate count cell) }
+    ensures unchanged { OnErr result (cells.new.items ≡ cells.old.items) }
 {
     let Some(length) = cells.len().checked_add(count) else {
         return Err(AllocError);

@@ -7,14 +7,11 @@ use Rattle.syntax.specs.Nodes.{program_nodes}
 use Rattle.syntax.specs.Tree.{ProgramTree}
 use Rattle.syntax.specs.Written.{Anywhere, IsWritten}
 
--- the most bytes of a name, the most nodes of a program, the most levels that are open at a time
-abbrev pub longest_name : ℕ
-longest_name = MAX_TEXT
-
+-- the most nodes of a program
 abbrev pub most_nodes : ℕ
 most_nodes = MAX_TEXT + 1
 
 pub record IsProgram (program : ProgramTree) : Type 0 where
-  pub written : IsWritten Anywhere longest_name program
+  pub written : IsWritten Anywhere MAX_TEXT program
   pub few : program_nodes program ≤ most_nodes
   pub nested : IsNested MAX_LEVELS program

@@ -186,40 +186,40 @@ pub data ItemTree : Type 0 where
 pub record ProgramTree : Type 0 where
   pub items : List ItemTree
 
-abbrev pub expression_place : ExpressionTree → ℕ
-expression_place (IntegerTree at value) = at
-expression_place (TruthTree at value) = at
-expression_place (VariableTree name) = name.at
-expression_place (ElementTree array index) = array.at
-expression_place (UnaryTree at operator operand) = at
-expression_place (BinaryTree at operator left right) = at
+abbrev pub expression_at : ExpressionTree → ℕ
+expression_at (IntegerTree at value) = at
+expression_at (TruthTree at value) = at
+expression_at (VariableTree name) = name.at
+expression_at (ElementTree array index) = array.at
+expression_at (UnaryTree at operator operand) = at
+expression_at (BinaryTree at operator left right) = at
 
-abbrev pub block_place : BlockTree → ℕ
-block_place (BlockOf at statements) = at
+abbrev pub block_at : BlockTree → ℕ
+block_at (BlockOf at statements) = at
 
-abbrev pub statement_place : StatementTree → ℕ
-statement_place (DeclareTree at base label name value) = at
-statement_place (DeclareArrayTree at base label name size) = at
-statement_place (AssignTree target value) = target.at
-statement_place (AssignElementTree array index value) = array.at
-statement_place (CallTree' call) = call.procedure.at
-statement_place (ReceiveTree at channel) = at
-statement_place (SendTree at channel value) = at
-statement_place (IfTree at condition body) = at
-statement_place (IfElseTree at condition body otherwise) = at
-statement_place (WhileTree at condition body) = at
-statement_place (BreakTree at) = at
-statement_place (ContinueTree at) = at
-statement_place (ThrowTree at exception) = at
-statement_place (ReturnTree at value) = at
-statement_place (TryTree at body catches) = at
-statement_place (NestedTree body) = block_place body
+abbrev pub statement_at : StatementTree → ℕ
+statement_at (DeclareTree at base label name value) = at
+statement_at (DeclareArrayTree at base label name size) = at
+statement_at (AssignTree target value) = target.at
+statement_at (AssignElementTree array index value) = array.at
+statement_at (CallTree' call) = call.procedure.at
+statement_at (ReceiveTree at channel) = at
+statement_at (SendTree at channel value) = at
+statement_at (IfTree at condition body) = at
+statement_at (IfElseTree at condition body otherwise) = at
+statement_at (WhileTree at condition body) = at
+statement_at (BreakTree at) = at
+statement_at (ContinueTree at) = at
+statement_at (ThrowTree at exception) = at
+statement_at (ReturnTree at value) = at
+statement_at (TryTree at body catches) = at
+statement_at (NestedTree body) = block_at body
 
-abbrev pub item_place : ItemTree → ℕ
-item_place (ChannelItem channel) = channel.at
-item_place (ExceptionItem at name) = at
-item_place (GlobalItem global) = global.at
-item_place (ProcedureItem procedure) = procedure.at
+abbrev pub item_at : ItemTree → ℕ
+item_at (ChannelItem channel) = channel.at
+item_at (ExceptionItem at name) = at
+item_at (GlobalItem global) = global.at
+item_at (ProcedureItem procedure) = procedure.at
 
 -- The trees of the code's values.
 abbrev pub name_tree : Name → NameTree

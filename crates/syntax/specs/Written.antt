@@ -2,7 +2,7 @@
 -- its nodes stand at places that fit.
 -- Source: our own.
 use Rattle.std.specs.Prelude.{ℕ, ◌≤◌, Option, None, Some, length, IsTrue, All}
-use Rattle.lexer.specs.Lexeme.{greatest_literal}
+use Rattle.common.specs.declared.limits.TheConstants.{MAX_INTEGER}
 use Rattle.lexer.specs.Words.{is_name_text}
 use Rattle.syntax.specs.Tree.{NameTree, PolicyTree, LabelTree, ExpressionTree, IntegerTree, TruthTree, VariableTree, ElementTree, UnaryTree, BinaryTree, CallTree, RightTree, ReceivedTree, CalledTree, ValueTree, SizeTree, StatementTree, DeclareTree, DeclareArrayTree, AssignTree, AssignElementTree, CallTree', ReceiveTree, SendTree, IfTree, IfElseTree, WhileTree, BreakTree, ContinueTree, ThrowTree, ReturnTree, TryTree, NestedTree, BlockTree, BlockOf, StatementTrees, NoStatement, StatementThen, CatchTrees, NoCatch, CatchThen, ChannelTree, ConstantTree, IntegerConstant, TruthConstant, GlobalValueTree, ScalarTree, ArrayTree, GlobalTree, WrittenResultTree, NothingTree, ResultTree, ParameterTree, ThrownTree, ProcedureTree, ItemTree, ChannelItem, ExceptionItem, GlobalItem, ProcedureItem, ProgramTree}
 
@@ -26,7 +26,7 @@ module _ (fits : ℕ → Type 0) (longest : ℕ) where
   IsWrittenOptionalLabel (Some label) = IsWrittenLabel label
 
   abbrev pub IsWrittenExpression : ExpressionTree → Type 0
-  IsWrittenExpression (IntegerTree at value) = fits at × (value ≤ greatest_literal)
+  IsWrittenExpression (IntegerTree at value) = fits at × (value ≤ MAX_INTEGER)
   IsWrittenExpression (TruthTree at value) = fits at
   IsWrittenExpression (VariableTree name) = IsWrittenName name
   IsWrittenExpression (ElementTree array index) = IsWrittenName array × IsWrittenExpression index
@@ -46,7 +46,7 @@ module _ (fits : ℕ → Type 0) (longest : ℕ) where
   IsWrittenRight (ValueTree value) = IsWrittenExpression value
 
   abbrev pub IsWrittenSize : SizeTree → Type 0
-  IsWrittenSize size = fits size.at × (size.size ≤ greatest_literal)
+  IsWrittenSize size = fits size.at × (size.size ≤ MAX_INTEGER)
 
   abbrev mutual
     pub IsWrittenStatement : StatementTree → Type 0
@@ -87,7 +87,7 @@ module _ (fits : ℕ → Type 0) (longest : ℕ) where
   IsWrittenChannel channel = fits channel.at × IsWrittenLabel channel.label × IsWrittenName channel.name
 
   abbrev pub IsWrittenConstant : ConstantTree → Type 0
-  IsWrittenConstant (IntegerConstant at negative value) = fits at × (value ≤ greatest_literal)
+  IsWrittenConstant (IntegerConstant at negative value) = fits at × (value ≤ MAX_INTEGER)
   IsWrittenConstant (TruthConstant at value) = fits at
 
   abbrev pub IsWrittenGlobalValue : GlobalValueTree → Type 0

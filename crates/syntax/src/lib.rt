@@ -1,4 +1,4 @@
-//! The syntax tree of a program, with the places of its nodes, and the grammar that says which tokens spell which tree.
+//! The syntax tree of a program, with the byte at which each node begins, and the grammar that says which tokens spell which tree.
 #![tactic(auto)]
 
 pub mod line;

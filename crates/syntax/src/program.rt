@@ -1,8 +1,8 @@
 //! A program, which is made only of a tree that a text can have.
 
-ghost use Rattle.common.specs.declared.limits.TheConstants.{MAX_LEVELS};
+ghost use Rattle.common.specs.declared.limits.TheConstants.{MAX_LEVELS, MAX_TEXT};
 ghost use Rattle.std.specs.Prelude.{◌≡◌, ◌≤◌};
-ghost use Rattle.syntax.specs.Limits.{IsProgram, longest_name, most_nodes};
+ghost use Rattle.syntax.specs.Limits.{IsProgram, most_nodes};
 ghost use Rattle.syntax.specs.Nesting.{IsNested};
 ghost use Rattle.syntax.specs.Nodes.{program_nodes};
 ghost use Rattle.syntax.specs.Tree.{program_tree};
@@ -49,7 +49,7 @@ impl Program {
         ensures same { result.now ≡ self.now }
 
         // Names are names of at most 1 MiB, and integers are at most 2147483647.
-        ensures written { IsWritten Anywhere longest_name (program_tree self.now) }
+        ensures written { IsWritten Anywhere MAX_TEXT (program_tree self.now) }
 
         // There are at most 1,048,577 nodes, nested at most 64 levels deep.
         ensures few { program_nodes (program_tree self.now) ≤ most_nodes }

@@ -1,8 +1,8 @@
-//! The nodes of a syntax tree. A place is that of a node's first byte in the text; a node that begins with another one has its
-//! place.
+//! The nodes of a syntax tree. Each node has the byte of the text at which it begins (`at`); a node that begins with another one has
+//! that one's.
 
 ghost use Rattle.std.specs.Prelude.{◌≡◌, map};
-ghost use Rattle.syntax.specs.Tree.{expression_tree, expression_place, statement_tree, statement_place, item_tree, item_place, block_tree, optional_block_tree, catch_tree, catches_of, if_tree, WhileTree, TryTree, NestedTree};
+ghost use Rattle.syntax.specs.Tree.{expression_tree, expression_at, statement_tree, statement_at, item_tree, item_at, block_tree, optional_block_tree, catch_tree, catches_of, if_tree, WhileTree, TryTree, NestedTree};
 
 use common::Direction;
 
@@ -82,7 +82,7 @@ pub enum Expression {
         operator: UnaryOperator,
         operand: Box<Expression>,
     },
-    /// The place is that of the left operand.
+    /// It begins where its left operand does.
     Binary {
         at: usize,
         operator: BinaryOperator,
@@ -92,9 +92,9 @@ pub enum Expression {
 }
 
 impl Expression {
-    /// The place of the expression.
-    pub fn place(&self) -> usize
-        ensures { result ≡ expression_place (expression_tree self.now) }
+    /// The byte at which the expression begins.
+    pub fn at(&self) -> usize
+        ensures { result ≡ expression_at (expression_tree self.now) }
     {
         match self {
             Expression::Integer { at, .. }
@@ -230,7 +230,7 @@ pub struct Channel {
     pub name: Name,
 }
 
-/// A constant. An integer may have a minus sign before it, and then has its place.
+/// A constant. An integer may have a minus sign before it, and then begins there.
 #[derive(Clone, Copy, Debug)]
 pub enum Constant {
     Integer {
@@ -307,9 +307,9 @@ pub enum Item {
 }
 
 impl Statement {
-    /// The place of the statement.
-    pub fn place(&self) -> usize
-        ensures { result ≡ statement_place (statement_tree self.now) }
+    /// The byte at which the statement begins.
+    pub fn at(&self) -> usize
+        ensures { result ≡ statement_at (statement_tree self.now) }
     {
         match self {
             Statement::Declare { at, .. }
@@ -382,9 +382,9 @@ impl Statement {
 }
 
 impl Item {
-    /// The place of the item.
-    pub fn place(&self) -> usize
-        ensures { result ≡ item_place (item_tree self.now) }
+    /// The byte at which the item begins.
+    pub fn at(&self) -> usize
+        ensures { result ≡ item_at (item_tree self.now) }
     {
         match self {
             Item::Channel(channel) => channel.at,

@@ -1,6 +1,6 @@
 //! Hosts whose growths are refused, and the laws of hosts.
 //!
-//! Undisturbed these tests show that the calls answer; `tools/refused-memory` runs them with each allocation refused in turn.
+//! Undisturbed these tests show that the calls answer; `tools/out-of-memory` runs them with each allocation refused in turn.
 
 use channels::World;
 use common::OrNoMemory;
@@ -28,15 +28,16 @@ fn the_laws_are_called(_rt: HostRuntime) {
     laws::sessions_go_on();
     laws::transcripts_join();
     laws::ids_are_never_given_again();
+    laws::at_most_64_sessions_are_open();
 }
 
-// The world that has 4 for the input `s`, or none where memory is refused.
+// The world that has 4 for the input `s`, or none where memory runs out.
 fn world_once(alloc: Global) -> Option<World> {
     let module = decode(alloc, &MODULE).ok()?;
     World::read(alloc, &module, "s = 4").ok()
 }
 
-// The same, made anew where memory is refused.
+// The same, made anew where memory runs out.
 fn world_of(alloc: Global) -> Result<World, Fail> {
     if let Some(world) = world_once(alloc) {
         return Ok(world);
@@ -44,7 +45,7 @@ fn world_of(alloc: Global) -> Result<World, Fail> {
     Ok(world_once(alloc).ok_or("no world")?)
 }
 
-// Opens a session, and tries again where memory is refused.
+// Opens a session, and tries again where memory runs out.
 fn opened(alloc: Global, host: &mut Host) -> Result<Id, Fail> {
     match host.open(&MODULE, world_of(alloc)?) {
         Err(OrNoMemory::NoMemory) => Ok(host.open(&MODULE, world_of(alloc)?)?),
@@ -52,7 +53,7 @@ fn opened(alloc: Global, host: &mut Host) -> Result<Id, Fail> {
     }
 }
 
-// Turns a session to its end, again where memory is refused.
+// Turns a session to its end, again where memory runs out.
 fn turned(host: &mut Host, id: Id) -> Result<(u64, Status), Fail> {
     let (taken, status) = host.turn(id, 1000)?;
     if status != Status::NoMemory {
@@ -62,7 +63,7 @@ fn turned(host: &mut Host, id: Id) -> Result<(u64, Status), Fail> {
     Ok((taken.saturating_add(more), status))
 }
 
-// How many pairs Alice sees, asked again where memory is refused.
+// How many pairs Alice sees, asked again where memory runs out.
 fn count_of_view(host: &Host, id: Id) -> Result<usize, HostFault> {
     match host.view(id, 0) {
         Err(OrNoMemory::NoMemory) => Ok(host.view(id, 0)?.len()),
@@ -70,7 +71,7 @@ fn count_of_view(host: &Host, id: Id) -> Result<usize, HostFault> {
     }
 }
 
-// Whichever growth is refused, a call answers out of memory or what it answers undisturbed, and asked again it answers that.
+// Wherever memory runs out, a call answers out of memory or what it answers undisturbed, and asked again it answers that.
 #[test]
 fn a_refused_growth_changes_nothing(rt: HostRuntime) -> Result<(), Fail> {
     let mut host = Host::new(rt.alloc());
@@ -82,7 +83,7 @@ fn a_refused_growth_changes_nothing(rt: HostRuntime) -> Result<(), Fail> {
     Ok(())
 }
 
-// Two events, or none where memory is refused.
+// Two events, or none where memory runs out.
 fn events_of(alloc: Global) -> Option<Vec<Event>> {
     let bytes = Vec::from_slice(alloc, &MODULE).ok()?;
     let mut events = Vec::new(alloc);
@@ -91,7 +92,7 @@ fn events_of(alloc: Global) -> Option<Vec<Event>> {
     Some(events)
 }
 
-// Where the list of answers is refused, no event was answered.
+// Where memory runs out for the list of answers, no event was answered.
 #[test]
 fn a_refused_list_answers_nothing(rt: HostRuntime) -> Result<(), Fail> {
     let mut host = Host::new(rt.alloc());

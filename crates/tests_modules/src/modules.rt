@@ -46,7 +46,10 @@ fn the_laws_are_called(_rt: HostRuntime) {
     laws::one_spelling();
     laws::no_spelling_is_a_prefix();
     laws::spellings_are_not_refused();
+    laws::bytes_are_spelled_or_refused();
     laws::refusals_stand_inside();
+    common::laws::limits_are_as_written();
+    common::laws::built_in_exceptions_are_as_written();
     bytecode::laws::instructions_are_spelled();
     verifier::safety::modules_without_a_defect_are_never_stuck();
     verifier::safety::refused_modules_have_a_defect();

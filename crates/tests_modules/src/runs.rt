@@ -23,7 +23,7 @@ const MODULE: [u8; 86] = [
     0, 0, 0, 0, 1, 0, 0, 0, 0, 0, 0, 0, 0, 0, 0, 0, 0, 1, 35, 0, 0, 0, 0, 0, 0, 0, 0,
 ];
 
-// A module, made anew where memory is refused.
+// A module, made anew where memory runs out.
 fn module_of(alloc: Global, bytes: &[u8]) -> Option<Module> {
     for _ in 0..2 {
         if let Ok(module) = decode(alloc, bytes) {
@@ -33,7 +33,7 @@ fn module_of(alloc: Global, bytes: &[u8]) -> Option<Module> {
     None
 }
 
-// The machine of the first module, or none where memory is refused.
+// The machine of the first module, or none where memory runs out.
 fn machine_once(alloc: Global) -> Option<Machine> {
     let module = module_of(alloc, &SENDS)?;
     let world = World::read(alloc, &module, "").ok()?;
@@ -41,7 +41,7 @@ fn machine_once(alloc: Global) -> Option<Machine> {
     Machine::new(alloc, verified, world).ok()
 }
 
-// The same, made anew where memory is refused.
+// The same, made anew where memory runs out.
 fn machine_of(alloc: Global) -> Option<Machine> {
     for _ in 0..4 {
         if let Some(machine) = machine_once(alloc) {

@@ -1,7 +1,10 @@
 //! Worlds, lists of what was sent, and sinks that fail.
 
-use channels::{Device, InputList, Pair, Sent, Sink, SinkFault, World, write_all};
+use bytecode::Module;
+use channels::{Device, InputList, Pair, Sent, Sink, SinkFault, World, write_all, write_view};
+use common::OrNoMemory;
 use module_file::decode;
+use std::alloc::Global;
 use std::io::Cursor;
 use std::test::Fail;
 
@@ -90,5 +93,71 @@ fn writes_all_where_there_is_room(rt: HostRuntime) -> Result<(), Fail> {
     assert_eq!(rt; device.into_inner().as_slice(), b"ok".as_slice());
     let mut small = Device::new(Cursor::new([0u8; 1]));
     assert_eq!(rt; write_all(&mut small, b"ok"), Err(SinkFault));
+    Ok(())
+}
+
+// A sink that takes one byte at a time, and fails at the first byte for which it has no room.
+#[derive(Drop)]
+struct Narrow {
+    bytes: [u8; 14],
+    count: usize,
+    room: usize,
+    has_failed: bool,
+}
+
+impl Sink for Narrow {
+    ghost has_failed = { λ sink. sink.has_failed };
+
+    fn write(&mut self, bytes: &[u8]) -> Result<usize, SinkFault> {
+        if self.has_failed {
+            return Err(SinkFault);
+        }
+        let Some(byte) = bytes.first() else {
+            return Ok(0);
+        };
+        if self.count >= self.room || self.count >= self.bytes.len() {
+            self.has_failed = true;
+            return Err(SinkFault);
+        }
+        self.bytes[self.count] = *byte;
+        self.count += 1;
+        Ok(1)
+    }
+
+    fn failed(&self) -> bool {
+        self.has_failed
+    }
+}
+
+// Whether a view is written as far as there is room, and refused for the sink's fault where that is too small for its text.
+fn fills_its_room(alloc: Global, sent: &Sent, module: &Module, text: &[u8], room: usize) -> bool {
+    let mut sink = Narrow {
+        bytes: [0; 14],
+        count: 0,
+        room,
+        has_failed: false,
+    };
+    let is_answered = match write_view(alloc, sent, module, None, &mut sink) {
+        Ok(()) => room == text.len(),
+        Err(OrNoMemory::Refused(SinkFault)) => room < text.len(),
+        Err(OrNoMemory::NoMemory) => false,
+    };
+    is_answered && sink.bytes.get(..sink.count) == text.get(..room)
+}
+
+#[test]
+fn a_view_ends_where_its_sink_fails(rt: HostRuntime) -> Result<(), Fail> {
+    let module = decode(rt.alloc(), &MODULE)?;
+    let mut sent = Sent::new(rt.alloc());
+    for number in [-7, 12] {
+        sent.push(Pair { channel: 1, number })?;
+    }
+    let text = b"pub -7\npub 12\n";
+    for room in 0..=text.len() {
+        assert!(rt;
+            fills_its_room(rt.alloc(), &sent, &module, text, room),
+            "room for {room}"
+        );
+    }
     Ok(())
 }

@@ -1,41 +1,86 @@
 //! Causes by number and words, and a compilation whose growths are refused.
 
 use common::OrNoMemory;
-use flowc::{Cause, CompileFault, check_texts, compile};
+use flowc::{
+    Cause, CompileFault, EndDefect, HierarchyDefect, LexDefect, NameDefect, ParseDefect,
+    check_texts, compile,
+};
 use std::alloc::Global;
 use std::test::Fail;
 
+// Each cause with its number and its words, as the formats fix them.
+const CAUSES: [(Cause, u32, &str); 26] = [
+    (Cause::NotUtf8, 100, "not UTF-8"),
+    (Cause::Lex(LexDefect::NoToken), 101, "no token"),
+    (
+        Cause::Lex(LexDefect::LiteralTooLarge),
+        102,
+        "literal too large",
+    ),
+    (Cause::Lex(LexDefect::UnclosedComment), 103, "open comment"),
+    (Cause::Hierarchy(HierarchyDefect::Syntax), 151, "syntax"),
+    (
+        Cause::Hierarchy(HierarchyDefect::DeclaredTwice),
+        152,
+        "declared twice",
+    ),
+    (
+        Cause::Hierarchy(HierarchyDefect::UnknownPrincipal),
+        153,
+        "unknown principal",
+    ),
+    (
+        Cause::Hierarchy(HierarchyDefect::TooManyPrincipals),
+        154,
+        "too many principals",
+    ),
+    (
+        Cause::Parse(ParseDefect::UnexpectedToken),
+        201,
+        "unexpected token",
+    ),
+    (Cause::Parse(ParseDefect::TooDeep), 202, "nested too deep"),
+    (Cause::Name(NameDefect::UnknownName), 301, "unknown name"),
+    (
+        Cause::Name(NameDefect::DeclaredTwice),
+        302,
+        "declared twice",
+    ),
+    (
+        Cause::Name(NameDefect::UnknownPrincipal),
+        303,
+        "unknown principal",
+    ),
+    (Cause::Name(NameDefect::NoProperMain), 304, "no proper main"),
+    (Cause::Name(NameDefect::WrongType), 401, "wrong type"),
+    (
+        Cause::Name(NameDefect::WrongArgumentCount),
+        402,
+        "wrong argument count",
+    ),
+    (Cause::Name(NameDefect::WrongUse), 403, "wrong use"),
+    (Cause::End(EndDefect::Unreachable), 501, "unreachable"),
+    (
+        Cause::End(EndDefect::NoValueReturned),
+        502,
+        "no value returned",
+    ),
+    (
+        Cause::End(EndDefect::Undeclared),
+        503,
+        "exception not declared",
+    ),
+    (Cause::End(EndDefect::NeverRaised), 504, "never raised"),
+    (Cause::End(EndDefect::OutsideLoop), 505, "not in a loop"),
+    (Cause::FlowNotAllowed, 601, "flow not allowed"),
+    (Cause::TextTooLong, 701, "text too long"),
+    (Cause::Name(NameDefect::ArraySize), 703, "array size"),
+    (Cause::Name(NameDefect::TooManyCells), 704, "too many cells"),
+];
+
 #[test]
 fn has_a_number_and_words_for_each_cause(rt: HostRuntime) -> Result<(), Fail> {
-    let causes: [(Cause, u32, &str); 26] = [
-        (Cause::NotUtf8, 100, "not UTF-8"),
-        (Cause::NoToken, 101, "no token"),
-        (Cause::LiteralTooLarge, 102, "literal too large"),
-        (Cause::OpenComment, 103, "open comment"),
-        (Cause::Syntax, 151, "syntax"),
-        (Cause::PrincipalTwice, 152, "declared twice"),
-        (Cause::UnknownPrincipal, 153, "unknown principal"),
-        (Cause::TooManyPrincipals, 154, "too many principals"),
-        (Cause::UnexpectedToken, 201, "unexpected token"),
-        (Cause::TooDeep, 202, "nested too deep"),
-        (Cause::UnknownName, 301, "unknown name"),
-        (Cause::DeclaredTwice, 302, "declared twice"),
-        (Cause::UnknownPrincipalInLabel, 303, "unknown principal"),
-        (Cause::NoProperMain, 304, "no proper main"),
-        (Cause::WrongType, 401, "wrong type"),
-        (Cause::WrongArgumentCount, 402, "wrong argument count"),
-        (Cause::WrongUse, 403, "wrong use"),
-        (Cause::Unreachable, 501, "unreachable"),
-        (Cause::NoValueReturned, 502, "no value returned"),
-        (Cause::ExceptionNotDeclared, 503, "exception not declared"),
-        (Cause::NeverRaised, 504, "never raised"),
-        (Cause::OutsideLoop, 505, "not in a loop"),
-        (Cause::FlowNotAllowed, 601, "flow not allowed"),
-        (Cause::TextTooLong, 701, "text too long"),
-        (Cause::ArraySize, 703, "array size"),
-        (Cause::TooManyCells, 704, "too many cells"),
-    ];
-    for (cause, number, words) in causes {
+    for (cause, number, words) in CAUSES {
         assert!(rt;
             cause.number() == number && cause.words() == words,
             "{number}"
@@ -51,7 +96,7 @@ fn size_of(alloc: Global) -> Result<usize, CompileFault> {
 }
 
 // Whichever growth is refused, the answer is that memory ran out or the undisturbed one, and asked again it is that.
-// `tools/refused-memory` refuses each of them in turn.
+// `tools/out-of-memory` refuses each of them in turn.
 #[test]
 fn a_refused_growth_changes_no_answer(rt: HostRuntime) -> Result<(), Fail> {
     let mut answer = size_of(rt.alloc());

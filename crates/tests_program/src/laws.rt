@@ -60,4 +60,5 @@ fn laws_of_the_program(_rt: HostRuntime) {
     flowc::laws::silent_modules_show_less();
     flowc::laws::runs_are_isolated();
     flowc::laws::runs_end_as_the_source();
+    command_line::laws::steps_are_as_written();
 }

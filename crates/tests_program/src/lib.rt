@@ -1,4 +1,5 @@
-//! Tests of `resolved`, `isolation`, `names`, `lowering`, `compiler` and `flowc`: what no row of the program `rows` reaches.
+//! Tests of `resolved`, `isolation`, `names`, `lowering`, `compiler`, `command_line` and `flowc`: what no row of the program `rows`
+//! reaches.
 #![tactic(auto)]
 
 #[cfg(test)]

@@ -90,8 +90,8 @@ packing_more kinds slots bs more block count d p full is e =
           ∙ sym (blocks_more (length bs) kinds) ∙ ap (λ n. blocks n kinds) (sym one);
     }
 
-pub packing_done : (kinds : List Kind) (slots : List Slot) (bs : List ℕ) (count : ℕ) → IsPacking kinds slots bs count → count < 64 → bs ≡ full_blocks kinds
-packing_done kinds slots bs count p few = let n : length bs ≡ length kinds / 64 = omega (arith, p.many) in p.blocks_are ∙ ap (λ (j : ℕ). blocks j kinds) n
+pub packing_finished : (kinds : List Kind) (slots : List Slot) (bs : List ℕ) (count : ℕ) → IsPacking kinds slots bs count → count < 64 → bs ≡ full_blocks kinds
+packing_finished kinds slots bs count p few = let n : length bs ≡ length kinds / 64 = omega (arith, p.many) in p.blocks_are ∙ ap (λ (j : ℕ). blocks j kinds) n
 
 -- so many as there are
 take_least : {A : Type 0} (xs : List A) (n count : ℕ) → count ≡ min (length xs) n → take n xs ≡ take count xs

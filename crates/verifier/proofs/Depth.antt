@@ -17,7 +17,7 @@ use Rattle.verifier.specs.declared.fault.CodeDefect.TheVariants.{OperandKind}
 use Rattle.verifier.specs.declared.operands.Link.{Link}
 use Rattle.verifier.specs.declared.search.Search.{Search}
 use Rattle.verifier.proofs.Laws.{flow_within}
-use Rattle.verifier.proofs.Reaching.{going_done, no_items}
+use Rattle.verifier.proofs.Reaching.{table_finished, no_items}
 use Rattle.verifier.proofs.Runs.{leaves_same}
 
 -- ---- the greatest depth of links
@@ -110,7 +110,7 @@ settles m p (Receive channel) = inl refl
 settles m p (Send channel) = inl refl
 settles m p (Throw exception) = inr refl
 
--- ---- the lists of a search that is done
+-- ---- the lists of a search that is finished
 
 row_there : (lists : List (List Kind)) (o : Option ℕ) (kinds : List Kind) → row lists o ≡ Some kinds → ((n : ℕ) → o ≡ Some n → n < length lists) → (k : ℕ) × ((k < length lists) × (length kinds ≤ length (list_of lists k)))
 row_there lists None kinds e h = absurd (let no : None ≡ Some kinds = e in cc)
@@ -123,12 +123,12 @@ run_longest m p s g empty = record { met = g.met; longest = along }
     in_table at kinds has = row_there s.operands (get_or s.shapes at None) kinds has (g.numbers at)
 
     along : (kinds : List Kind) → IsMet m p kinds → (k : ℕ) × ((k < length s.operands) × (length kinds ≤ length (list_of s.operands k)))
-    along _ (found flowing at kinds f has) = in_table at kinds (flow_within m p (table s) flowing (going_done m p s g (no_items s.work empty)) f at kinds has)
+    along _ (found flowing at kinds f has) = in_table at kinds (flow_within m p (table s) flowing (table_finished m p s g (no_items s.work empty)) f at kinds has)
     along _ (left flowing at kinds i after f has is e) =
-        let done = going_done m p s g (no_items s.work empty) in
-        let here = flow_within m p (table s) flowing done f at kinds has in
+        let finished = table_finished m p s g (no_items s.work empty) in
+        let here = flow_within m p (table s) flowing finished f at kinds has in
         elim (settles m p i) [
-          | inl goes ↦ in_table (at + width_of i) after (done.keeps at kinds (at + width_of i) after here (next i (at + width_of i) after is e goes refl))
+          | inl goes ↦ in_table (at + width_of i) after (finished.keeps at kinds (at + width_of i) after here (next i (at + width_of i) after is e goes refl))
           | inr none ↦ let r = in_table at kinds here in (r.0, (r.1.0, omega (arith, r.1.1, left_less (is_own p i) (signature m p i) kinds after e none)))
         ]
 

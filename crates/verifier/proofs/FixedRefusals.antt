@@ -191,11 +191,6 @@ drop_none [] (suc k) h = refl
 drop_none (x ∷ xs) zero h = absurd (omega arith)
 drop_none (x ∷ xs) (suc k) h = drop_none xs k (omega arith)
 
-pub get_at : {A : Type 0} (xs : List A) (k : ℕ) (d : A) → k < length xs → slice_get xs k ≡ Some (get_or xs k d)
-get_at [] k d h = absurd (omega arith)
-get_at (x ∷ xs) zero d h = refl
-get_at (x ∷ xs) (suc k) d h = get_at xs k d (omega arith)
-
 module _ (m q : ModuleContents) (number index : ℕ) (procedures : List ProcedureContents) (item body : ProcedureContents) (same_module : q ≡ m) (same_procedure : body ≡ item) (is : item ≡ get_or procedures index item) (inside : index < length procedures) (o : Option CodeRefusal) (found : o ≡ slice_get (own_refusals q number body) 0) where
   own_are : o ≡ slice_get (own_refusals m number (get_or procedures index item)) 0
   own_are =

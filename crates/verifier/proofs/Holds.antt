@@ -1,8 +1,9 @@
 -- Cells of one kind, and slots that hold cells of their kinds.
+use Rattle.common.specs.Functions.{updated}
 use Rattle.std.proofs.Common.{◌≡◌, ℕ, zero, suc, ◌==◌, Bool, true, false, if◌then◌else◌, List, [], ◌∷◌, length, map, take, replicate, slice_get, slice_set, Option, Some, None, refl, sym, ap, ◌∙◌, subst, pos, negsuc, ℤ}
 use Rattle.std.specs.Prelude.{nat_lt}
 use Rattle.std.proofs.lemmas.Bool.{eqb-true}
-use Rattle.bytecode.specs.Machine.{changed, element_at, with_element, scalar_cell, first_cells, first_slot, first_slots, first_global, slot_of, cells_of_global, kinds_of}
+use Rattle.bytecode.specs.Machine.{element_at, with_element, scalar_cell, first_cells, first_slot, first_slots, first_global, slot_of, cells_of_global, kinds_of}
 use Rattle.bytecode.specs.Values.{kind_of, zero_of, is_same_kind}
 use Rattle.bytecode.specs.declared.value.Kind.{Kind}
 use Rattle.bytecode.specs.declared.value.Kind.TheVariants as kind
@@ -64,7 +65,7 @@ abbrev pub Holds : List Slot → (ℕ → List Cell) → Type 0
 Holds slots cells = (k : ℕ) (s : Slot) → slice_get slots k ≡ Some s → AllOf (slot_kind (Some s)) (cells k)
 
 -- one slot with other cells of its kind
-pub holds_changed : (slots : List Slot) (cells : ℕ → List Cell) (k : ℕ) (new : List Cell) → Holds slots cells → AllOf (slot_kind (slice_get slots k)) new → Holds slots (changed cells k new)
+pub holds_changed : (slots : List Slot) (cells : ℕ → List Cell) (k : ℕ) (new : List Cell) → Holds slots cells → AllOf (slot_kind (slice_get slots k)) new → Holds slots (updated cells k new)
 holds_changed slots cells k new h all j s is = split (j == k) refl
   where
     split : (b : Bool) → j == k ≡ b → AllOf (slot_kind (Some s)) (if b then new else cells j)

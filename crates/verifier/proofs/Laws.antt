@@ -1,4 +1,5 @@
 -- A table that keeps every edge has every list that the flow may give.
+use Rattle.common.specs.Functions.{updated}
 use Rattle.std.proofs.Common.{◌≡◌, ◌≢◌, ◌⊎◌, inl, inr, ℕ, ◌==◌, Bool, true, false, if◌then◌else◌, List, [], ◌∷◌, Option, Some, None, refl, sym, ap, ◌∙◌, subst, arith}
 use Rattle.std.proofs.lemmas.Bool.Decides.{nat_tests}
 use Rattle.std.proofs.lemmas.Bool.{eqb-true, cases_eq}
@@ -10,10 +11,9 @@ use Rattle.verifier.specs.declared.fault.CodeDefect.{CodeDefect}
 use Rattle.verifier.specs.Flow.{Edge, Flow, starts, grows, nowhere, effect, Misses, IsOperandDefect, misses, meets, falls, FlowsWell, between}
 use Rattle.bytecode.specs.declared.value.Kind.TheVariants.{Int, Boolean}
 use Rattle.verifier.specs.declared.fault.CodeDefect.TheVariants.{FallsOffEnd}
-use Rattle.bytecode.specs.Machine.{changed}
 
--- a table that is done: it has the start, keeps every edge, each of its instructions finds its operands, and none is at the end
-pub record IsDone (m : ModuleContents) (p : ProcedureContents) (table : ℕ → Option (List Kind)) : Type 0 where
+-- a table that is finished: it has the start, keeps every edge, each of its instructions finds its operands, and none is at the end
+pub record IsFinished (m : ModuleContents) (p : ProcedureContents) (table : ℕ → Option (List Kind)) : Type 0 where
   pub first : table 0 ≡ Some []
   pub finds : (at : ℕ) (kinds : List Kind) (i : Instruction) (wrong : CodeDefect) → table at ≡ Some kinds → instruction_at p.code at ≡ Some i → effect m p i kinds ≡ Misses wrong → ⊥
   pub keeps : (at : ℕ) (kinds : List Kind) (to : ℕ) (after : List Kind) → table at ≡ Some kinds → Edge m p at kinds to after → table to ≡ Some after
@@ -23,40 +23,40 @@ pub same_self : (a : ℕ) → a == a ≡ true
 same_self a = grind (arith, nat_tests)
 
 -- a changed table has the new list or an old one
-pub changed_cases : (table : ℕ → Option (List Kind)) (to : ℕ) (after : List Kind) (at : ℕ) (kinds : List Kind) → changed table to (Some after) at ≡ Some kinds → ((at ≡ to) × (after ≡ kinds)) ⊎ (table at ≡ Some kinds)
+pub changed_cases : (table : ℕ → Option (List Kind)) (to : ℕ) (after : List Kind) (at : ℕ) (kinds : List Kind) → updated table to (Some after) at ≡ Some kinds → ((at ≡ to) × (after ≡ kinds)) ⊎ (table at ≡ Some kinds)
 changed_cases table to after at kinds e = split (at == to) refl e
   where
     split : (b : Bool) → at == to ≡ b → (if b then Some after else table at) ≡ Some kinds → ((at ≡ to) × (after ≡ kinds)) ⊎ (table at ≡ Some kinds)
     split true t e = inl (eqb-true at to t, (cc))
     split false f e = inr e
 
-pub changed_at : (table : ℕ → Option (List Kind)) (to : ℕ) (after : List Kind) → changed table to (Some after) to ≡ Some after
+pub changed_at : (table : ℕ → Option (List Kind)) (to : ℕ) (after : List Kind) → updated table to (Some after) to ≡ Some after
 changed_at table to after = ap (λ (b : Bool). if b then Some after else table to) (same_self to)
 
-pub flow_within : (m : ModuleContents) (p : ProcedureContents) (done table : ℕ → Option (List Kind)) → IsDone m p done → Flow m p table → (at : ℕ) (kinds : List Kind) → table at ≡ Some kinds → done at ≡ Some kinds
-flow_within m p done _ d starts at kinds e =
+pub flow_within : (m : ModuleContents) (p : ProcedureContents) (finished table : ℕ → Option (List Kind)) → IsFinished m p finished → Flow m p table → (at : ℕ) (kinds : List Kind) → table at ≡ Some kinds → finished at ≡ Some kinds
+flow_within m p finished _ d starts at kinds e =
     elim (changed_cases nowhere 0 [] at kinds e) [
-      | inl h ↦ subst (λ a. done a ≡ Some kinds) (sym h.0) (d.first ∙ ap Some h.1)
+      | inl h ↦ subst (λ a. finished a ≡ Some kinds) (sym h.0) (d.first ∙ ap Some h.1)
       | inr h ↦ absurd (let no : ◌≡◌ {A = Option (List Kind)} None (Some kinds) = h in cc)
     ]
-flow_within m p done _ d (grows table from before to after f has edge none) at kinds e =
+flow_within m p finished _ d (grows table from before to after f has edge none) at kinds e =
     elim (changed_cases table to after at kinds e) [
-      | inl h ↦ subst (λ a. done a ≡ Some kinds) (sym h.0) (d.keeps from before to after (flow_within m p done table d f from before has) edge ∙ ap Some h.1)
-      | inr h ↦ flow_within m p done table d f at kinds h
+      | inl h ↦ subst (λ a. finished a ≡ Some kinds) (sym h.0) (d.keeps from before to after (flow_within m p finished table d f from before has) edge ∙ ap Some h.1)
+      | inr h ↦ flow_within m p finished table d f at kinds h
     ]
 
-pub flows_well : (m : ModuleContents) (p : ProcedureContents) (done : ℕ → Option (List Kind)) → IsDone m p done → FlowsWell m p
-flows_well m p done d offset defect wrong = none offset defect wrong
+pub flows_well : (m : ModuleContents) (p : ProcedureContents) (finished : ℕ → Option (List Kind)) → IsFinished m p finished → FlowsWell m p
+flows_well m p finished d offset defect wrong = none offset defect wrong
   where
     none : (offset : ℕ) (defect : CodeDefect) → IsOperandDefect m p offset defect → ⊥
-    none _ _ (misses table at kinds i wrong f has is e) = d.finds at kinds i wrong (flow_within m p done table d f at kinds has) is e
+    none _ _ (misses table at kinds i wrong f has is e) = d.finds at kinds i wrong (flow_within m p finished table d f at kinds has) is e
     none _ _ (meets table at kinds to after others f has edge inside there ne) =
-        let a = flow_within m p done table d f at kinds has in
-        let b : done to ≡ Some after = d.keeps at kinds to after a edge in
-        let c : done to ≡ Some others = flow_within m p done table d f to others there in
+        let a = flow_within m p finished table d f at kinds has in
+        let b : finished to ≡ Some after = d.keeps at kinds to after a edge in
+        let c : finished to ≡ Some others = flow_within m p finished table d f to others there in
         ne (let same : Some after ≡ Some others = sym b ∙ c in cc)
     none _ _ (falls table kinds f has) =
-        let a : done (code_length p.code) ≡ Some kinds = flow_within m p done table d f (code_length p.code) kinds has in
+        let a : finished (code_length p.code) ≡ Some kinds = flow_within m p finished table d f (code_length p.code) kinds has in
         absurd (let no : None ≡ Some kinds = sym d.none_at_end ∙ a in cc)
 
 -- ---- without a defect, each list that comes along edges stands in a table of the flow
@@ -87,14 +87,14 @@ pub record IsInFlow (m : ModuleContents) (p : ProcedureContents) (at : ℕ) (kin
 
 -- the start is in a flow
 pub start_in_flow : (m : ModuleContents) (p : ProcedureContents) → IsInFlow m p 0 []
-start_in_flow m p = record { table = changed nowhere 0 (Some []); flow = starts; has = changed_at nowhere 0 [] }
+start_in_flow m p = record { table = updated nowhere 0 (Some []); flow = starts; has = changed_at nowhere 0 [] }
 
 -- and so is what an edge leads to
 pub along_in_flow : (m : ModuleContents) (p : ProcedureContents) → FlowsWell m p → (at : ℕ) (kinds : List Kind) (to : ℕ) (after : List Kind) → IsInFlow m p at kinds → Edge m p at kinds to after → IsInFlow m p to after
 along_in_flow m p free at kinds to after h edge = cases (h.table to) refl
   where
     cases : (o : Option (List Kind)) → h.table to ≡ o → IsInFlow m p to after
-    cases None e = record { table = changed h.table to (Some after); flow = grows h.table at kinds to after h.flow h.has edge e; has = changed_at h.table to after }
+    cases None e = record { table = updated h.table to (Some after); flow = grows h.table at kinds to after h.flow h.has edge e; has = changed_at h.table to after }
     cases (Some others) e =
         elim (same_or_not after others) [
           | inl same ↦ record { table = h.table; flow = h.flow; has = e ∙ ap Some (sym same) }

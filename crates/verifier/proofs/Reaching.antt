@@ -1,4 +1,5 @@
 -- Control goes from a offset to another one.
+use Rattle.common.specs.Functions.{updated}
 use Rattle.std.proofs.Common.{replicate, ◌≡◌, ◌≢◌, ◌⊎◌, inl, inr, ℕ, suc, zero, ◌+◌, ◌<◌, ◌≤◌, ◌==◌, Bool, true, false, if◌then◌else◌, List, [], ◌∷◌, ◌++◌, length, get_or, set, take, Option, Some, None, refl, sym, ap, ◌∙◌, subst, arith, length-append}
 use Rattle.std.specs.List.{Contains}
 use Rattle.std.proofs.lemmas.Bool.Decides.{nat_tests}
@@ -24,8 +25,7 @@ use Rattle.verifier.specs.declared.fault.CodeDefect.TheVariants.{OperandKind, Fa
 use Rattle.verifier.specs.declared.coverage.Coverage.{Coverage}
 use Rattle.verifier.specs.declared.search.Search.{Search}
 use Rattle.verifier.proofs.Offsets.{start_inside}
-use Rattle.verifier.proofs.Laws.{IsDone, flows_well, changed_at}
-use Rattle.bytecode.specs.Machine.{changed}
+use Rattle.verifier.proofs.Laws.{IsFinished, flows_well, changed_at}
 
 fun_ext : {f g : ℕ → Option (List Kind)} → ((x : ℕ) → f x ≡ g x) → f ≡ g
 fun_ext h = λ i x. h x i
@@ -50,7 +50,7 @@ none_at_end m p s busy g = ap (row s.operands) (past_end s.shapes (code_length p
 pub falls_at : (m : ModuleContents) (p : ProcedureContents) (s : Search) (busy : List ℕ) (at to : ℕ) (after : List Kind) → IsSearching m p s busy → IsAtEdge m p s at to after → to ≡ code_length p.code → IsOperandDefect m p to FallsOffEnd
 falls_at m p s busy at to after g e is =
     subst (λ t. IsOperandDefect m p t FallsOffEnd) (sym is)
-    (falls (changed (table s) (code_length p.code) (Some after)) after (grows (table s) at e.kinds (code_length p.code) after g.flow e.has (subst (λ t. Edge m p at e.kinds t after) is e.edge) (none_at_end m p s busy g)) (changed_at (table s) (code_length p.code) after))
+    (falls (updated (table s) (code_length p.code) (Some after)) after (grows (table s) at e.kinds (code_length p.code) after g.flow e.has (subst (λ t. Edge m p at e.kinds t after) is e.edge) (none_at_end m p s busy g)) (changed_at (table s) (code_length p.code) after))
 
 -- an edge that brings another list is a defect
 pub meets_at : (m : ModuleContents) (p : ProcedureContents) (s : Search) (busy : List ℕ) (at to : ℕ) (after others : List Kind) (defect : CodeDefect) → IsSearching m p s busy → IsAtEdge m p s at to after → to ≢ code_length p.code → table s to ≡ Some others → after ≢ others → defect ≡ between after others → IsOperandDefect m p to defect
@@ -71,14 +71,14 @@ module _ (m : ModuleContents) (p : ProcedureContents) (s new : Search) (at to li
   others : (offset : ℕ) → offset ≢ to → table new offset ≡ table s offset
   others offset ne = ap (row new.operands) (at_other offset ne) ∙ ap (λ l. row l (get_or s.shapes offset None)) lists
 
-  is_changed : (offset : ℕ) → table new offset ≡ changed (table s) to (Some (list_of s.operands list)) offset
+  is_changed : (offset : ℕ) → table new offset ≡ updated (table s) to (Some (list_of s.operands list)) offset
   is_changed offset =
       elim (cases_eq offset to) [
-        | inl same ↦ ap (table new) same ∙ arrives ∙ sym (changed_at (table s) to (list_of s.operands list)) ∙ ap (changed (table s) to (Some (list_of s.operands list))) (sym same)
+        | inl same ↦ ap (table new) same ∙ arrives ∙ sym (changed_at (table s) to (list_of s.operands list)) ∙ ap (updated (table s) to (Some (list_of s.operands list))) (sym same)
         | inr ne ↦ others offset ne ∙ not_at offset ne
       ]
     where
-      not_at : (offset : ℕ) → offset ≢ to → table s offset ≡ changed (table s) to (Some (list_of s.operands list)) offset
+      not_at : (offset : ℕ) → offset ≢ to → table s offset ≡ updated (table s) to (Some (list_of s.operands list)) offset
       not_at offset ne = split (offset == to) refl
         where
           split : (b : Bool) → offset == to ≡ b → table s offset ≡ (if b then Some (list_of s.operands list) else table s offset)
@@ -164,9 +164,9 @@ boundary_inside m p s busy to g offset ne =
 
 -- ---- the end of the search
 
--- with nothing to look at, the table is done
-pub going_done : (m : ModuleContents) (p : ProcedureContents) (s : Search) → IsSearching m p s [] → s.work ≡ [] → IsDone m p (table s)
-going_done m p s g empty = record {
+-- with nothing to look at, the table is finished
+pub table_finished : (m : ModuleContents) (p : ProcedureContents) (s : Search) → IsSearching m p s [] → s.work ≡ [] → IsFinished m p (table s)
+table_finished m p s g empty = record {
   first = g.first;
   finds = λ at kinds i wrong h is e. let k = every at kinds h in
       absurd (let f : Some k.instruction ≡ Some i = sym k.there ∙ is in let same : k.instruction ≡ i = cc in let t : Leaves k.after ≡ Misses wrong = sym k.finds ∙ ap (λ j. effect m p j kinds) same ∙ e in cc);
@@ -195,8 +195,8 @@ going_done m p s g empty = record {
         k.jumps to (ap target_of same ∙ jumps_to) ∙ ap Some after_is
     along at kinds k _ _ (caught i h is c l m) = k.caught h c l m
 
-pub search_done : (m : ModuleContents) (p : ProcedureContents) (s : Search) → IsSearching m p s [] → s.work ≡ [] → FlowsWell m p
-search_done m p s g empty = flows_well m p (table s) (going_done m p s g empty)
+pub search_finished : (m : ModuleContents) (p : ProcedureContents) (s : Search) → IsSearching m p s [] → s.work ≡ [] → FlowsWell m p
+search_finished m p s g empty = flows_well m p (table s) (table_finished m p s g empty)
 
 -- ---- a offset is looked at
 
@@ -358,7 +358,7 @@ pub waiting_kept : (p : ProcedureContents) (c : Coverage) (s new : Search) → (
 waiting_kept p c s new keeps w = record {
   coverage = w.coverage;
   real = w.real;
-  gone = λ h at there low high. elim (w.gone h at there low high) [ inl waits ↦ inl waits | inr has ↦ inr (keeps h.target [] has) ];
+  waits_or_entered = λ h at there low high. elim (w.waits_or_entered h at there low high) [ inl waits ↦ inl waits | inr has ↦ inr (keeps h.target [] has) ];
 }
 
 -- control went to one that waited, and that waits no more
@@ -366,7 +366,7 @@ pub waiting_less : (p : ProcedureContents) (c rest : Coverage) (s new : Search) 
 waiting_less p c rest s new h w good within others keeps arrives = record {
   coverage = good;
   real = λ x waits. w.real x (within x waits);
-  gone = λ x at there low high. elim (w.gone x at there low high) [
+  waits_or_entered = λ x at there low high. elim (w.waits_or_entered x at there low high) [
     | inl waits ↦ elim (others x waits) [
       | inl same ↦ inr (ap (λ (y : Handler). table new y.target) same ∙ arrives)
       | inr still ↦ inl still
@@ -376,8 +376,8 @@ waiting_less p c rest s new h w good within others keeps arrives = record {
 }
 
 -- none that covers an offset waits any more
-pub all_gone : (p : ProcedureContents) (c : Coverage) (s : Search) (at : ℕ) → IsWaiting p c s → ((x : Handler) → Waits c x → x.start ≤ at → at < x.end → ⊥) → (h : Handler) → Contains p.handlers h → h.start ≤ at → at < h.end → table s h.target ≡ Some []
-all_gone p c s at w none h there low high = elim (w.gone h at there low high) [
+pub all_entered : (p : ProcedureContents) (c : Coverage) (s : Search) (at : ℕ) → IsWaiting p c s → ((x : Handler) → Waits c x → x.start ≤ at → at < x.end → ⊥) → (h : Handler) → Contains p.handlers h → h.start ≤ at → at < h.end → table s h.target ≡ Some []
+all_entered p c s at w none h there low high = elim (w.waits_or_entered h at there low high) [
   | inl waits ↦ absurd (none h waits low high)
   | inr has ↦ has
 ]
@@ -387,7 +387,7 @@ pub waiting_start : (p : ProcedureContents) (c : Coverage) (s : Search) (handler
 waiting_start p c s handlers same good real all = record {
   coverage = good;
   real = λ h waits. subst (λ hs. Contains hs h) same (real h waits);
-  gone = λ h at there low high. inl (all h at (subst (λ hs. Contains hs h) (sym same) there) high);
+  waits_or_entered = λ h at there low high. inl (all h at (subst (λ hs. Contains hs h) (sym same) there) high);
 }
 
 pub take_all : {A : Type 0} (xs : List A) (n : ℕ) → length xs ≤ n → take n xs ≡ xs
@@ -400,8 +400,8 @@ pub no_items : {A : Type 0} (xs : List A) → length xs ≡ 0 → xs ≡ []
 no_items [] e = refl
 no_items (x ∷ xs) e = absurd (omega arith)
 
-pub run_done : (m : ModuleContents) (p : ProcedureContents) (s : Search) → IsSearching m p s [] → length s.work ≡ 0 → FlowsWell m p
-run_done m p s g e = search_done m p s g (no_items s.work e)
+pub run_finished : (m : ModuleContents) (p : ProcedureContents) (s : Search) → IsSearching m p s [] → length s.work ≡ 0 → FlowsWell m p
+run_finished m p s g e = search_finished m p s g (no_items s.work e)
 
 -- a offset is taken from those that wait
 module _ (m : ModuleContents) (p : ProcedureContents) (s new : Search) (at : ℕ) (g : IsSearching m p s []) (operands : new.operands ≡ s.operands) (shapes : new.shapes ≡ s.shapes) (work : s.work ≡ new.work ++ at ∷ []) where
@@ -462,13 +462,13 @@ all_unset zero = refl
 all_unset (suc n) = ap suc (all_unset n)
 
 pub empty_falls : (m : ModuleContents) (p : ProcedureContents) → code_length p.code ≡ 0 → IsOperandDefect m p 0 FallsOffEnd
-empty_falls m p e = subst (λ t. IsOperandDefect m p t FallsOffEnd) e (falls (changed nowhere 0 (Some [])) [] starts (subst (λ t. changed nowhere 0 (Some []) t ≡ Some []) (sym e) (changed_at nowhere 0 [])))
+empty_falls m p e = subst (λ t. IsOperandDefect m p t FallsOffEnd) e (falls (updated nowhere 0 (Some [])) [] starts (subst (λ t. updated nowhere 0 (Some []) t ≡ Some []) (sym e) (changed_at nowhere 0 [])))
 
 module _ (m : ModuleContents) (p : ProcedureContents) (s : Search) (n : ℕ) (size : code_length p.code ≡ suc n) (boundaries : KeepsBoundaries p) (operands : s.operands ≡ [] ∷ []) (shapes : s.shapes ≡ set (replicate (suc n) None) 0 (Some 0)) (work : s.work ≡ 0 ∷ []) where
   start_table : (offset : ℕ) → table s offset ≡ row ([] ∷ []) (get_or (Some 0 ∷ replicate n None) offset None)
   start_table offset = ap (λ v. row s.operands (get_or v offset None)) shapes ∙ ap (λ ls. row ls (get_or (Some 0 ∷ replicate n None) offset None)) operands
 
-  other_none : (offset : ℕ) → row ([] ∷ []) (get_or (Some 0 ∷ replicate n None) offset None) ≡ changed nowhere 0 (Some []) offset
+  other_none : (offset : ℕ) → row ([] ∷ []) (get_or (Some 0 ∷ replicate n None) offset None) ≡ updated nowhere 0 (Some []) offset
   other_none zero = refl
   other_none (suc k) = ap (row ([] ∷ [])) (all_none n k) ∙ ap (λ (b : Bool). if b then Some [] else None) (sym (not_zero k))
 
@@ -493,7 +493,7 @@ module _ (m : ModuleContents) (p : ProcedureContents) (s : Search) (n : ℕ) (si
   }
     where
       first_met : AreMet m p ([] ∷ [])
-      first_met zero inside = found (changed nowhere 0 (Some [])) 0 [] starts (changed_at nowhere 0 [])
+      first_met zero inside = found (updated nowhere 0 (Some [])) 0 [] starts (changed_at nowhere 0 [])
       first_met (suc k) inside = absurd (omega arith)
 
       numbers : (offset list : ℕ) → get_or s.shapes offset None ≡ Some list → list < length s.operands

@@ -6,13 +6,13 @@ use Rattle.verifier.specs.Fixed.{fixed_refusals}
 use Rattle.verifier.specs.Flow.{FlowsWell, IsOperandDefect}
 use Rattle.verifier.specs.declared.fault.CodeRefusal.{CodeRefusal}
 use Rattle.std.proofs.lemmas.List.{get_or_append_left}
+use Rattle.std.proofs.lemmas.Option.{slice_get-get_or}
 use Rattle.std.proofs.Math.Seq.{get_or-append_seam}
 use Rattle.verifier.specs.Depth.{IsGreatestDepth}
 use Rattle.verifier.specs.Positions.{VerifiedCode}
 use Rattle.verifier.specs.Verified.{IsRefusalOf, IsVerified}
 use Rattle.verifier.proofs.Bounds.{IsBounded}
 use Rattle.verifier.proofs.NeverStuck.{never_stuck}
-use Rattle.verifier.proofs.FixedRefusals.{get_at}
 use Rattle.common.proofs.Cases.{last_cases}
 
 -- where there is a refusal there is a defect
@@ -45,14 +45,14 @@ all_flow m none flow = record {
 -- ---- the loop over procedures
 
 pub item_at : (m : ModuleContents) (procedures : List ProcedureContents) → procedures ≡ m.procedures → (index : ℕ) (item : ProcedureContents) → item ≡ get_or procedures index item → index < length procedures → slice_get m.procedures index ≡ Some item
-item_at m procedures are index item is inside = ap (λ all. slice_get all index) (sym are) ∙ get_at procedures index item inside ∙ ap Some (sym is)
+item_at m procedures are index item is inside = ap (λ all. slice_get all index) (sym are) ∙ slice_get-get_or procedures index item inside ∙ ap Some (sym is)
 
 pub is_verified : (m : ModuleContents) → IsBounded m → HasNoDefect m → IsVerified m
 is_verified m bounds free = record { no_defect = free; never_stuck = never_stuck m bounds free }
 
 module _ (m : ModuleContents) (procedures : List ProcedureContents) (are : procedures ≡ m.procedures) (index : ℕ) (item body : ProcedureContents) (is : item ≡ get_or procedures index item) (same : body ≡ item) (inside : index < length procedures) where
   pub item_there : slice_get m.procedures index ≡ Some body
-  item_there = ap (λ all. slice_get all index) (sym are) ∙ get_at procedures index item inside ∙ ap Some (sym is ∙ sym same)
+  item_there = ap (λ all. slice_get all index) (sym are) ∙ slice_get-get_or procedures index item inside ∙ ap Some (sym is ∙ sym same)
 
   pub item_refusal : (q : ModuleContents) (number : ℕ) (refusal : CodeRefusal) → q ≡ m → number ≡ index → IsRefusalOf q number body refusal → IsOperandRefusal m refusal
   item_refusal q number refusal same_module number_is e = record {

@@ -1,8 +1,10 @@
 -- Each instruction without a defect that finds its operands has a row, and leads to a state of a run again.
+use Rattle.common.specs.Functions.{updated}
 use Rattle.std.proofs.Common.{◌≡◌, ℕ, Bool, true, false, if◌then◌else◌, List, [], ◌∷◌, ◌++◌, map, replicate, Option, Some, None, refl, sym, ap, ◌∙◌, subst, ℤ}
 use Rattle.bytecode.specs.Contents.{ProcedureContents, ModuleContents}
 use Rattle.bytecode.specs.Machine as machine
-use Rattle.bytecode.specs.Machine.{State, Caller, Machine, Running, Ended, Stuck, Deep, Header, machine_code, header_of, code_of, slots_of, slot_at, with_slot, with_global, element_at, with_element, computed, bounds, arith as arithmetic, first_slots, kinds_of}
+use Rattle.bytecode.specs.Machine.{State, Caller, Machine, Running, Ended, Stuck, Deep, Header, machine_code, header_of, code_of, slots_of, slot_at, with_slot, with_global, element_at, with_element, computed, first_slots, kinds_of}
+use Rattle.common.specs.declared.exceptions.TheConstants.{ARITH, BOUNDS, END}
 use Rattle.bytecode.specs.Values.{kind_of, zero_of, is_same_kind}
 use Rattle.bytecode.specs.declared.instruction.Arithmetic.{Arithmetic}
 use Rattle.bytecode.specs.declared.instruction.Comparison.{Comparison}
@@ -22,7 +24,6 @@ use Rattle.verifier.specs.Flow.{Effect, Leaves, Misses, and_then, all_popped, ef
 use Rattle.verifier.specs.declared.fault.CodeDefect.TheVariants.{OperandKind}
 use Rattle.verifier.proofs.Holds.{AllOf, same_of, all_zero, element_kind, with_element_kind, scalar_kind}
 use Rattle.verifier.proofs.Runs.{Stands, Good, leaves_same, next_good, jump_good, raised_good}
-use Rattle.common.specs.declared.limits.TheConstants.{MAX_FRAMES}
 
 -- an operand that was popped was of the kind
 pub right_kind : (b : Bool) (kinds after : List Kind) (more : List Kind → Effect) → and_then (if b then Leaves kinds else Misses OperandKind) more ≡ Leaves after → (b ≡ true) × (more kinds ≡ Leaves after)
@@ -55,7 +56,7 @@ module _ (m : ModuleContents) (free : HasNoDefect m) (p : ProcedureContents) (i 
   found_good s kinds after operands q cells n st e goes all leaves = split (element_at cells n) refl
     where
       split : (o : Option Cell) → element_at cells n ≡ o → Good m (machine.found (machine_code m) s operands o)
-      split None is = raised_good m free p s i kinds bounds st
+      split None is = raised_good m free p s i kinds BOUNDS st
       split (Some x) is = next_good m free p s i kinds after (x ∷ operands) st e goes (ap (λ k. k ∷ map kind_of operands) (element_kind q cells n x all is) ∙ sym leaves)
 
   pub loads_element_good : (s : State) (o : Option Slot) (cells : List Cell) (operands : List Cell) (after : List Kind) → Stands m p s i (map kind_of operands) → effect m p i (map kind_of operands) ≡ Leaves after → goes_on i ≡ true → is_array o ≡ true → AllOf (slot_kind o) cells → and_then (all_popped (Some kind.Int ∷ []) (map kind_of operands)) (λ rest. Leaves (slot_kind o ∷ rest)) ≡ Leaves after → Good m (machine.loads_element (machine_code m) s o cells operands)
@@ -70,7 +71,7 @@ module _ (m : ModuleContents) (free : HasNoDefect m) (p : ProcedureContents) (i 
   changes_good s put kinds after operands q cells n x st stands e goes all is leaves = split (with_element cells n x) refl
     where
       split : (o : Option (List Cell)) → with_element cells n x ≡ o → Good m (machine.changes (machine_code m) s put operands o)
-      split None w = raised_good m free p s i kinds bounds st
+      split None w = raised_good m free p s i kinds BOUNDS st
       split (Some new) w = next_good m free p (put new) i kinds after operands (stands new (with_element_kind q cells n x new all is w)) e goes (sym leaves)
 
   pub stores_element_good : (s : State) (put : List Cell → State) (o : Option Slot) (cells : List Cell) (operands : List Cell) (after : List Kind) → Stands m p s i (map kind_of operands) → ((new : List Cell) → AllOf (slot_kind o) new → Stands m p (put new) i (map kind_of operands)) → effect m p i (map kind_of operands) ≡ Leaves after → goes_on i ≡ true → is_array o ≡ true → AllOf (slot_kind o) cells → all_popped (Some (slot_kind o) ∷ Some kind.Int ∷ []) (map kind_of operands) ≡ Leaves after → Good m (machine.stores_element (machine_code m) s o put cells operands)
@@ -95,7 +96,7 @@ module _ (m : ModuleContents) (free : HasNoDefect m) (p : ProcedureContents) (i 
   -- ---- numbers and booleans
 
   pub number_good : (s : State) (kinds after : List Kind) (operands : List Cell) (o : Option ℤ) → Stands m p s i kinds → effect m p i kinds ≡ Leaves after → goes_on i ≡ true → after ≡ kind.Int ∷ map kind_of operands → Good m (machine.pushes_number (machine_code m) s operands o)
-  number_good s kinds after operands None st e goes is = raised_good m free p s i kinds arithmetic st
+  number_good s kinds after operands None st e goes is = raised_good m free p s i kinds ARITH st
   number_good s kinds after operands (Some n) st e goes is = next_good m free p s i kinds after (cell.Int n ∷ operands) st e goes (sym is)
 
   -- the effect of two operands of one kind
@@ -161,9 +162,9 @@ module _ (m : ModuleContents) (free : HasNoDefect m) (p : ProcedureContents) (i 
       next_good m free p (record s { sent = s.sent ++ record { channel = channel; number = n } ∷ [] }) i (map kind_of (cell.Int n ∷ operands)) after operands (record { there = st.there; instruction = st.instruction; flow = st.flow; slots = st.slots; globals = st.globals; callers = st.callers }) e goes (leaves_same (map kind_of operands) after pops)
 
   pub takes_good : (s : State) (channel : ℕ) (numbers : List ℤ) (after : List Kind) → Stands m p s i (map kind_of s.frame.operands) → effect m p i (map kind_of s.frame.operands) ≡ Leaves after → goes_on i ≡ true → after ≡ kind.Int ∷ map kind_of s.frame.operands → Good m (machine.takes (machine_code m) s channel numbers)
-  takes_good s channel [] after st e goes is = raised_good m free p s i (map kind_of s.frame.operands) machine.end_of_input st
+  takes_good s channel [] after st e goes is = raised_good m free p s i (map kind_of s.frame.operands) END st
   takes_good s channel (n ∷ numbers) after st e goes is =
-      next_good m free p (record s { rest = machine.changed s.rest channel numbers }) i (map kind_of s.frame.operands) after (cell.Int n ∷ s.frame.operands) (record { there = st.there; instruction = st.instruction; flow = st.flow; slots = st.slots; globals = st.globals; callers = st.callers }) e goes (sym is)
+      next_good m free p (record s { rest = updated s.rest channel numbers }) i (map kind_of s.frame.operands) after (cell.Int n ∷ s.frame.operands) (record { there = st.there; instruction = st.instruction; flow = st.flow; slots = st.slots; globals = st.globals; callers = st.callers }) e goes (sym is)
 
   pub receives_good : (s : State) (channel : ℕ) (o : Option Direction) (after : List Kind) → Stands m p s i (map kind_of s.frame.operands) → effect m p i (map kind_of s.frame.operands) ≡ Leaves after → goes_on i ≡ true → is_input o ≡ true → after ≡ kind.Int ∷ map kind_of s.frame.operands → Good m (machine.receives (machine_code m) s channel o)
   receives_good s channel None after st e goes input is = absurd (let no : false ≡ true = input in cc)

@@ -1,19 +1,19 @@
 -- The flow of operands through a procedure: what each instruction pops and pushes, where control goes from it, the kinds of
 -- the operands with which control reaches an offset, and the defects of that flow.
 -- Source: our own; the rules are those of a bytecode verifier, as that of the Java virtual machine.
+use Rattle.common.specs.Functions.{updated}
 use Rattle.std.specs.Prelude.{◌≡◌, ◌≢◌, ℕ, ◌+◌, ◌≤◌, ◌<◌, ◌==◌, Bool, true, false, if◌then◌else◌, List, [], ◌∷◌, length, map, reverse, slice_get, Option, Some, None, is_none, is_some}
 use Rattle.std.specs.List.{Contains}
 use Rattle.bytecode.specs.Contents.{ProcedureContents, ModuleContents}
 use Rattle.bytecode.specs.Code.{width_of, code_length, instruction_at}
 use Rattle.bytecode.specs.Targets.{target_of}
-use Rattle.bytecode.specs.Machine.{header_of, machine_code, changed}
+use Rattle.bytecode.specs.Machine.{header_of, machine_code}
 use Rattle.bytecode.specs.Values.{is_same_kind, kind_of_slot}
 use Rattle.bytecode.specs.declared.instruction.Instruction.{Instruction}
 use Rattle.bytecode.specs.declared.instruction.Instruction.TheVariants.{Push, PushBoolean, Pop, Load, Store, LoadGlobal, StoreGlobal, LoadElement, StoreElement, LoadGlobalElement, StoreGlobalElement, Clear, Compute, Negate, Not, Compare, SameBoolean, OtherBoolean, Jump, JumpIfFalse, Call, Return, ReturnValue, Receive, Send, Throw}
 use Rattle.bytecode.specs.declared.value.Kind.{Kind}
 use Rattle.bytecode.specs.declared.value.Kind.TheVariants.{Int, Boolean}
 use Rattle.bytecode.specs.declared.declaration.Slot.{Slot}
-use Rattle.bytecode.specs.declared.declaration.Slot.TheVariants as slot
 use Rattle.bytecode.specs.declared.declaration.Handler.{Handler}
 use Rattle.verifier.specs.declared.fault.CodeDefect.{CodeDefect}
 use Rattle.verifier.specs.declared.fault.CodeDefect.TheVariants.{OperandKind, OperandDepth, FallsOffEnd}
@@ -184,8 +184,8 @@ nowhere offset = None
 -- the tables of lists by offset that the flow may give: control starts at 0 without operands, and along an edge from an offset
 -- that has a list an offset gets one that has none yet. So a list that conflicts with an earlier one goes no further
 pub data Flow (m : ModuleContents) (procedure : ProcedureContents) : (ℕ → Option (List Kind)) → Type 0 where
-  starts : Flow m procedure (changed nowhere 0 (Some []))
-  grows : (table : ℕ → Option (List Kind)) (at : ℕ) (kinds : List Kind) (to : ℕ) (after : List Kind) → Flow m procedure table → table at ≡ Some kinds → Edge m procedure at kinds to after → table to ≡ None → Flow m procedure (changed table to (Some after))
+  starts : Flow m procedure (updated nowhere 0 (Some []))
+  grows : (table : ℕ → Option (List Kind)) (at : ℕ) (kinds : List Kind) (to : ℕ) (after : List Kind) → Flow m procedure table → table at ≡ Some kinds → Edge m procedure at kinds to after → table to ≡ None → Flow m procedure (updated table to (Some after))
 
 -- the defect of two paths that meet with different lists
 abbrev pub between : List Kind → List Kind → CodeDefect

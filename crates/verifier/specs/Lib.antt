@@ -4,12 +4,13 @@ pub mod Depth
 pub mod Refusals
 pub mod Fixed
 pub mod Flow
+pub mod Index
 pub mod Loaded
 pub mod Numbers
 pub mod Operands
 pub mod Safety
 pub mod Search
 pub mod Verified
-pub mod Words
+pub mod Defects
 pub mod Parameters
 pub mod Positions

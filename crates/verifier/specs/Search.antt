@@ -1,6 +1,6 @@
 -- What the search for a defect of the flow keeps.
 -- Source: our own; a work list over the offsets that control reaches.
-use Rattle.std.specs.Prelude.{◌≡◌, ℕ, suc, ◌+◌, ◌-◌, ◌≤◌, ◌<◌, ◌^◌, true, List, [], ◌∷◌, ◌++◌, length, replicate, slice_get, slice_index_or, Option, Some, None, ◌⊎◌}
+use Rattle.std.specs.Prelude.{◌≡◌, ℕ, suc, ◌+◌, ◌≤◌, ◌<◌, ◌^◌, true, List, [], ◌∷◌, ◌++◌, length, slice_index_or, Option, Some, None, ◌⊎◌}
 use Rattle.std.specs.List.{Contains}
 use Rattle.bytecode.specs.Contents.{ProcedureContents, ModuleContents}
 use Rattle.bytecode.specs.Code.{width_of, code_length, instruction_at}
@@ -11,28 +11,16 @@ use Rattle.bytecode.specs.Targets.{target_of}
 use Rattle.verifier.specs.Flow.{Edge, Flow, Leaves, effect, goes_on, IsOperandDefect}
 use Rattle.verifier.specs.Coverage.{IsCoverage, Waits}
 use Rattle.verifier.specs.Depth.{IsMet}
+use Rattle.verifier.specs.Index.{index_of}
 use Rattle.verifier.specs.Operands.{list_of}
 use Rattle.verifier.specs.declared.search.Search.{Search}
 use Rattle.verifier.specs.declared.search.FlowRefusal.{FlowRefusal}
 use Rattle.verifier.specs.declared.body.Body.{Body}
 use Rattle.verifier.specs.declared.coverage.Coverage.{Coverage}
 
--- ---- where instructions stand
-
--- for each byte of code the number of the instruction whose first byte it is, where instructions are numbered from a number on
-abbrev pub indices_from : ℕ → List Instruction → List (Option ℕ)
-indices_from index [] = []
-indices_from index (instruction ∷ code) =
-    (Some index ∷ replicate (width_of instruction - 1) None) ++ indices_from (suc index) code
-
--- the instruction of a number, if there is one
-abbrev pub numbered : List Instruction → Option ℕ → Option Instruction
-numbered code None = None
-numbered code (Some index) = slice_get code index
-
--- a procedure that the search may look at: its indices are those of its code, which has less than 4 GiB
+-- a procedure that the search may look at: the index is that of its code, which has less than 4 GiB
 pub record IsSearchableBody (b : Body) : Type 0 where
-  pub indices : b.indices ≡ indices_from 0 b.procedure.now.code
+  pub index : b.index ≡ index_of b.procedure.now.code
   pub short : code_length b.procedure.now.code < 2 ^ 32
 
 -- ---- the table that was found so far
@@ -151,8 +139,8 @@ count (Some at) = 1
 pub record IsWaiting (p : ProcedureContents) (c : Coverage) (s : Search) : Type 0 where
   pub coverage : IsCoverage c
   pub real : (h : Handler) → Waits c h → Contains p.handlers h
-  pub gone : (h : Handler) (at : ℕ) → Contains p.handlers h → h.start ≤ at → at < h.end → Waits c h ⊎ (table s h.target ≡ Some [])
+  pub waits_or_entered : (h : Handler) (at : ℕ) → Contains p.handlers h → h.start ≤ at → at < h.end → Waits c h ⊎ (table s h.target ≡ Some [])
 
 -- a refusal of a procedure for a defect of its flow
-abbrev pub IsFlowRefusal : ModuleContents → ProcedureContents → FlowRefusal → Type 0
-IsFlowRefusal m p refusal = IsOperandDefect m p refusal.offset refusal.defect
+abbrev pub IsOperandFlowRefusal : ModuleContents → ProcedureContents → FlowRefusal → Type 0
+IsOperandFlowRefusal m p refusal = IsOperandDefect m p refusal.offset refusal.defect

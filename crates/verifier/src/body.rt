@@ -1,20 +1,20 @@
 //! A procedure as the search for defects looks at it.
 
 ghost use Rattle.bytecode.specs.Code.{code_length, instruction_at};
-ghost use Rattle.std.specs.Prelude.{IfOk, slice_get, ◌<◌, ◌^◌, ◌≡◌};
-ghost use Rattle.verifier.specs.Search.{IsSearchableBody, indices_from};
+ghost use Rattle.std.specs.Prelude.{IfOk, ◌<◌, ◌^◌, ◌≡◌};
+ghost use Rattle.verifier.specs.Search.{IsSearchableBody};
 
-use crate::numbers::Numbers;
+use crate::index::Index;
 use crate::parameters::PackedModule;
 use bytecode::{Instruction, Procedure};
 use std::alloc::{AllocError, Global};
 
-/// A procedure of a module, and for each byte of its code the number of the instruction that begins there.
+/// A procedure of a module, and the index of its code.
 #[derive(Drop)]
 pub(crate) struct Body<'a> {
     pub program: &'a PackedModule,
     pub procedure: &'a Procedure,
-    pub indices: Numbers,
+    pub index: Index,
 }
 
 impl<'a> Body<'a> {
@@ -29,11 +29,11 @@ impl<'a> Body<'a> {
         ensures program { IfOk result (λ body. body.program.now ≡ program.now) }
         ensures procedure { IfOk result (λ body. body.procedure.now ≡ procedure.now) }
     {
-        let indices = indices(alloc, procedure.code())?;
+        let index = Index::of(alloc, procedure.code())?;
         Ok(Body {
             program,
             procedure,
-            indices,
+            index,
         })
     }
 
@@ -42,46 +42,6 @@ impl<'a> Body<'a> {
         requires { IsSearchableBody self.now }
         ensures { result ≡ instruction_at self.now.procedure.now.code offset }
     {
-        match self.indices.at(offset) {
-            Some(index) => instruction_in(self.procedure.code(), index),
-            None => None,
-        }
+        self.index.fetch(self.procedure.code(), offset as usize)
     }
-}
-
-fn instruction_in(code: &[Instruction], index: u32) -> Option<Instruction>
-    ensures { result ≡ slice_get code.now index }
-{
-    match code.get(index as usize) {
-        Some(instruction) => Some(*instruction),
-        None => None,
-    }
-}
-
-// How many bytes code has.
-fn length(code: &[Instruction]) -> usize
-    requires { code_length code.now < 2 ^ 32 }
-    ensures { result ≡ code_length code.now }
-{
-    let mut length = 0;
-    for instruction in code {
-        length += instruction.width();
-    }
-    length
-}
-
-// For each byte of code the number of the instruction that begins there.
-fn indices(alloc: Global, code: &[Instruction]) -> Result<Numbers, AllocError>
-    requires { code_length code.now < 2 ^ 32 }
-    ensures { IfOk result (λ indices. indices ≡ indices_from 0 code.now) }
-{
-    let mut indices = Numbers::new(alloc, length(code))?;
-    let mut offset = 0;
-    let mut index = 0;
-    for instruction in code {
-        indices.set(offset, index);
-        offset += instruction.width();
-        index += 1;
-    }
-    Ok(indices)
 }

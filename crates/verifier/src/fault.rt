@@ -1,5 +1,5 @@
 ghost use Rattle.std.specs.Prelude.{◌≡◌, Some};
-ghost use Rattle.verifier.specs.Words.{code_defect_number, code_defect_words};
+ghost use Rattle.verifier.specs.Defects.{code_defect_number, code_defect_words};
 
 use common::OrNoMemory;
 use std::error::Error;

@@ -7,6 +7,7 @@ mod effects;
 mod ends;
 pub mod fault;
 mod fixed;
+mod index;
 pub mod loading;
 mod looking;
 mod numbers;
@@ -19,5 +20,6 @@ pub mod verified;
 mod work;
 
 pub use fault::{CodeDefect, CodeRefusal, VerifyFault};
+pub use index::Index;
 pub use loading::{LoadFault, LoadRefusal, load};
 pub use verified::{Verified, verify};

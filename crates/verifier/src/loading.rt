@@ -6,7 +6,7 @@ ghost use Rattle.common.specs.Answers.{Answers, IfRefused};
 ghost use Rattle.std.specs.Prelude.{◌≡◌, IfErr, IfOk, Some};
 ghost use Rattle.verifier.specs.Refusals.{HasNoDefect};
 ghost use Rattle.verifier.specs.Loaded.{CannotLoad, IsLoaded};
-ghost use Rattle.verifier.specs.Words.{load_refusal_number, load_refusal_words};
+ghost use Rattle.verifier.specs.Defects.{load_refusal_number, load_refusal_words};
 ghost use Rattle.verifier.specs.declared.loading.LoadRefusal.TheVariants.{Bytes, Code};
 
 use crate::fault::CodeRefusal;

@@ -7,7 +7,7 @@ use std::alloc::{AllocError, Global};
 use std::marker::Model;
 
 /// For each of so many places a number, or none. A place takes four bytes.
-#[derive(Drop)]
+#[derive(Debug, Drop)]
 pub(crate) struct Numbers {
     // The number of each place and 1, or 0 where it has none.
     marks: Vec<u32>,
@@ -24,10 +24,10 @@ impl Model for Numbers {
 
 impl Numbers {
     /// So many places without numbers.
-    pub(crate) fn new(alloc: Global, places: usize) -> Result<Numbers, AllocError>
-        ensures { IfOk result (λ numbers. numbers ≡ replicate places None) }
+    pub(crate) fn new(alloc: Global, count: usize) -> Result<Numbers, AllocError>
+        ensures { IfOk result (λ numbers. numbers ≡ replicate count None) }
     {
-        let marks = vec![in alloc; 0; places]?;
+        let marks = vec![in alloc; 0; count]?;
         Ok(Numbers { marks })
     }
 
@@ -39,10 +39,10 @@ impl Numbers {
     }
 
     /// The number of a place, if there is the place and it has one.
-    pub(crate) fn at(&self, place: u32) -> Option<u32>
+    pub(crate) fn at(&self, place: usize) -> Option<u32>
         ensures { result ≡ slice_index_or self.now place None }
     {
-        match self.marks.get(place as usize) {
+        match self.marks.get(place) {
             Some(mark) => number_of(*mark),
             None => None,
         }

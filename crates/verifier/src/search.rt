@@ -14,7 +14,7 @@ ghost use Rattle.verifier.specs.Flow.{FlowsWell};
 ghost use Rattle.verifier.specs.Depth.{IsGreatestDepth};
 ghost use Rattle.verifier.specs.Operands.{list_of};
 ghost use Rattle.verifier.specs.Boundaries.{IsBoundary, KeepsBoundaries};
-ghost use Rattle.verifier.specs.Search.{Flowed, HasEffect, HaveLongest, HasInstruction, IsApplied, IsAtEdge, IsSearchableBody, IsSearchingNext, IsSearching, IsFlowRefusal, IsWaiting, KeepsSearching, count, left, table, waiting};
+ghost use Rattle.verifier.specs.Search.{Flowed, HasEffect, HaveLongest, HasInstruction, IsApplied, IsAtEdge, IsSearchableBody, IsSearchingNext, IsSearching, IsOperandFlowRefusal, IsWaiting, KeepsSearching, count, left, table, waiting};
 
 use crate::body::Body;
 use crate::coverage::Coverage;
@@ -69,12 +69,12 @@ impl Search {
         ensures other { IfOk result (λ first. first ≡ false → Flowed body.now.program.now
             body.now.procedure.now self.old self.new at to list) }
         ensures rejected { IfErr result (IfRefused
-            (IsFlowRefusal body.now.program.now body.now.procedure.now)) }
+            (IsOperandFlowRefusal body.now.program.now body.now.procedure.now)) }
     {
         if to as usize == self.shapes.len() {
             return Err(refuse(CodeDefect::FallsOffEnd, to));
         }
-        match self.shapes.at(to) {
+        match self.shapes.at(to as usize) {
             None => {
                 self.shapes.set(to as usize, list);
                 Ok(true)
@@ -98,7 +98,7 @@ impl Search {
         ensures accepted { OnOk result (Flowed body.now.program.now body.now.procedure.now self.old
             self.new at to list) }
         ensures rejected { IfErr result (IfRefused
-            (IsFlowRefusal body.now.program.now body.now.procedure.now)) }
+            (IsOperandFlowRefusal body.now.program.now body.now.procedure.now)) }
     {
         if !self.arrive(body, at, to, list)? {
             return Ok(());
@@ -127,7 +127,7 @@ impl Search {
         ensures effect { IfOk result (λ r. HasEffect body.now.program.now body.now.procedure.now
             self.new at instruction (list_of self.new.operands r)) }
         ensures rejected { IfErr result (IfRefused
-            (IsFlowRefusal body.now.program.now body.now.procedure.now)) }
+            (IsOperandFlowRefusal body.now.program.now body.now.procedure.now)) }
     {
         if is_own(body.procedure, instruction) {
             match pops(&self.operands, body, instruction, list) {
@@ -162,7 +162,7 @@ impl Search {
         ensures there { OnOk result ((to : ℕ) → targets.target_of instruction ≡ Some to →
             table self.new to ≡ Some (list_of self.old.operands list)) }
         ensures rejected { IfErr result (IfRefused
-            (IsFlowRefusal body.now.program.now body.now.procedure.now)) }
+            (IsOperandFlowRefusal body.now.program.now body.now.procedure.now)) }
     {
         match target_of(instruction) {
             Some(to) => self.reach(body, at, to, list),
@@ -184,7 +184,7 @@ impl Search {
         ensures there { OnOk result ((h : Handler) → Contains body.now.procedure.now.handlers h →
             h.start ≤ at → at < h.end → table self.new h.target ≡ Some []) }
         ensures rejected { IfErr result (IfRefused
-            (IsFlowRefusal body.now.program.now body.now.procedure.now)) }
+            (IsOperandFlowRefusal body.now.program.now body.now.procedure.now)) }
     {
         while let Some(handler) = coverage.take(at) {
             self.reach(body, at, handler.target, 0)?;
@@ -220,7 +220,7 @@ impl Search {
         ensures same { OnOk result (self.new.operands ≡ self.old.operands) }
         ensures left { IfOk result (λ next. left self.new + count next ≤ left self.old) }
         ensures rejected { IfErr result (IfRefused
-            (IsFlowRefusal body.now.program.now body.now.procedure.now)) }
+            (IsOperandFlowRefusal body.now.program.now body.now.procedure.now)) }
     {
         if !goes_on(instruction) {
             return Ok(None);
@@ -257,7 +257,7 @@ impl Search {
         ensures left { IfOk result (λ next. left self.new + count next ≤ left self.old) }
         ensures few { OnOk result (length self.new.operands ≤ length self.old.operands + 1) }
         ensures rejected { IfErr result (IfRefused
-            (IsFlowRefusal body.now.program.now body.now.procedure.now)) }
+            (IsOperandFlowRefusal body.now.program.now body.now.procedure.now)) }
     {
         let after = self.apply(body, at, instruction, list)?;
         self.jump(body, at, instruction, after)?;
@@ -286,9 +286,9 @@ impl Search {
         ensures left { IfOk result (λ next. left self.new + count next ≤ left self.old) }
         ensures few { OnOk result (length self.new.operands ≤ length self.old.operands + 1) }
         ensures rejected { IfErr result (IfRefused
-            (IsFlowRefusal body.now.program.now body.now.procedure.now)) }
+            (IsOperandFlowRefusal body.now.program.now body.now.procedure.now)) }
     {
-        let Some(list) = self.shapes.at(at) else {
+        let Some(list) = self.shapes.at(at as usize) else {
             unreachable!()
         };
         let Some(instruction) = body.at(at) else {
@@ -313,7 +313,7 @@ impl Search {
         ensures few { OnOk result (length self.new.operands + left self.new ≤ length
             self.old.operands + left self.old + 1) }
         ensures rejected { IfErr result (IfRefused
-            (IsFlowRefusal body.now.program.now body.now.procedure.now)) }
+            (IsOperandFlowRefusal body.now.program.now body.now.procedure.now)) }
     {
         let mut next = Some(at);
         while let Some(at) = next {
@@ -333,7 +333,7 @@ impl Search {
         ensures longest { OnOk result (HaveLongest body.now.program.now body.now.procedure.now
             self.new.operands) }
         ensures rejected { IfErr result (IfRefused
-            (IsFlowRefusal body.now.program.now body.now.procedure.now)) }
+            (IsOperandFlowRefusal body.now.program.now body.now.procedure.now)) }
     {
         while let Some(at) = self.work.pop() {
             self.follow(body, coverage, at)?;
@@ -352,9 +352,9 @@ pub(crate) fn find_defect(alloc: Global, body: &Body) -> Result<u32, FlowFault>
     ensures depth { IfOk result (λ depth. IsGreatestDepth body.now.program.now
         body.now.procedure.now depth) }
     ensures rejected { IfErr result (IfRefused
-        (IsFlowRefusal body.now.program.now body.now.procedure.now)) }
+        (IsOperandFlowRefusal body.now.program.now body.now.procedure.now)) }
 {
-    let size = body.indices.len();
+    let size = body.index.len();
     if size == 0 {
         return Err(refuse(CodeDefect::FallsOffEnd, 0));
     }

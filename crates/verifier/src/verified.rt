@@ -67,7 +67,7 @@ impl Verified {
 
 /// Verifies a module.
 ///
-/// A module is refused where its code has a defect, and the one that is reported is there: the first one
+/// A module is refused if its code has a defect. The reported defect is really in the code: the first one
 /// that an instruction or a handler has by itself, or else one of the flow of operands.
 /// Memory grows with the size of the module.
 pub fn verify(alloc: Global, program: Module) -> Result<Verified, VerifyFault>

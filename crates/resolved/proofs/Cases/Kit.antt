@@ -13,19 +13,17 @@ use Rattle.resolved.specs.declared.expression.Operator.TheVariants.{GreaterThan}
 use Rattle.resolved.specs.declared.expression.Prefix.TheVariants.{Negate}
 use Rattle.common.specs.declared.direction.Direction.TheVariants.{Input, Output}
 use Rattle.resolved.specs.declared.statement.Exit.TheVariants.{Normal, Throw}
-use Rattle.resolved.specs.Tree.{Expression, Integer, Read, Unary, Binary, Statement, Assign, Receive, Send, If, While, Try, Block, Empty, Then, Handlers, NoMore, Catch}
+use Rattle.resolved.specs.Tree.{Expression, Integer, Unary, Binary, Statement, Assign, Receive, Send, If, While, Try, Block, Empty, Then, Handlers, NoMore, Catch}
 use Rattle.resolved.specs.Program.{Program, ProcedureEntry, ThrownEntry, GlobalEntry, SlotEntry}
 use Rattle.resolved.specs.SourceState.{World}
 use Rattle.resolved.specs.Meaning.{Outcome, Ended, Stopped, Stop, run_within, state_after}
 use Rattle.resolved.specs.Labelled.{Demand, Labelling, chosen, program_demands}
+pub use Rattle.resolved.specs.Precise.{secret as alice, int_slot, oops, local as var}
 
-abbrev pub people : PrincipalHierarchy
-people = record { names = (65 ∷ []) ∷ (66 ∷ []) ∷ (67 ∷ []) ∷ []; pairs = (2, 1) ∷ [] }
+abbrev pub three_principals : PrincipalHierarchy
+three_principals = record { names = (65 ∷ []) ∷ (66 ∷ []) ∷ (67 ∷ []) ∷ []; pairs = (2, 1) ∷ [] }
 
--- {Alice:}, {Bob:} and {Alice: Bob}
-abbrev pub alice : Label
-alice = record { owner = 0; readers = [] } ∷ []
-
+-- {Bob:} and {Alice: Bob}
 abbrev pub bob : Label
 bob = record { owner = 1; readers = [] } ∷ []
 
@@ -42,9 +40,6 @@ bounds = 1
 abbrev pub end : ℕ
 end = 2
 
-abbrev pub oops : ℕ
-oops = 3
-
 -- channels
 abbrev pub s_channel : ℕ
 s_channel = 0
@@ -55,10 +50,7 @@ q_channel = 1
 abbrev pub pub_channel : ℕ
 pub_channel = 2
 
--- slots of a frame: an `int` with a label, one without, and an array
-abbrev pub int_slot : Label → SlotEntry
-int_slot label = record { base = Int; size = None; written = Some label; at = 0; name = [] }
-
+-- slots of a frame: an `int` without a label, and an array
 abbrev pub unlabelled_slot : SlotEntry
 unlabelled_slot = record { base = Int; size = None; written = None; at = 0; name = [] }
 
@@ -71,9 +63,6 @@ int n = Integer n
 
 abbrev pub minus : ℕ → Expression
 minus n = Unary Negate (Integer n)
-
-abbrev pub var : ℕ → Expression
-var n = Read (Local n)
 
 abbrev pub set_to : ℕ → Expression → Statement
 set_to n e = Assign 0 (Local n) e
@@ -126,7 +115,7 @@ thrown exception label = record { exception = exception; label = label } ∷ []
 -- a program by its procedures, `main` being the first
 abbrev pub program_with : List GlobalEntry → List ProcedureEntry → Program
 program_with globals procedures = record {
-  hierarchy = people;
+  hierarchy = three_principals;
   channels = record { direction = Input; name = []; label = alice }
       ∷ record { direction = Input; name = []; label = [] }
       ∷ record { direction = Output; name = []; label = [] } ∷ [];

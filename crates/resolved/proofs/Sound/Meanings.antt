@@ -1,6 +1,7 @@
 -- The meaning keeps the types.
+use Rattle.common.specs.Functions.{updated}
 use Rattle.std.proofs.Common.{◌≡◌, refl, sym, ◌∙◌, ap, subst, ℕ, zero, suc, List, [], ◌∷◌, length, Bool, true, false, ◌&&◌}
-use Rattle.std.proofs.lemmas.Bool.{and_parts}
+use Rattle.std.proofs.lemmas.Bool.{and_parts, false≢true}
 use Rattle.std.specs.Prelude.{Option, Some, None, is_none, if◌then◌else◌, ◌==◌, slice_get, ℤ}
 use Rattle.resolved.specs.declared.expression.Base.{Base}
 use Rattle.resolved.specs.declared.expression.Base.TheVariants.{Int, Boolean}
@@ -14,16 +15,13 @@ use Rattle.common.specs.declared.direction.Direction.TheVariants.{Input}
 use Rattle.resolved.specs.Tree.{Expression, Statement, Assign, Clear, Store, Receive, Send, Call, If, While, Leave, ReturnWith, Try, Nested, Block, Empty, Then, Handlers, NoMore, Catch}
 use Rattle.resolved.specs.Program.{Program, ProcedureEntry, ResultEntry, SlotEntry}
 use Rattle.resolved.specs.Value.{Evaluated, Yields, Raises, base_of, checked_index, truth_in}
-use Rattle.resolved.specs.SourceState.{SourceState, cells, assigned, stored, value_of, values_of, updated}
+use Rattle.resolved.specs.SourceState.{SourceState, cells, assigned, stored, value_of, values_of}
 use Rattle.resolved.specs.Meaning.{Outcome, Ended, Stopped, Calls, normally, after, evaluated, looped, turns, caught, received, kept_in, sending, leaving, returned_to, entering, calls_with, statement_meaning, block_meaning, handlers_meaning}
 use Rattle.resolved.specs.WellFormed.{VariableType, variable_type, scalar_by, array_by, has_length, has_base, has_result, same_base, target_by, statement_fits, block_fits, handlers_fit, channel_is, is_exception, call_matches, arguments_match, parameters_of, well_formed}
 use Rattle.resolved.specs.Kinds.{StateFits, GivesBase, OutcomeFits, MeaningKeepsTypes, ValuesHaveTheirTypes, ArgumentsFit}
-use Rattle.resolved.proofs.Parts.{ProcedureParts, procedure_there, procedure_at_is}
+use Rattle.resolved.proofs.WellFormedParts.{ProcedureParts, procedure_there, procedure_at_is}
 use Rattle.resolved.proofs.Sound.Values.{same_base_is, same_base_itself, value_fits, values_match, GivesMatch}
 use Rattle.resolved.proofs.Sound.States.{some_same, same_variables, assigned_fits, stored_fits, cleared_fits, entering_fits, back_fits}
-
-not_true : ◌≡◌ {A = Bool} false true → ⊥
-not_true h = cc
 
 -- two base types that both are that of a result
 one_result : (result : Option ResultEntry) (a b : Base) → has_result result (same_base a) ≡ true → has_result result (same_base b) ≡ true
@@ -31,7 +29,7 @@ one_result : (result : Option ResultEntry) (a b : Base) → has_result result (s
 one_result None a b h k = cc
 one_result (Some entry) a b h k = same_base_is a entry.base h ∙ sym (same_base_is b entry.base k)
 
--- ---- the combinators, at any frame and any way out at which a value may stand
+-- ---- the combinators, at any frame and any end at which a value may stand
 module _ (program : Program) (procedure : ProcedureEntry) (place : Exit) (result : Option ResultEntry) where
   abbrev Fits : Outcome → Type 0
   Fits outcome = OutcomeFits program procedure place result outcome
@@ -155,17 +153,17 @@ module _ (program : Program) (procedure : ProcedureEntry) where
   returned_to_fits callee None (Ended Normal returned s) h k result = record { state = h.state; returned = tt }
   returned_to_fits callee None (Ended Return None s) h k result = record { state = h.state; returned = tt }
   returned_to_fits callee (Some x) (Ended Return None s) h k result = record { state = h.state; returned = tt }
-  returned_to_fits callee target (Ended Return (Some v) s) h k result = absurd (not_true h.returned)
+  returned_to_fits callee target (Ended Return (Some v) s) h k result = absurd (false≢true h.returned)
   returned_to_fits callee target (Ended Break None s) h k result = record { state = h.state; returned = tt }
-  returned_to_fits callee target (Ended Break (Some v) s) h k result = absurd (not_true h.returned)
+  returned_to_fits callee target (Ended Break (Some v) s) h k result = absurd (false≢true h.returned)
   returned_to_fits callee target (Ended Continue None s) h k result = record { state = h.state; returned = tt }
-  returned_to_fits callee target (Ended Continue (Some v) s) h k result = absurd (not_true h.returned)
+  returned_to_fits callee target (Ended Continue (Some v) s) h k result = absurd (false≢true h.returned)
   returned_to_fits callee target (Ended (Throw exception) None s) h k result = record { state = h.state; returned = tt }
-  returned_to_fits callee target (Ended (Throw exception) (Some v) s) h k result = absurd (not_true h.returned)
+  returned_to_fits callee target (Ended (Throw exception) (Some v) s) h k result = absurd (false≢true h.returned)
   returned_to_fits callee target (Stopped stop s) h k result = record { state = h.state; returned = tt }
 
 -- ---- the tree
-base_given : (base : Base) (result : Evaluated Value) (v : Value) → result ≡ Yields v → GivesBase base result → base_of v ≡ base
+pub base_given : (base : Base) (result : Evaluated Value) (v : Value) → result ≡ Yields v → GivesBase base result → base_of v ≡ base
 base_given base (Yields w) v e h = ap base_of (sym (same_value w v e)) ∙ h
   where
     same_value : (w v : Value) → ◌≡◌ {A = Evaluated Value} (Yields w) (Yields v) → w ≡ v
@@ -309,20 +307,20 @@ leaving_fits : (program : Program) (caller callee : ProcedureEntry) (s : SourceS
     → OutcomeFits program caller Normal callee.result (leaving (λ t. record t { locals = s.locals }) outcome)
 leaving_fits program caller callee s (Ended Normal None t) state h =
     record { state = back_fits program caller callee s t state h.state; returned = tt }
-leaving_fits program caller callee s (Ended Normal (Some v) t) state h = absurd (not_true h.returned)
+leaving_fits program caller callee s (Ended Normal (Some v) t) state h = absurd (false≢true h.returned)
 leaving_fits program caller callee s (Ended Return None t) state h =
     record { state = back_fits program caller callee s t state h.state; returned = tt }
 leaving_fits program caller callee s (Ended Return (Some v) t) state h =
     record { state = back_fits program caller callee s t state h.state; returned = h.returned }
 leaving_fits program caller callee s (Ended Break None t) state h =
     record { state = back_fits program caller callee s t state h.state; returned = tt }
-leaving_fits program caller callee s (Ended Break (Some v) t) state h = absurd (not_true h.returned)
+leaving_fits program caller callee s (Ended Break (Some v) t) state h = absurd (false≢true h.returned)
 leaving_fits program caller callee s (Ended Continue None t) state h =
     record { state = back_fits program caller callee s t state h.state; returned = tt }
-leaving_fits program caller callee s (Ended Continue (Some v) t) state h = absurd (not_true h.returned)
+leaving_fits program caller callee s (Ended Continue (Some v) t) state h = absurd (false≢true h.returned)
 leaving_fits program caller callee s (Ended (Throw exception) None t) state h =
     record { state = back_fits program caller callee s t state h.state; returned = tt }
-leaving_fits program caller callee s (Ended (Throw exception) (Some v) t) state h = absurd (not_true h.returned)
+leaving_fits program caller callee s (Ended (Throw exception) (Some v) t) state h = absurd (false≢true h.returned)
 leaving_fits program caller callee s (Stopped stop t) state h =
     record { state = back_fits program caller callee s t state h.state; returned = tt }
 

@@ -11,7 +11,7 @@ use Rattle.resolved.specs.SourceState.{World, cells}
 use Rattle.resolved.specs.Meaning.{entering, first_state, first_cells_of_globals}
 use Rattle.resolved.specs.WellFormed.{VariableType, variable_type, global_type, same_base, size_fits, label_fits, first_fits, main_fits, well_formed}
 use Rattle.resolved.specs.Kinds.{CellsFit, StateFits, RunsBeginTyped, ArgumentsFit}
-use Rattle.resolved.proofs.Parts.{ProcedureParts, program_parts, procedure_there, procedure_at_is, passes_at}
+use Rattle.resolved.proofs.WellFormedParts.{ProcedureParts, program_parts, procedure_there, procedure_at_is, passes_at}
 use Rattle.resolved.proofs.Sound.Values.{same_base_is}
 use Rattle.resolved.proofs.Sound.States.{some_same, cells_of_fit, entering_fits}
 

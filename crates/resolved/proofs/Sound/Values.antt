@@ -16,11 +16,12 @@ use Rattle.resolved.specs.declared.expression.Operator.TheVariants.{Add, Subtrac
 use Rattle.resolved.specs.declared.expression.Connective.{Connective}
 use Rattle.resolved.specs.Tree.{Expression, Integer, Logical, Read, Element, Unary, Binary, Short}
 use Rattle.resolved.specs.Program.{Program, ProcedureEntry, SlotEntry}
-use Rattle.resolved.specs.Value.{Evaluated, Yields, Raises, then_with, base_of, operator_value, prefix_value, checked_index, number_in, in_range, position_of, decides, bounds_exception}
+use Rattle.resolved.specs.Value.{Evaluated, Yields, Raises, then_with, base_of, operator_value, prefix_value, checked_index, number_in, in_range, position_of, decides}
 use Rattle.resolved.specs.SourceState.{SourceState, cells, cell_at, value_of, values_of}
 use Rattle.resolved.specs.WellFormed.{VariableType, variable_type, scalar_by, array_by, has_length, cell_count, same_base, prefix_base, result_base, has_base, arguments_match}
 use Rattle.resolved.specs.Kinds.{CellsFit, StateFits, GivesBase, ArgumentsFit}
 use Rattle.common.specs.Integers.{is_zero}
+use Rattle.common.specs.declared.exceptions.TheConstants.{BOUNDS}
 
 -- ---- tests
 
@@ -78,13 +79,13 @@ pub checked_below : (v : Value) (length i : ℕ) → checked_index v length ≡ 
 checked_below v length i h = go (number_in v) h
   where
     at : (n : ℕ) (test : Bool) → nat_lt n length ≡ test
-        → ◌≡◌ {A = Evaluated ℕ} (if test then Yields n else Raises bounds_exception) (Yields i) → i < length
+        → ◌≡◌ {A = Evaluated ℕ} (if test then Yields n else Raises BOUNDS) (Yields i) → i < length
     at n true e h =
         let same : n ≡ i = cc in
         grind (arith, nat_tests)
     at n false e h = cc
 
-    go : (z : ℤ) → ◌≡◌ {A = Evaluated ℕ} (if in_range z length then Yields (position_of z) else Raises bounds_exception) (Yields i) → i < length
+    go : (z : ℤ) → ◌≡◌ {A = Evaluated ℕ} (if in_range z length then Yields (position_of z) else Raises BOUNDS) (Yields i) → i < length
     go (pos n) h = at n (nat_lt n length) refl h
     go (negsuc n) h = cc
 

@@ -1,4 +1,4 @@
-use Rattle.acceptance.proofs.KeptNames.{gives_names}
+use Rattle.acceptance.proofs.ProperNames.{gives_names}
 use Rattle.acceptance.proofs.laws.resolved_programs_have_names.Goals as goal
 
 pub returns-clause-hierarchy : goal.returns-clause-hierarchy

@@ -12,7 +12,7 @@ use Rattle.names.specs.Resolution.{resolution}
 use Rattle.path_map.specs.FirstFault.{IsFirstEndFault}
 use Rattle.acceptance.specs.Accepted.{IsResolvedFrom, IsTreeOf}
 use Rattle.acceptance.specs.Refused.{IsNoText, NoText}
-use Rattle.analysis.specs.Reported.{IsSourceRefusal, of_cause}
+use Rattle.analysis.specs.Reported.{IsSourceRefusal, of_bytes}
 use Rattle.analysis.proofs.Faults.{named, ended}
 use Rattle.analysis.proofs.phases.analyse.Goals as goal
 
@@ -23,7 +23,7 @@ returns-in_err-text-clause-first_fault c =
     let source = c.args.source.now in
     rw (p.1, p.2) (IfErr-at_err (IfRefused (IsSourceRefusal h source)) c.in_err-text.was
     (map-answer (λ cause. IsNoText source cause 0) (IfRefused (IsSourceRefusal h source))
-    (λ cause fault (is : fault ≡ Refused (of_cause (cause, 0))) none. rw is (NoText cause 0 none))
+    (λ cause fault (is : fault ≡ Refused (of_bytes cause)) none. rw is (NoText cause 0 none))
     c.text_of.result c.map_err.result c.map_err.ensures.cases c.text_of.ensures.none))
 
 pub returns-in_err-tree-clause-first_fault : goal.returns-in_err-tree-clause-first_fault

@@ -2,8 +2,9 @@ use Rattle.std.proofs.Common.{refl, sym, ◌∙◌, take, ap, [], ◌∷◌, ◌
 use Rattle.std.specs.Int.{w32}
 use Rattle.std.specs.Prelude.{FitsSigned}
 use Rattle.std.proofs.lemmas.Int.{to_z-of_z}
+use Rattle.std.proofs.lemmas.Option.{cond_some}
 use Rattle.channels.specs.WorldText.{number_of, texts_of}
-use Rattle.channels.proofs.Words.{word_number, some_outside, none_outside, some_inside, numbers_more, all_more}
+use Rattle.channels.proofs.Words.{word_number, some_outside, none_outside, numbers_more, all_more}
 use Rattle.channels.proofs.world_table.numbers_of.Goals as goal
 
 pub number_of-requires : goal.number_of-requires
@@ -20,7 +21,7 @@ loop-word-preserved c =
     let words = c.args.words.now in
     let k = c.loop-word.word-index in
     let d : Bor (List ℕ) = record { ref_ptr = (0, 0); now = [] } in
-    let inside = some_inside _ _ c.in-Some.number (sym c.number_of.ensures ∙ c.in-Some.is) in
+    let inside = cond_some _ _ c.in-Some.number (sym c.number_of.ensures ∙ c.in-Some.is) in
     let fits : FitsSigned w32 c.in-Some.number = search rules in
     let more = numbers_more words k d c.loop-word-test.true in
     let before = map number_of (texts_of (take k words)) in

@@ -1,8 +1,9 @@
-use Rattle.std.proofs.Common.{subst, sym}
+use Rattle.std.proofs.Common.{subst}
 use Rattle.common.specs.Answers.{IfRefused}
 use Rattle.principals.specs.HierarchyText.{IsRefusedText}
-use Rattle.acceptance.specs.Refused.{IsHierarchyRefused, Unreadable}
-use Rattle.compiler.proofs.Refusals.{in_hierarchy, refused_reading}
+use Rattle.acceptance.specs.Refused.{Unreadable, Wrong}
+use Rattle.acceptance.specs.declared.cause.Cause.TheVariants as causes
+use Rattle.compiler.proofs.Refusals.{in_hierarchy}
 use Rattle.compiler.proofs.compilation.principals_of.Goals as goal
 
 pub returns-in-Err-clause-first_fault : goal.returns-in-Err-clause-first_fault
@@ -13,8 +14,7 @@ pub returns-in-Err-Refused-clause-first_fault : goal.returns-in-Err-Refused-clau
 returns-in-Err-Refused-clause-first_fault c = λ source.
     let bytes = c.args.bytes.now in
     let refusal = c.in-Err-Refused.refusal in
-    let told = subst (IfRefused (IsRefusedText c.in-Ok.text.now)) c.in-Err-Refused.field-0-is c.in-Err-Refused.ensures.first_fault in
-    let refused = refused_reading bytes refusal c.in-Ok.ensures.text (subst (λ t. IsRefusedText t refusal) c.in-Ok.ensures.same told) in
-    let pair = c.hierarchy_cause-cause.result in
+    let reported = subst (IfRefused (IsRefusedText c.in-Ok.text.now)) c.in-Err-Refused.field-0-is c.in-Err-Refused.ensures.first_fault in
+    let refused = subst (λ t. IsRefusedText t refusal) c.in-Ok.ensures.same reported in
     rw c.refusal_at-in-Err-Refused.ensures
-    (in_hierarchy bytes source pair.0 pair.1 (subst (λ p. IsHierarchyRefused bytes p.0 p.1) (sym c.hierarchy_cause-cause.ensures) refused))
+    (in_hierarchy bytes source (causes.Hierarchy refusal.defect) refusal.at (Wrong c.in-Ok.ensures.text refusal refused))

@@ -1,10 +1,12 @@
-use Rattle.std.proofs.Common.{ℕ, ◌<◌, map, take}
+use Rattle.std.proofs.Common.{◌≡◌, ℕ, ◌<◌, length, map, take}
 use Rattle.resolved.specs.ProgramOf.{thrown_entry}
 use Rattle.constraints.specs.Procedures.{AreDeclaredTakers}
 use Rattle.constraints.specs.Takers.{AreWithin}
 use Rattle.constraints.proofs.procedures.take_declared.Given as goal
 
 abbrev pub invariant-loop-i : goal.invariant-loop-i
-invariant-loop-i l =
-    (barrier : ℕ) → barrier < l.level → AreWithin barrier l.fn.thrown.items →
-    AreDeclaredTakers (map thrown_entry (take l.i l.throws)) l.number l.level l.fn.thrown.items l.thrown.items
+invariant-loop-i l = record {
+  wide : length l.thrown.items ≡ length l.fn.thrown.items;
+  taken : (barrier : ℕ) → barrier < l.level → AreWithin barrier l.fn.thrown.items →
+      AreDeclaredTakers (map thrown_entry (take l.i l.throws)) l.number l.level l.fn.thrown.items l.thrown.items;
+}

@@ -1,6 +1,6 @@
 use Rattle.std.proofs.Common.{sym, ap, ◌∙◌}
 use Rattle.constraints.specs.Takers.{undone}
-use Rattle.constraints.proofs.Undone.{undone-append}
+use Rattle.constraints.proofs.SavedEntries.{undone-append}
 use Rattle.constraints.proofs.takers.put_back.Goals as goal
 
 pub loop-last-preserved : goal.loop-last-preserved

@@ -1,6 +1,6 @@
 use Rattle.std.proofs.Common.{refl, ap, ◌∙◌, get_or}
 use Rattle.constraints.specs.Takers.{no_entry}
-use Rattle.constraints.proofs.Undone.{undone-more}
+use Rattle.constraints.proofs.SavedEntries.{undone-more}
 use Rattle.constraints.proofs.takers.take.Goals as goal
 
 pub returns-clause-undone : goal.returns-clause-undone

@@ -1,4 +1,7 @@
-use Rattle.std.proofs.Common.{◌∙◌}
+use Rattle.std.proofs.Common.{◌∙◌, ◌<◌, length, arith}
+use Rattle.resolved.specs.declared.statement.Handler.{Handler}
+use Rattle.constraints.proofs.Ready.{held-at}
+use Rattle.constraints.proofs.SavedEntries.{width-kept}
 use Rattle.constraints.proofs.Taken.{taken-next}
 use Rattle.constraints.proofs.takers.take_handled.Goals as goal
 
@@ -8,3 +11,9 @@ loop-i-preserved c = record {
   taken = λ x. taken-next c.args.handlers.now c.loop-i.i c.index-handlers-i.result c.args.first c.args.level c.in_ok-number.number x _ _ _
       c.loop-i-test.true c.index-handlers-i.is c.in_ok-number.ensures.sum (c.loop-i.invariant.taken x) (c.in_ok-take.ensures.taken x);
 }
+
+pub take-requires : goal.take-requires
+take-requires c =
+    let inside = held-at (λ (handler : Handler). handler.exception < length c.args.thrown.now.items) c.args.handlers.now c.loop-i.i c.index-handlers-i.result c.requires
+    c.loop-i-test.true c.index-handlers-i.is in
+    omega (arith, inside, width-kept c.args.saved.now.items c.loop-i.saved.items c.args.thrown.now.items c.loop-i.thrown.items c.loop-i.invariant.undone)

@@ -1,16 +1,17 @@
-use Rattle.std.proofs.Common.{arith, refl, sym, ap, ◌∙◌, ◌+◌, drop, map, subst}
+use Rattle.std.proofs.Common.{arith, refl, sym, ap, ◌∙◌, ◌+◌, drop, map, subst, get_or, length}
 use Rattle.std.proofs.lemmas.List.{drop_all}
 use Rattle.std.proofs.lemmas.Result.{on_ok_weaker}
 use Rattle.resolved.specs.Tree as T
 use Rattle.resolved.specs.WellFormed.{statement_nodes}
 use Rattle.resolved.specs.TreeOf.{expression_of, some_expression_of, statement_of, block_of, handlers_of}
-use Rattle.path_map.proofs.Forms.{tree-if, tree-while, tree-try, tree-nested}
 use Rattle.constraints.proofs.Along.{Along, Handling, along-start, along-step, along-end, handling-start, handling-step, handling-end}
 use Rattle.constraints.proofs.Formed.{form-at, block-walked, statement-walked, if-walked, while-walked, try-walked}
+use Rattle.constraints.proofs.Ready.{along-first, along-second, block-goes, form-ready-at, handling-first, handling-second, if-first, if-second, statement-goes, there-is-next, try-first, try-inside, try-second, while-goes}
+use Rattle.constraints.specs.Ready.{AreHandlersReady, AreStatementsReady}
 use Rattle.constraints.proofs.Measured.{statement-within, handler-within}
 use Rattle.constraints.proofs.Taken.{number-at}
 use Rattle.constraints.proofs.walking.+walk.Goals as goal
-use Rattle.resolved.proofs.Views.{next-statement, next-handler}
+use Rattle.resolved.proofs.Views.{next-statement, next-handler, tree-if, tree-while, tree-try, tree-nested}
 
 pub walk_block-returns : goal.walk_block-returns
 walk_block-returns t c =
@@ -153,69 +154,190 @@ walk_try-returns t c = λ at.
 
 -- along the statements of a block
 pub walk_statements-loop-statement-init : goal.walk_statements-loop-statement-init
-walk_statements-loop-statement-init t c =
-    along-start c.args.walk.now.table.now.core.now c.args.walk.now.table.now.written.items c.args.walk.now.map.now.entries.items c.args.walk.now.procedure c.args.pc c.args.takers (block_of c.args.block.now) c.args.progress.now
+walk_statements-loop-statement-init t c = record {
+  along = along-start c.args.walk.now.table.now.core.now c.args.walk.now.table.now.written.items c.args.walk.now.map.now.entries.items c.args.walk.now.procedure c.args.pc c.args.takers (block_of c.args.block.now) c.args.progress.now;
+  ready = c.requires;
+}
 
 pub walk_statements-loop-statement-preserved : goal.walk_statements-loop-statement-preserved
 walk_statements-loop-statement-preserved t c =
-    along-step c.args.walk.now.table.now.core.now c.args.walk.now.table.now.written.items c.args.walk.now.map.now.entries.items c.args.walk.now.procedure
-    c.args.pc c.args.takers (block_of c.args.block.now) c.args.progress.now (statement_of c.statement-item.result) (block_of (drop (c.loop-statement.statement-index + 1) c.args.block.now))
-    c.loop-statement.reached c.loop-statement.onward c.in_ok-onward.onward c.loop-statement.progress c.make.new.self c.walk_statement.new.progress c.in_ok-exits.exits c.in_ok-number.number
-    (subst (λ tree. Along c.args.walk.now.table.now.core.now c.args.walk.now.table.now.written.items c.args.walk.now.map.now.entries.items c.args.walk.now.procedure c.args.pc c.args.takers (block_of c.args.block.now) c.args.progress.now tree c.loop-statement.reached c.loop-statement.onward c.loop-statement.progress)
-    (next-statement c.args.block.now c.loop-statement.statement-index c.statement-item.result c.loop-statement-test.true c.statement-item.is) c.loop-statement.invariant)
-    c.in_ok-number.ensures.made c.in_ok-number.ensures.first c.in_ok-exits.ensures.exits c.in_ok-exits.ensures.added c.in_ok-onward.ensures
+    let statement = statement_of c.statement-item.result in
+    let rest = block_of (drop (c.loop-statement.statement-index + 1) c.args.block.now) in
+    let tree = next-statement c.args.block.now c.loop-statement.statement-index c.statement-item.result c.loop-statement-test.true c.statement-item.is in
+    record {
+      along = along-step c.args.walk.now.table.now.core.now c.args.walk.now.table.now.written.items c.args.walk.now.map.now.entries.items c.args.walk.now.procedure
+          c.args.pc c.args.takers (block_of c.args.block.now) c.args.progress.now statement rest
+          c.loop-statement.reached c.loop-statement.onward c.in_ok-onward.onward c.loop-statement.progress c.make.new.self c.walk_statement.new.progress c.in_ok-exits.exits c.in_ok-number.number
+          (subst (λ tree'. Along c.args.walk.now.table.now.core.now c.args.walk.now.table.now.written.items c.args.walk.now.map.now.entries.items c.args.walk.now.procedure c.args.pc c.args.takers (block_of c.args.block.now) c.args.progress.now tree' c.loop-statement.reached c.loop-statement.onward c.loop-statement.progress)
+          tree c.loop-statement.invariant.along)
+          c.in_ok-number.ensures.made c.in_ok-number.ensures.first c.in_ok-exits.ensures.exits c.in_ok-exits.ensures.added c.in_ok-onward.ensures;
+      ready = along-second c.args.walk.now.table.now.core.now c.args.walk.now.table.now.written.items c.args.walk.now.map.now.entries.items c.args.walk.now.procedure
+          c.loop-statement.onward c.args.takers c.in_ok-number.number statement rest c.loop-statement.progress c.make.new.self c.walk_statement.new.progress
+          (subst (λ tree'. AreStatementsReady c.args.walk.now.table.now.core.now c.args.walk.now.map.now.entries.items c.args.walk.now.procedure c.args.takers tree' c.loop-statement.progress) tree c.loop-statement.invariant.ready)
+          c.in_ok-number.ensures.made c.in_ok-exits.ensures.added;
+    }
 
 pub walk_statements-returns : goal.walk_statements-returns
 walk_statements-returns t c =
     along-end c.args.walk.now.table.now.core.now c.args.walk.now.table.now.written.items c.args.walk.now.map.now.entries.items c.args.walk.now.procedure
     c.args.pc c.args.takers (block_of c.args.block.now) c.args.progress.now c.loop-statement.reached c.loop-statement.onward c.loop-statement.progress c.end_block.new.progress
     (subst (λ tree. Along c.args.walk.now.table.now.core.now c.args.walk.now.table.now.written.items c.args.walk.now.map.now.entries.items c.args.walk.now.procedure c.args.pc c.args.takers (block_of c.args.block.now) c.args.progress.now tree c.loop-statement.reached c.loop-statement.onward c.loop-statement.progress)
-    (ap block_of (drop_all c.loop-statement.statement-index c.args.block.now c.loop-statement-test.false)) c.loop-statement.invariant)
+    (ap block_of (drop_all c.loop-statement.statement-index c.args.block.now c.loop-statement-test.false)) c.loop-statement.invariant.along)
     c.in_ok-end_block.ensures
 
 -- along handlers
 pub walk_handlers-loop-i-init : goal.walk_handlers-loop-i-init
-walk_handlers-loop-i-init t c = λ number are.
-    handling-start c.args.walk.now.table.now.core.now c.args.walk.now.table.now.written.items c.args.walk.now.map.now.entries.items c.args.walk.now.procedure number c.args.takers (handlers_of c.args.handlers.now) c.args.progress.now
+walk_handlers-loop-i-init t c = record {
+  handling = λ number are.
+      handling-start c.args.walk.now.table.now.core.now c.args.walk.now.table.now.written.items c.args.walk.now.map.now.entries.items c.args.walk.now.procedure number c.args.takers (handlers_of c.args.handlers.now) c.args.progress.now;
+  ready = c.requires.ready;
+}
 
 pub walk_handlers-returns : goal.walk_handlers-returns
 walk_handlers-returns t c = λ number pc are.
     handling-end c.args.walk.now.table.now.core.now c.args.walk.now.table.now.written.items c.args.walk.now.map.now.entries.items c.args.walk.now.procedure number c.args.takers (handlers_of c.args.handlers.now) c.args.progress.now c.loop-i.progress pc
     (subst (λ tree. Handling c.args.walk.now.table.now.core.now c.args.walk.now.table.now.written.items c.args.walk.now.map.now.entries.items c.args.walk.now.procedure number c.args.takers (handlers_of c.args.handlers.now) c.args.progress.now tree c.loop-i.progress)
-    (ap handlers_of (drop_all c.loop-i.i c.args.handlers.now c.loop-i-test.false)) (c.loop-i.invariant number are))
+    (ap handlers_of (drop_all c.loop-i.i c.args.handlers.now c.loop-i-test.false)) (c.loop-i.invariant.handling number are))
 
 pub walk_handlers-loop-i-preserved : goal.walk_handlers-loop-i-preserved
-walk_handlers-loop-i-preserved t c = λ number are.
+walk_handlers-loop-i-preserved t c =
     let handler = c.index-handlers-i.result in
-    handling-step c.args.walk.now.table.now.core.now c.args.walk.now.table.now.written.items c.args.walk.now.map.now.entries.items c.args.walk.now.procedure
-    number c.args.takers (handlers_of c.args.handlers.now) c.args.progress.now handler.at handler.exception (block_of c.deref.result.now) (handlers_of (drop (c.loop-i.i + 1) c.args.handlers.now))
-    c.in_ok-pc.pc c.in-Some.number.now c.loop-i.progress c.walk_block.new.progress
-    (subst (λ tree. Handling c.args.walk.now.table.now.core.now c.args.walk.now.table.now.written.items c.args.walk.now.map.now.entries.items c.args.walk.now.procedure number c.args.takers (handlers_of c.args.handlers.now) c.args.progress.now tree c.loop-i.progress)
-    (next-handler c.args.handlers.now c.loop-i.i handler c.deref.result.now c.loop-i-test.true c.index-handlers-i.is c.deref.ensures.value) (c.loop-i.invariant number are))
-    (number-at c.args.numbers.now number c.args.handlers.now c.loop-i.i handler c.in-Some.number.now c.in-Some.number.now are c.loop-i-test.true c.index-handlers-i.is c.in-Some.ensures.lookup.1)
-    c.in_ok-pc.ensures c.in_ok-walk_block.ensures
+    let rest = handlers_of (drop (c.loop-i.i + 1) c.args.handlers.now) in
+    let tree = next-handler c.args.handlers.now c.loop-i.i handler c.deref.result.now c.loop-i-test.true c.index-handlers-i.is c.deref.ensures.value in
+    let own = get_or c.args.numbers.now c.loop-i.i 0 in
+    record {
+      handling = λ number are.
+          handling-step c.args.walk.now.table.now.core.now c.args.walk.now.table.now.written.items c.args.walk.now.map.now.entries.items c.args.walk.now.procedure
+          number c.args.takers (handlers_of c.args.handlers.now) c.args.progress.now handler.at handler.exception (block_of c.deref.result.now) rest
+          c.in_ok-pc.pc own c.loop-i.progress c.walk_block.new.progress
+          (subst (λ tree'. Handling c.args.walk.now.table.now.core.now c.args.walk.now.table.now.written.items c.args.walk.now.map.now.entries.items c.args.walk.now.procedure number c.args.takers (handlers_of c.args.handlers.now) c.args.progress.now tree' c.loop-i.progress)
+          tree (c.loop-i.invariant.handling number are))
+          (number-at c.args.numbers.now number c.args.handlers.now c.loop-i.i handler own 0 are c.loop-i-test.true c.index-handlers-i.is refl)
+          c.in_ok-pc.ensures c.in_ok-walk_block.ensures;
+      ready = handling-second c.args.walk.now.table.now.core.now c.args.walk.now.table.now.written.items c.args.walk.now.map.now.entries.items c.args.walk.now.procedure
+          c.in_ok-pc.pc c.args.takers handler.at handler.exception (block_of c.deref.result.now) rest c.loop-i.progress c.walk_block.new.progress
+          (subst (λ tree'. AreHandlersReady c.args.walk.now.table.now.core.now c.args.walk.now.map.now.entries.items c.args.walk.now.procedure c.args.takers tree' c.loop-i.progress) tree c.loop-i.invariant.ready)
+          c.in_ok-walk_block.ensures;
+    }
 
--- ---- each call is of something smaller
+-- ---- each call is of something smaller, and what it asks for holds
+pub walk_block-begin-requires : goal.walk_block-begin-requires
+walk_block-begin-requires t c =
+    there-is-next c.args.walk.now.map.now.entries.items c.args.progress.now.index _ _ c.requires.goes_on
+
+pub walk_block-walk_statements-requires : goal.walk_block-walk_statements-requires
+walk_block-walk_statements-requires t c = (
+  omega arith,
+  block-goes c.args.walk.now.table.now.core.now c.args.walk.now.table.now.written.items c.args.walk.now.map.now.entries.items c.args.walk.now.procedure
+      (block_of c.args.block.now) c.args.pc c.args.takers c.within_single-inner.result c.args.progress.now c.begin.new.progress
+      c.requires c.in_ok-exits.ensures.added c.within_single-inner.ensures.levelled,
+)
+
 pub walk_statements-walk_statement-requires : goal.walk_statements-walk_statement-requires
-walk_statements-walk_statement-requires t c =
-    omega (arith, statement-within c.args.block.now c.loop-statement.statement-index c.statement-item.result c.loop-statement-test.true c.statement-item.is)
+walk_statements-walk_statement-requires t c = (
+  omega (arith, statement-within c.args.block.now c.loop-statement.statement-index c.statement-item.result c.loop-statement-test.true c.statement-item.is),
+  along-first c.args.walk.now.table.now.core.now c.args.walk.now.table.now.written.items c.args.walk.now.map.now.entries.items c.args.walk.now.procedure
+      c.args.takers (statement_of c.statement-item.result) (block_of (drop (c.loop-statement.statement-index + 1) c.args.block.now)) c.loop-statement.progress c.make.new.self
+      (subst (λ tree. AreStatementsReady c.args.walk.now.table.now.core.now c.args.walk.now.map.now.entries.items c.args.walk.now.procedure c.args.takers tree c.loop-statement.progress)
+      (next-statement c.args.block.now c.loop-statement.statement-index c.statement-item.result c.loop-statement-test.true c.statement-item.is) c.loop-statement.invariant.ready)
+      c.in_ok-number.ensures.made,
+)
+
+pub walk_statement-begin-requires : goal.walk_statement-begin-requires
+walk_statement-begin-requires t c =
+    there-is-next c.args.walk.now.map.now.entries.items c.args.progress.now.index _ _ c.requires.goes_on
+
+pub walk_statement-walk_form-requires : goal.walk_statement-walk_form-requires
+walk_statement-walk_form-requires t c = (
+  omega arith,
+  statement-goes c.args.walk.now.table.now.core.now c.args.walk.now.table.now.written.items c.args.walk.now.map.now.entries.items c.args.walk.now.procedure
+      (statement_of c.args.statement.now) c.args.pc c.args.takers c.with_normal.result c.with_normal-2.result c.within_single-inner.result c.args.progress.now c.begin.new.progress
+      c.requires c.in_ok-exits.ensures.added c.with_normal.ensures.levelled c.with_normal-2.ensures.levelled c.within_single-inner.ensures.levelled,
+)
 
 pub walk_form-walk_if-requires : goal.walk_form-walk_if-requires
 walk_form-walk_if-requires t c =
-    omega (arith, ap statement_nodes (tree-if c.args.statement.now c.in-If.field-0 c.in-If.condition c.in-If.yes_block c.in-If.no_block c.deref-in-If.result.now c.deref-in-If-2.result.now c.in-If.is c.deref-in-If.ensures.value c.deref-in-If-2.ensures.value))
+    let tree = tree-if c.args.statement.now c.in-If.field-0 c.in-If.condition c.in-If.yes_block c.in-If.no_block c.deref-in-If.result.now c.deref-in-If-2.result.now c.in-If.is c.deref-in-If.ensures.value c.deref-in-If-2.ensures.value in (
+      omega (arith, ap statement_nodes tree),
+      form-ready-at c.args.walk.now.table.now.core.now c.args.walk.now.map.now.entries.items c.args.walk.now.procedure c.args.statement.now _ c.args.takers c.args.progress.now tree c.requires,
+    )
 
 pub walk_form-walk_while-requires : goal.walk_form-walk_while-requires
 walk_form-walk_while-requires t c =
-    omega (arith, ap statement_nodes (tree-while c.args.statement.now c.in-While.at c.in-While.number c.in-While.condition c.in-While.body c.deref-in-While.result.now c.in-While.is c.deref-in-While.ensures.value))
+    let tree = tree-while c.args.statement.now c.in-While.at c.in-While.number c.in-While.condition c.in-While.body c.deref-in-While.result.now c.in-While.is c.deref-in-While.ensures.value in (
+      omega (arith, ap statement_nodes tree),
+      form-ready-at c.args.walk.now.table.now.core.now c.args.walk.now.map.now.entries.items c.args.walk.now.procedure c.args.statement.now _ c.args.takers c.args.progress.now tree c.requires,
+    )
 
 pub walk_form-walk_try-requires : goal.walk_form-walk_try-requires
 walk_form-walk_try-requires t c =
-    omega (arith, ap statement_nodes (tree-try c.args.statement.now c.in-Try.field-0 c.in-Try.block c.in-Try.handlers c.deref-in-Try.result.now c.deref-in-Try-2.result.now c.in-Try.is c.deref-in-Try.ensures.value c.deref-in-Try-2.ensures.value))
+    let tree = tree-try c.args.statement.now c.in-Try.field-0 c.in-Try.block c.in-Try.handlers c.deref-in-Try.result.now c.deref-in-Try-2.result.now c.in-Try.is c.deref-in-Try.ensures.value c.deref-in-Try-2.ensures.value in (
+      omega (arith, ap statement_nodes tree),
+      form-ready-at c.args.walk.now.table.now.core.now c.args.walk.now.map.now.entries.items c.args.walk.now.procedure c.args.statement.now _ c.args.takers c.args.progress.now tree c.requires,
+    )
 
 pub walk_form-walk_block-requires : goal.walk_form-walk_block-requires
 walk_form-walk_block-requires t c =
-    omega (arith, ap statement_nodes (tree-nested c.args.statement.now c.in-Nested.field-0 c.in-Nested.block c.deref-in-Nested.result.now c.in-Nested.is c.deref-in-Nested.ensures.value))
+    let tree = tree-nested c.args.statement.now c.in-Nested.field-0 c.in-Nested.block c.deref-in-Nested.result.now c.in-Nested.is c.deref-in-Nested.ensures.value in (
+      omega (arith, ap statement_nodes tree),
+      form-ready-at c.args.walk.now.table.now.core.now c.args.walk.now.map.now.entries.items c.args.walk.now.procedure c.args.statement.now _ c.args.takers c.args.progress.now tree c.requires,
+    )
+
+pub walk_if-walk_block-requires : goal.walk_if-walk_block-requires
+walk_if-walk_block-requires t c = (
+  omega arith,
+  if-first c.args.walk.now.table.now.core.now c.args.walk.now.table.now.written.items c.args.walk.now.map.now.entries.items c.args.walk.now.procedure
+      0 (expression_of c.args.condition.now) (block_of c.args.yes_block.now) (block_of c.args.no_block.now) c.args.pc c.args.takers _ 1
+      c.args.progress.now c.begin_branch.new.progress c.requires c.in_ok-number.ensures.added,
+)
+
+pub walk_if-walk_block-requires-2 : goal.walk_if-walk_block-requires-2
+walk_if-walk_block-requires-2 t c = (
+  omega arith,
+  if-second c.args.walk.now.table.now.core.now c.args.walk.now.table.now.written.items c.args.walk.now.map.now.entries.items c.args.walk.now.procedure
+      0 (expression_of c.args.condition.now) (block_of c.args.yes_block.now) (block_of c.args.no_block.now) c.args.pc c.in_ok-inner.inner c.args.takers _ 1
+      c.args.progress.now c.begin_branch.new.progress c.walk_block.new.progress c.requires c.in_ok-number.ensures.added c.in_ok-walk_block.ensures,
+)
+
+pub walk_while-walk_block-requires : goal.walk_while-walk_block-requires
+walk_while-walk_block-requires t c = (
+  omega arith,
+  while-goes c.args.walk.now.table.now.core.now c.args.walk.now.table.now.written.items c.args.walk.now.map.now.entries.items c.args.walk.now.procedure
+      c.args.at c.args.number (expression_of c.args.condition.now) (block_of c.args.body.now) c.args.pc c.args.takers c.in_loop.result _ 2
+      c.args.progress.now c.begin_loop.new.progress c.requires c.in_ok-inner.ensures.added c.in_loop.ensures.levelled,
+)
+
+pub walk_try-begin_try-requires : goal.walk_try-begin_try-requires
+walk_try-begin_try-requires t c =
+    try-inside c.args.walk.now.table.now.core.now c.args.walk.now.table.now.written.items c.args.walk.now.map.now.entries.items c.args.walk.now.procedure
+    0 (block_of c.args.block.now) c.args.handlers.now c.args.takers c.args.progress.now c.requires
+
+pub walk_try-walk_block-requires : goal.walk_try-walk_block-requires
+walk_try-walk_block-requires t c = (
+  omega arith,
+  try-first c.args.walk.now.table.now.core.now c.args.walk.now.table.now.written.items c.args.walk.now.map.now.entries.items c.args.walk.now.procedure
+      0 (block_of c.args.block.now) c.args.handlers.now c.args.takers c.in_ok-tried.tried c.args.progress.now c.begin_try.new.progress
+      c.requires c.in_ok-tried.ensures,
+)
+
+pub walk_try-walk_handlers-requires : goal.walk_try-walk_handlers-requires
+walk_try-walk_handlers-requires t c =
+    let numbered = ap length c.deref.ensures.value ∙ c.in_ok-tried.ensures.count_is in (
+      omega arith,
+      (
+        numbered,
+        try-second c.args.walk.now.table.now.core.now c.args.walk.now.table.now.written.items c.args.walk.now.map.now.entries.items c.args.walk.now.procedure
+            0 (block_of c.args.block.now) c.args.handlers.now c.args.pc c.args.takers c.in_ok-tried.tried c.args.progress.now c.begin_try.new.progress c.walk_block.new.progress _
+            c.requires c.in_ok-tried.ensures c.in_ok-walk_block.ensures refl c.put_back.ensures,
+      ),
+    )
 
 pub walk_handlers-walk_block-requires : goal.walk_handlers-walk_block-requires
 walk_handlers-walk_block-requires t c =
-    omega (arith, handler-within c.args.handlers.now c.loop-i.i c.index-handlers-i.result c.deref.result.now c.loop-i-test.true c.index-handlers-i.is c.deref.ensures.value)
+    let handler = c.index-handlers-i.result in (
+      omega (arith, handler-within c.args.handlers.now c.loop-i.i handler c.deref.result.now c.loop-i-test.true c.index-handlers-i.is c.deref.ensures.value),
+      handling-first c.args.walk.now.table.now.core.now c.args.walk.now.table.now.written.items c.args.walk.now.map.now.entries.items c.args.walk.now.procedure
+          c.args.takers handler.at handler.exception (block_of c.deref.result.now) (handlers_of (drop (c.loop-i.i + 1) c.args.handlers.now)) c.loop-i.progress
+          (subst (λ tree. AreHandlersReady c.args.walk.now.table.now.core.now c.args.walk.now.map.now.entries.items c.args.walk.now.procedure c.args.takers tree c.loop-i.progress)
+          (next-handler c.args.handlers.now c.loop-i.i handler c.deref.result.now c.loop-i-test.true c.index-handlers-i.is c.deref.ensures.value) c.loop-i.invariant.ready),
+    )

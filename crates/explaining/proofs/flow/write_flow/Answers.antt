@@ -2,9 +2,10 @@ use Rattle.std.proofs.Common.{◌∙◌, ap}
 use Rattle.std.specs.Prelude.{flat_map}
 use Rattle.resolved.specs.CoreOf.{program_of}
 use Rattle.explaining.specs.Flow.{policy_line, step_line}
-use Rattle.explaining.proofs.Texts.{all_or_none, cut_first, cut_front, part_or_none}
+use Rattle.explaining.proofs.Texts.{all_or_none, cut_first, part_or_none}
 use Rattle.explaining.proofs.flow.write_flow.Goals as goal
 use Rattle.channels.proofs.Views.{on_err}
+use Rattle.channels.proofs.Sinks.{cut_front}
 
 pub returns-in_err-line-clause-prefix : goal.returns-in_err-line-clause-prefix
 returns-in_err-line-clause-prefix g c = on_err c.from_residual-in_err-line.result _ (cut_first _ _)

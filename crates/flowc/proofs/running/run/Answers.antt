@@ -12,7 +12,7 @@ returns-in_err-write_view-clause-prefix g c =
     let can = can_run _ _ _ m c.in_ok-principal.principal c.hierarchy.result.now c.in_ok-machine.ensures.accepted.spelled c.in_ok-machine.ensures.accepted.no_defect c.in_ok-machine.ensures.encoded c.in_ok-machine.ensures.right c.in_ok-principal.ensures.found
     (c.hierarchy.ensures.hierarchy ∙ ap (λ (w : ModuleContents). w.hierarchy) c.module.ensures) in
     on_err _ _ (cut_off _ _ _ c.args.steps _ _ m c.module-program.result.now c.in_ok-principal.principal c.run-status.result.0 c.sent.result.now _ _ can c.run-status.ensures.within
-    (c.module-program.ensures ∙ c.run-status.ensures.kept) c.in_ok-machine.ensures.first c.run-status.ensures.after c.sent.ensures c.in_err-write_view.ensures.prefix)
+    (c.module-program.ensures ∙ c.run-status.ensures.unchanged) c.in_ok-machine.ensures.first c.run-status.ensures.after c.sent.ensures c.in_err-write_view.ensures.prefix)
 
 pub returns-clause-prefix : goal.returns-clause-prefix
 returns-clause-prefix g c =
@@ -20,7 +20,7 @@ returns-clause-prefix g c =
     let can = can_run _ _ _ m c.in_ok-principal.principal c.hierarchy.result.now c.in_ok-machine.ensures.accepted.spelled c.in_ok-machine.ensures.accepted.no_defect c.in_ok-machine.ensures.encoded c.in_ok-machine.ensures.right c.in_ok-principal.ensures.found
     (c.hierarchy.ensures.hierarchy ∙ ap (λ (w : ModuleContents). w.hierarchy) c.module.ensures) in
     on_err c.report_end.result _ (cut_off _ _ _ c.args.steps _ _ m c.module-program.result.now c.in_ok-principal.principal c.run-status.result.0 c.sent.result.now _ _ can c.run-status.ensures.within
-    (c.module-program.ensures ∙ c.run-status.ensures.kept) c.in_ok-machine.ensures.first c.run-status.ensures.after c.sent.ensures (appended_all _ _ _ c.in_ok-write_view.ensures.accepted))
+    (c.module-program.ensures ∙ c.run-status.ensures.unchanged) c.in_ok-machine.ensures.first c.run-status.ensures.after c.sent.ensures (appended_all _ _ _ c.in_ok-write_view.ensures.accepted))
 
 pub returns-in_err-machine-clause-message : goal.returns-in_err-machine-clause-message
 returns-in_err-machine-clause-message g c =
@@ -49,7 +49,7 @@ returns-clause-stdout g c =
     let can = can_run _ _ _ m c.in_ok-principal.principal c.hierarchy.result.now c.in_ok-machine.ensures.accepted.spelled c.in_ok-machine.ensures.accepted.no_defect c.in_ok-machine.ensures.encoded c.in_ok-machine.ensures.right c.in_ok-principal.ensures.found
     (c.hierarchy.ensures.hierarchy ∙ ap (λ (w : ModuleContents). w.hierarchy) c.module.ensures) in
     shows_run _ _ _ c.args.steps m c.module-program.result.now c.in_ok-principal.principal c.run-status.result.0 _ _ c.run-status.result.1 can c.run-status.ensures.within
-    (c.module-program.ensures ∙ c.run-status.ensures.kept) c.in_ok-machine.ensures.first c.run-status.ensures.after c.run-status.ensures.reported _ _ c.sent.result.now
+    (c.module-program.ensures ∙ c.run-status.ensures.unchanged) c.in_ok-machine.ensures.first c.run-status.ensures.after c.run-status.ensures.reported _ _ c.sent.result.now
     c.report_end.result c.sent.ensures c.in_ok-write_view.ensures.accepted c.report_end.ensures.message
 
 pub returns-clause-end : goal.returns-clause-end
@@ -58,5 +58,5 @@ returns-clause-end g c =
     let can = can_run _ _ _ m c.in_ok-principal.principal c.hierarchy.result.now c.in_ok-machine.ensures.accepted.spelled c.in_ok-machine.ensures.accepted.no_defect c.in_ok-machine.ensures.encoded c.in_ok-machine.ensures.right c.in_ok-principal.ensures.found
     (c.hierarchy.ensures.hierarchy ∙ ap (λ (w : ModuleContents). w.hierarchy) c.module.ensures) in
     ends_so _ _ _ c.args.steps m c.module-program.result.now c.in_ok-principal.principal c.run-status.result.0 _ _ c.run-status.result.1 can c.run-status.ensures.within
-    (c.module-program.ensures ∙ c.run-status.ensures.kept) c.in_ok-machine.ensures.first c.run-status.ensures.after c.run-status.ensures.reported
+    (c.module-program.ensures ∙ c.run-status.ensures.unchanged) c.in_ok-machine.ensures.first c.run-status.ensures.after c.run-status.ensures.reported
     c.report_end.result c.report_end.ensures.message c.report_end.ensures.line

@@ -3,16 +3,10 @@ use Rattle.flowc.proofs.Refusals.{named_world, unknown_channel}
 use Rattle.flowc.proofs.Reporting.{module_message, world_message}
 use Rattle.flowc.proofs.running.start.Goals as goal
 
-pub returns-in_ok-world_line-in-Err-Refused-UnknownChannel-clause-rejected :
-    goal.returns-in_ok-world_line-in-Err-Refused-UnknownChannel-clause-rejected
-returns-in_ok-world_line-in-Err-Refused-UnknownChannel-clause-rejected c = λ one program spelled none encoded right.
+pub unreachable-requires : goal.unreachable-requires
+unreachable-requires c =
     let named = named_world c.in_ok-verified.verified c.module.result.now c.in_ok-numbers.numbers (lines_of c.args.world.bytes.now) c.module.ensures.value c.in_ok-numbers.ensures.exact in
     c.in-Err-Refused-UnknownChannel.ensures.unknown.0 (unknown_channel _ _ c.in-Err-Refused-UnknownChannel.field-0-is) named
-
-pub returns-in_ok-world_line-in-Err-Refused-UnknownChannel-clause-message : goal.returns-in_ok-world_line-in-Err-Refused-UnknownChannel-clause-message
-returns-in_ok-world_line-in-Err-Refused-UnknownChannel-clause-message c =
-    let named = named_world c.in_ok-verified.verified c.module.result.now c.in_ok-numbers.numbers (lines_of c.args.world.bytes.now) c.module.ensures.value c.in_ok-numbers.ensures.exact in
-    absurd (c.in-Err-Refused-UnknownChannel.ensures.unknown.0 (unknown_channel _ _ c.in-Err-Refused-UnknownChannel.field-0-is) named)
 
 pub returns-in_err-verified-clause-message : goal.returns-in_err-verified-clause-message
 returns-in_err-verified-clause-message c =

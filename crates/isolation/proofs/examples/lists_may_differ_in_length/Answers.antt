@@ -6,7 +6,7 @@ use Rattle.resolved.specs.declared.expression.Variable.TheVariants.{Local}
 use Rattle.resolved.specs.declared.expression.Operator.TheVariants.{GreaterThan}
 use Rattle.resolved.specs.Tree.{Integer, Read, Binary, Assign, Receive, Send, Try, Empty, Then, NoMore, Catch}
 use Rattle.resolved.specs.Program.{procedure_at}
-use Rattle.resolved.specs.Value.{end_exception}
+use Rattle.common.specs.declared.exceptions.TheConstants.{END}
 use Rattle.resolved.specs.SourceState.{SourceState, value_of}
 use Rattle.resolved.specs.Meaning.{Outcome, after, leaving, entering, block_meaning, calls_with, first_state, state_after, frame_limit}
 use Rattle.resolved.specs.Labelled.{channel_label}
@@ -33,7 +33,7 @@ returns-clause-all c (suc k) = refl
 reached : (k : ℕ) → SourceState
 reached k =
     state_after (block_meaning (calls_with waiting k 511) k
-    (Then (Assign 0 (Local 0) (Integer 0)) (Then (Try 0 (Then (Receive 0 0 (Some (Local 0))) Empty) (Catch 0 end_exception Empty NoMore)) Empty))
+    (Then (Assign 0 (Local 0) (Integer 0)) (Then (Try 0 (Then (Receive 0 0 (Some (Local 0))) Empty) (Catch 0 END Empty NoMore)) Empty))
     (entering (procedure_at waiting 0) [] (first_state waiting (comes (pos 1)))))
 
 seen_from : (k : ℕ) → Outcome → List Pair

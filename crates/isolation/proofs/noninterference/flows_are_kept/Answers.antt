@@ -9,5 +9,5 @@ pub returns-clause-names : goal.returns-clause-names
 returns-clause-names c = names-keep
 
 pub returns-clause-by_name : goal.returns-clause-by_name
-returns-clause-by_name c part whole is_part is_whole contains =
-    carried-flow part whole (number_by_name part whole) (names-keep part whole is_part is_whole contains)
+returns-clause-by_name c smaller larger is_smaller is_larger contains =
+    carried-flow smaller larger (number_by_name smaller larger) (names-keep smaller larger is_smaller is_larger contains)

@@ -7,5 +7,5 @@ pub returns-clause-renumbered : goal.returns-clause-renumbered
 returns-clause-renumbered c = isolated-carried
 
 pub returns-clause-by_name : goal.returns-clause-by_name
-returns-clause-by_name c program whole faults labelled is_part is_whole contains =
-    isolated-carried program whole (number_by_name program.hierarchy whole) faults labelled (names-keep program.hierarchy whole is_part is_whole contains)
+returns-clause-by_name c program larger faults labelled is_smaller is_larger contains =
+    isolated-carried program larger (number_by_name program.hierarchy larger) faults labelled (names-keep program.hierarchy larger is_smaller is_larger contains)

@@ -7,7 +7,7 @@ use Rattle.bytecode.specs.Format.{module_file}
 use Rattle.layout.specs.Graph.{HasPositions}
 use Rattle.layout.specs.Offsets.{laid_out}
 use Rattle.layout.specs.Starts.{HasStarts}
-use Rattle.layout.specs.Kept.{SameRuns, SameInterface}
+use Rattle.layout.specs.SameRuns.{SameRuns, SameInterface}
 use Rattle.layout.proofs.Fitting.{codes-short, Fits-laid_out}
 use Rattle.layout.proofs.Offsets.{runs-same, interface-same}
 use Rattle.layout.proofs.Starts.{starts-laid_out}

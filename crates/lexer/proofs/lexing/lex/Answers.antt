@@ -8,7 +8,7 @@ use Rattle.lexer.specs.Cut.{IsCut, IsStuck, IsTextRefused}
 use Rattle.lexer.specs.Listing.{IsRefusedAtCharacter}
 use Rattle.lexer.specs.Scan.{Reads}
 use Rattle.lexer.specs.Terminal.{terminal_of, terminals_of}
-use Rattle.lexer.proofs.Growing.{IsCutSoFar, GrowsBy, begin, gap, token, shorter_by, refused, whole}
+use Rattle.lexer.proofs.Growing.{IsCutSoFar, GrowsBy, begin, gap, token, shorter_by, refused, cut_to_end}
 use Rattle.lexer.proofs.Listed.{Listed, listed, refused_at}
 use Rattle.lexer.proofs.Cutting.{has_one_cut, not_cut_and_refused, has_one_refusal}
 use Rattle.lexer.proofs.lexing.lex.Goals as goal
@@ -62,8 +62,8 @@ pub loop-first-preserved : goal.loop-first-preserved
 loop-first-preserved c = (search rules, (passed c).grown)
 
 -- the text is refused for what is reported
-told : (c : goal.After-drop-tokens) → IfRefused (IsTextRefused c.args.src.now) c.in_err-kind.field-0.0
-told c =
+reported : (c : goal.After-drop-tokens) → IfRefused (IsTextRefused c.args.src.now) c.in_err-kind.field-0.0
+reported c =
     refused-weaker (IsStuck _ (chars c.loop-first.rest.now)) (IsTextRefused c.args.src.now)
     (λ r stuck. refused c.args.src.now c.loop-first.rest.now (terminals_of c.loop-first.tokens.items) r c.loop-first.invariant.1 stuck)
     c.in_err-kind.field-0.0
@@ -73,24 +73,24 @@ told c =
 pub returns-in_err-kind-clause-complete : goal.returns-in_err-kind-clause-complete
 returns-in_err-kind-clause-complete c = λ tokens cut.
     let e : c.from_residual.result ≡ Err c.in_err-kind.field-0.0 = search rules in
-    rw e (refused-weaker (IsTextRefused c.args.src.now) (λ _. ⊥) (λ r h. not_cut_and_refused c.args.src.now tokens r cut h) c.in_err-kind.field-0.0 (told c))
+    rw e (refused-weaker (IsTextRefused c.args.src.now) (λ _. ⊥) (λ r h. not_cut_and_refused c.args.src.now tokens r cut h) c.in_err-kind.field-0.0 (reported c))
 
 pub returns-in_err-kind-clause-refuses : goal.returns-in_err-kind-clause-refuses
 returns-in_err-kind-clause-refuses c = λ refusal first.
     let e : c.from_residual.result ≡ Err c.in_err-kind.field-0.0 = search rules in
-    rw e (refused-weaker (IsTextRefused c.args.src.now) (λ r. r ≡ refusal) (λ r h. has_one_refusal c.args.src.now r refusal h first) c.in_err-kind.field-0.0 (told c))
+    rw e (refused-weaker (IsTextRefused c.args.src.now) (λ r. r ≡ refusal) (λ r h. has_one_refusal c.args.src.now r refusal h first) c.in_err-kind.field-0.0 (reported c))
 
 pub returns-in_err-kind-clause-refused_at_character : goal.returns-in_err-kind-clause-refused_at_character
 returns-in_err-kind-clause-refused_at_character c =
     let e : c.from_residual.result ≡ Err c.in_err-kind.field-0.0 = search rules in
-    rw e (refused-weaker (IsTextRefused c.args.src.now) (IsRefusedAtCharacter c.args.src.now) (λ r h. refused_at c.args.src.now r c.utf8.src h) c.in_err-kind.field-0.0 (told c))
+    rw e (refused-weaker (IsTextRefused c.args.src.now) (IsRefusedAtCharacter c.args.src.now) (λ r h. refused_at c.args.src.now r c.utf8.src h) c.in_err-kind.field-0.0 (reported c))
 
 -- the whole cut
 ended : (c : goal.In_ok-push-2) → IsCut c.args.src.now (terminals_of c.push-2.new.self.items)
 ended c =
     let tokens = c.loop-first.tokens.items in
     subst (IsCut c.args.src.now) (sym (ap terminals_of c.in_ok-push-2.ensures.items ∙ map-append terminal_of tokens _))
-    (whole c.args.src.now c.loop-first.rest.now (terminals_of tokens) _ c.loop-first.invariant.1 c.in_default.ensures refl)
+    (cut_to_end c.args.src.now c.loop-first.rest.now (terminals_of tokens) _ c.loop-first.invariant.1 c.in_default.ensures refl)
 
 all : (c : goal.In_ok-push-2) → Listed c.args.src.now (terminals_of c.push-2.new.self.items)
 all c = listed c.args.src.now (terminals_of c.push-2.new.self.items) c.utf8.src (ended c)

@@ -8,10 +8,9 @@ use Rattle.lowering.specs.Expressions.{branch_size}
 use Rattle.lowering.specs.Code.{Loop, block_size, handlers_size, jump_size, jumps_over, jumps_behind}
 use Rattle.lowering.proofs.Appending.{branch_grown, longer}
 use Rattle.lowering.proofs.Adding.{statement_grown, block_grown, jump_grown}
-use Rattle.lowering.proofs.Trees.{tree-if, tree-while, tree-try, tree-nested}
 use Rattle.lowering.proofs.Compounds.{if-placed, while-placed, try-placed, nested-placed, if-added, while-added, try-added, block-left, handlers-left}
 use Rattle.lowering.proofs.emission.+statement.Goals as goal
-use Rattle.resolved.proofs.Views.{next-statement, next-handler}
+use Rattle.resolved.proofs.Views.{next-statement, next-handler, tree-if, tree-while, tree-try, tree-nested}
 
 pub push_statement-returns-in-If : goal.push_statement-returns-in-If
 push_statement-returns-in-If t c =

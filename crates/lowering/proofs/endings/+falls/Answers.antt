@@ -1,8 +1,8 @@
 use Rattle.std.proofs.Common.{refl, sym, ap, ◌∙◌}
 use Rattle.resolved.specs.TreeOf.{block_of, handlers_of}
+use Rattle.resolved.proofs.Views.{tree-if, tree-try, tree-nested}
 use Rattle.lowering.specs.Code.{block_falls, handlers_fall, statement_falls}
 use Rattle.lowering.proofs.Falling.{first-decides, second-decides}
-use Rattle.lowering.proofs.Trees.{tree-if, tree-try, tree-nested}
 use Rattle.lowering.proofs.endings.+falls.Goals as goal
 
 pub statement_falls-returns-then-block_falls : goal.statement_falls-returns-then-block_falls

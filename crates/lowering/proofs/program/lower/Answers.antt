@@ -9,7 +9,7 @@ use Rattle.resolved.specs.Program.{GlobalEntry}
 use Rattle.resolved.specs.ProgramOf.{channel_entry, global_entry}
 use Rattle.lowering.specs.Fitting.{IsShortValue}
 use Rattle.lowering.specs.Interface.{channel_contents, global_contents}
-use Rattle.lowering.specs.Kept.{MeaningKept}
+use Rattle.lowering.specs.SameMeaning.{SameMeaning}
 use Rattle.lowering.proofs.FittingFile.{graphs-fit}
 use Rattle.lowering.proofs.Inside.{graphs-positioned}
 use Rattle.lowering.proofs.Keeping.{graphs-keep}
@@ -43,5 +43,5 @@ returns-clause-exact c =
 
 pub returns-clause-kept : goal.returns-clause-kept
 returns-clause-kept c =
-    subst (λ (m : ModuleContents). MeaningKept (program_of c.args.core.now) (graph_after_steps m)) (sym (returns-clause-exact c))
+    subst (λ (m : ModuleContents). SameMeaning (program_of c.args.core.now) (graph_after_steps m)) (sym (returns-clause-exact c))
     (graphs-keep (program_of c.args.core.now) c.args.core.now.well_formed c.requires.ends)

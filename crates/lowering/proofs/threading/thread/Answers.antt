@@ -8,4 +8,4 @@ pub loop-instruction-preserved : goal.loop-instruction-preserved
 loop-instruction-preserved c =
     made_more (renamed_instruction (final_place c.args.code.now)) c.args.code.now c.loop-instruction.made.items c.push.new.self.items c.loop-instruction.instruction-index _ _
     c.loop-instruction-test.true c.in_ok-push.ensures.items c.loop-instruction.invariant
-    (threaded-by c.args.code.now c.in_ok-finals.finals.items c.deref.result.now _ _ c.deref.ensures.value c.in_ok-finals.ensures.places c.thread_instruction.ensures)
+    (threaded-by c.args.code.now c.in_ok-finals.finals.items c.deref.result.now _ _ c.deref.ensures.value c.in_ok-finals.ensures.positions c.thread_instruction.ensures)

@@ -1,6 +1,6 @@
 use Rattle.std.proofs.Common.{IsTrue}
 use Rattle.std.proofs.lemmas.Result.{IfOk-at_ok}
-use Rattle.syntax.specs.Limits.{longest_name}
+use Rattle.common.specs.declared.limits.TheConstants.{MAX_TEXT}
 use Rattle.syntax.specs.Written.{Anywhere}
 use Rattle.resolved.specs.Program.{Program}
 use Rattle.resolved.specs.WellFormed.{well_formed}
@@ -9,4 +9,4 @@ use Rattle.names.proofs.laws.found_programs_are_well_formed.Goals as goal
 
 pub returns : goal.returns
 returns c h tree program hierarchy is e =
-    IfOk-at_ok (λ (one : Program). IsTrue (well_formed one)) e (resolution_keeps Anywhere longest_name h tree hierarchy is.written is.few)
+    IfOk-at_ok (λ (one : Program). IsTrue (well_formed one)) e (resolution_keeps Anywhere MAX_TEXT h tree hierarchy is.written is.few)

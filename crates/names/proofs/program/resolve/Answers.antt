@@ -1,7 +1,7 @@
 use Rattle.std.proofs.Common.{sym, subst, IsTrue}
 use Rattle.std.proofs.lemmas.Result.{IfOk-at_ok}
 use Rattle.principals.specs.ActsFor.{PrincipalHierarchy}
-use Rattle.syntax.specs.Limits.{longest_name}
+use Rattle.common.specs.declared.limits.TheConstants.{MAX_TEXT}
 use Rattle.syntax.specs.Tree.{program_tree}
 use Rattle.syntax.specs.Written.{Anywhere}
 use Rattle.resolved.specs.Program.{Program}
@@ -14,7 +14,7 @@ use Rattle.names.proofs.program.resolve.Goals as goal
 pub invariant_of-result : goal.invariant_of-result
 invariant_of-result c =
     let e = rw c.items.ensures.same at c.in_ok-tables.ensures in
-    let fits = resolution_keeps Anywhere longest_name c.args.hierarchy.now (program_tree c.args.program.now) c.count.ensures.kept c.items.ensures.written c.items.ensures.few in
+    let fits = resolution_keeps Anywhere MAX_TEXT c.args.hierarchy.now (program_tree c.args.program.now) c.count.ensures.kept c.items.ensures.written c.items.ensures.few in
     let parts = c.in_ok-tables in
     record {
       well_formed =

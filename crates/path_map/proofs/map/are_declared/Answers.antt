@@ -3,8 +3,9 @@ use Rattle.std.specs.Prelude.{◌==◌}
 use Rattle.resolved.specs.Ends.{declared_by}
 use Rattle.resolved.specs.ProgramOf.{thrown_entry}
 use Rattle.path_map.specs.Sets.{row_has, is_one_of}
-use Rattle.path_map.proofs.Procedures.{declared-more, not-more}
+use Rattle.path_map.proofs.Procedures.{declared-more}
 use Rattle.path_map.proofs.map.are_declared.Goals as goal
+use Rattle.path_map.proofs.Rows.{not-more}
 
 pub loop-thrown-preserved : goal.loop-thrown-preserved
 loop-thrown-preserved c = λ e.

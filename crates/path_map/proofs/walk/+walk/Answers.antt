@@ -8,16 +8,16 @@ use Rattle.resolved.specs.EndFaults.{block_faults, handlers_faults, inner_faults
 use Rattle.resolved.specs.Tree as T
 use Rattle.resolved.specs.TreeOf.{expression_of, some_expression_of, statement_of, block_of, handlers_of}
 use Rattle.resolved.specs.declared.statement.Exit.{Exit}
-use Rattle.path_map.specs.declared.fault.EndDefect.TheVariants as defect
+use Rattle.resolved.specs.declared.fault.EndDefect.TheVariants as defect
 use Rattle.common.specs.declared.fault.OrNoMemory.TheVariants.{Refused}
 use Rattle.path_map.specs.FirstFault.{IsFirstEndFault}
 use Rattle.path_map.specs.Paths.{block_paths, rest_paths, inner_paths}
 use Rattle.path_map.specs.Joins.{raised_list, raises_some}
 use Rattle.path_map.specs.Walks.{IsFound, AreThrown}
-use Rattle.path_map.proofs.Walking.{reserved, outside, along-step, never-raised, in-handler, handling-step, first-left, first-right, none-both, Along, Handling}
-use Rattle.path_map.proofs.Forms.{found-at, faults-at, first-at, tree-if, tree-while, tree-try, tree-nested, return-found, store-same, if-found, while-found, try-is-found, tried-throws}
+use Rattle.path_map.proofs.Walking.{reserved, outside, inside, along-step, never-raised, in-handler, handling-step, first-left, first-right, none-both, Along, Handling}
+use Rattle.path_map.proofs.Forms.{found-at, faults-at, first-at, return-found, store-same, if-found, while-found, try-is-found, tried-throws}
 use Rattle.path_map.proofs.walk.+walk.Goals as goal
-use Rattle.resolved.proofs.Views.{next-statement, next-handler}
+use Rattle.resolved.proofs.Views.{next-statement, next-handler, tree-if, tree-while, tree-try, tree-nested}
 
 -- an entry for which room was made
 pub walk_block-returns-clause-found : goal.walk_block-returns-clause-found
@@ -283,6 +283,20 @@ walk_statements-returns-then-not-may_stand-clause-first_fault t c =
     (sym (c.refuse.ensures ∙ ap (λ at. Refused (record { defect = defect.OutsideLoop; at = at })) c.at.ensures))
     (outside program c.args.in_loop block c.args.entries.now.items c.args.raised.now.words.items statement tail c.loop-statement.entries.items c.loop-statement.raised.words.items c.loop-statement.exits along
     (sym c.may_stand.ensures ∙ c.if-not-may_stand.true))
+
+pub walk_statements-returns-in_err-found-clause-first_fault : goal.walk_statements-returns-in_err-found-clause-first_fault
+walk_statements-returns-in_err-found-clause-first_fault t c =
+    let program = program_of c.args.walk.now.core.now in
+    let block = block_of c.args.block.now in
+    let statement = statement_of c.statement-item.result in
+    let tail = block_of (drop (c.loop-statement.statement-index + 1) c.args.block.now) in
+    let along : Along program c.args.in_loop block (T.Then statement tail) c.args.entries.now.items c.loop-statement.entries.items c.args.raised.now.words.items c.loop-statement.raised.words.items c.loop-statement.exits =
+    subst (λ rest. Along program c.args.in_loop block rest c.args.entries.now.items c.loop-statement.entries.items c.args.raised.now.words.items c.loop-statement.raised.words.items c.loop-statement.exits)
+    (next-statement c.args.block.now c.loop-statement.statement-index c.statement-item.result c.loop-statement-test.true c.statement-item.is) c.loop-statement.invariant in
+    let first : IfRefused (IsFirstEndFault (block_faults program c.args.in_loop true block)) c.in_err-found.field-0.0 =
+    inside program c.args.in_loop block c.args.entries.now.items c.args.raised.now.words.items statement tail c.loop-statement.entries.items c.loop-statement.raised.words.items c.loop-statement.exits along
+    (sym c.may_stand.ensures ∙ c.if-not-may_stand.false) (not-false c.loop-statement.exits.normal c.if-not-exits.false) c.in_err-found.field-0.0 c.in_err-found.ensures.first_fault in
+    search (rules, first)
 
 pub walk_statements-loop-statement-preserved : goal.walk_statements-loop-statement-preserved
 walk_statements-loop-statement-preserved t c =

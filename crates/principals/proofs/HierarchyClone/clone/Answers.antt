@@ -1,16 +1,17 @@
 use Rattle.std.proofs.Common.{◌≡◌, ◌<◌, map, length, refl, sym, ap, subst, ◌∙◌}
 use Rattle.std.specs.Prelude.{string_bytes}
+use Rattle.std.proofs.lemmas.Slice.Zip.{AllZip-long}
 use Rattle.principals.specs.ActsFor.{IsHierarchy, acts_for}
-use Rattle.principals.specs.Inside.{hierarchy_of, IsKeptHierarchy}
+use Rattle.principals.specs.Inside.{hierarchy_of, IsStoredHierarchy}
 use Rattle.principals.specs.Table.{related}
 use Rattle.principals.specs.declared.Hierarchy.TheInside.{Inside}
-use Rattle.principals.proofs.Names.{same_bytes, AllZip-length}
+use Rattle.principals.proofs.Names.{same_bytes}
 use Rattle.principals.proofs.HierarchyClone.clone.Goals as goal
 use Rattle.principals.proofs.HierarchyClone.clone.Goals.{In_ok-table}
 
 -- what has the parts of a kept hierarchy is kept
 kept : (old new : Inside) → hierarchy_of new ≡ hierarchy_of old → length new.names.keys ≡ length old.names.keys → new.table.items ≡ old.table.items →
-    IsKeptHierarchy old → IsKeptHierarchy new
+    IsStoredHierarchy old → IsStoredHierarchy new
 kept old new view keys table h =
     record {
       hierarchy = subst IsHierarchy (sym view) h.hierarchy;
@@ -32,7 +33,7 @@ pub invariant_of-result : goal.invariant_of-result
 invariant_of-result c =
     kept c.self.inside (record { names = c.in_ok-names.names; pairs = c.in_ok-pairs.pairs; table = c.in_ok-table.table })
     (same_view c (record { names = c.in_ok-names.names; pairs = c.in_ok-pairs.pairs; table = c.in_ok-table.table }) refl refl)
-    (AllZip-length _ c.self.inside.names.keys c.in_ok-names.names.keys c.in_ok-names.ensures.cases)
+    (AllZip-long _ c.self.inside.names.keys c.in_ok-names.names.keys c.in_ok-names.ensures.cases)
     (c.in_ok-table.ensures.items ∙ c.as_slice-2.ensures.value)
     c.self.invariant
 

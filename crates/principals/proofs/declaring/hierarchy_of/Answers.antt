@@ -9,7 +9,7 @@ use Rattle.common.proofs.Casting.{map-answer, mapped-ok, refused-weaker}
 use Rattle.principals.specs.HierarchyText.{Declares, IsEntryRefusal, IsFirstRefusal, Relates}
 use Rattle.principals.specs.Reading.{entry_of, entries_of}
 use Rattle.principals.specs.Table.{names_of}
-use Rattle.principals.proofs.Building.{built_name, built_pair, built_said, built_refused, built_same, entries_around, entries_more}
+use Rattle.principals.proofs.Building.{built_name, built_pair, built_described, built_refused, built_same, entries_around, entries_more}
 use Rattle.principals.proofs.declaring.hierarchy_of.Goals as goal
 use Rattle.principals.proofs.declaring.hierarchy_of.Goals.{in-Declares+in_ok-declare-in-Declares, in-Relates+in_ok-pair-in-Relates+in_ok-push-in-Relates}
 
@@ -75,13 +75,13 @@ loop-statement-preserved c =
           (mapped-ok w.find_pair.result (Ok pair) pair (λ p. slice_get names p.1 ≡ Some right.text) refl w.in_ok-pair-in-Relates.ensures.cases (λ fault no. no) w.find_pair.ensures.right))
     ]
 
-pub returns-clause-said : goal.returns-clause-said
-returns-clause-said c =
+pub returns-clause-described : goal.returns-clause-described
+returns-clause-described c =
     let statements = c.args.statements.now in
     let past : length statements ≤ c.loop-statement.statement-index = omega arith in
     let whole : entries_of statements ≡ entries_of (take c.loop-statement.statement-index statements) =
     ap entries_of (sym (take_all c.loop-statement.statement-index statements past)) in
-    built_said (entries_of statements) c.in_ok-close.field-0
+    built_described (entries_of statements) c.in_ok-close.field-0
     (built_same whole c.in_ok-close.ensures.names c.in_ok-close.ensures.pairs c.loop-statement.invariant)
 
 pub returns-clause-kept : goal.returns-clause-kept

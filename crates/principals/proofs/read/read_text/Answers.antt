@@ -5,9 +5,9 @@ use Rattle.common.specs.Answers.{IfRefused}
 use Rattle.common.proofs.Casting.{cast-answer, mapped-ok, refused-weaker}
 use Rattle.lexer.specs.Cut.{IsCut, IsTextRefused}
 use Rattle.lexer.specs.Terminal.{terminals_of}
-use Rattle.principals.specs.HierarchyText.{IsFirstRefusal, IsHierarchyForm, IsRefusedText, Says}
-use Rattle.principals.specs.Reading.{entries_of}
-use Rattle.principals.proofs.Uniqueness.{entries_refused, tokens_refused}
+use Rattle.principals.specs.HierarchyText.{IsFirstRefusal, IsHierarchyForm, IsRefusedText, Long, HasEntries, Wrong}
+use Rattle.principals.specs.Reading.{entries_of, IsFormRefusal}
+use Rattle.principals.proofs.Uniqueness.{form_refused, tokens_refused}
 use Rattle.principals.proofs.read.read_text.Goals as goal
 
 pub returns-in_err-tokens-clause-first_fault : goal.returns-in_err-tokens-clause-first_fault
@@ -18,13 +18,27 @@ returns-in_err-tokens-clause-first_fault c =
     (cast-answer (IsTextRefused text) (IsRefusedText text) (λ r f is h. tokens_refused text r f c.if-text-gt-MAX_TEXT.false is h)
     c.lex.result c.map_err.result c.map_err.ensures.cases c.lex.ensures.first_fault))
 
+pub returns-then-text-gt-MAX_TEXT-clause-first_fault : goal.returns-then-text-gt-MAX_TEXT-clause-first_fault
+returns-then-text-gt-MAX_TEXT-clause-first_fault c = Long c.if-text-gt-MAX_TEXT.true
+
+pub returns-in_err-statements-clause-first_fault : goal.returns-in_err-statements-clause-first_fault
+returns-in_err-statements-clause-first_fault c =
+    let p = err_from_is_err_and c.from_residual-in_err-statements.result c.from_residual-in_err-statements.ensures.1 in
+    let text = c.args.text.now in
+    let tokens = terminals_of c.as_slice.result.now in
+    let found = mapped-ok c.lex.result (Ok c.in_ok-tokens.tokens) c.in_ok-tokens.tokens (λ found. IsCut text (terminals_of found.items)) refl
+    c.in_ok-tokens.ensures.cases (λ fault no. no) c.lex.ensures.accepted in
+    let cut : IsCut text tokens = rw c.as_slice.ensures.value found in
+    rw (p.1, p.2) (refused-weaker (IsFormRefusal tokens) (IsRefusedText text)
+    (λ r h. form_refused text tokens r c.if-text-gt-MAX_TEXT.false cut h) c.in_err-statements.field-0.0 c.in_err-statements.ensures.rejected)
+
 pub returns-clause-first_fault : goal.returns-clause-first_fault
 returns-clause-first_fault c =
     let text = c.args.text.now in
     let entries = entries_of c.as_slice-2.result.now in
     let tokens = mapped-ok c.lex.result (Ok c.in_ok-tokens.tokens) c.in_ok-tokens.tokens (λ found. IsCut text (terminals_of found.items)) refl
     c.in_ok-tokens.ensures.cases (λ fault no. no) c.lex.ensures.accepted in
-    let says : Says text entries = record {
+    let has_entries : HasEntries text entries = record {
       fits = c.if-text-gt-MAX_TEXT.false;
       tokens = terminals_of c.in_ok-tokens.tokens.items;
       cut = tokens;
@@ -32,4 +46,4 @@ returns-clause-first_fault c =
           (subst (λ x. IsHierarchyForm (terminals_of c.as_slice.result.now) (entries_of x)) (sym c.as_slice-2.ensures.value) c.in_ok-statements.ensures.form);
     } in
     IfErr-weaker c.hierarchy_of.result (IfRefused (IsFirstRefusal entries)) (IfRefused (IsRefusedText text))
-    (λ f h. refused-weaker (IsFirstRefusal entries) (IsRefusedText text) (λ r refused. entries_refused text entries r says refused) f h) c.hierarchy_of.ensures.first_fault
+    (λ f h. refused-weaker (IsFirstRefusal entries) (IsRefusedText text) (λ r refused. Wrong entries r has_entries refused) f h) c.hierarchy_of.ensures.first_fault

@@ -5,7 +5,7 @@ use Rattle.lexer.specs.declared.token.Kind.TheVariants.{Boolean}
 use Rattle.principals.specs.declared.reading.Progress.{Progress}
 use Rattle.lexer.specs.Terminal.{terminal_of, terminals_of}
 use Rattle.principals.specs.HierarchyText.{Entry}
-use Rattle.principals.specs.Reading.{ReadingState, Fresh, Ended, next, run, said, state_of, entry_of, entries_of}
+use Rattle.principals.specs.Reading.{ReadingState, Fresh, Ended, next, run, finished_entries, state_of, entry_of, entries_of}
 use Rattle.principals.specs.declared.reading.Statement.{Statement}
 use Rattle.principals.proofs.Automaton.{run-push, read_is_open, is_prefix, stops, run_ends}
 use Rattle.principals.proofs.reading.read_statements.Goals as goal
@@ -18,7 +18,7 @@ one_more tokens i d h = ap terminals_of (take_more tokens i d h) ∙ map-append 
 -- the state and the entries after one more token
 step : (tokens : List Token) (i : ℕ) (d : Token) (before after : ReadingState) (es now : List Entry) → i < length tokens →
     run Fresh (terminals_of (take i tokens)) ≡ Some (before, es) → Some after ≡ next before (terminal_of (get_or tokens i d)) →
-    now ≡ es ++ said before (terminal_of (get_or tokens i d)) →
+    now ≡ es ++ finished_entries before (terminal_of (get_or tokens i d)) →
     run Fresh (terminals_of (take (i + 1) tokens)) ≡ Some (after, now)
 step tokens i d before after es now within h k s =
     ap (run Fresh) (one_more tokens i d within)
@@ -37,7 +37,7 @@ abbrev past : Token
 past = record { kind = Boolean; text = record { ref_ptr = (0, 0); now = [] }; span = record { start = 0; end = 0 } }
 
 after_token : (c : In-Some) (now : List Entry) →
-    now ≡ entries_of c.loop-token.statements.items ++ said (state_of c.loop-token.progress) (terminal_of (get_or c.args.tokens.now c.loop-token.token-index past)) →
+    now ≡ entries_of c.loop-token.statements.items ++ finished_entries (state_of c.loop-token.progress) (terminal_of (get_or c.args.tokens.now c.loop-token.token-index past)) →
     run Fresh (terminals_of (take (c.loop-token.token-index + 1) c.args.tokens.now)) ≡ Some (state_of c.in-Some.after, now)
 after_token c now h =
     step c.args.tokens.now c.loop-token.token-index past (state_of c.loop-token.progress) (state_of c.in-Some.after)

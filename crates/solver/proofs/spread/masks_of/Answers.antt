@@ -1,12 +1,12 @@
 use Rattle.std.proofs.Common.{◌≡◌, refl, sym, ap, ◌∙◌, subst, ◌<◌, length, arith, ℕ, ◌-◌, ◌+◌, List, [], ◌∷◌}
 use Rattle.std.specs.Prelude.{Contains}
-use Rattle.std.proofs.lemmas.List.{get_or_read, length_push}
+use Rattle.std.proofs.lemmas.List.{get_or_read, length_push, nil_from_length}
 use Rattle.std.proofs.lemmas.List.Elements.{Contains-append_right}
 use Rattle.principals.proofs.Closure.{Contains-first}
 use Rattle.solver.specs.Reach.{edge, row_of}
 use Rattle.solver.specs.declared.system.Atom.TheVariants.{Unknown, Written}
 use Rattle.solver.proofs.Rows.{row_at-slice}
-use Rattle.solver.proofs.Spreading.{Begun, Spreading, begun-kept, begun-more, none-left, spreading-begin, spreading-end, spreading-start, spreading-step, spreads-bit, spreads-room}
+use Rattle.solver.proofs.Spreading.{Begun, Spreading, begun-kept, begun-more, spreading-begin, spreading-end, spreading-start, spreading-step, spreads-bit, spreads-room}
 use Rattle.solver.proofs.spread.masks_of.Goals as goal
 use Rattle.solver.proofs.spread.masks_of.Goals.{After-as_slice, In-Some}
 
@@ -101,7 +101,7 @@ loop-unknown-preserved c =
 
 pub returns : goal.returns
 returns c =
-    let none : c.loop-unknown.search.grown.items ≡ [] = none-left c.loop-unknown.search.grown.items (omega (arith, c.in_default.ensures.cases, c.loop-unknown.search.grown.ok.0)) in
+    let none : c.loop-unknown.search.grown.items ≡ [] = nil_from_length c.loop-unknown.search.grown.items (omega (arith, c.in_default.ensures.cases, c.loop-unknown.search.grown.ok.0)) in
     spreading-end c.args.edges.now c.args.first c.min-block.result c.loop-unknown.search.masks.items
     (subst (λ (ws : List ℕ). Spreading c.args.edges.now c.args.first c.loop-unknown.search.masks.items ws) none c.loop-unknown.invariant.search)
     c.loop-unknown.invariant.begun

@@ -3,7 +3,8 @@ use Rattle.bytecode.specs.Code.{code_length}
 use Rattle.bytecode.specs.declared.instruction.Instruction.TheVariants.{Push}
 use Rattle.verifier.specs.Fixed.{instruction_refusals}
 use Rattle.verifier.proofs.FixedRefusals.{instructions_on, first_instruction}
-use Rattle.verifier.proofs.Offsets.{code_length_more, code_length_within}
+use Rattle.bytecode.proofs.Widths.{code_length_more}
+use Rattle.verifier.proofs.Offsets.{code_length_within}
 use Rattle.verifier.proofs.fixed.find_instruction_refusal.Goals as goal
 
 pub overflow_add-offset : goal.overflow_add-offset

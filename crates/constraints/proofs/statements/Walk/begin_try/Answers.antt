@@ -1,4 +1,6 @@
-use Rattle.std.proofs.Common.{refl, ap, ◌∙◌}
+use Rattle.std.proofs.Common.{refl, sym, ap, ◌∙◌, subst}
+use Rattle.constraints.specs.Ready.{AreHandledInside}
+use Rattle.constraints.specs.declared.progress.Progress.{Progress}
 use Rattle.constraints.specs.Takers.{undone}
 use Rattle.constraints.specs.declared.takers.Takers.{Takers}
 use Rattle.constraints.proofs.Begun.{try-begun}
@@ -12,3 +14,7 @@ returns c =
     c.in_ok-first.ensures.made c.in_ok-first.ensures.first c.in_ok-inner.ensures (ap (λ (t : Takers). t.level) c.in_ok-inner.ensures)
     (c.in_ok-take_handled.ensures.undone ∙ ap (λ list. undone list c.make.new.self.thrown.items) c.new-saved.ensures.items)
     c.in_ok-take_handled.ensures.taken c.in_ok-numbers.ensures c.deref.ensures.value refl refl refl
+
+pub take_handled-requires : goal.take_handled-requires
+take_handled-requires c =
+    subst (λ (p : Progress). AreHandledInside c.args.handlers.now p.thrown.items) (sym c.in_ok-first.ensures.made) c.requires

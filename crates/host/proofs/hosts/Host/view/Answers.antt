@@ -3,7 +3,7 @@ use Rattle.std.specs.Prelude.{position}
 use Rattle.std.proofs.lemmas.Result.{err_from_is_err_and}
 use Rattle.principals.specs.ActsFor.{PrincipalHierarchy}
 use Rattle.bytecode.specs.Contents.{ModuleContents}
-use Rattle.bytecode.specs.Isolated.{seen_of}
+use Rattle.bytecode.specs.Isolated.{module_view}
 use Rattle.host.specs.Meaning.{IsOpen}
 use Rattle.host.specs.Values.{HostRuns, SessionRun, contents_of, host_of}
 use Rattle.host.proofs.Sessions.{is_not_open, is_open}
@@ -47,6 +47,6 @@ returns c =
       contents_of c.index-session.result.now,
       found after,
       subst (λ n. c.args.principal < n) count c.if-principal-count.false,
-      c.in_ok-pairs.ensures ∙ (λ i. seen_of (c.module-program.ensures i) c.args.principal (c.sent.ensures i)),
+      c.in_ok-pairs.ensures ∙ (λ i. module_view (c.module-program.ensures i) c.args.principal (c.sent.ensures i)),
       refl,
     )

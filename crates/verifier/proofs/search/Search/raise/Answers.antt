@@ -1,6 +1,6 @@
 use Rattle.std.proofs.Common.{Some, sym, ap, subst, ◌∙◌}
 use Rattle.verifier.specs.Search.{IsAtEdge}
-use Rattle.verifier.proofs.Reaching.{edge_caught, steps_more, waiting_less, all_gone}
+use Rattle.verifier.proofs.Reaching.{edge_caught, steps_more, waiting_less, all_entered}
 use Rattle.verifier.proofs.search.Search.raise.Goals as goal
 
 pub reach-requires-clause-edge : goal.reach-requires-clause-edge
@@ -25,4 +25,4 @@ loop-handler-preserved c =
     }
 
 pub returns-clause-there : goal.returns-clause-there
-returns-clause-there c = all_gone c.args.body.now.procedure.now c.loop-handler.coverage c.loop-handler.self c.args.at c.loop-handler.invariant.waiting c.in_default.ensures.none
+returns-clause-there c = all_entered c.args.body.now.procedure.now c.loop-handler.coverage c.loop-handler.self c.args.at c.loop-handler.invariant.waiting c.in_default.ensures.none

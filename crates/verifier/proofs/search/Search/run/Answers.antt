@@ -1,6 +1,6 @@
 use Rattle.std.proofs.Common.{◌∷◌, [], length, length-append, refl, ap, arith}
 use Rattle.verifier.proofs.Depth.{run_longest}
-use Rattle.verifier.proofs.Reaching.{taken, taken_instruction, search_done, waiting_kept}
+use Rattle.verifier.proofs.Reaching.{taken, taken_instruction, search_finished, waiting_kept}
 use Rattle.verifier.proofs.search.Search.run.Goals as goal
 
 pub follow-requires-clause-searching : goal.follow-requires-clause-searching
@@ -10,7 +10,7 @@ pub follow-requires-clause-there : goal.follow-requires-clause-there
 follow-requires-clause-there c = taken_instruction c.args.body.now.program.now c.args.body.now.procedure.now c.loop-at.self _ c.in-Some.at c.loop-at.invariant.searching refl refl c.in-Some.ensures.some
 
 pub returns-clause-accepted : goal.returns-clause-accepted
-returns-clause-accepted c = search_done c.args.body.now.program.now c.args.body.now.procedure.now c.loop-at.self c.loop-at.invariant.searching c.in_default.ensures.none
+returns-clause-accepted c = search_finished c.args.body.now.program.now c.args.body.now.procedure.now c.loop-at.self c.loop-at.invariant.searching c.in_default.ensures.none
 
 pub returns-clause-longest : goal.returns-clause-longest
 returns-clause-longest c =

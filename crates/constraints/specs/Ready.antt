@@ -1,0 +1,80 @@
+-- What a walk along blocks, statements, handlers and procedures asks for before it goes past them.
+-- Source: our own.
+use Rattle.std.specs.Prelude.{◌≡◌, ℕ, ◌+◌, ◌≤◌, ◌<◌, List, ◌++◌, drop, length, map, Bool, IsTrue}
+use Rattle.std.specs.List.{All}
+use Rattle.common.specs.declared.exceptions.TheConstants.{BUILT_IN}
+use Rattle.resolved.specs.declared.program.Core.{Core}
+use Rattle.resolved.specs.declared.statement.Exit.{Exit}
+use Rattle.resolved.specs.declared.statement.Handler.{Handler}
+use Rattle.resolved.specs.declared.tables.Procedure.{Procedure}
+use Rattle.resolved.specs.declared.tables.Thrown.{Thrown}
+use Rattle.resolved.specs.CoreOf.{program_of}
+use Rattle.resolved.specs.Labelled.{here}
+use Rattle.resolved.specs.Tree.{Statement, Block, Handlers}
+use Rattle.resolved.specs.WellFormed.{block_fits, handlers_fit, procedure_fits, statement_fits}
+use Rattle.path_map.specs.declared.exits.Exits.{Exits}
+use Rattle.path_map.specs.Exits.{exits_of}
+use Rattle.path_map.specs.Paths.{block_paths, handlers_paths, inner_paths, rest_paths, statement_paths}
+use Rattle.constraints.specs.LeftSides.{scope_of}
+use Rattle.constraints.specs.Procedures.{IsOf}
+use Rattle.constraints.specs.Takers.{AreLevelled, AreWithin}
+use Rattle.constraints.specs.declared.progress.Progress.{Progress}
+use Rattle.constraints.specs.declared.takers.Entry.{Entry}
+use Rattle.constraints.specs.declared.takers.Takers.{Takers}
+
+-- how many exceptions there are, built in and declared
+abbrev pub exception_count : Core → ℕ
+exception_count core = BUILT_IN + length (program_of core).exceptions
+
+-- exceptions that have entries
+abbrev pub AreHandledInside : List Handler → (thrown : List Entry) → Type 0
+AreHandledInside handlers thrown = All (λ (handler : Handler). handler.exception < length thrown) handlers
+
+abbrev pub AreThrownInside : List Thrown → (thrown : List Entry) → Type 0
+AreThrownInside throws thrown = All (λ (declared : Thrown). declared.exception < length thrown) throws
+
+-- the path map goes on with these paths, no level is above that of the takers, each exception has an entry, and what is walked fits
+-- the program
+pub record IsReady (core : Core) (entries : List Exits) (takers : Takers) (paths : List (List Exit)) (fits : Bool) (now : Progress) : Type 0 where
+  pub left : List Exits
+  pub goes_on : drop now.index entries ≡ map exits_of paths ++ left
+  pub levelled : AreLevelled takers now.thrown.items
+  pub wide : exception_count core ≤ length now.thrown.items
+  pub fitting : IsTrue fits
+
+-- for a block of its own, and for its statements
+abbrev pub IsBlockReady : Core → (entries : List Exits) → (procedure : ℕ) → Takers → Block → (now : Progress) → Type 0
+IsBlockReady core entries procedure takers block now =
+    IsReady core entries takers (block_paths (program_of core) block)
+    (block_fits (program_of core) (here (scope_of core procedure)) block) now
+
+abbrev pub AreStatementsReady : Core → (entries : List Exits) → (procedure : ℕ) → Takers → Block → (now : Progress) → Type 0
+AreStatementsReady core entries procedure takers block now =
+    IsReady core entries takers (rest_paths (program_of core) block)
+    (block_fits (program_of core) (here (scope_of core procedure)) block) now
+
+-- for a statement of a block, and for what is in one
+abbrev pub IsStatementReady : Core → (entries : List Exits) → (procedure : ℕ) → Takers → Statement → (now : Progress) → Type 0
+IsStatementReady core entries procedure takers statement now =
+    IsReady core entries takers (statement_paths (program_of core) statement)
+    (statement_fits (program_of core) (here (scope_of core procedure)) statement) now
+
+abbrev pub IsFormReady : Core → (entries : List Exits) → (procedure : ℕ) → Takers → Statement → (now : Progress) → Type 0
+IsFormReady core entries procedure takers statement now =
+    IsReady core entries takers (inner_paths (program_of core) statement)
+    (statement_fits (program_of core) (here (scope_of core procedure)) statement) now
+
+-- for the bodies of handlers
+abbrev pub AreHandlersReady : Core → (entries : List Exits) → (procedure : ℕ) → Takers → Handlers → (now : Progress) → Type 0
+AreHandlersReady core entries procedure takers handlers now =
+    IsReady core entries takers (handlers_paths (program_of core) handlers)
+    (handlers_fit (program_of core) (here (scope_of core procedure)) handlers) now
+
+-- for a procedure of the program, where no entry's level is above a barrier
+pub record IsProcedureReady (core : Core) (entries : List Exits) (f barrier : ℕ) (procedure : Procedure) (now : Progress) : Type 0 where
+  pub left : List Exits
+  pub goes_on : drop now.index entries ≡ map exits_of (block_paths (program_of core) (here (scope_of core f)).body) ++ left
+  pub within : AreWithin barrier now.thrown.items
+  pub wide : exception_count core ≤ length now.thrown.items
+  pub is : IsOf core f procedure
+  pub fitting : IsTrue (procedure_fits (program_of core) (here (scope_of core f)))

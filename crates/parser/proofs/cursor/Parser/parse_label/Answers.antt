@@ -1,0 +1,8 @@
+use Rattle.std.proofs.Common.{rules}
+use Rattle.syntax.specs.Grammar.{label}
+use Rattle.parser.specs.Reading.{read}
+use Rattle.parser.proofs.cursor.Parser.parse_label.Goals as goal
+
+pub returns-in_err-policies : goal.returns-in_err-policies
+unfolding label read
+returns-in_err-policies c = search rules
