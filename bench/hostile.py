@@ -3,12 +3,14 @@
 
     bench/hostile.py PROGRAM [KIB..]
 
-PROGRAM is the built program. For each size (256, 512 and 1024 KiB unless others are given) and each shape it prints the
-seconds that `check` takes, how many times that of the benign source of the size it is, and how many times that of the
-same shape at half the size. The least of three runs counts, and a run is cut off after 120 seconds.
+PROGRAM is the built program. For each size (256, 512 and 1024 KiB unless others are given) and each shape it prints a line: the
+seconds that `check` takes, how many times that of the benign source of the size it is, how many times that of the same shape at half
+the size, and the most memory. The least of three runs counts, and a run is cut off after 120 seconds. Behind a shape that takes more
+than its bound of the benign source's time stands `TOO SLOW`; the status is 1 where there is one.
 """
 
 import itertools
+import os
 import subprocess
 import sys
 import tempfile
@@ -18,6 +20,22 @@ from pathlib import Path
 ROUNDS = 3
 LIMIT = 120
 SIZES = [256, 512, 1024]
+
+
+def pieces(room, part):
+    """The parts by number, from 0 on, that fit into so many bytes; each is a tuple of texts for different places of a source."""
+    found, used = [], 0
+    for number in itertools.count():
+        made = part(number)
+        used += sum(map(len, made))
+        if used > room:
+            return found
+        found.append(made)
+
+
+def joined(found, place=0):
+    """The texts of all parts for one of the places."""
+    return "".join(made[place] for made in found)
 
 
 def chain(count):
@@ -108,14 +126,8 @@ def long_names(size):
 
 def many_names(size):
     head, tail = "input{} q;\nvoid main() throws (End{}) {\n", "}\n"
-    parts, used, number = [], len(head) + len(tail), 0
-    while True:
-        part = f"    int{{}} v{number} = receive q;\n"
-        if used + len(part) > size:
-            return flat(2), head + "".join(parts) + tail
-        parts.append(part)
-        used += len(part)
-        number += 1
+    found = pieces(size - len(head) - len(tail), lambda n: (f"    int{{}} v{n} = receive q;\n",))
+    return flat(2), head + joined(found) + tail
 
 
 def open_comments(size):
@@ -129,84 +141,147 @@ def many_refused_flows(size):
 
 def labels_around_a_cycle(size):
     """Many locals that are copied round a circle, each with a label of its own flowing in."""
-    head, tail = "void main() {\n", "}\n"
-    starts, copies, used, number = [], [], len(head) + len(tail), 0
-    while True:
-        owner, reader = number % 256, number // 256
-        start = f"int{{P{owner}: P{reader}}} x{number} = 0;\nint a{number} = x{number};\n"
-        copy = f"a{number + 1} = a{number};\n"
-        if used + len(start) + len(copy) > size:
-            return flat(256), head + "".join(starts) + "".join(copies[:-1]) + f"a0 = a{number - 1};\n" + tail
-        starts.append(start)
-        copies.append(copy)
-        used += len(start) + len(copy)
-        number += 1
+    found = pieces(
+        size - 40, lambda n: (f"int{{P{n % 256}: P{n // 256}}} x{n} = 0;\nint a{n} = x{n};\n", f"a{n + 1} = a{n};\n")
+    )
+    copies = joined(found[:-1], 1) + f"a0 = a{len(found) - 1};\n"
+    return flat(256), "void main() {\n" + joined(found) + copies + "}\n"
 
 
 def copies_backwards(size):
     """A chain of copies that is written from its end to its begin."""
-    head, tail = "void main() {\n", "}\n"
-    starts, copies, used, number = [], [], len(head) + len(tail), 0
-    while True:
-        start, copy = f"int a{number} = 0;\n", f"a{number + 1} = a{number};\n"
-        if used + len(start) + len(copy) > size:
-            return flat(2), head + "".join(starts) + "".join(reversed(copies[:-1])) + tail
-        starts.append(start)
-        copies.append(copy)
-        used += len(start) + len(copy)
-        number += 1
+    found = pieces(size - 20, lambda n: (f"int a{n} = 0;\n", f"a{n + 1} = a{n};\n"))
+    return flat(2), "void main() {\n" + joined(found) + joined(reversed(found[:-1]), 1) + "}\n"
+
+
+def labels_along_a_backward_chain(size):
+    """The same chain, with a label of its own flowing into each of the locals: each label goes on to all that come behind."""
+    found = pieces(
+        size - 20, lambda n: (f"int{{P{n % 256}: P{n // 256}}} x{n} = 0;\nint a{n} = x{n};\n", f"a{n + 1} = a{n};\n")
+    )
+    return flat(256), "void main() {\n" + joined(found) + joined(reversed(found[:-1]), 1) + "}\n"
 
 
 def many_labels_to_one_channel(size):
     """Many locals, each with a label of its own, that are sent to one channel: each label is compared with the channel's, and is
     new where it is."""
-    head, tail = "output{P255:} o;\nvoid main() {\n", "}\n"
-    parts, used, number = [], len(head) + len(tail), 0
-    while True:
-        part = f"int{{P{number % 256}: P{number // 256 % 256}}} x{number} = 0; send o, x{number};\n"
-        if used + len(part) > size:
-            return chain(256), head + "".join(parts) + tail
-        parts.append(part)
-        used += len(part)
-        number += 1
+    found = pieces(size - 40, lambda n: (f"int{{P{n % 256}: P{n // 256 % 256}}} x{n} = 0; send o, x{n};\n",))
+    return chain(256), "output{P255:} o;\nvoid main() {\n" + joined(found) + "}\n"
 
 
-SHAPES = [one_long_label, two_long_labels, nearly_equal_long_labels, many_readers, many_labels, many_labels_to_one_channel, long_names, many_names, open_comments, many_refused_flows, labels_around_a_cycle, copies_backwards]
+def declared(size):
+    """Exceptions for a third of a source: their declarations, and the names with labels that stand behind `throws`."""
+    found = pieces(size // 3, lambda n: (f"exception e{n};\n", f", e{n}{{}}"))
+    return joined(found), joined(found, 1)[2:], len(found)
 
 
-def seconds(program, folder, hierarchy, source):
-    """The least time of a check, or none where it was cut off."""
+def exceptions_of_calls(size):
+    """A procedure that declares many exceptions and is called again and again."""
+    declarations, thrown, _ = declared(size)
+    head = declarations + f"void f() throws ({thrown}) {{ }}\nvoid main() throws ({thrown}) {{\n"
+    return flat(2), filled(head, "f();\n", "}\n", size)
+
+
+def exceptions_of_calls_at_many_labels(size):
+    """The same with each call at a program-counter label of its own."""
+    declarations, thrown, _ = declared(size)
+    head = declarations + f"void f() throws ({thrown}) {{ }}\nvoid main() throws ({thrown}) {{\n"
+    found = pieces(
+        size - len(head) - 10, lambda n: (f"int{{P{n % 256}: P{n // 256 % 256}}} x{n} = 0; if (x{n} > 0) {{ f(); }}\n",)
+    )
+    return flat(256), head + joined(found) + "}\n"
+
+
+def exceptions_of_calls_in_tries(size):
+    """The same with each call in a `try` that catches one of the exceptions."""
+    declarations, thrown, count = declared(size)
+    head = declarations + f"void f() throws ({thrown}) {{ }}\nvoid main() throws ({thrown}) {{\n"
+    found = pieces(size - len(head) - 10, lambda n: (f"try {{ f(); }} catch (e{n % count}) {{ }}\n",))
+    return flat(2), head + joined(found) + "}\n"
+
+
+def exceptions_handed_on(size):
+    """Procedures of which each calls the one before it and hands its exceptions on."""
+    found = pieces(size // 60, lambda n: (f"exception e{n};\n", f", e{n}{{}}"))
+    declarations, thrown = joined(found), joined(found, 1)[2:]
+    first = declarations + f"void f0() throws ({thrown}) {{ }}\n"
+    line = f" throws ({thrown}) {{ f"
+    rest = pieces(size - len(first) - 200, lambda n: (f"void f{n + 1}(){line}{n}(); }}\n",))
+    return flat(2), first + joined(rest) + "void main() { }\n"
+
+
+# Each shape, with the most that it may take of the benign source's time at 1 MiB.
+SHAPES = [
+    (one_long_label, 5),
+    (two_long_labels, 5),
+    (nearly_equal_long_labels, 5),
+    (many_readers, 5),
+    (many_labels, 5),
+    (many_labels_to_one_channel, 5),
+    (long_names, 5),
+    (many_names, 5),
+    (open_comments, 5),
+    (many_refused_flows, 5),
+    (labels_around_a_cycle, 5),
+    (copies_backwards, 5),
+    (labels_along_a_backward_chain, 5),
+    (exceptions_of_calls, 20),
+    (exceptions_of_calls_at_many_labels, 20),
+    (exceptions_of_calls_in_tries, 20),
+    (exceptions_handed_on, 20),
+]
+
+
+def measured(program, folder, hierarchy, source):
+    """The least time of a check, and the most memory in MB; or none where it was cut off."""
     (folder / "h").write_text(hierarchy)
     (folder / "s").write_text(source)
-    least = None
+    least, most = None, 0
     for _ in range(ROUNDS):
         start = time.perf_counter()
-        try:
-            subprocess.run([program, "check", str(folder / "h"), str(folder / "s")], capture_output=True, timeout=LIMIT)
-        except subprocess.TimeoutExpired:
-            return None
+        ran = subprocess.Popen(
+            [program, "check", str(folder / "h"), str(folder / "s")], stdout=subprocess.DEVNULL, stderr=subprocess.DEVNULL
+        )
+        while ran.returncode is None:
+            number, status, used = os.wait4(ran.pid, os.WNOHANG)
+            if number:
+                ran.returncode = os.waitstatus_to_exitcode(status)
+                most = max(most, used.ru_maxrss // 1024)
+            elif time.perf_counter() - start > LIMIT:
+                ran.kill()
+                ran.wait()
+                return None
+            else:
+                time.sleep(0.0005)
         took = time.perf_counter() - start
         least = took if least is None else min(least, took)
-    return least
+    return least, most
 
 
 def main(words):
     if not words:
         sys.exit(__doc__)
     sizes = [int(word) for word in words[1:]] or SIZES
+    slow = 0
     with tempfile.TemporaryDirectory() as name:
         folder, before = Path(name), {}
         for kib in sizes:
-            base = seconds(words[0], folder, *benign(kib << 10))
-            print(f"{kib} KiB benign: {base:.3f} s")
-            for shape in SHAPES:
-                took = seconds(words[0], folder, *shape(kib << 10))
-                if took is None:
-                    print(f"{kib} KiB {shape.__name__}: cut off after {LIMIT} s")
+            base, most = measured(words[0], folder, *benign(kib << 10))
+            print(f"{kib} KiB benign: {base:.3f} s, {most} MB")
+            for shape, bound in SHAPES:
+                found = measured(words[0], folder, *shape(kib << 10))
+                if found is None:
+                    slow += 1
+                    print(f"{kib} KiB {shape.__name__}: cut off after {LIMIT} s, TOO SLOW")
                     continue
+                took, most = found
                 growth = f", {took / before[shape]:.1f} times half the size" if shape in before else ""
-                print(f"{kib} KiB {shape.__name__}: {took:.3f} s, {took / base:.1f} times the benign one{growth}")
+                mark = ", TOO SLOW" if took > bound * base else ""
+                slow += bool(mark)
+                print(f"{kib} KiB {shape.__name__}: {took:.3f} s, {took / base:.1f} times the benign one{growth}, {most} MB{mark}")
                 before[shape] = took
+    return 1 if slow else 0
 
 
-main(sys.argv[1:])
+if __name__ == "__main__":
+    sys.exit(main(sys.argv[1:]))

@@ -23,15 +23,15 @@ module _ (program : Program) (labels others : Unwritten → Label) (one : AreLea
   holds_too d there to is held =
       let l = label_lattice program.hierarchy in
       let laws = IsLattice-flows program.hierarchy in
-      let below : (atom : Atom Unwritten Label) → Contains d.left atom → IsTrue (l.lies_below (value labels atom) (value others atom)) = λ atom h. by_atom atom h in
-      let left : IsTrue (l.lies_below (join_of l.join l.least labels d.left) (join_of l.join l.least others d.left)) =
+      let below : (atom : Atom Unwritten Label) → Contains d.left atom → IsTrue (l.leq (value labels atom) (value others atom)) = λ atom h. by_atom atom h in
+      let left : IsTrue (l.leq (join_of l.join l.least labels d.left) (join_of l.join l.least others d.left)) =
       join_of-least l laws labels d.left (join_of l.join l.least others d.left) (λ atom h.
       laws.transitive (value labels atom) (value others atom) (join_of l.join l.least others d.left) (below atom h) (join_of-above l laws others d.left atom h)) in
       let right : value others d.right ≡ value labels d.right = ap (value others) is ∙ sym (ap (value labels) is) in
       laws.transitive (join_of l.join l.least labels d.left) (join_of l.join l.least others d.left) (value labels d.right) left
-      (ap (λ v. l.lies_below (join_of l.join l.least others d.left) v) (sym right) ∙ held)
+      (ap (λ v. l.leq (join_of l.join l.least others d.left) v) (sym right) ∙ held)
     where
-      by_atom : (atom : Atom Unwritten Label) → Contains d.left atom → IsTrue ((label_lattice program.hierarchy).lies_below (value labels atom) (value others atom))
+      by_atom : (atom : Atom Unwritten Label) → Contains d.left atom → IsTrue ((label_lattice program.hierarchy).leq (value labels atom) (value others atom))
       by_atom (Written v) h = (IsLattice-flows program.hierarchy).reflexive v
       by_atom (Unknown u) h = one.below others other.fits u (d, there, inl h)
 

@@ -28,9 +28,9 @@ use Rattle.resolved.specs.declared.fault.EndRefusal.{EndRefusal}
 use Rattle.resolved.specs.Labelled.{Demand, Labelled}
 use Rattle.resolved.specs.Flow as flow
 use Rattle.resolved.proofs.Flow.{labelled-or_refused, chain-refuses}
-use Rattle.names.specs.Finding.{Finding}
-use Rattle.names.specs.declared.fault.NameRefusal.{NameRefusal}
-use Rattle.names.specs.Resolution.{resolution}
+use Rattle.types.specs.Finding.{Finding}
+use Rattle.types.specs.declared.fault.TypeRefusal.{TypeRefusal}
+use Rattle.types.specs.Resolution.{resolution}
 use Rattle.acceptance.specs.Accepted.{IsText, IsTreeOf, IsResolvedFrom, IsAccepted, HasHierarchy, StandFor}
 use Rattle.acceptance.specs.Refused.{IsNoText, TooLong, NotUtf8, IsHierarchyRefused, Unreadable, Wrong, IsSourceRefused, NoText, NoTokens, NoTree, WrongName, WrongEnd, WrongFlow, AreTextsRefusedAt, Hierarchy, Source}
 use Rattle.acceptance.specs.Laws.{Verdict, Accepted, Refused, IsVerdict, HasVerdict, HasOneVerdict}
@@ -82,13 +82,13 @@ same_tree source tree other one two =
     one_tree two.tokens tree other (subst (λ ts. SpellsProgram ts tree) (same_tokens source tree one two.tokens two.cut) one.spelled) two.spelled
 
 module _ (h : PrincipalHierarchy) (source : List ℕ) where
-  named_refused : (tree : ProgramTree) (refusal : NameRefusal) (program : Program) → IsTreeOf source tree → resolution h tree ≡ Err refusal → IsResolvedFrom h source program → ⊥
+  named_refused : (tree : ProgramTree) (refusal : TypeRefusal) (program : Program) → IsTreeOf source tree → resolution h tree ≡ Err refusal → IsResolvedFrom h source program → ⊥
   named_refused tree refusal program of refused resolved =
       let same = same_tree source tree resolved.tree of resolved.tree_of in
       let both : Err refusal ≡ Ok program = sym refused ∙ (ap (resolution h) same ∙ resolved.resolved) in
       cc
 
-  same_refusal : (tree other : ProgramTree) (refusal again : NameRefusal) → IsTreeOf source tree → IsTreeOf source other → resolution h tree ≡ Err refusal → resolution h other ≡ Err again → refusal ≡ again
+  same_refusal : (tree other : ProgramTree) (refusal again : TypeRefusal) → IsTreeOf source tree → IsTreeOf source other → resolution h tree ≡ Err refusal → resolution h other ≡ Err again → refusal ≡ again
   same_refusal tree other refusal again one two e f =
       let both : Err refusal ≡ Err again = sym e ∙ (ap (resolution h) (same_tree source tree other one two) ∙ f) in cc
 
@@ -142,7 +142,7 @@ module _ (h : PrincipalHierarchy) (source : List ℕ) where
   source_once _ other _ there (WrongName tree of wrong e) (NoTree _ tokens cut refusal refused) = absurd (tree_refused source tree tokens refusal of cut refused)
   source_once _ _ _ _ (WrongName tree of wrong e) (WrongName other of_too again f) =
       let same : wrong ≡ again = same_refusal tree other wrong again of of_too e f in
-      (ap (λ (refusal : NameRefusal). causes.Name refusal.defect) same, ap (λ (refusal : NameRefusal). refusal.at) same)
+      (ap (λ (refusal : TypeRefusal). causes.Name refusal.defect) same, ap (λ (refusal : TypeRefusal). refusal.at) same)
   source_once _ _ _ _ (WrongName tree of wrong e) (WrongEnd program from refusal others f) = absurd (named_refused tree wrong program of e from)
   source_once _ _ _ _ (WrongName tree of wrong e) (WrongFlow program from ended policy chain last unmet) = absurd (named_refused tree wrong program of e from)
   source_once _ other _ there (WrongEnd program from wrong others e) (NoText _ _ two) = absurd (text_or_none source other there two from.tree_of.text)

@@ -8,14 +8,14 @@ use Rattle.principals.specs.ActsFor.{PrincipalHierarchy, IsHierarchy, AllDiffere
 use Rattle.principals.specs.Laws.{IsNameWithin, NamesAreNames}
 use Rattle.principals.proofs.Called.{token_texts}
 use Rattle.principals.proofs.Total.{described_is_hierarchy}
-use Rattle.parser.proofs.Spelled.{cut_of_text, spelled_program}
-use Rattle.syntax.specs.Limits.{IsProgram}
+use Rattle.parser.proofs.Spelled.{text_spelled}
+use Rattle.syntax.specs.Limits.{IsOfText}
 use Rattle.syntax.specs.Tree.{ProgramTree}
 use Rattle.common.specs.Exceptions.{built_in_names}
 use Rattle.common.proofs.Cases.{all_front, pairs_front}
 use Rattle.resolved.specs.Names.{IsShortName, kept_names}
 use Rattle.resolved.specs.Program.{Program}
-use Rattle.names.specs.Laws.{channel_names, global_names, procedure_names, item_names, IsProperName, HasUtf8Names, NamesAreProper, NamesAreDifferent, NamesAreUtf8, HierarchyIsKept, ChannelLabelsAreCanonical}
+use Rattle.types.specs.Laws.{channel_names, global_names, procedure_names, item_names, IsProperName, HasUtf8Names, NamesAreProper, NamesAreDifferent, NamesAreUtf8, HierarchyIsKept, ChannelLabelsAreCanonical}
 use Rattle.acceptance.specs.Accepted.{IsTreeOf, HasHierarchy}
 use Rattle.acceptance.specs.Laws.{GivesNames}
 use Rattle.acceptance.proofs.TreeNames.{spelled_named}
@@ -24,9 +24,9 @@ use Rattle.acceptance.proofs.TreeNames.{spelled_named}
 
 -- ---- the tree of a source
 
-tree_is_program : (source : List ℕ) (tree : ProgramTree) → IsTreeOf source tree → IsProgram tree
-tree_is_program source tree of =
-    spelled_program of.tokens tree (cut_of_text source of.tokens (IsUtf8-from_is_utf8 source of.text.characters) of.cut of.text.short) of.spelled
+pub tree_of_text : (source : List ℕ) (tree : ProgramTree) → IsTreeOf source tree → IsOfText tree
+tree_of_text source tree of =
+    text_spelled source of.tokens tree (IsUtf8-from_is_utf8 source of.text.characters) of.text.short of.cut of.spelled
 
 tree_has_utf8 : (source : List ℕ) (tree : ProgramTree) → IsTreeOf source tree → HasUtf8Names tree
 tree_has_utf8 source tree of =
@@ -77,7 +77,7 @@ pub record NameLaws : Type 0 where
 pub gives_names : NameLaws → GivesNames
 gives_names laws hierarchy source h program has from =
     let tree = from.tree in
-    let is = tree_is_program source tree from.tree_of in
+    let is = tree_of_text source tree from.tree_of in
     let same = laws.kept h tree program from.resolved in
     record {
       hierarchy = subst IsHierarchy (sym same) (is_hierarchy hierarchy h has);

@@ -9,8 +9,8 @@ use Rattle.syntax.specs.Form.{Form, many, ◌·◌}
 use Rattle.syntax.specs.Grammar.{SpellsProgram, at, ◌◂◌, base, name, label, optional_label, direction, channel, exception, global_value, global, written_result, parameters, procedure, item, program}
 use Rattle.syntax.specs.Tree.{NameTree, ItemTree, ProgramTree}
 use Rattle.parser.proofs.Holds.{Each, Held, Holds, spelled_taken}
-use Rattle.names.specs.Laws.{HasUtf8Names}
-use Rattle.names.specs.Resolution.{item_name}
+use Rattle.types.specs.Laws.{HasUtf8Names}
+use Rattle.types.specs.Resolution.{item_name}
 
 abbrev IsText : Terminal → Type 0
 IsText token = IsUtf8 token.text

@@ -12,7 +12,7 @@ use Rattle.syntax.specs.Tree.{ProgramTree}
 use Rattle.resolved.specs.Program.{Program}
 use Rattle.resolved.specs.EndFaults.{end_faults}
 use Rattle.resolved.specs.Labelled.{Labelled}
-use Rattle.names.specs.Resolution.{resolution}
+use Rattle.types.specs.Resolution.{resolution}
 use Rattle.common.specs.declared.limits.TheConstants.{MAX_TEXT}
 
 -- bytes that can be a text of either kind: UTF-8, and not too long

@@ -7,7 +7,7 @@ use Rattle.principals.specs.Defects.{hierarchy_defect_number, hierarchy_defect_w
 use Rattle.principals.specs.declared.fault.HierarchyDefect.TheVariants.{TooLong}
 use Rattle.parser.specs.Defects.{parse_defect_number, parse_defect_words}
 use Rattle.resolved.specs.Defects.{end_defect_number, end_defect_words}
-use Rattle.names.specs.Defects.{name_defect_number, name_defect_words}
+use Rattle.types.specs.Defects.{name_defect_number, name_defect_words}
 use Rattle.acceptance.specs.declared.cause.Cause.{Cause}
 use Rattle.acceptance.specs.declared.cause.Cause.TheVariants as cause
 

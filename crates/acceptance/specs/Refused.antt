@@ -19,8 +19,8 @@ use Rattle.resolved.specs.EndFaults.{end_faults}
 use Rattle.resolved.specs.declared.fault.EndRefusal.{EndRefusal}
 use Rattle.resolved.specs.Labelled.{Demand}
 use Rattle.resolved.specs.Flow as flow
-use Rattle.names.specs.Resolution.{resolution}
-use Rattle.names.specs.declared.fault.NameRefusal.{NameRefusal}
+use Rattle.types.specs.Resolution.{resolution}
+use Rattle.types.specs.declared.fault.TypeRefusal.{TypeRefusal}
 use Rattle.acceptance.specs.Accepted.{IsText, IsTreeOf, IsResolvedFrom, HasHierarchy}
 use Rattle.acceptance.specs.declared.cause.Cause.{Cause}
 use Rattle.acceptance.specs.declared.cause.Cause.TheVariants as causes
@@ -47,7 +47,7 @@ pub data IsSourceRefused (h : PrincipalHierarchy) (source : List ℕ) : Cause �
       → IsSourceRefused h source (causes.Lex refusal.defect) refusal.at
   NoTree : IsText source → (tokens : List Terminal) → IsCut source tokens → (refusal : ParseRefusal)
       → parser.AreTokensRefused tokens refusal → IsSourceRefused h source (causes.Parse refusal.defect) refusal.at
-  WrongName : (tree : ProgramTree) → IsTreeOf source tree → (refusal : NameRefusal) → resolution h tree ≡ Err refusal
+  WrongName : (tree : ProgramTree) → IsTreeOf source tree → (refusal : TypeRefusal) → resolution h tree ≡ Err refusal
       → IsSourceRefused h source (causes.Name refusal.defect) refusal.at
   WrongEnd : (program : Program) → IsResolvedFrom h source program → (refusal : EndRefusal) (others : List EndRefusal)
       → end_faults program ≡ refusal ∷ others → IsSourceRefused h source (causes.End refusal.defect) refusal.at

@@ -1,10 +1,10 @@
 //! What can be wrong with two texts, and the numbers and the words by which it is reported.
 
 use lexer::LexDefect;
-use names::NameDefect;
 use parser::ParseDefect;
 use principals::HierarchyDefect;
 use resolved::EndDefect;
+use types::TypeDefect;
 
 /// One of the two texts.
 #[derive(Clone, Copy, Debug, PartialEq, Eq, Drop)]
@@ -29,7 +29,7 @@ pub enum Cause {
     /// 201 and 202: the tokens of the source are no program.
     Parse(ParseDefect),
     /// 301 to 304, 401 to 403, 703 and 704: a name, a type or a size is wrong.
-    Name(NameDefect),
+    Name(TypeDefect),
     /// 501 to 505: an end of a statement or a procedure is wrong.
     End(EndDefect),
     /// 601: a flow that no labelling allows.

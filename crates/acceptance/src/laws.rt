@@ -23,9 +23,9 @@ pub fn resolved_programs_have_names()
     ensures names { GivesNames }
 {
     principals::laws::names_are_names();
-    names::laws::item_names_are_proper_and_different();
-    names::laws::item_names_are_utf8();
-    names::laws::hierarchies_and_channel_labels_are_kept();
+    types::laws::item_names_are_proper_and_different();
+    types::laws::item_names_are_utf8();
+    types::laws::hierarchies_and_channel_labels_are_kept();
 }
 
 /// A program that two texts stand for is isolated: for every principal, all worlds that agree for it and any two bounds on the turns

@@ -7,7 +7,7 @@ pub mod laws;
 
 pub use cause::{Cause, Text};
 pub use lexer::LexDefect;
-pub use names::NameDefect;
 pub use parser::ParseDefect;
 pub use principals::HierarchyDefect;
 pub use resolved::EndDefect;
+pub use types::TypeDefect;

@@ -13,8 +13,8 @@ use Rattle.syntax.specs.Tree.{ProgramTree}
 use Rattle.resolved.specs.Program.{Program}
 use Rattle.resolved.specs.EndFaults.{end_faults}
 use Rattle.resolved.specs.declared.fault.EndRefusal.{EndRefusal}
-use Rattle.names.specs.Resolution.{resolution}
-use Rattle.names.specs.declared.fault.NameRefusal.{NameRefusal}
+use Rattle.types.specs.Resolution.{resolution}
+use Rattle.types.specs.declared.fault.TypeRefusal.{TypeRefusal}
 use Rattle.acceptance.specs.Accepted.{IsText, IsTreeOf, IsResolvedFrom}
 use Rattle.acceptance.specs.Refused.{IsSourceRefused, NoTokens, NoTree, WrongName, WrongEnd}
 use Rattle.analysis.specs.Reported.{IsSourceRefusal, of_lex, of_parse, of_name, of_end}
@@ -28,7 +28,7 @@ module _ (h : PrincipalHierarchy) (source : List ℕ) where
       → AreTokensRefused tokens refusal → IsSourceRefusal h source (of_parse refusal)
   parsed tokens refusal text cut refused = NoTree text tokens cut refusal refused
 
-  pub named : (tree : ProgramTree) (refusal : NameRefusal) → IsTreeOf source tree → resolution h tree ≡ Err refusal
+  pub named : (tree : ProgramTree) (refusal : TypeRefusal) → IsTreeOf source tree → resolution h tree ≡ Err refusal
       → IsSourceRefusal h source (of_name refusal)
   named tree refusal of found = WrongName tree of refusal found
 

@@ -4,7 +4,7 @@ use Rattle.std.specs.Prelude.{◌≢◌, ℕ, List}
 use Rattle.lexer.specs.declared.fault.LexRefusal.{LexRefusal}
 use Rattle.principals.specs.ActsFor.{PrincipalHierarchy}
 use Rattle.parser.specs.declared.fault.ParseRefusal.{ParseRefusal}
-use Rattle.names.specs.declared.fault.NameRefusal.{NameRefusal}
+use Rattle.types.specs.declared.fault.TypeRefusal.{TypeRefusal}
 use Rattle.resolved.specs.declared.fault.EndRefusal.{EndRefusal}
 use Rattle.acceptance.specs.Refused as acceptance
 use Rattle.acceptance.specs.declared.cause.Cause.{Cause}
@@ -21,7 +21,7 @@ of_lex refusal = record { cause = causes.Lex refusal.defect; at = refusal.at }
 abbrev pub of_parse : ParseRefusal → SourceRefusal
 of_parse refusal = record { cause = causes.Parse refusal.defect; at = refusal.at }
 
-abbrev pub of_name : NameRefusal → SourceRefusal
+abbrev pub of_name : TypeRefusal → SourceRefusal
 of_name refusal = record { cause = causes.Name refusal.defect; at = refusal.at }
 
 abbrev pub of_end : EndRefusal → SourceRefusal

@@ -6,9 +6,9 @@ ghost use Rattle.std.specs.Prelude.{◌≡◌};
 use acceptance::Cause;
 use common::OrNoMemory;
 use lexer::LexRefusal;
-use names::NameRefusal;
 use parser::ParseRefusal;
 use path_map::EndRefusal;
+use types::TypeRefusal;
 
 /// Why a source is refused before its labels are looked at.
 #[derive(Clone, Copy, Debug, PartialEq, Eq)]
@@ -43,10 +43,10 @@ impl From<ParseRefusal> for SourceRefusal {
     }
 }
 
-impl From<NameRefusal> for SourceRefusal {
+impl From<TypeRefusal> for SourceRefusal {
     ghost from_gives = { λ refusal given. given ≡ of_name refusal };
 
-    fn from(refusal: NameRefusal) -> SourceRefusal {
+    fn from(refusal: TypeRefusal) -> SourceRefusal {
         SourceRefusal {
             cause: Cause::Name(refusal.defect),
             at: refusal.at,

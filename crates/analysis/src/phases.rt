@@ -5,12 +5,11 @@ ghost use Rattle.acceptance.specs.Refused.{IsNoText};
 ghost use Rattle.analysis.specs.Reported.{IsBeforeLabels, IsSourceRefusal, of_bytes};
 ghost use Rattle.common.specs.Answers.{IfRefused};
 ghost use Rattle.common.specs.declared.fault.OrNoMemory.TheVariants.{Refused};
-ghost use Rattle.path_map.specs.Exits.{exits_of};
-ghost use Rattle.path_map.specs.Paths.{program_paths};
+ghost use Rattle.path_map.specs.EndsOf.{AreEndsOf};
 ghost use Rattle.principals.specs.ActsFor.{PrincipalHierarchy};
 ghost use Rattle.resolved.specs.CoreOf.{program_of};
 ghost use Rattle.resolved.specs.EndFaults.{end_faults};
-ghost use Rattle.std.specs.Prelude.{IfErr, IfOk, OnOk, [], map, ◌≡◌};
+ghost use Rattle.std.specs.Prelude.{IfErr, IfOk, OnOk, [], ◌≡◌};
 ghost use Rattle.syntax.specs.Tree.{program_tree};
 
 use crate::fault::{SourceFault, SourceRefusal};
@@ -18,18 +17,18 @@ use acceptance::Cause;
 use common::OrNoMemory;
 use common::limits::MAX_TEXT;
 use lexer::lex;
-use names::resolve;
 use parser::parse;
-use path_map::{PathMap, find_ends};
+use path_map::{Ends, ends};
 use principals::Hierarchy;
 use resolved::program::Core;
 use std::alloc::Global;
+use types::resolve;
 
 /// A source without a fault before its labels: its resolved program, and the possible ends of each statement and block of it.
 #[derive(Drop)]
 pub struct Analysed {
     pub core: Core,
-    pub ends: PathMap,
+    pub ends: Ends,
 }
 
 /// Analyses a source under a hierarchy, phase by phase: its length, whether it is UTF-8, its tokens, its tree, its names, types and
@@ -44,9 +43,8 @@ pub fn analyse(alloc: Global, hierarchy: &Hierarchy, source: &[u8]) -> Result<An
         IsResolvedFrom hierarchy.now source.now (program_of found.core)) }
     ensures ended { IfOk result (λ found. end_faults (program_of found.core) ≡ []) }
 
-    // The ends of its statements and blocks, in the order of the path map.
-    ensures mapped { IfOk result (λ found. found.ends.entries.items
-        ≡ map exits_of (program_paths (program_of found.core))) }
+    // The ends are those of its statements and blocks.
+    ensures mapped { IfOk result (λ found. AreEndsOf (program_of found.core) found.ends) }
 
     // A refusal is the first fault, at its byte, and not one of labels.
     ensures first_fault { IfErr result (IfRefused
@@ -55,8 +53,8 @@ pub fn analyse(alloc: Global, hierarchy: &Hierarchy, source: &[u8]) -> Result<An
 {
     let text = text_of(source).map_err(refuse_bytes)?;
     let tree = read(alloc, text)?;
-    let core = resolve(alloc, hierarchy, &tree).map_err(OrNoMemory::cast)?;
-    let ends = find_ends(alloc, &core).map_err(OrNoMemory::cast)?;
+    let core = resolve(alloc, tree, hierarchy).map_err(OrNoMemory::cast)?;
+    let ends = ends(alloc, &core).map_err(OrNoMemory::cast)?;
     Ok(Analysed { core, ends })
 }
 

@@ -1,4 +1,12 @@
-pub mod Spelling
-mod Operands
+pub mod Steps
+pub mod Coherent
+pub mod Taken
+pub mod Again
+pub mod Lawful
+pub mod Loop
 pub mod Widths
-pub mod Executing
+pub mod NewNames
+pub mod Facts
+pub mod Both
+pub mod Written
+pub mod Inside

@@ -1,17 +1,63 @@
-//! The bytes of code.
+//! Reading of code.
 
-ghost use Rattle.bytecode.specs.Code.{code_length};
-ghost use Rattle.std.specs.Prelude.{◌≡◌};
+ghost use Rattle.modules.specs.Code.{width_of};
+ghost use Rattle.modules.specs.Form.{Code, code_at, instruction_in, read};
+ghost use Rattle.modules.specs.Opcodes.{instructions};
+ghost use Rattle.bytecode.specs.Reading.{Decodes};
+ghost use Rattle.std.specs.Prelude.{[], IfOk, ◌≤◌};
 
-use crate::instruction::Instruction;
+use crate::reading::{ReadFault, read_byte, read_number, read_text, refuse};
+use modules::FormatDefect;
+use modules::instruction::Instruction;
+use modules::opcode::{instruction_of, width_after};
+use std::alloc::Global;
 
-/// How many bytes code takes.
-pub fn code_length(code: &[Instruction]) -> usize
-    ensures { result ≡ code_length code.now }
+/// The instruction at the front, which ends within the room that is left in its code.
+#[tactic(auto, unfolding(modules::specs::Opcodes::instructions))]
+fn read_instruction(room: u32, bytes: &[u8]) -> Result<(Instruction, &[u8]), ReadFault>
+    ensures gives { Decodes (λ x. (x.0, x.1.now)) result (instruction_in instructions room
+        bytes.now) }
+    ensures inside { IfOk result (λ x. width_of x.0 ≤ room) }
 {
-    let mut length = 0;
-    for instruction in code {
-        length += instruction.width();
+    let (opcode, rest) = read_byte(bytes)?;
+    let Some(width) = width_after(opcode) else {
+        return Err(refuse(FormatDefect::BadValue, bytes));
+    };
+    if room as usize <= width {
+        return Err(refuse(FormatDefect::BadValue, bytes));
     }
-    length
+    let (operand, after) = read_text(width, rest)?;
+    let Some(instruction) = instruction_of(opcode, operand) else {
+        return Err(refuse(FormatDefect::BadValue, rest));
+    };
+    Ok((instruction, after))
+}
+
+/// The instructions that the next `size` bytes are. Room for them grows with what was read, whatever the size claims.
+fn read_instructions(
+    alloc: Global,
+    size: u32,
+    bytes: &[u8],
+) -> Result<(Vec<Instruction>, &[u8]), ReadFault>
+    ensures { Decodes (λ x. (x.0.items, x.1.now)) result (code_at instructions size size []
+        bytes.now) }
+{
+    let mut code = Vec::new(alloc);
+    let mut rest = bytes;
+    let mut room = size;
+    while room > 0 {
+        let (next, after) = read_instruction(room, rest)?;
+        code.push(next)?;
+        room -= next.width() as u32;
+        rest = after;
+    }
+    Ok((code, rest))
+}
+
+/// The code behind its length.
+pub(crate) fn read_code(alloc: Global, bytes: &[u8]) -> Result<(Vec<Instruction>, &[u8]), ReadFault>
+    ensures { Decodes (λ x. (x.0.items, x.1.now)) result (read (Code instructions) bytes.now) }
+{
+    let (size, rest) = read_number(bytes)?;
+    read_instructions(alloc, size, rest)
 }

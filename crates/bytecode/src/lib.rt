@@ -1,23 +1,20 @@
-//! The modules of the virtual machine: what a module is, the table of instructions, and the form
-//! of the file that spells it.
+//! Reading and writing of module files: each module has one spelling as bytes.
 #![tactic(auto)]
 
-pub mod channel;
-pub mod code;
-pub mod declaration;
+mod channels;
+mod code;
+mod decoding;
+mod encoding;
 pub mod fault;
-pub mod instruction;
+mod globals;
+mod hierarchy;
 pub mod laws;
-pub mod module;
-pub mod opcode;
-pub mod procedure;
-pub mod value;
+mod limit;
+mod names;
+mod procedures;
+mod reading;
+mod writing;
 
-pub use channel::Channel;
-pub use code::code_length;
-pub use declaration::{Global, Handler, Slot};
-pub use fault::ModuleDefect;
-pub use instruction::{Arithmetic, Comparison, Instruction};
-pub use module::Module;
-pub use procedure::Procedure;
-pub use value::{Cell, Kind};
+pub use decoding::decode;
+pub use encoding::encode;
+pub use fault::{FormatFault, FormatRefusal};

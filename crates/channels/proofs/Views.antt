@@ -10,8 +10,8 @@ use Rattle.labels.specs.declared.sent.Pair.{Pair}
 use Rattle.labels.specs.Sent.{IsPrefix}
 use Rattle.labels.proofs.Prefixes.{prefix-through}
 use Rattle.channels.specs.Sink.{AppendsPrefix}
-use Rattle.bytecode.specs.Contents.{ChannelContents, ModuleContents}
-use Rattle.bytecode.specs.Isolated.{channel_label, label_in}
+use Rattle.modules.specs.Contents.{ChannelContents, ModuleContents}
+use Rattle.modules.specs.Isolated.{channel_label, label_in}
 use Rattle.labels.specs.Label.{may_read}
 use Rattle.std.specs.Prelude.{slice_get, map, zero, suc}
 use Rattle.channels.specs.View.{is_readable, is_shown, pair_line, readable, observer_view, view_text}

@@ -1,4 +1,4 @@
--- The table of a module's inputs that is kept while a world's text is read.
+-- Private: the table of a module's inputs that is kept while a world's text is read.
 -- Source: our own.
 use Rattle.std.specs.Prelude.{ℕ, List, Option, ℤ}
 use Rattle.std.specs.Option.{option_map}

@@ -5,8 +5,8 @@ use Rattle.std.specs.Fmt.{signed_decimal}
 use Rattle.std.specs.Io.KnownBytes.{Appends}
 use Rattle.labels.specs.Label.{may_read}
 use Rattle.labels.specs.declared.sent.Pair.{Pair}
-use Rattle.bytecode.specs.Contents.{ModuleContents, ChannelContents}
-use Rattle.bytecode.specs.Isolated.{channel_label, module_view}
+use Rattle.modules.specs.Contents.{ModuleContents, ChannelContents}
+use Rattle.modules.specs.Isolated.{channel_label, module_view}
 use Rattle.channels.specs.Sink.{AppendsPrefix}
 
 -- the name of a channel of a list, by its number; a number that is not there has none

@@ -13,7 +13,7 @@ pub struct SinkFault;
 
 /// Where bytes go: a file, a stream, or memory.
 ///
-/// A sink fails for good when a write returns a fault, or writes nothing of a nonempty buffer. Nothing else
+/// A sink has failed, and stays so, once a write answered a fault or took nothing of bytes that there were. Nothing else
 /// makes it fail.
 pub trait Sink {
     /// The bytes that the sink took so far, where they are known.
@@ -26,8 +26,8 @@ pub trait Sink {
     fn write(&mut self, bytes: &[u8]) -> Result<usize, SinkFault>
         ensures bound { WritesAtMost result bytes.now }
         ensures taken { WriteAppends (taken self.old) (taken self.new) result bytes.now }
-        ensures fails { has_failed self.new ≡ (has_failed self.old || is_failure result bytes.now) }
-        ensures stays { IsTrue (has_failed self.old) → IsErr result };
+        ensures fails { has_failed self.new
+            ≡ (has_failed self.old || is_failure result bytes.now) };
 
     /// Whether a write has failed so far.
     fn failed(&self) -> bool
@@ -71,7 +71,14 @@ impl<W: Write> Sink for Device<W> {
 
     ghost has_failed = { λ device. device.has_failed };
 
-    fn write(&mut self, bytes: &[u8]) -> Result<usize, SinkFault> {
+    fn write(&mut self, bytes: &[u8]) -> Result<usize, SinkFault>
+        ensures bound { WritesAtMost result bytes.now }
+        ensures taken { WriteAppends (⟦<Device<W> as Sink>⟧.taken self.old)
+            (⟦<Device<W> as Sink>⟧.taken self.new) result bytes.now }
+        ensures fails { ⟦<Device<W> as Sink>⟧.has_failed self.new
+            ≡ (⟦<Device<W> as Sink>⟧.has_failed self.old || is_failure result bytes.now) }
+        ensures stays { IsTrue (⟦<Device<W> as Sink>⟧.has_failed self.old) → IsErr result }
+    {
         if self.has_failed {
             return Err(SinkFault);
         }
@@ -102,6 +109,7 @@ impl<W: Write> Sink for Device<W> {
 pub fn write_all<S: Sink>(sink: &mut S, bytes: &[u8]) -> Result<(), SinkFault>
     ensures accepted { OnOk result (Appends (S.taken sink.old) (S.taken sink.new) bytes.now) }
     ensures prefix { OnErr result (AppendsPrefix (S.taken sink.old) (S.taken sink.new) bytes.now) }
+    ensures kept { OnOk result (S.has_failed sink.new ≡ S.has_failed sink.old) }
     ensures rejected { OnErr result (IsTrue (S.has_failed sink.new)) }
 {
     let mut rest = bytes;

@@ -1,6 +1,6 @@
 //! What an observer is shown of the pairs that a run has sent.
 
-ghost use Rattle.bytecode.specs.Isolated.{module_view};
+ghost use Rattle.modules.specs.Isolated.{module_view};
 ghost use Rattle.channels.specs.Sink.{AppendsPrefix};
 ghost use Rattle.channels.specs.View as view;
 ghost use Rattle.channels.specs.View.{ShowsAll, ShowsPrefix, answers_for, is_shown, name_in, pair_line, readable, observer_view, view_text};
@@ -11,9 +11,9 @@ ghost use Rattle.std.specs.String.{string_bytes};
 
 use crate::sent::Sent;
 use crate::sink::{Sink, SinkFault, write_all};
-use bytecode::Module;
 use common::OrNoMemory;
 use labels::{Pair, may_read};
+use modules::Module;
 use std::alloc::{AllocError, Global};
 
 /// Why a view was not written to its end: memory ran out, or the sink did not take what was written.
@@ -128,6 +128,7 @@ fn write_lines<S: Sink>(
     ensures prefix { OnErr result (AppendsPrefix (S.taken out.old) (S.taken out.new)
         (view_text observer.now.program.now
         (observer_view observer.now.program.now observer.now.principal pairs.now))) }
+    ensures kept { OnOk result (S.has_failed out.new ≡ S.has_failed out.old) }
     ensures rejected { IfErr result (IfRefused (λ _. IsTrue (S.has_failed out.new))) }
 {
     for pair in pairs {
@@ -156,6 +157,7 @@ pub fn write_view<S: Sink>(
         (S.taken out.new)) }
     ensures prefix { OnErr result (ShowsPrefix program.now observer sent.now (S.taken out.old)
         (S.taken out.new)) }
+    ensures kept { OnOk result (S.has_failed out.new ≡ S.has_failed out.old) }
     ensures rejected { IfErr result (IfRefused (λ _. IsTrue (S.has_failed out.new))) }
 {
     let viewer = Observer::of(alloc, program, observer)?;

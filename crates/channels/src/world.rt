@@ -6,7 +6,7 @@ ghost use Rattle.std.specs.String.{string_bytes};
 
 use crate::defect::WorldFault;
 use crate::world_read::{inputs_of, names_of, read_lines};
-use bytecode::Module;
+use modules::Module;
 use std::alloc::Global;
 use std::marker::Model;
 
@@ -92,6 +92,13 @@ impl World {
         let table = read_lines(alloc, &names, text)?;
         let inputs = inputs_of(alloc, &names, &table)?;
         Ok(World { inputs })
+    }
+
+    /// The world of these inputs, in this order. It fits a module whose inputs have these names in this order.
+    pub fn of(inputs: Vec<InputList>) -> World
+        ensures { result ≡ inputs.items }
+    {
+        World { inputs }
     }
 
     /// The inputs with their numbers, in order.

@@ -9,8 +9,8 @@ use crate::defect::{WorldDefect, WorldFault, WorldRefusal};
 use crate::world::InputList;
 use crate::world_table::{Inputs, entry_of, read_line};
 use crate::world_text::{lines_of, words_of};
-use bytecode::Channel;
 use common::{Direction, OrNoMemory};
+use modules::Channel;
 use std::alloc::{AllocError, Global};
 use std::collections::BTreeMap;
 

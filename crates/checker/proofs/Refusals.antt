@@ -18,12 +18,12 @@ use Rattle.resolved.specs.Flow.{AreGathered, IsUncovered, reported_step}
 use Rattle.resolved.proofs.Flow.{gathered-refused}
 use Rattle.solver.specs.Broken.{written_at}
 use Rattle.solver.specs.Links.{AreBelow, InRange, IsBelow}
-use Rattle.solver.specs.System.{IsSolveRefusal, Picks, atom_of, constraint_of, constraints_of}
+use Rattle.solver.specs.Constraints.{IsSolveRefusal, Picks, atom_of, constraint_of, constraints_of}
 use Rattle.solver.specs.declared.fault.SolveRefusal.{SolveRefusal}
-use Rattle.solver.specs.declared.system.Atom.{Atom}
-use Rattle.solver.specs.declared.system.Atom.TheVariants.{Unknown, Written}
-use Rattle.solver.specs.declared.system.Constraint.{Constraint}
-use Rattle.solver.specs.declared.system.System.{System}
+use Rattle.solver.specs.declared.constraints.Atom.{Atom}
+use Rattle.solver.specs.declared.constraints.Atom.TheVariants.{Unknown, Written}
+use Rattle.solver.specs.declared.constraints.Constraint.{Constraint}
+use Rattle.solver.specs.declared.constraints.Constraints.{Constraints}
 use Rattle.checker.specs.declared.fault.Step.{Step}
 use Rattle.checker.specs.Reported.{ReportsFlow, report_at, report_of, reported_by, reported_of}
 use Rattle.common.proofs.Cases.{contained_at, there_map_only}
@@ -95,15 +95,15 @@ written-is l table (Written n) v e = (n, refl, ap (written_or v) e)
 written-is l table (Unknown u) v e = absurd (cc)
 
 -- the stored constraint at which a refusal ends
-pub record EndsAt {T V : Type 0} (l : Lattice V) (system : System V T) (refusal : SolveRefusal) : Type 0 where
+pub record EndsAt {T V : Type 0} (l : Lattice V) (system : Constraints V T) (refusal : SolveRefusal) : Type 0 where
   pub some : 0 < length refusal.chain.items
   pub last : Constraint T
   pub at : slice_get system.constraints.items (last_of refusal.chain.items) ≡ Some last
   pub to : ℕ
   pub right : last.right ≡ Written to
-  pub not_below : IsFalse (l.lies_below (written_at l system.written.items refusal.from) (written_at l system.written.items to))
+  pub not_below : IsFalse (l.leq (written_at l system.written.items refusal.from) (written_at l system.written.items to))
 
-pub ends-at : {T V : Type 0} (l : Lattice V) (system : System V T) (refusal : SolveRefusal) → IsSolveRefusal l system refusal → EndsAt l system refusal
+pub ends-at : {T V : Type 0} (l : Lattice V) (system : Constraints V T) (refusal : SolveRefusal) → IsSolveRefusal l system refusal → EndsAt l system refusal
 ends-at {T} {V} l system refusal is =
     let chained = is.refused.chained in
     let picked = last-picked (constraints_of l system) (formal.Written (written_at l system.written.items refusal.from)) is.chain is.last chained.linked refusal.chain.items is.picked in
@@ -115,11 +115,11 @@ ends-at {T} {V} l system refusal is =
       at = found.1;
       to = right.0;
       right = right.1;
-      not_below = subst (λ v. IsFalse (l.lies_below (written_at l system.written.items refusal.from) v)) (sym right.2) chained.not_below;
+      not_below = subst (λ v. IsFalse (l.leq (written_at l system.written.items refusal.from) v)) (sym right.2) chained.not_below;
     }
 
 -- what is read there
-module _ {T V : Type 0} (l : Lattice V) (system : System V T) (refusal : SolveRefusal) (is : IsSolveRefusal l system refusal) where
+module _ {T V : Type 0} (l : Lattice V) (system : Constraints V T) (refusal : SolveRefusal) (is : IsSolveRefusal l system refusal) where
   pub index-inside : (chain : List ℕ) (constraints : List (Constraint T)) → chain ≡ refusal.chain.items → constraints ≡ system.constraints.items →
       (0 < length chain) × (last_of chain < length constraints)
   index-inside chain constraints same all =
@@ -145,13 +145,13 @@ module _ {T V : Type 0} (l : Lattice V) (system : System V T) (refusal : SolveRe
     pub right-written : c.right ≡ Written (ends-at l system refusal is).to
     right-written = ap (λ (d : Constraint T). d.right) (sym read-is) ∙ (ends-at l system refusal is).right
 
-    pub flow-fails : (to : ℕ) → c.right ≡ Written to → IsFalse (l.lies_below (written_at l system.written.items refusal.from) (written_at l system.written.items to))
+    pub flow-fails : (to : ℕ) → c.right ≡ Written to → IsFalse (l.leq (written_at l system.written.items refusal.from) (written_at l system.written.items to))
     flow-fails to right =
         let same : (ends-at l system refusal is).to ≡ to = ap number_or (sym right-written ∙ right) in
-        subst (λ n. IsFalse (l.lies_below (written_at l system.written.items refusal.from) (written_at l system.written.items n))) same (ends-at l system refusal is).not_below
+        subst (λ n. IsFalse (l.leq (written_at l system.written.items refusal.from) (written_at l system.written.items n))) same (ends-at l system refusal is).not_below
 
 -- a written right side of a constraint lies inside the table
-pub right-inside : {T V : Type 0} (system : System V T) → InRange (length system.written.items) system.unknowns system.constraints.items →
+pub right-inside : {T V : Type 0} (system : Constraints V T) → InRange (length system.written.items) system.unknowns system.constraints.items →
     (i : ℕ) (c : Constraint T) → slice_get system.constraints.items i ≡ Some c → (to : ℕ) → c.right ≡ Written to → to < length system.written.items
 right-inside {T} system range i c at to is =
     subst (IsBelow (length system.written.items) system.unknowns) is
@@ -159,7 +159,7 @@ right-inside {T} system range i c at to is =
     system.constraints.items c range (contained_at system.constraints.items i c at)).1
 
 -- ---- what is reported of a program that is refused
-pub flow-reported : (core : Core) (system : System Label (Option Target)) (refusal : SolveRefusal) →
+pub flow-reported : (core : Core) (system : Constraints Label (Option Target)) (refusal : SolveRefusal) →
     AreGathered (program_of core) (constraints_of (label_lattice core.hierarchy) system) → (is : IsSolveRefusal (label_lattice core.hierarchy) system refusal) →
     (c : Constraint (Option Target)) → slice_get system.constraints.items (last_of refusal.chain.items) ≡ Some c → (to : ℕ) → c.right ≡ Written to →
     (policy : ReaderPolicy) → Contains (written_at (label_lattice core.hierarchy) system.written.items refusal.from) policy →

@@ -6,7 +6,7 @@ use Rattle.labels.specs.Constraints.{label_lattice}
 use Rattle.resolved.specs.CoreOf.{program_of}
 use Rattle.resolved.specs.Labelled.{Unwritten}
 use Rattle.gathering.specs.Names.{unwritten_number}
-use Rattle.solver.specs.System.{values_of}
+use Rattle.solver.specs.Constraints.{values_of}
 use Rattle.checker.specs.declared.checked.Checked.{Checked}
 
 -- the value of the unknown with a number

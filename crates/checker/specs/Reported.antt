@@ -11,7 +11,7 @@ use Rattle.resolved.specs.Program.{Program}
 use Rattle.resolved.specs.EndFaults.{end_faults}
 use Rattle.resolved.specs.Labelled.{Demand}
 use Rattle.resolved.specs.Flow.{IsProgramRefused, ReportedStep, reported_step}
-use Rattle.solver.specs.declared.system.Constraint.{Constraint}
+use Rattle.solver.specs.declared.constraints.Constraint.{Constraint}
 use Rattle.acceptance.specs.Accepted.{IsAccepted, IsResolvedFrom}
 use Rattle.analysis.specs.Reported.{IsBeforeLabels, IsSourceRefusal}
 use Rattle.checker.specs.declared.fault.CheckRefusal.{CheckRefusal}

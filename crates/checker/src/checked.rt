@@ -24,7 +24,7 @@ impl Checked {
     ghost use Rattle.labels.specs.Constraints.{label_lattice};
     ghost use Rattle.resolved.specs.CoreOf.{program_of};
     ghost use Rattle.resolved.specs.Labelled.{OfLocal};
-    ghost use Rattle.solver.specs.System.{AreAlike};
+    ghost use Rattle.solver.specs.Constraints.{AreAlike};
 
     // The number of the first unknown of a procedure.
     fn first_unknown(&self, procedure: u32) -> Result<u32, AllocError>

@@ -5,7 +5,7 @@ ghost use Rattle.labels.specs.Label.{Covers, flows};
 ghost use Rattle.resolved.specs.CoreOf.{program_of};
 ghost use Rattle.resolved.specs.Flow.{AreGathered, reported_step};
 ghost use Rattle.solver.specs.Links.{InRange};
-ghost use Rattle.solver.specs.System.{IsSolveRefusal, constraints_of};
+ghost use Rattle.solver.specs.Constraints.{IsSolveRefusal, constraints_of};
 ghost use Rattle.std.specs.Prelude.{Contains, IfOk, IsFalse, flat_map, length, map, ◌≡◌};
 
 use crate::fault::{RefusedFlow, Step};
@@ -13,14 +13,14 @@ use labels::{Label, Policy};
 use principals::Hierarchy;
 use resolved::program::Core;
 use resolved::target::Target;
-use solver::{Atom, Constraint, SolveRefusal, System};
+use solver::{Atom, Constraint, Constraints, SolveRefusal};
 use std::alloc::{AllocError, Global};
 
 /// The flow for which a program is refused.
 pub(crate) fn flow_of(
     alloc: Global,
     core: Core,
-    system: &System<Label, Option<Target>>,
+    system: &Constraints<Label, Option<Target>>,
     refusal: &SolveRefusal,
 ) -> Result<RefusedFlow, AllocError>
     requires gathered { AreGathered (program_of core)

@@ -3,14 +3,13 @@ ghost use Rattle.acceptance.specs.Accepted.{IsAccepted};
 ghost use Rattle.checker.specs.Least.{least_label};
 ghost use Rattle.checker.specs.Reported.{HasFlow, IsCheckRefusal, IsNotAccepted, RefusesProgram};
 ghost use Rattle.common.specs.Answers.{IfRefused};
-ghost use Rattle.path_map.specs.Exits.{exits_of};
-ghost use Rattle.path_map.specs.Paths.{program_paths};
+ghost use Rattle.path_map.specs.EndsOf.{AreEndsOf};
 ghost use Rattle.resolved.specs.CoreOf.{program_of};
 ghost use Rattle.resolved.specs.EndFaults.{end_faults};
 ghost use Rattle.resolved.specs.Flow.{AreLeast};
 ghost use Rattle.resolved.specs.Isolated.{Isolated};
 ghost use Rattle.resolved.specs.Labelled.{Labelled};
-ghost use Rattle.std.specs.Prelude.{IfErr, IfOk, [], map, ◌≡◌};
+ghost use Rattle.std.specs.Prelude.{IfErr, IfOk, [], ◌≡◌};
 
 use crate::checked::Checked;
 use crate::fault::{CheckFault, CheckRefusal};
@@ -19,10 +18,10 @@ use analysis::{Analysed, analyse};
 use common::OrNoMemory;
 use constraints::gather;
 use labels::LabelLattice;
-use path_map::PathMap;
+use path_map::Ends;
 use principals::Hierarchy;
 use resolved::program::Core;
-use solver::{System, solve};
+use solver::{Constraints, solve};
 use std::alloc::Global;
 
 /// Checks a source under a hierarchy, phase by phase: its text, tokens and tree, its names, types and sizes, the ends of its
@@ -56,9 +55,9 @@ pub fn check(alloc: Global, hierarchy: &Hierarchy, source: &[u8]) -> Result<Chec
 }
 
 // A program without a fault of its ends, with its least labels if it is labelled.
-fn find_labels(alloc: Global, core: Core, ends: &PathMap) -> Result<Checked, CheckFault>
+fn find_labels(alloc: Global, core: Core, ends: &Ends) -> Result<Checked, CheckFault>
     requires ended { end_faults (program_of core) ≡ [] }
-    requires mapped { ends.now.entries.items ≡ map exits_of (program_paths (program_of core)) }
+    requires mapped { AreEndsOf (program_of core) ends.now }
     ensures core { IfOk result (λ checked. checked.core ≡ core) }
     ensures labelled { IfOk result (λ checked. Labelled (program_of checked.core)) }
     ensures least { IfOk result (λ checked.
@@ -71,7 +70,7 @@ fn find_labels(alloc: Global, core: Core, ends: &PathMap) -> Result<Checked, Che
     };
     match solve(alloc, &lattice, &system) {
         Ok(solution) => {
-            let System { written, .. } = system;
+            let Constraints { written, .. } = system;
             Ok(Checked {
                 core,
                 written,

@@ -58,9 +58,9 @@ abbrev pub explain_command : App
 explain_command =
     command (codes "explain") (file_rule (codes "HIER") ∷ file_rule (codes "SRC") ∷ [])
 
--- `flowc`, which wants one of the five
+-- `flowc`, which has a version and wants one of the five
 abbrev pub flowc_command : App
 flowc_command =
     fold (λ above below. with_subcommand above below.top)
-    (on_top (λ top. record top { subcommand_required = true }) (new_app (codes "flowc")))
+    (on_top (λ top. record top { subcommand_required = true; has_version = true }) (new_app (codes "flowc")))
     (check_command ∷ build_command ∷ run_command ∷ list_command ∷ explain_command ∷ [])

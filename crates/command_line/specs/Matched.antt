@@ -1,4 +1,4 @@
--- What the parser leaves under a subcommand of a command line that it takes.
+-- Private: what the parser leaves under a subcommand of a command line that it takes.
 -- Source: our own.
 use Rattle.std.specs.Prelude.{◌≡◌, ◌⊎◌, true, false, List, Option, Some, None, IfSome, codes, is_some}
 use Rattle.clap.specs.Words.{Accepts, Row, Text, first_of, found_of, one_of, rows_of}

@@ -6,4 +6,4 @@ mod request;
 mod words;
 
 pub use request::{DEFAULT_STEPS, MAX_STEPS, Task, TaskFault, TaskRefusal};
-pub use words::read_task;
+pub use words::task;

@@ -12,13 +12,13 @@ pub const DEFAULT_STEPS: u64 = 1_000_000;
 pub enum Task {
     /// Check a source under a hierarchy.
     Check {
-        hierarchy: String,
-        source: String,
+        hier: String,
+        src: String,
     },
     /// Compile a source under a hierarchy, and write the module to the file `out`.
     Build {
-        hierarchy: String,
-        source: String,
+        hier: String,
+        src: String,
         out: String,
     },
     /// Run a module on a world for at most so many steps, and show what this principal may read, or all of it where none is
@@ -35,8 +35,8 @@ pub enum Task {
     },
     /// Explain the labels of a source under a hierarchy, or why a flow is refused.
     Explain {
-        hierarchy: String,
-        source: String,
+        hier: String,
+        src: String,
     },
 }
 
@@ -49,13 +49,9 @@ impl Task {
         ensures { option_map (λ path. path.now) result ≡ slice_get (paths_of self.now) index }
     {
         let (first, second) = match self {
-            Task::Check { hierarchy, source }
-            | Task::Build {
-                hierarchy,
-                source,
-                ..
-            }
-            | Task::Explain { hierarchy, source } => (hierarchy, Some(source)),
+            Task::Check { hier, src }
+            | Task::Build { hier, src, .. }
+            | Task::Explain { hier, src } => (hier, Some(src)),
             Task::Run { file, world, .. } => (file, Some(world)),
             Task::List { file } => (file, None),
         };

@@ -13,7 +13,7 @@ ghost use Rattle.std.specs.Prelude.{◌≡◌, ◌≢◌, ◌≤◌, ◌∷◌, 
 use crate::request::{DEFAULT_STEPS, MAX_STEPS, Task, TaskFault, TaskRefusal};
 use clap::error::ErrorKind;
 use clap::{Arg, ArgAction, ArgMatches, Command, value_parser};
-use common::OrNoMemory;
+use common::{OrNoMemory, VERSION};
 use std::alloc::{AllocError, Global};
 
 /// The task that the words of a command line ask for. The first word is the program's name.
@@ -22,7 +22,7 @@ use std::alloc::{AllocError, Global};
 ///
 /// The text of the parser of command lines where the words are wrong or ask for help, or out of
 /// memory.
-pub fn read_task<'a>(alloc: Global, words: &'a [&'a str]) -> Result<Task, TaskFault>
+pub fn task<'a>(alloc: Global, words: &'a [&'a str]) -> Result<Task, TaskFault>
     ensures matched { IfOk result (IsTaskOf (subcommand_of flowc_command (texts words.now))) }
     ensures steps { IfOk result (λ task. steps_of task ≤ MAX_STEPS) }
     ensures accepted { IfOk result (λ _. fault_of flowc_command (texts words.now) ≡ []) }
@@ -60,6 +60,7 @@ fn make_command<'a>(alloc: Global) -> Result<Command<'a>, AllocError>
 {
     Command::new(alloc, "flowc")
         .about("Checks, compiles and runs programs with confidentiality labels")
+        .version(VERSION)
         .subcommand_required(true)
         .subcommand(make_check(alloc)?)?
         .subcommand(make_build(alloc)?)?
@@ -226,8 +227,8 @@ fn read_check(alloc: Global, matches: &ArgMatches<'_>) -> Result<Task, AllocErro
     ensures steps { IfOk result (λ task. steps_of task ≤ MAX_STEPS) }
 {
     Ok(Task::Check {
-        hierarchy: read_word(alloc, matches, "HIER")?,
-        source: read_word(alloc, matches, "SRC")?,
+        hier: read_word(alloc, matches, "HIER")?,
+        src: read_word(alloc, matches, "SRC")?,
     })
 }
 
@@ -237,8 +238,8 @@ fn read_build(alloc: Global, matches: &ArgMatches<'_>) -> Result<Task, AllocErro
     ensures steps { IfOk result (λ task. steps_of task ≤ MAX_STEPS) }
 {
     Ok(Task::Build {
-        hierarchy: read_word(alloc, matches, "HIER")?,
-        source: read_word(alloc, matches, "SRC")?,
+        hier: read_word(alloc, matches, "HIER")?,
+        src: read_word(alloc, matches, "SRC")?,
         out: read_word(alloc, matches, "OUT")?,
     })
 }
@@ -272,8 +273,8 @@ fn read_explain(alloc: Global, matches: &ArgMatches<'_>) -> Result<Task, AllocEr
     ensures steps { IfOk result (λ task. steps_of task ≤ MAX_STEPS) }
 {
     Ok(Task::Explain {
-        hierarchy: read_word(alloc, matches, "HIER")?,
-        source: read_word(alloc, matches, "SRC")?,
+        hier: read_word(alloc, matches, "HIER")?,
+        src: read_word(alloc, matches, "SRC")?,
     })
 }
 

@@ -7,6 +7,8 @@ pub mod exceptions;
 pub mod fault;
 pub mod laws;
 pub mod limits;
+pub mod version;
 
 pub use direction::Direction;
 pub use fault::OrNoMemory;
+pub use version::VERSION;

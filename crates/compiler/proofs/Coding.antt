@@ -5,12 +5,12 @@ use Rattle.labels.specs.Sets.{SameSet, ascending_set}
 use Rattle.labels.proofs.Ascending.{ascending_set-SameSet}
 use Rattle.resolved.specs.Isolated.{Isolated}
 use Rattle.resolved.specs.Program.{Program}
-use Rattle.bytecode.specs.Contents.{ModuleContents}
-use Rattle.module_file.specs.Decoded.{refusal_of}
-use Rattle.bytecode.specs.Form.{Spells}
-use Rattle.bytecode.specs.Format.{module_file, pair_cmp}
-use Rattle.bytecode.specs.Machine.{after_steps}
-use Rattle.module_file.proofs.Both.{module_again}
+use Rattle.modules.specs.Contents.{ModuleContents}
+use Rattle.bytecode.specs.Decoded.{refusal_of}
+use Rattle.modules.specs.Form.{Spells}
+use Rattle.modules.specs.Format.{module_file, pair_cmp}
+use Rattle.modules.specs.Machine.{after_steps}
+use Rattle.bytecode.proofs.Both.{module_again}
 use Rattle.layout.specs.Offsets.{laid_out}
 use Rattle.verifier.specs.Refusals.{HasNoDefect}
 use Rattle.verifier.specs.Safety.{IsNeverStuck}

@@ -6,9 +6,9 @@ use Rattle.labels.proofs.Prefixes.{prefixes-of-two, seen-prefix}
 use Rattle.resolved.specs.Isolated.{Isolated}
 use Rattle.resolved.specs.Meaning.{sent_by}
 use Rattle.resolved.specs.Program.{Program}
-use Rattle.bytecode.specs.Contents.{ModuleContents}
-use Rattle.bytecode.specs.Isolated.{channel_label, module_view, IsIsolated}
-use Rattle.bytecode.specs.Machine.{after_steps, sent_after}
+use Rattle.modules.specs.Contents.{ModuleContents}
+use Rattle.modules.specs.Isolated.{channel_label, module_view, IsIsolated}
+use Rattle.modules.specs.Machine.{after_steps, sent_after}
 use Rattle.lowering.specs.SameMeaning.{SameMeaning}
 use Rattle.compiler.specs.Compiled.{HasInterfaceOf}
 use Rattle.compiler.proofs.Readers.{seen-module, agree-module}

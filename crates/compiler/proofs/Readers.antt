@@ -12,8 +12,8 @@ use Rattle.resolved.specs.Isolated.{Agree}
 use Rattle.resolved.specs.Labelled.{channel_label}
 use Rattle.resolved.specs.Program.{Program, ChannelEntry, channel_at}
 use Rattle.resolved.specs.SourceState.{World}
-use Rattle.bytecode.specs.Contents.{ChannelContents, ModuleContents}
-use Rattle.bytecode.specs.Isolated.{label_in, channel_label as module_label, module_view, AgreeOnInputs}
+use Rattle.modules.specs.Contents.{ChannelContents, ModuleContents}
+use Rattle.modules.specs.Isolated.{label_in, channel_label as module_label, module_view, AgreeOnInputs}
 use Rattle.lowering.specs.Interface.{channel_contents}
 use Rattle.compiler.specs.Compiled.{HasInterfaceOf}
 

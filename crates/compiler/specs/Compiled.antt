@@ -4,12 +4,12 @@
 use Rattle.std.specs.Prelude.{◌≡◌, ◌↔◌, ℕ, List, map, None}
 use Rattle.principals.specs.ActsFor.{ActsFor}
 use Rattle.resolved.specs.Program.{Program}
-use Rattle.bytecode.specs.Contents.{ModuleContents}
-use Rattle.module_file.specs.Decoded.{first_refusal}
-use Rattle.bytecode.specs.Form.{Spells}
-use Rattle.bytecode.specs.Format.{module_file}
-use Rattle.bytecode.specs.Isolated.{IsIsolated}
-use Rattle.bytecode.specs.Machine.{after_steps}
+use Rattle.modules.specs.Contents.{ModuleContents}
+use Rattle.bytecode.specs.Decoded.{first_refusal}
+use Rattle.modules.specs.Form.{Spells}
+use Rattle.modules.specs.Format.{module_file}
+use Rattle.modules.specs.Isolated.{IsIsolated}
+use Rattle.modules.specs.Machine.{after_steps}
 use Rattle.verifier.specs.Refusals.{HasNoDefect}
 use Rattle.verifier.specs.Safety.{IsNeverStuck}
 use Rattle.lowering.specs.Interface.{channel_contents}

@@ -12,17 +12,17 @@ ghost use Rattle.resolved.specs.Isolated.{Isolated};
 ghost use Rattle.resolved.specs.Names.{HasNames};
 ghost use Rattle.std.specs.Prelude.{IfErr, IfOk, IfSome, IsSome, List, [], ℕ, ◌↔◌, ◌≡◌};
 
-use crate::fault::{CompileFault, CompileRefusal, TextsFault, TextsRefusal};
+use crate::fault::{CompileRefusal, Fault, TextsFault, TextsRefusal};
 use crate::position::place_of;
 use acceptance::laws::{one_verdict, resolved_programs_have_names};
 use acceptance::{Cause, Text};
 use analysis::{SourceRefusal, text_of};
+use bytecode::encode;
 use checker::{CheckRefusal, Checked, check};
 use common::OrNoMemory;
 use layout::emit;
 use lowering::laws::{modules_are_never_stuck, modules_have_no_defect, modules_keep_meaning};
 use lowering::lower;
-use module_file::encode;
 use principals::Hierarchy;
 use resolved::program::Core;
 use std::alloc::{AllocError, Global};
@@ -35,7 +35,7 @@ use std::alloc::{AllocError, Global};
 /// # Errors
 ///
 /// The first fault of the two texts, at its line and column; or out of memory.
-pub fn compile(alloc: Global, hierarchy: &[u8], source: &[u8]) -> Result<Vec<u8>, CompileFault>
+pub fn compile(alloc: Global, hierarchy: &[u8], source: &[u8]) -> Result<Vec<u8>, Fault>
     // The bytes are code of the program that the two texts stand for.
     ensures accepted { IfOk result (λ code. IsCompiled hierarchy.now source.now code.items) }
 
@@ -88,7 +88,7 @@ pub fn check_texts(alloc: Global, hierarchy: &[u8], source: &[u8]) -> Result<Che
 }
 
 // The hierarchy of a text.
-fn principals_of(alloc: Global, bytes: &[u8]) -> Result<Hierarchy, CompileFault>
+fn principals_of(alloc: Global, bytes: &[u8]) -> Result<Hierarchy, Fault>
     ensures has { IfOk result (HasHierarchy bytes.now) }
     ensures first_fault { (source : List ℕ) →
         IfErr result (IfRefused (IsFirstFault bytes.now source)) }

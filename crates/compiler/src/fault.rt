@@ -19,7 +19,7 @@ pub struct CompileRefusal {
 }
 
 /// Why two texts gave no module.
-pub type CompileFault = OrNoMemory<CompileRefusal>;
+pub type Fault = OrNoMemory<CompileRefusal>;
 
 impl fmt::Display for CompileRefusal {
     ghost output = { λ refusal. Some (cause_words refusal.cause) };

@@ -6,5 +6,5 @@ pub mod fault;
 pub mod position;
 
 pub use compilation::{check_texts, compile};
-pub use fault::{CompileFault, CompileRefusal, TextsFault, TextsRefusal};
+pub use fault::{CompileRefusal, Fault, TextsFault, TextsRefusal};
 pub use position::{place_of, places_agree};

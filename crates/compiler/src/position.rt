@@ -62,7 +62,7 @@ fn begins_character(byte: u8) -> bool
     byte < 128 || byte >= 192
 }
 
-/// The law that these places are those of [`lexer::find_place`]: a character of a text in UTF-8 has the same line and the same column by
+/// The law that these places are those of [`lexer::place`]: a character of a text in UTF-8 has the same line and the same column by
 /// both. It does nothing when it is called.
 pub fn places_agree()
     ensures line { LinesAgree }

@@ -16,7 +16,7 @@ use Rattle.path_map.specs.Paths.{block_paths, handlers_paths, inner_paths, rest_
 use Rattle.gathering.specs.Names.{NamedAtom, NamedConstraint}
 use Rattle.gathering.specs.Walk as walk
 use Rattle.gathering.specs.Walk.{block_constraints, handlers_constraints, inner_atom, inner_block, made_by_block, made_by_handlers, made_by_statement, onward_pc, single, statement_constraints, with_normal, within_single}
-use Rattle.solver.specs.declared.system.Atom.{Atom}
+use Rattle.solver.specs.declared.constraints.Atom.{Atom}
 use Rattle.constraints.specs.Added.{AreAdded, IsPart, Stored}
 use Rattle.constraints.specs.LeftSides.{scope_of}
 use Rattle.constraints.specs.Takers.{AreLevelled, takers_of}

@@ -29,7 +29,7 @@ use Rattle.path_map.specs.declared.exits.Exits.{Exits}
 use Rattle.path_map.proofs.Procedures.{next-procedure}
 use Rattle.gathering.specs.Names.{NamedAtom, NamedConstraint, Real}
 use Rattle.gathering.specs.Walk.{at_end, constraints_from, end_constraints, end_takers, has_one_end, inner_atom, inner_block, made_by_block, made_by_procedure, made_from, nowhere, procedure_constraints, program_constraints, rule_constraint, thrown_constraints, thrown_number}
-use Rattle.solver.specs.declared.system.Atom.{Atom}
+use Rattle.solver.specs.declared.constraints.Atom.{Atom}
 use Rattle.constraints.specs.Added.{AreAdded, IsPart, Stored}
 use Rattle.constraints.specs.LeftSides.{scope_of}
 use Rattle.constraints.specs.Procedures.{AreDeclaredTakers, HasPassedProcedure, StaysInPlace, IsOf, IsProcedureWalked, end_takers_of, number_in}

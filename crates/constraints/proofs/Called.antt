@@ -20,7 +20,7 @@ use Rattle.gathering.specs.Walk.{argument_constraints, call_atoms, call_flows, f
 use Rattle.path_map.specs.declared.raises.Raises.{Raises}
 use Rattle.path_map.specs.Joins.{raised_list}
 use Rattle.path_map.specs.Sets.{AreRaised}
-use Rattle.solver.specs.declared.system.Atom.{Atom}
+use Rattle.solver.specs.declared.constraints.Atom.{Atom}
 use Rattle.constraints.specs.Added.{AreAdded, IsLeftFrom, Stored, flow_if}
 use Rattle.constraints.specs.LeftSides.{IsJoined, joined, scope_of, wanted_part}
 use Rattle.constraints.specs.declared.rows.ThrownLabel.{ThrownLabel}

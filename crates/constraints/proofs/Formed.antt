@@ -21,7 +21,7 @@ use Rattle.path_map.specs.Paths.{block_paths, handlers_paths, inner_paths, rest_
 use Rattle.gathering.specs.Names.{NamedAtom, NamedConstraint, Real, named_atoms}
 use Rattle.gathering.specs.Walk as walk
 use Rattle.gathering.specs.Walk.{block_constraints, flow, handler_count, handler_number, handlers_constraints, in_loop, in_try, inner_atom, inner_block, inner_constraint, made_by_block, made_by_handlers, made_by_statement, raise_atoms, raised_flows, rule_constraint, single, statement_constraints, with_normal, within_single}
-use Rattle.solver.specs.declared.system.Atom.{Atom}
+use Rattle.solver.specs.declared.constraints.Atom.{Atom}
 use Rattle.constraints.specs.Added.{IsGatheredAt, IsPart}
 use Rattle.constraints.specs.LeftSides.{scope_of}
 use Rattle.constraints.specs.Takers.{AreLevelled, AreWithin, takers_of, undone}

@@ -14,9 +14,9 @@ use Rattle.gathering.specs.Names.{numbered}
 use Rattle.gathering.specs.Walk as walk
 use Rattle.gathering.specs.Walk.{gathered_constraints, program_constraints}
 use Rattle.solver.specs.Links.{AreBelow, InRange, IsBelow}
-use Rattle.solver.specs.System.{atom_of, constraint_of}
-use Rattle.solver.specs.declared.system.Atom.{Atom}
-use Rattle.solver.specs.declared.system.Atom.TheVariants as stored
+use Rattle.solver.specs.Constraints.{atom_of, constraint_of}
+use Rattle.solver.specs.declared.constraints.Atom.{Atom}
+use Rattle.solver.specs.declared.constraints.Atom.TheVariants as stored
 use Rattle.constraints.specs.LeftSides.{part, left_parts, wanted}
 use Rattle.constraints.specs.Added.{AreAdded, Stored, stand_for, stands_for, wanted_of}
 use Rattle.constraints.proofs.Tables.{map-map}

@@ -14,7 +14,7 @@ use Rattle.common.specs.declared.exceptions.TheConstants.{ARITH}
 use Rattle.resolved.specs.Ends.{divisor_can_raise, is_division, operator_raises, raises}
 use Rattle.resolved.specs.Labelled.{Join, Scope, any_of, value_label}
 use Rattle.gathering.specs.Walk.{raise_atoms, raise_atoms_all}
-use Rattle.solver.specs.declared.system.Atom.{Atom}
+use Rattle.solver.specs.declared.constraints.Atom.{Atom}
 use Rattle.resolved.specs.declared.expression.Expression as E
 use Rattle.resolved.specs.TreeOf.{expression_of}
 use Rattle.constraints.specs.LeftSides.{IsJoined, scope_of, joined, left_parts}

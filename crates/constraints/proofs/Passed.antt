@@ -7,7 +7,7 @@ use Rattle.resolved.specs.declared.statement.Exit.{Exit}
 use Rattle.path_map.specs.declared.exits.Exits.{Exits}
 use Rattle.path_map.specs.Exits.{exits_of}
 use Rattle.gathering.specs.Names.{NamedAtom, NamedConstraint}
-use Rattle.solver.specs.declared.system.Atom.{Atom}
+use Rattle.solver.specs.declared.constraints.Atom.{Atom}
 use Rattle.constraints.specs.Added.{IsGatheredAt, IsPart}
 use Rattle.constraints.specs.Takers.{AreLevelled}
 use Rattle.constraints.specs.Walked.{HasPassed, IsWalked}

@@ -26,7 +26,7 @@ use Rattle.path_map.specs.Exits.{exits_of}
 use Rattle.path_map.specs.Paths.{block_paths, handlers_paths, inner_paths, rest_paths, statement_paths}
 use Rattle.gathering.specs.Names.{NamedAtom, NamedConstraint}
 use Rattle.gathering.specs.Walk.{inner_block, made_by_block, made_by_statement, single}
-use Rattle.solver.specs.declared.system.Atom.{Atom}
+use Rattle.solver.specs.declared.constraints.Atom.{Atom}
 use Rattle.constraints.specs.Ready.{AreHandledInside, AreHandlersReady, AreStatementsReady, IsBlockReady, IsFormReady, IsReady, IsStatementReady, exception_count}
 use Rattle.constraints.specs.Takers.{AreLevelled, takers_of, undone}
 use Rattle.constraints.specs.LeftSides.{scope_of}

@@ -23,8 +23,8 @@ use Rattle.resolved.specs.Labelled.{OfLocal, parameter_label, result_label, thro
 use Rattle.resolved.specs.Ends.{declared_by}
 use Rattle.resolved.specs.Tree.{Empty}
 use Rattle.gathering.specs.Names.{Real, own_unknowns, unknowns_before}
-use Rattle.solver.specs.declared.system.Atom.{Atom}
-use Rattle.solver.specs.declared.system.Atom.TheVariants as stored
+use Rattle.solver.specs.declared.constraints.Atom.{Atom}
+use Rattle.solver.specs.declared.constraints.Atom.TheVariants as stored
 use Rattle.constraints.specs.LeftSides.{Part, Unknown, Written, part, part_of, left_parts, wanted_part}
 use Rattle.constraints.specs.Rows.{TableGrows, Mean, Means, AreProcedureRows, IsRow, IsTable, label_among, slot_parts, thrown_parts, written_atom, written_part}
 use Rattle.constraints.specs.declared.rows.ProcedureLabels.{ProcedureLabels}

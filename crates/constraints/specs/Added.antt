@@ -1,4 +1,4 @@
--- Stored constraints to which more were added.
+-- Private: stored constraints to which more were added.
 -- Source: our own.
 use Rattle.std.specs.Prelude.{◌≡◌, ℕ, List, [], ◌∷◌, ◌++◌, map, Bool, Option, if◌then◌else◌}
 use Rattle.labels.specs.Label.{Label}
@@ -11,8 +11,8 @@ use Rattle.resolved.specs.Labelled.{Join}
 use Rattle.resolved.specs.Program.{Program}
 use Rattle.gathering.specs.Names.{NamedAtom, NamedConstraint, named_atoms, numbered}
 use Rattle.gathering.specs.Walk.{flow}
-use Rattle.solver.specs.declared.system.Atom.{Atom}
-use Rattle.solver.specs.declared.system.Constraint.{Constraint}
+use Rattle.solver.specs.declared.constraints.Atom.{Atom}
+use Rattle.solver.specs.declared.constraints.Constraint.{Constraint}
 use Rattle.constraints.specs.LeftSides.{part, left_parts, wanted, wanted_part}
 
 abbrev pub Stored : Type 0

@@ -1,4 +1,4 @@
--- What a stored part of a constraint stands for, by the table of written labels: the label that the table has under its number, or
+-- Private: what a stored part of a constraint stands for, by the table of written labels: the label that the table has under its number, or
 -- an unknown by its number.
 -- Source: our own.
 use Rattle.std.specs.Prelude.{◌≡◌, ℕ, List, ◌++◌, map, Option, Some, slice_get, if◌then◌else◌}
@@ -14,8 +14,8 @@ use Rattle.resolved.specs.Ends.{index_can_raise}
 use Rattle.resolved.specs.Labelled.{Join, Scope, label_of, value_label}
 use Rattle.gathering.specs.Names.{NamedAtom, Real, named_atoms, numbered_atom}
 use Rattle.gathering.specs.Walk.{raise_atoms}
-use Rattle.solver.specs.declared.system.Atom.{Atom}
-use Rattle.solver.specs.declared.system.Atom.TheVariants as stored
+use Rattle.solver.specs.declared.constraints.Atom.{Atom}
+use Rattle.solver.specs.declared.constraints.Atom.TheVariants as stored
 
 -- a label, or none where the table has none under the number; or an unknown
 abbrev pub Part : Type 0

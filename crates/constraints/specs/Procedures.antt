@@ -1,4 +1,4 @@
--- The takers of a procedure's ends as a table, and a walk past a procedure.
+-- Private: the takers of a procedure's ends as a table, and a walk past a procedure.
 -- Source: our own.
 use Rattle.std.specs.Prelude.{◌≡◌, ℕ, suc, ◌+◌, ◌==◌, List, [], ◌∷◌, ◌++◌, drop, length, map, if◌then◌else◌, Some, None, Bool, true, false, slice_index_or}
 use Rattle.labels.specs.Label.{Label}

@@ -1,4 +1,4 @@
--- What a walk along blocks, statements, handlers and procedures asks for before it goes past them.
+-- Private: what a walk along blocks, statements, handlers and procedures asks for before it goes past them.
 -- Source: our own.
 use Rattle.std.specs.Prelude.{◌≡◌, ℕ, ◌+◌, ◌≤◌, ◌<◌, List, ◌++◌, drop, length, map, Bool, IsTrue}
 use Rattle.std.specs.List.{All}
@@ -25,6 +25,10 @@ use Rattle.constraints.specs.declared.takers.Takers.{Takers}
 -- how many exceptions there are, built in and declared
 abbrev pub exception_count : Core → ℕ
 exception_count core = BUILT_IN + length (program_of core).exceptions
+
+-- the summaries of the ends of a program's statements and blocks, along which a walk goes
+abbrev pub entries_of : List (List Exit) → List Exits
+entries_of found = map exits_of found
 
 -- exceptions that have entries
 abbrev pub AreHandledInside : List Handler → (thrown : List Entry) → Type 0

@@ -1,4 +1,4 @@
--- The stored parts that stand for the labels of a program's tables.
+-- Private: the stored parts that stand for the labels of a program's tables.
 -- Source: our own.
 use Rattle.std.specs.Prelude.{◌≡◌, ℕ, suc, ◌+◌, List, [], ◌∷◌, ◌++◌, map, length, Option, Some, None, slice_index_or, if◌then◌else◌, ◌==◌}
 use Rattle.labels.specs.Label.{Label}
@@ -8,8 +8,8 @@ use Rattle.resolved.specs.Program.{ProcedureEntry, SlotEntry, ThrownEntry, Chann
 use Rattle.resolved.specs.Ends.{declared_by}
 use Rattle.resolved.specs.Labelled.{result_label}
 use Rattle.gathering.specs.Names.{own_unknowns, unknowns_before}
-use Rattle.solver.specs.declared.system.Atom.{Atom}
-use Rattle.solver.specs.declared.system.Atom.TheVariants as stored
+use Rattle.solver.specs.declared.constraints.Atom.{Atom}
+use Rattle.solver.specs.declared.constraints.Atom.TheVariants as stored
 use Rattle.constraints.specs.LeftSides.{Part, Unknown, Written, part, left_parts}
 use Rattle.constraints.specs.declared.rows.ProcedureLabels.{ProcedureLabels}
 use Rattle.constraints.specs.declared.rows.ThrownLabel.{ThrownLabel}

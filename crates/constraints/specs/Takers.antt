@@ -1,4 +1,4 @@
--- The takers of ends as a table: one of each end that is no exception, and for each exception an entry with its level. An entry
+-- Private: the takers of ends as a table: one of each end that is no exception, and for each exception an entry with its level. An entry
 -- counts where its level is above the barrier, so that raising the barrier takes all of them away at once.
 -- Source: our own.
 use Rattle.std.specs.Prelude.{ℕ, suc, ◌≤◌, ◌==◌, List, [], ◌∷◌, set, Option, Some, None, if◌then◌else◌, nat_lt, slice_index_or}

@@ -1,4 +1,4 @@
--- What a walk along blocks, statements and handlers does, where the path map has their ends from an entry on.
+-- Private: what a walk along blocks, statements and handlers does, where the path map has their ends from an entry on.
 -- Source: our own.
 use Rattle.std.specs.Prelude.{◌≡◌, ℕ, ◌+◌, List, ◌∷◌, ◌++◌, drop, length, map, true, Some, None}
 use Rattle.labels.specs.Label.{Label}
@@ -16,7 +16,7 @@ use Rattle.path_map.specs.Paths.{block_paths, handlers_paths, inner_paths, rest_
 use Rattle.gathering.specs.Names.{NamedAtom, NamedConstraint, named_atoms}
 use Rattle.gathering.specs.Walk as walk
 use Rattle.gathering.specs.Walk.{block_constraints, handler_count, handler_number, handlers_constraints, in_try, inner_block, inner_constraint, made_by_block, made_by_handlers, made_by_statement, raise_atoms, raised_flows, single, statement_constraints, with_normal, within_single}
-use Rattle.solver.specs.declared.system.Atom.{Atom}
+use Rattle.solver.specs.declared.constraints.Atom.{Atom}
 use Rattle.constraints.specs.Added.{IsGatheredAt}
 use Rattle.constraints.specs.LeftSides.{scope_of}
 use Rattle.constraints.specs.Takers.{AreLevelled, takers_of, undone}

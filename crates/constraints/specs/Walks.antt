@@ -1,4 +1,4 @@
--- What is gathered of statements.
+-- Private: what is gathered of statements.
 -- Source: our own.
 use Rattle.std.specs.Prelude.{ℕ, List, [], ◌∷◌, ◌++◌}
 use Rattle.labels.specs.Label.{Label}
@@ -14,7 +14,7 @@ use Rattle.resolved.specs.Labelled.{Scope, label_of, value_label}
 use Rattle.gathering.specs.Names.{NamedAtom, NamedConstraint, Real, named_atoms}
 use Rattle.gathering.specs.Walk as walk
 use Rattle.gathering.specs.Walk.{flow, inner_atom, inner_constraint, raise_atoms, raised_flows, rule_constraint, statement_constraints}
-use Rattle.solver.specs.declared.system.Atom.{Atom}
+use Rattle.solver.specs.declared.constraints.Atom.{Atom}
 use Rattle.constraints.specs.Added.{IsGatheredAt, Stored}
 use Rattle.constraints.specs.LeftSides.{scope_of}
 

@@ -1,4 +1,5 @@
 //! The pieces of what is gathered of statements with blocks.
+ghost use Rattle.constraints.specs.Ready.{entries_of};
 ghost use Rattle.constraints.specs.Added.{AreAdded, IsGatheredAt};
 ghost use Rattle.constraints.specs.LeftSides.{scope_of};
 ghost use Rattle.constraints.specs.Takers.{takers_of};
@@ -29,18 +30,18 @@ impl<'a> Walk<'a> {
     /// The possible ends that the path map has under this number.
     pub fn exits_at(&self, number: usize) -> Exits
         ensures { (exits : Exits) (rest : List Exits) →
-            drop number self.now.map.now.entries.items ≡ exits ∷ rest → result ≡ exits }
+            drop number (entries_of self.now.map.now) ≡ exits ∷ rest → result ≡ exits }
     {
-        match self.map.entries.get(number) {
-            None => Exits {
+        if number >= self.map.len() {
+            return Exits {
                 normal: false,
                 returns: false,
                 breaks: false,
                 continues: false,
                 raised: Raised::Nothing,
-            },
-            Some(exits) => *exits,
+            };
         }
+        self.map.exits(number)
     }
 
     /// Adds the flow of the pc to the taker of the possible end, where there is one only.

@@ -1,7 +1,7 @@
 //! The pieces of a walk along blocks, statements and handlers that go into no block.
 ghost use Rattle.constraints.specs.Added.{IsPart};
 ghost use Rattle.constraints.specs.LeftSides.{scope_of};
-ghost use Rattle.constraints.specs.Ready.{AreHandledInside};
+ghost use Rattle.constraints.specs.Ready.{entries_of, AreHandledInside};
 ghost use Rattle.constraints.specs.Takers.{AreLevelled, no_entry, takers_of, undone};
 ghost use Rattle.constraints.specs.Walked.{IsTried, IsWalked, branch_constraints};
 ghost use Rattle.constraints.specs.Walks.{loop_head_constraints};
@@ -38,12 +38,14 @@ pub(crate) struct Tried {
 impl<'a> Walk<'a> {
     // The possible ends of the next block or statement.
     fn next_exits(&self, progress: &mut Progress) -> Exits
-        requires { progress.old.index < length self.now.map.now.entries.items }
-        ensures found { drop progress.old.index self.now.map.now.entries.items
-            ≡ result ∷ drop progress.new.index self.now.map.now.entries.items }
+        requires { progress.old.index < length (entries_of self.now.map.now) }
+        ensures found { drop progress.old.index (entries_of self.now.map.now)
+            ≡ result ∷ drop progress.new.index (entries_of self.now.map.now) }
         ensures others { progress.new ≡ record progress.old { index = progress.new.index } }
     {
-        let exits = self.map.entries[progress.index];
+        let count = self.map.len();
+        prove!(progress.index < count);
+        let exits = self.map.exits(progress.index);
         progress.index += 1;
         exits
     }
@@ -55,13 +57,13 @@ impl<'a> Walk<'a> {
         takers: Takers,
         progress: &mut Progress,
     ) -> Result<Exits, AllocError>
-        requires { progress.old.index < length self.now.map.now.entries.items }
+        requires { progress.old.index < length (entries_of self.now.map.now) }
         ensures exits { IfOk result (λ exits. (first : Exits) (left : List Exits) →
-            drop progress.old.index self.now.map.now.entries.items ≡ first ∷ left →
+            drop progress.old.index (entries_of self.now.map.now) ≡ first ∷ left →
             exits ≡ first) }
         ensures added { OnOk result ((ends : List Exit) →
             IsWalked self.now.table.now.core.now self.now.table.now.written.items
-            self.now.map.now.entries.items pc takers (ends ∷ [])
+            (entries_of self.now.map.now) pc takers (ends ∷ [])
             (λ (named : NamedAtom).
             single (one_end ends) named (takers_of takers progress.old.thrown.items) ends) 0
             progress.old progress.new) }
@@ -101,7 +103,7 @@ impl<'a> Walk<'a> {
     ) -> Result<(), AllocError>
         ensures { OnOk result ((n : ℕ) →
             IsWalked self.now.table.now.core.now self.now.table.now.written.items
-            self.now.map.now.entries.items pc takers []
+            (entries_of self.now.map.now) pc takers []
             (λ (named : NamedAtom). block_constraints
             (scope_of self.now.table.now.core.now self.now.procedure) reached named
             (takers_of takers progress.old.thrown.items) n Empty) 0
@@ -128,7 +130,7 @@ impl<'a> Walk<'a> {
         ensures number { IfOk result (λ number. number ≡ progress.old.number) }
         ensures added { OnOk result (
             IsWalked self.now.table.now.core.now self.now.table.now.written.items
-            self.now.map.now.entries.items pc takers []
+            (entries_of self.now.map.now) pc takers []
             (λ (named : NamedAtom). branch_constraints
             (scope_of self.now.table.now.core.now self.now.procedure) named
             (takers_of takers progress.old.thrown.items) progress.old.number
@@ -161,7 +163,7 @@ impl<'a> Walk<'a> {
         ensures back { IfOk result (λ pcs. pcs.1 ≡ progress.old.number + 1) }
         ensures added { OnOk result (
             IsWalked self.now.table.now.core.now self.now.table.now.written.items
-            self.now.map.now.entries.items pc takers []
+            (entries_of self.now.map.now) pc takers []
             (λ (named : NamedAtom). loop_head_constraints
             (scope_of self.now.table.now.core.now self.now.procedure) named
             (takers_of takers progress.old.thrown.items) progress.old.number at number
@@ -192,7 +194,7 @@ impl<'a> Walk<'a> {
     ) -> Result<(), AllocError>
         ensures { OnOk result ((pc : Atom) (takers : Takers) →
             IsWalked self.now.table.now.core.now self.now.table.now.written.items
-            self.now.map.now.entries.items pc takers []
+            (entries_of self.now.map.now) pc takers []
             (λ (named : NamedAtom). rule_constraint
             (scope_of self.now.table.now.core.now self.now.procedure) at 8
             (inner_atom back ∷ []) (ToLoop self.now.procedure number)) 0
@@ -245,7 +247,7 @@ impl<'a> Walk<'a> {
     ) -> Result<(), AllocError>
         ensures { OnOk result (
             IsWalked self.now.table.now.core.now self.now.table.now.written.items
-            self.now.map.now.entries.items pc takers []
+            (entries_of self.now.map.now) pc takers []
             (λ (named : NamedAtom). call_constraints
             (scope_of self.now.table.now.core.now self.now.procedure) named
             (takers_of takers progress.old.thrown.items) progress.old.number at callee

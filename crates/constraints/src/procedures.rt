@@ -2,11 +2,10 @@
 ghost use Rattle.constraints.specs.Added.{AreAdded};
 ghost use Rattle.constraints.specs.LeftSides.{scope_of};
 ghost use Rattle.constraints.specs.Procedures.{AreDeclaredTakers, StaysInPlace, IsOf, IsProcedureWalked, end_takers_of, number_in};
-ghost use Rattle.constraints.specs.Ready.{AreThrownInside, IsProcedureReady};
+ghost use Rattle.constraints.specs.Ready.{entries_of, AreThrownInside, IsProcedureReady};
 ghost use Rattle.constraints.specs.Takers.{AreWithin};
 ghost use Rattle.gathering.specs.Walk.{end_constraints, has_one_end, made_from, program_constraints, thrown_constraints};
-ghost use Rattle.path_map.specs.Exits.{exits_of};
-ghost use Rattle.path_map.specs.Paths.{program_paths};
+ghost use Rattle.path_map.specs.EndsOf.{AreEndsOf};
 ghost use Rattle.resolved.specs.CoreOf.{program_of};
 ghost use Rattle.resolved.specs.ProgramOf.{thrown_entry};
 ghost use Rattle.resolved.specs.Labelled.{here};
@@ -21,7 +20,7 @@ use crate::takers::{Entry, Takers, entry_in, take};
 use crate::walking::walk_block;
 use common::exceptions::BUILT_IN;
 use gathering::unknowns::number_after;
-use path_map::PathMap;
+use path_map::Ends;
 use resolved::tables::{Procedure, Thrown};
 use resolved::target::Target;
 use solver::Constraint;
@@ -121,11 +120,11 @@ impl<'a> Walk<'a> {
         barrier: u32,
         progress: &mut Progress,
     ) -> Result<(), AllocError>
-        requires { IsProcedureReady self.now.table.now.core.now self.now.map.now.entries.items
+        requires { IsProcedureReady self.now.table.now.core.now (entries_of self.now.map.now)
             self.now.procedure barrier procedure.now progress.old }
         ensures { OnOk result (IsOf self.now.table.now.core.now self.now.procedure procedure.now →
             IsProcedureWalked self.now.table.now.core.now self.now.table.now.written.items
-            self.now.map.now.entries.items self.now.procedure barrier progress.old progress.new) }
+            (entries_of self.now.map.now) self.now.procedure barrier progress.old progress.new) }
     {
         let number = progress.number;
         let level = number_after(barrier, 1)?;
@@ -175,10 +174,9 @@ fn end_takers(number: u32, barrier: u32, level: u32, only: bool) -> Takers
 pub(crate) fn walk_procedures(
     alloc: Global,
     table: &Table,
-    ends: &PathMap,
+    ends: &Ends,
 ) -> Result<Progress, AllocError>
-    requires mapped { ends.now.entries.items
-        ≡ map exits_of (program_paths (program_of table.now.core.now)) }
+    requires mapped { AreEndsOf (program_of table.now.core.now) ends.now }
     ensures added { IfOk result (λ progress. AreAdded table.now.core.now table.now.written.items
         (program_constraints (program_of table.now.core.now)) [] progress.constraints.items) }
     ensures number { IfOk result (λ progress. progress.number

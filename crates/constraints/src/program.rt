@@ -1,46 +1,62 @@
 //! The constraints of a program.
-ghost use Rattle.gathering.specs.Walk.{gathered_constraints, unknown_count};
+ghost use Rattle.gathering.specs.Gathered.{AreConstraintsOf, FitsConstraints};
 ghost use Rattle.labels.specs.Constraints.{label_lattice};
-ghost use Rattle.path_map.specs.Exits.{exits_of};
-ghost use Rattle.path_map.specs.Paths.{program_paths};
+ghost use Rattle.path_map.specs.EndsOf.{AreEndsOf};
 ghost use Rattle.resolved.specs.CoreOf.{program_of};
+ghost use Rattle.resolved.specs.EndFaults.{end_faults};
+ghost use Rattle.resolved.specs.Labelled.{FitsDemands, Labelling, program_demands};
+ghost use Rattle.resolved.specs.WellFormed.{program_nodes};
 ghost use Rattle.solver.specs.Links.{InRange};
-ghost use Rattle.solver.specs.System.{constraints_of};
-ghost use Rattle.std.specs.Prelude.{IfOk, length, map, ◌≡◌};
+ghost use Rattle.solver.specs.Constraints.{constraints_of};
+ghost use Rattle.std.specs.Prelude.{IfOk, [], length, ◌*◌, ◌↔◌, ◌≡◌, ◌≤◌};
 
 use crate::procedures::walk_procedures;
 use crate::table::Table;
 use gathering::unknowns::number_after;
 use labels::Label;
-use path_map::PathMap;
+use path_map::Ends;
 use resolved::program::Core;
 use resolved::target::Target;
-use solver::System;
+use solver::Constraints;
 use std::alloc::{AllocError, Global};
 
-/// Gathers the label constraints of a program, with numbers for the labels that are not written. Fails only for out of memory.
-/// Precondition: the path map is that of the program.
+/// Gathers the label constraints of a program: some labels for their unknowns fit them exactly where the labels of the locals and the
+/// loops among these make every procedure labelled. Each has its byte and its rule, and a target by name, unless it is an inner one.
+/// The caller owes the ends of that program, which has no fault of its ends.
 ///
 /// It takes time and memory in proportion to the program, and for each call to the exceptions that its callee declares.
+///
+/// # Errors
+///
+/// Memory ran out.
 pub fn gather(
     alloc: Global,
     core: &Core,
-    ends: &PathMap,
-) -> Result<System<Label, Option<Target>>, AllocError>
-    requires mapped { ends.now.entries.items
-        ≡ map exits_of (program_paths (program_of core.now)) }
-    ensures gathered { IfOk result (λ system.
-        constraints_of (label_lattice (program_of core.now).hierarchy) system
-        ≡ gathered_constraints (program_of core.now)) }
+    ends: &Ends,
+) -> Result<Constraints<Label, Option<Target>>, AllocError>
+    requires ended { end_faults (program_of core.now) ≡ [] }
+    requires mapped { AreEndsOf (program_of core.now) ends.now }
+
+    // They stand for the program's demands, in their order, and a label that is not written has its number.
+    ensures gathered { IfOk result (λ system. AreConstraintsOf (program_of core.now)
+        (constraints_of (label_lattice (program_of core.now).hierarchy) system)) }
+
+    // A labelling fits them, with some labels for the other unknowns, exactly where it meets the demands.
+    ensures fits { IfOk result (λ system. (labelling : Labelling) →
+        FitsDemands (program_of core.now).hierarchy labelling (program_demands (program_of core.now))
+        ↔ FitsConstraints (program_of core.now)
+        (constraints_of (label_lattice (program_of core.now).hierarchy) system) labelling) }
+
+    // Their numbers are in range, and there are few unknowns.
     ensures in_range { IfOk result (λ system. InRange (length system.written.items)
         system.unknowns system.constraints.items) }
-    ensures unknowns { IfOk result (λ system. system.unknowns
-        ≡ unknown_count (program_of core.now)) }
+    ensures few { IfOk result (λ system. system.unknowns
+        ≤ 4 * program_nodes (program_of core.now)) }
 {
     let table = Table::of(alloc, core)?;
     let progress = walk_procedures(alloc, &table, ends)?;
     let unknowns = number_after(table.unknowns, progress.number as usize)?;
-    Ok(System {
+    Ok(Constraints {
         written: table.written,
         unknowns,
         constraints: progress.constraints,

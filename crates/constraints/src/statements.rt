@@ -15,7 +15,7 @@ use crate::lefts::left_of_pc;
 use crate::table::Table;
 use crate::takers::{Entry, Takers};
 use common::exceptions::END;
-use path_map::PathMap;
+use path_map::Ends;
 use path_map::raises::{Raises, index_can_raise, raises_of};
 use resolved::expression::{Expression, Variable};
 use resolved::statement::Exit;
@@ -23,12 +23,12 @@ use resolved::target::Target;
 use solver::{Atom, Constraint};
 use std::alloc::{AllocError, Global};
 
-/// A procedure of a program whose constraints are gathered, with the labels of the program's tables and its path map.
+/// A procedure of a program whose constraints are gathered, with the labels of the program's tables and its possible ends.
 #[derive(Drop)]
 pub struct Walk<'a> {
     pub alloc: Global,
     pub table: &'a Table<'a>,
-    pub map: &'a PathMap,
+    pub map: &'a Ends,
     pub procedure: u32,
 }
 

@@ -1,5 +1,5 @@
 //! The walk along blocks, statements and handlers that adds what is gathered of them.
-ghost use Rattle.constraints.specs.Ready.{AreHandlersReady, AreStatementsReady, IsBlockReady, IsFormReady, IsStatementReady};
+ghost use Rattle.constraints.specs.Ready.{entries_of, AreHandlersReady, AreStatementsReady, IsBlockReady, IsFormReady, IsStatementReady};
 ghost use Rattle.constraints.specs.Walked.{AreHandlersWalked, AreStatementsWalked, IsBlockWalked, IsStatementWalked, IsFormWalked};
 ghost use Rattle.path_map.specs.declared.exits.Exits.{Exits};
 ghost use Rattle.resolved.specs.Tree.{If, Try, While};
@@ -27,10 +27,10 @@ pub(crate) fn walk_block(
     takers: Takers,
     progress: &mut Progress,
 ) -> Result<(), AllocError>
-    requires { IsBlockReady walk.now.table.now.core.now walk.now.map.now.entries.items
+    requires { IsBlockReady walk.now.table.now.core.now (entries_of walk.now.map.now)
         walk.now.procedure takers (block_of block.now) progress.old }
     ensures { OnOk result (IsBlockWalked walk.now.table.now.core.now
-        walk.now.table.now.written.items walk.now.map.now.entries.items walk.now.procedure
+        walk.now.table.now.written.items (entries_of walk.now.map.now) walk.now.procedure
         pc takers (block_of block.now) progress.old progress.new) }
 {
     let exits = walk.begin(pc, takers, progress)?;
@@ -48,10 +48,10 @@ fn walk_statements(
     takers: Takers,
     progress: &mut Progress,
 ) -> Result<(), AllocError>
-    requires { AreStatementsReady walk.now.table.now.core.now walk.now.map.now.entries.items
+    requires { AreStatementsReady walk.now.table.now.core.now (entries_of walk.now.map.now)
         walk.now.procedure takers (block_of block.now) progress.old }
     ensures { OnOk result (AreStatementsWalked walk.now.table.now.core.now
-        walk.now.table.now.written.items walk.now.map.now.entries.items walk.now.procedure
+        walk.now.table.now.written.items (entries_of walk.now.map.now) walk.now.procedure
         pc takers (block_of block.now) progress.old progress.new) }
 {
     let mut reached = true;
@@ -76,12 +76,12 @@ fn walk_statement(
     takers: Takers,
     progress: &mut Progress,
 ) -> Result<Exits, AllocError>
-    requires { IsStatementReady walk.now.table.now.core.now walk.now.map.now.entries.items
+    requires { IsStatementReady walk.now.table.now.core.now (entries_of walk.now.map.now)
         walk.now.procedure takers (statement_of statement.now) progress.old }
     ensures exits { IfOk result (λ exits. (first : Exits) (left : List Exits) →
-        drop progress.old.index walk.now.map.now.entries.items ≡ first ∷ left → exits ≡ first) }
+        drop progress.old.index (entries_of walk.now.map.now) ≡ first ∷ left → exits ≡ first) }
     ensures added { OnOk result (IsStatementWalked walk.now.table.now.core.now
-        walk.now.table.now.written.items walk.now.map.now.entries.items walk.now.procedure
+        walk.now.table.now.written.items (entries_of walk.now.map.now) walk.now.procedure
         pc takers number (statement_of statement.now)
         progress.old progress.new) }
 {
@@ -102,10 +102,10 @@ fn walk_form(
     takers: Takers,
     progress: &mut Progress,
 ) -> Result<(), AllocError>
-    requires { IsFormReady walk.now.table.now.core.now walk.now.map.now.entries.items
+    requires { IsFormReady walk.now.table.now.core.now (entries_of walk.now.map.now)
         walk.now.procedure takers (statement_of statement.now) progress.old }
     ensures { OnOk result (IsFormWalked walk.now.table.now.core.now
-        walk.now.table.now.written.items walk.now.map.now.entries.items walk.now.procedure
+        walk.now.table.now.written.items (entries_of walk.now.map.now) walk.now.procedure
         pc takers (statement_of statement.now) progress.old progress.new) }
 {
     match statement {
@@ -151,13 +151,13 @@ fn walk_if(
     takers: Takers,
     progress: &mut Progress,
 ) -> Result<(), AllocError>
-    requires { IsFormReady walk.now.table.now.core.now walk.now.map.now.entries.items
+    requires { IsFormReady walk.now.table.now.core.now (entries_of walk.now.map.now)
         walk.now.procedure takers
         (If 0 (expression_of condition.now) (block_of yes_block.now) (block_of no_block.now))
         progress.old }
     ensures { OnOk result ((at : ℕ) →
         IsFormWalked walk.now.table.now.core.now
-        walk.now.table.now.written.items walk.now.map.now.entries.items walk.now.procedure
+        walk.now.table.now.written.items (entries_of walk.now.map.now) walk.now.procedure
         pc takers
         (If at (expression_of condition.now) (block_of yes_block.now) (block_of no_block.now))
         progress.old progress.new) }
@@ -181,11 +181,11 @@ fn walk_while(
     takers: Takers,
     progress: &mut Progress,
 ) -> Result<(), AllocError>
-    requires { IsFormReady walk.now.table.now.core.now walk.now.map.now.entries.items
+    requires { IsFormReady walk.now.table.now.core.now (entries_of walk.now.map.now)
         walk.now.procedure takers
         (While at number (expression_of condition.now) (block_of body.now)) progress.old }
     ensures { OnOk result (IsFormWalked walk.now.table.now.core.now
-        walk.now.table.now.written.items walk.now.map.now.entries.items walk.now.procedure
+        walk.now.table.now.written.items (entries_of walk.now.map.now) walk.now.procedure
         pc takers (While at number (expression_of condition.now) (block_of body.now))
         progress.old progress.new) }
 {
@@ -206,12 +206,12 @@ fn walk_try(
     takers: Takers,
     progress: &mut Progress,
 ) -> Result<(), AllocError>
-    requires { IsFormReady walk.now.table.now.core.now walk.now.map.now.entries.items
+    requires { IsFormReady walk.now.table.now.core.now (entries_of walk.now.map.now)
         walk.now.procedure takers (Try 0 (block_of block.now) (handlers_of handlers.now))
         progress.old }
     ensures { OnOk result ((at : ℕ) →
         IsFormWalked walk.now.table.now.core.now
-        walk.now.table.now.written.items walk.now.map.now.entries.items walk.now.procedure
+        walk.now.table.now.written.items (entries_of walk.now.map.now) walk.now.procedure
         pc takers (Try at (block_of block.now) (handlers_of handlers.now))
         progress.old progress.new) }
 {
@@ -232,12 +232,12 @@ fn walk_handlers(
     progress: &mut Progress,
 ) -> Result<(), AllocError>
     requires numbered { length numbers.now ≡ length handlers.now }
-    requires ready { AreHandlersReady walk.now.table.now.core.now walk.now.map.now.entries.items
+    requires ready { AreHandlersReady walk.now.table.now.core.now (entries_of walk.now.map.now)
         walk.now.procedure takers (handlers_of handlers.now) progress.old }
     ensures { OnOk result ((number : ℕ → ℕ) (pc : Atom) →
         numbers.now ≡ map (λ (handler : Handler). number handler.exception) handlers.now →
         AreHandlersWalked walk.now.table.now.core.now
-        walk.now.table.now.written.items walk.now.map.now.entries.items walk.now.procedure
+        walk.now.table.now.written.items (entries_of walk.now.map.now) walk.now.procedure
         pc takers number (handlers_of handlers.now) progress.old progress.new) }
 {
     for (i, handler) in handlers.iter().enumerate() {

@@ -9,7 +9,7 @@ use Rattle.principals.specs.ActsFor.{PrincipalHierarchy}
 use Rattle.resolved.specs.CoreOf.{program_of}
 use Rattle.resolved.specs.Labelled.{OfLocal}
 use Rattle.resolved.specs.Program.{Program, ProcedureEntry, SlotEntry}
-use Rattle.solver.specs.System.{AreAlike}
+use Rattle.solver.specs.Constraints.{AreAlike}
 use Rattle.checker.specs.Least.{least_label}
 use Rattle.checker.specs.declared.checked.Checked.{Checked}
 use Rattle.explaining.specs.Text.{Writes, WritesPrefix, at_place}

@@ -6,10 +6,10 @@ use Rattle.std.specs.String.{string_bytes}
 use Rattle.labels.specs.declared.sent.Pair.{Pair}
 use Rattle.labels.proofs.Prefixes.{prefix-itself}
 use Rattle.principals.specs.ActsFor.{PrincipalHierarchy}
-use Rattle.bytecode.specs.Contents.{ModuleContents}
-use Rattle.bytecode.specs.Form.{Spells}
-use Rattle.bytecode.specs.Format.{module_file}
-use Rattle.bytecode.specs.Machine.{Machine, Running, after_steps, exec, first_state, machine_code, sent_of}
+use Rattle.modules.specs.Contents.{ModuleContents}
+use Rattle.modules.specs.Form.{Spells}
+use Rattle.modules.specs.Format.{module_file}
+use Rattle.modules.specs.Machine.{Machine, Running, after_steps, exec, first_state, machine_code, sent_of}
 use Rattle.channels.specs.Sink.{AppendsPrefix}
 use Rattle.channels.specs.World.{input_names}
 use Rattle.channels.specs.WorldText.{IsWorldText, lines_of}

@@ -1,8 +1,8 @@
 -- What a listing has shown where a stream failed or memory ran out.
 use Rattle.std.proofs.Common.{◌≡◌, ℕ, List, inr, subst, Option}
-use Rattle.bytecode.specs.Contents.{ModuleContents}
-use Rattle.bytecode.specs.Form.{Spells}
-use Rattle.bytecode.specs.Format.{module_file}
+use Rattle.modules.specs.Contents.{ModuleContents}
+use Rattle.modules.specs.Form.{Spells}
+use Rattle.modules.specs.Format.{module_file}
 use Rattle.channels.specs.Sink.{AppendsPrefix}
 use Rattle.listing.specs.Listing.{listing_text}
 use Rattle.verifier.specs.Refusals.{HasNoDefect}

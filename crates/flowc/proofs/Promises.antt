@@ -11,19 +11,19 @@ use Rattle.labels.proofs.Prefixes.{prefix-itself, prefixes-of-two, prefix-throug
 use Rattle.resolved.specs.Labelled as labels
 use Rattle.resolved.specs.Meaning.{sent_by}
 use Rattle.resolved.specs.SourceState.{World}
-use Rattle.bytecode.specs.Contents.{ModuleContents}
-use Rattle.module_file.specs.Decoded.{first_refusal}
-use Rattle.bytecode.specs.Form.{Fits, Spells}
-use Rattle.bytecode.specs.Format.{contents, hierarchy, module_file}
-use Rattle.bytecode.specs.Isolated.{AgreeOnInputs, IsIsolated, channel_label, module_view}
-use Rattle.module_file.proofs.Facts.{principals-different}
-use Rattle.bytecode.specs.Machine.{Machine, Ending, after_steps, machine_code, sent_after, sent_of}
+use Rattle.modules.specs.Contents.{ModuleContents}
+use Rattle.bytecode.specs.Decoded.{first_refusal}
+use Rattle.modules.specs.Form.{Fits, Spells}
+use Rattle.modules.specs.Format.{contents, hierarchy, module_file}
+use Rattle.modules.specs.Isolated.{AgreeOnInputs, IsIsolated, channel_label, module_view}
+use Rattle.bytecode.proofs.Facts.{principals-different}
+use Rattle.modules.specs.Machine.{Machine, Ending, after_steps, machine_code, sent_after, sent_of}
 use Rattle.channels.specs.World.{InputNumbers, input_names, numbers_of_channel}
 use Rattle.compiler.specs.Compiled.{IsCompiled}
 use Rattle.channels.specs.WorldText.{IsWorldText, lines_of}
 use Rattle.compiler.proofs.Readers.{seen-module}
 use Rattle.lowering.proofs.Sent.{exec-keeps}
-use Rattle.bytecode.proofs.Executing.{exec_more}
+use Rattle.modules.proofs.Executing.{exec_more}
 use Rattle.machine.specs.Run.{HasEnded}
 use Rattle.machine.specs.declared.status.Status.{Status}
 use Rattle.verifier.specs.Refusals.{HasNoDefect}

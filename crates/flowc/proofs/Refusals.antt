@@ -1,6 +1,6 @@
 -- What is refused is wrong.
 use Rattle.std.proofs.Common.{◌≡◌, ap, sym, ◌∙◌, ℕ, List, [], ◌∷◌, refl, inl, inr, ◌⊎◌, Option, Result, Ok, Err, IfOk, IfErr, OnErr, MatchResult}
-use Rattle.bytecode.specs.Contents.{ModuleContents}
+use Rattle.modules.specs.Contents.{ModuleContents}
 use Rattle.channels.specs.World.{InputNumbers, input_names}
 use Rattle.channels.specs.WorldText.{IsWorldRefusal, IsWorldText, world_of}
 use Rattle.channels.specs.declared.defect.WorldRefusal.{WorldRefusal}

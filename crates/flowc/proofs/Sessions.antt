@@ -1,10 +1,10 @@
 -- A session of bytes that can be opened, by a host with one place, which shows what the bytes send within so many steps.
 use Rattle.std.proofs.Common.{◌≡◌, ℕ, zero, suc, ◌≤◌, ◌<◌, ◌⊎◌, List, [], ◌∷◌, length, Some, refl, sym, ap, ◌∙◌, subst, inl, inr, ⊎_elim, arith}
 use Rattle.labels.specs.declared.sent.Pair.{Pair}
-use Rattle.bytecode.specs.Contents.{ModuleContents}
-use Rattle.bytecode.specs.Isolated.{module_view}
-use Rattle.bytecode.specs.Machine as machine
-use Rattle.bytecode.specs.Machine.{Machine, Running, Ended, Stuck, Ending, MachineCode, exec, machine_code, sent_after, sent_of, step}
+use Rattle.modules.specs.Contents.{ModuleContents}
+use Rattle.modules.specs.Isolated.{module_view}
+use Rattle.modules.specs.Machine as machine
+use Rattle.modules.specs.Machine.{Machine, Running, Ended, Stuck, Ending, MachineCode, exec, machine_code, sent_after, sent_of, step}
 use Rattle.channels.specs.World.{InputNumbers, numbers_of_channel}
 use Rattle.verifier.specs.Safety.{HasRow, IsNeverStuck}
 use Rattle.machine.specs.Run.{IsRunning, ReportsStatus, WasRunning}

@@ -3,7 +3,7 @@
 use Rattle.std.specs.Prelude.{ℕ, List, ◌++◌, codes, Bool, IsTrue}
 use Rattle.std.specs.Fmt.{decimal}
 use Rattle.std.specs.String.{string_bytes}
-use Rattle.bytecode.specs.Defects.{module_defect_number, module_defect_words}
+use Rattle.modules.specs.Defects.{module_defect_number, module_defect_words}
 use Rattle.channels.specs.declared.defect.WorldRefusal.{WorldRefusal}
 use Rattle.channels.specs.Defects.{world_number, world_words}
 use Rattle.acceptance.specs.Causes.{cause_number, cause_words}

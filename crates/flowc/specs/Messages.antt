@@ -6,10 +6,10 @@ use Rattle.std.specs.String.{string_bytes}
 use Rattle.std.specs.declared.alloc.Global.{Global}
 use Rattle.std.specs.declared.vec.Vec.{Vec}
 use Rattle.principals.specs.ActsFor.{PrincipalHierarchy, HasName}
-use Rattle.bytecode.specs.Contents.{ModuleContents}
-use Rattle.bytecode.specs.Form.{Spells}
-use Rattle.bytecode.specs.Format.{module_file}
-use Rattle.bytecode.specs.Machine.{after_steps, machine_code}
+use Rattle.modules.specs.Contents.{ModuleContents}
+use Rattle.modules.specs.Form.{Spells}
+use Rattle.modules.specs.Format.{module_file}
+use Rattle.modules.specs.Machine.{after_steps, machine_code}
 use Rattle.channels.specs.Sink.{AppendsPrefix}
 use Rattle.channels.specs.World.{input_names}
 use Rattle.channels.specs.WorldText.{IsWorldRefusal, IsWorldText, lines_of}

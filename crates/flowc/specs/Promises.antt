@@ -12,9 +12,9 @@ use Rattle.resolved.specs.Labelled.{channel_label}
 use Rattle.resolved.specs.Meaning.{frame_limit, run_within, sent_by}
 use Rattle.resolved.specs.Program.{Program}
 use Rattle.resolved.specs.SourceState.{World}
-use Rattle.bytecode.specs.Contents.{ModuleContents}
-use Rattle.bytecode.specs.Isolated.{AgreeOnInputs}
-use Rattle.bytecode.specs.Machine.{Ending, sent_after}
+use Rattle.modules.specs.Contents.{ModuleContents}
+use Rattle.modules.specs.Isolated.{AgreeOnInputs}
+use Rattle.modules.specs.Machine.{Ending, sent_after}
 use Rattle.channels.specs.World.{InputNumbers, input_names, numbers_of_channel}
 use Rattle.verifier.specs.Safety.{IsNeverStuck}
 use Rattle.machine.specs.Run.{names_of}
@@ -68,8 +68,8 @@ SessionsShowNoLess =
     (hierarchy source code : List ℕ) (compiled : IsCompiled hierarchy source code)
     → ShowNoLess (program_in compiled) (module_in compiled) code
 
--- and there are such sessions: on each world for the inputs of the bytes, some session shows a principal all that it sees of the
--- source with so many turns
+-- the relation between events and answers is not empty: on each world for the inputs of the bytes, it allows some session that
+-- shows a principal all that it sees of the source with so many turns. A host that is always out of memory keeps it too
 abbrev pub SomeSessionsShowAll : Type 0
 SomeSessionsShowAll =
     (hierarchy source code : List ℕ) (compiled : IsCompiled hierarchy source code) (world : List InputNumbers) (p turns : ℕ)

@@ -4,8 +4,11 @@
 ghost use Rattle.flowc.specs.Promises.{RunsAreIsolated, RunsEndAsTheSource, RunsShowThemselves, SessionsAreIsolated, SessionsEndAsTheSource, SessionsShowNoLess, SessionsShowNoMore, SilentModulesShowLess, SomeSessionsShowAll, StandardErrorIsFixed};
 
 /// Sessions of compiled bytes show what the source means: never more than a principal sees of the source, and all that it sees of it
-/// with any given number of turns where they have taken enough steps or have answered that their run has ended. There are such
-/// sessions, and where one has ended the source ends so too.
+/// with any given number of turns where they have taken enough steps or have answered that their run has ended. Where one has
+/// ended the source ends so too.
+///
+/// `some` says of the relation between events and answers alone that it is not empty: it allows a session that shows all. It says
+/// of no host that it has one.
 pub fn sessions_mean_the_source()
     ensures no_more { SessionsShowNoMore }
     ensures no_less { SessionsShowNoLess }
@@ -40,8 +43,8 @@ pub fn runs_are_isolated()
     ensures isolated { RunsAreIsolated }
     ensures fixed { StandardErrorIsFixed }
 {
-    module_file::laws::one_spelling();
-    module_file::laws::spellings_are_not_refused();
+    bytecode::laws::one_spelling();
+    bytecode::laws::spellings_are_not_refused();
 }
 
 /// What the program says of the end of a run of compiled bytes, without an observer, is true of the source: the line has the
@@ -49,5 +52,5 @@ pub fn runs_are_isolated()
 pub fn runs_end_as_the_source()
     ensures { RunsEndAsTheSource }
 {
-    module_file::laws::one_spelling();
+    bytecode::laws::one_spelling();
 }

@@ -12,20 +12,20 @@ mod running;
 mod tasks;
 mod texts;
 
-pub use acceptance::{Cause, EndDefect, HierarchyDefect, LexDefect, NameDefect, ParseDefect, Text};
-pub use bytecode::{Module, ModuleDefect};
+pub use acceptance::{Cause, EndDefect, HierarchyDefect, LexDefect, ParseDefect, Text, TypeDefect};
+pub use bytecode::{FormatFault, FormatRefusal, decode};
 pub use channels::{
     Device, Pair, Sink, SinkFault, ViewFault, World, WorldDefect, WorldFault, WorldRefusal,
 };
 pub use checker::{CheckFault, CheckRefusal, Checked, RefusedFlow};
-pub use command_line::{DEFAULT_STEPS, MAX_STEPS, Task, TaskFault, TaskRefusal, read_task};
+pub use command_line::{DEFAULT_STEPS, MAX_STEPS, Task, TaskFault, TaskRefusal, task};
 pub use common::OrNoMemory;
-pub use compiler::{CompileFault, CompileRefusal, TextsFault, TextsRefusal, check_texts, compile};
+pub use compiler::{CompileRefusal, Fault, TextsFault, TextsRefusal, check_texts, compile};
 pub use host::{Answer, Event, Host, HostFault, HostRefusal, Id, MAX_SESSIONS};
 pub use lexer::Place;
 pub use machine::{NewFault, NewRefusal, Status};
-pub use module_file::{ModuleFault, ModuleRefusal, decode};
-pub use tasks::{TaskResult, perform};
+pub use modules::{FormatDefect, Module};
+pub use tasks::{Done, perform};
 pub use verifier::{
     CodeDefect, CodeRefusal, LoadFault, LoadRefusal, Verified, VerifyFault, load, verify,
 };

@@ -5,9 +5,9 @@ ghost use Rattle.std.specs.Prelude.{◌≡◌, IfOk};
 ghost use Rattle.std.specs.String.{string_bytes};
 
 use acceptance::Cause;
+use bytecode::FormatRefusal;
 use channels::WorldRefusal;
 use compiler::CompileRefusal;
-use module_file::ModuleRefusal;
 use principals::{UNKNOWN_PRINCIPAL, UNKNOWN_PRINCIPAL_WORDS};
 use std::alloc::{AllocError, Global};
 use verifier::{CodeRefusal, LoadRefusal};
@@ -46,7 +46,7 @@ pub fn module_line(alloc: Global, path: &str, refusal: LoadRefusal) -> Result<St
     ensures { IfOk result (λ line. string_bytes line ≡ lines.module_line path.now refusal) }
 {
     match refusal {
-        LoadRefusal::Bytes(ModuleRefusal { defect, offset }) => {
+        LoadRefusal::Bytes(FormatRefusal { defect, offset }) => {
             line_at(alloc, path, offset, defect.number(), defect.words())
         }
         LoadRefusal::Code(

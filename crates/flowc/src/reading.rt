@@ -1,8 +1,8 @@
 //! Reads the files of modules and worlds, and reports what is wrong with them.
 
-ghost use Rattle.bytecode.specs.Contents.{ModuleContents};
-ghost use Rattle.bytecode.specs.Form.{Spells};
-ghost use Rattle.bytecode.specs.Format.{module_file};
+ghost use Rattle.modules.specs.Contents.{ModuleContents};
+ghost use Rattle.modules.specs.Form.{Spells};
+ghost use Rattle.modules.specs.Format.{module_file};
 ghost use Rattle.channels.specs.World.{input_names};
 ghost use Rattle.channels.specs.WorldText.{IsWorldText, lines_of, world_of};
 ghost use Rattle.flowc.specs.Lines.{IsPerformFault};
@@ -14,9 +14,9 @@ ghost use Rattle.verifier.specs.Loaded.{IsLoaded};
 
 use crate::fault::PerformFault;
 use crate::messages::{encoding_line, module_line, world_line};
-use bytecode::Module;
 use channels::World;
 use common::OrNoMemory;
+use modules::Module;
 use std::alloc::Global;
 use verifier::{Verified, load};
 

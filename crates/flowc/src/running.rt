@@ -1,9 +1,9 @@
 //! Runs the module of a file on the world of another one.
 
-ghost use Rattle.bytecode.specs.Contents.{ModuleContents};
-ghost use Rattle.bytecode.specs.Form.{Spells};
-ghost use Rattle.bytecode.specs.Format.{module_file};
-ghost use Rattle.bytecode.specs.Machine.{Running, first_state};
+ghost use Rattle.modules.specs.Contents.{ModuleContents};
+ghost use Rattle.modules.specs.Form.{Spells};
+ghost use Rattle.modules.specs.Format.{module_file};
+ghost use Rattle.modules.specs.Machine.{Running, first_state};
 ghost use Rattle.channels.specs.World.{input_names};
 ghost use Rattle.channels.specs.WorldText.{IsWorldText, lines_of};
 ghost use Rattle.flowc.specs.Lines.{IsPerformFault};
@@ -22,10 +22,10 @@ use crate::ended::Ended;
 use crate::fault::PerformFault;
 use crate::messages::observer_line;
 use crate::reading::{File, read_module, read_world};
-use bytecode::Module;
 use channels::{Sink, write_view};
 use common::OrNoMemory;
 use machine::{Machine, NewRefusal, Status};
+use modules::Module;
 use principals::Hierarchy;
 use resolved::exceptions::exception_name;
 use std::alloc::Global;

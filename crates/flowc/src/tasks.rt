@@ -19,7 +19,7 @@ use std::alloc::Global;
 
 /// What the program leaves to do: its exit status, and the bytes for the output file if it makes one.
 #[derive(Debug, Drop)]
-pub struct TaskResult {
+pub struct Done {
     pub status: u8,
     pub code: Option<Vec<u8>>,
 }
@@ -37,7 +37,7 @@ pub fn perform<O: Sink, E: Sink>(
     files: &[Vec<u8>],
     out: &mut O,
     err: &mut E,
-) -> TaskResult
+) -> Done
     requires files { length files.now ≡ files_of task.now }
     ensures small { result.status ≤ 6 }
     ensures status { IsTrue (may_end task.now result.status) }
@@ -52,16 +52,12 @@ pub fn perform<O: Sink, E: Sink>(
         (E.taken err.old) (E.taken err.new) (E.has_failed err.new) }
 {
     match task {
-        Task::Check { hierarchy, source } => {
-            let (hierarchy, source) = (file_at(hierarchy, files, 0), file_at(source, files, 1));
+        Task::Check { hier, src } => {
+            let (hierarchy, source) = (file_at(hier, files, 0), file_at(src, files, 1));
             finish(check(alloc, hierarchy, source, out), err)
         }
-        Task::Build {
-            hierarchy,
-            source,
-            ..
-        } => {
-            let (hierarchy, source) = (file_at(hierarchy, files, 0), file_at(source, files, 1));
+        Task::Build { hier, src, .. } => {
+            let (hierarchy, source) = (file_at(hier, files, 0), file_at(src, files, 1));
             finish_build(build(alloc, hierarchy, source), err)
         }
         Task::Run {
@@ -74,8 +70,8 @@ pub fn perform<O: Sink, E: Sink>(
             finish(run(alloc, code, world, name_of(observer), *steps, out), err)
         }
         Task::List { file } => finish(list_module(alloc, file_at(file, files, 0), out), err),
-        Task::Explain { hierarchy, source } => {
-            let (hierarchy, source) = (file_at(hierarchy, files, 0), file_at(source, files, 1));
+        Task::Explain { hier, src } => {
+            let (hierarchy, source) = (file_at(hier, files, 0), file_at(src, files, 1));
             finish(explain(alloc, hierarchy, source, out), err)
         }
     }
@@ -101,7 +97,7 @@ fn file_at<'a>(path: &'a String, files: &'a [Vec<u8>], index: usize) -> File<'a>
 }
 
 // The end of a task that leaves nothing for a file. Where standard error fails too, there is nowhere left to report it.
-fn finish<E: Sink>(outcome: Result<Ended, PerformFault>, err: &mut E) -> TaskResult
+fn finish<E: Sink>(outcome: Result<Ended, PerformFault>, err: &mut E) -> Done
     ensures code { result.code ≡ None }
     ensures status { MatchResult outcome
         (λ ended. result.status ≡ ended.status) (λ fault. result.status ≡ status_of_fault fault) }
@@ -116,11 +112,11 @@ fn finish<E: Sink>(outcome: Result<Ended, PerformFault>, err: &mut E) -> TaskRes
         Err(fault) => fault.report(),
     };
     let _ = write_all(err, line.as_bytes());
-    TaskResult { status, code: None }
+    Done { status, code: None }
 }
 
 // The end of a task that leaves bytes for a file.
-fn finish_build<E: Sink>(outcome: Result<Vec<u8>, PerformFault>, err: &mut E) -> TaskResult
+fn finish_build<E: Sink>(outcome: Result<Vec<u8>, PerformFault>, err: &mut E) -> Done
     ensures code { MatchResult outcome
         (λ code. result.code ≡ Some code) (λ _. result.code ≡ None) }
     ensures status { MatchResult outcome
@@ -131,14 +127,14 @@ fn finish_build<E: Sink>(outcome: Result<Vec<u8>, PerformFault>, err: &mut E) ->
         (E.taken err.old) (E.taken err.new) (E.has_failed err.new)) }
 {
     match outcome {
-        Ok(code) => TaskResult {
+        Ok(code) => Done {
             status: 0,
             code: Some(code),
         },
         Err(fault) => {
             let (status, line) = fault.report();
             let _ = write_all(err, line.as_bytes());
-            TaskResult { status, code: None }
+            Done { status, code: None }
         }
     }
 }

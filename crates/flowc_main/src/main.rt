@@ -6,7 +6,7 @@ ghost use Rattle.std.specs.Prelude.{◌≡◌, IfOk, length};
 
 use channels::{Device, write_all};
 use common::OrNoMemory;
-use flowc::{Task, TaskRefusal, perform, read_task};
+use flowc::{Task, TaskRefusal, perform, task};
 use std::io::ErrorKind;
 use std::process::ExitCode;
 use std::rt::Files;
@@ -58,7 +58,7 @@ fn perform_words(rt: &HostRuntime) -> Result<u8, ProgramFault> {
     for word in owned.iter().skip(1) {
         lent.push(word.as_str())?;
     }
-    let asked = read_task(rt.alloc(), &lent).map_err(OrNoMemory::cast)?;
+    let asked = task(rt.alloc(), &lent).map_err(OrNoMemory::cast)?;
     let files = read_files(rt, &asked)?;
     let mut out = Device::new(rt.stdout());
     let mut err = Device::new(rt.stderr());

@@ -15,6 +15,7 @@ use Rattle.resolved.specs.Flow.{Gathered, AreGathered}
 use Rattle.resolved.specs.Labelled.{FitsDemands, Labelling, Unwritten, OfLocal, OfLoop, chosen, program_demands}
 use Rattle.resolved.specs.WellFormed.{well_formed}
 use Rattle.gathering.specs.Names.{Name, Real, Inner, is_inner_name, NamedAtom, NamedConstraint, own_unknowns, unknowns_before, real_unknowns, unwritten_number, unknown_number, IsUnwrittenOf, numbered, numbered_atom}
+use Rattle.gathering.specs.Gathered.{AreConstraintsOf}
 use Rattle.gathering.specs.Walk.{program_constraints, made_from, gathered_constraints, unknown_count, FitsGathered, IsUnknownBelow, AreUnknownsBelow}
 use Rattle.gathering.proofs.Programs.{gathered_by}
 use Rattle.gathering.proofs.Faultless.{faultless-gathers}
@@ -150,11 +151,15 @@ labellings-fit program formed none labelling =
       λ fits.
           let up = fits-up (program_demands program) (gathered_constraints program) gathered lattice laws
           (λ (a b : ℕ). a == b) (λ a b e. grind (arith, e)) (λ a. grind arith) (chosen labelling) fits in
-          (up.0, up.1, λ u there. up.2 u there ∙ ap up.0 (numbers u)),
-      λ found. fits-alike lattice (program_demands program) (λ u. found.0 (gathered.number u)) (chosen labelling)
-          (λ u there. ap found.0 (numbers u) ∙ sym (found.2 u there))
-          (fits-down (program_demands program) (gathered_constraints program) gathered lattice laws found.0 found.1),
+          record { labels = up.0; fits = up.1; chosen_by = λ u there. up.2 u there ∙ ap up.0 (numbers u) },
+      λ found. fits-alike lattice (program_demands program) (λ u. found.labels (gathered.number u)) (chosen labelling)
+          (λ u there. ap found.labels (numbers u) ∙ sym (found.chosen_by u there))
+          (fits-down (program_demands program) (gathered_constraints program) gathered lattice laws found.labels found.fits),
     )
+
+-- what is gathered, in one
+pub gathered-of : (program : Program) → IsTrue (well_formed program) → end_faults program ≡ [] → AreConstraintsOf program (gathered_constraints program)
+gathered-of program formed none = record { gathered = numbered-gathered program formed none; numbered = numbered-numbers program formed none }
 
 -- and its unknowns have numbers below their count
 number-below : (program : Program) (a : NamedAtom) → InRange program (made_from program 0 program.procedures) a → IsUnknownBelow (unknown_count program) (numbered_atom program a)

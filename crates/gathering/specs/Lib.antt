@@ -1,3 +1,4 @@
 pub mod Names
+pub mod Gathered
 pub mod Walk
 pub mod Size

@@ -3,10 +3,10 @@
 -- that matters has a taker, an inner unknown that was made where the end is caught, and what an end is reached at flows to its
 -- taker. Inner unknowns have numbers from n on, in the order in which the walk comes to what makes them.
 -- Source: our own.
-use Rattle.std.specs.Prelude.{◌≡◌, ℕ, suc, ◌+◌, ◌<◌, List, [], ◌∷◌, ◌++◌, Bool, true, false, map, filter, length, ◌==◌, ◌&&◌, ◌||◌, if◌then◌else◌, Option, Some, None, Contains}
+use Rattle.std.specs.Prelude.{ℕ, suc, ◌+◌, ◌<◌, List, [], ◌∷◌, ◌++◌, Bool, true, false, map, filter, length, ◌==◌, ◌&&◌, ◌||◌, if◌then◌else◌, Option, Some, None, Contains}
 use Rattle.std.specs.List.{list_any}
 use Rattle.labels.specs.Label.{Label}
-use Rattle.labels.specs.Constraints.{Atom, FitsAll, Occurs, Written, Unknown, label_lattice, renamed}
+use Rattle.labels.specs.Constraints.{Atom, Written, Unknown, renamed}
 use Rattle.resolved.specs.declared.expression.Variable.{Variable}
 use Rattle.resolved.specs.declared.expression.Variable.TheVariants.{Local}
 use Rattle.resolved.specs.declared.statement.Exit.{Exit}
@@ -17,9 +17,10 @@ use Rattle.resolved.specs.Tree.{Expression, Integer, Logical, Read, Element, Una
 use Rattle.resolved.specs.Program.{Program, ProcedureEntry, ThrownEntry, procedure_at}
 use Rattle.common.specs.declared.exceptions.TheConstants.{ARITH, BOUNDS, END}
 use Rattle.resolved.specs.Ends.{has_end, one_end, index_can_raise, divisor_can_raise, is_division, index_raises, raises, raises_all, thrown_ends, declared_by, handles, statement_ends, block_ends}
-use Rattle.resolved.specs.Labelled.{Labelling, Scope, Unwritten, chosen, here, Join, one, label_of, program_demands, value_label, label_if, any_of, as_one_end}
+use Rattle.resolved.specs.Labelled.{Labelling, Scope, here, Join, one, label_of, value_label, label_if, any_of, as_one_end}
 use Rattle.resolved.specs.Flow.{Gathered}
-use Rattle.gathering.specs.Names.{Inner, Real, NamedAtom, NamedConstraint, named_atoms, numbered, real_unknowns, unwritten_number}
+use Rattle.gathering.specs.Gathered.{FitsConstraints}
+use Rattle.gathering.specs.Names.{Inner, Real, NamedAtom, NamedConstraint, named_atoms, numbered, real_unknowns}
 
 -- ---- constraints
 abbrev pub inner_atom : ℕ → NamedAtom
@@ -343,8 +344,6 @@ abbrev pub AreUnknownsBelow : (count : ℕ) → List Gathered → Type 0
 AreUnknownsBelow count cs =
     (c : Gathered) → Contains cs c → ((atom : Atom ℕ Label) → Contains c.left atom → IsUnknownBelow count atom) × IsUnknownBelow count c.right
 
--- a labelling fits what is gathered, with some labels for the inner unknowns: a label that is not written has its number
+-- a labelling fits what is gathered, with some labels for the inner unknowns
 abbrev pub FitsGathered : Program → Labelling → Type 0
-FitsGathered program labelling =
-    (labels : ℕ → Label) × FitsAll (label_lattice program.hierarchy) (gathered_constraints program) labels
-    × ((u : Unwritten) → Occurs (program_demands program) u → chosen labelling u ≡ labels (unwritten_number program u))
+FitsGathered program labelling = FitsConstraints program (gathered_constraints program) labelling

@@ -4,8 +4,8 @@ use Rattle.std.specs.Prelude.{Result, Ok, Err, IfOk}
 use Rattle.std.specs.Option.{option_or}
 use Rattle.std.proofs.Math.Path.{fun_ext}
 use Rattle.std.proofs.lemmas.Bool.Decides.{nat_tests}
-use Rattle.bytecode.specs.Machine.{handler_for}
-use Rattle.bytecode.specs.declared.declaration.Handler.{Handler}
+use Rattle.modules.specs.Machine.{handler_for}
+use Rattle.modules.specs.declared.declaration.Handler.{Handler}
 use Rattle.handlers.specs.Targets.{Arranges, IsAscending, is_before, entries_of_handler, target_from, target_in}
 use Rattle.handlers.specs.declared.entries.ThrowSite.{ThrowSite}
 use Rattle.handlers.specs.declared.entries.TableEntry.{TableEntry}

@@ -1,8 +1,8 @@
 -- The tables of all procedures.
 use Rattle.std.proofs.Common.{◌≡◌, ℕ, zero, suc, List, [], ◌∷◌, map, Option, refl}
 use Rattle.std.proofs.Math.Path.{fun_ext}
-use Rattle.bytecode.specs.Contents.{ProcedureContents}
-use Rattle.bytecode.specs.Machine.{handler_for}
+use Rattle.modules.specs.Contents.{ProcedureContents}
+use Rattle.modules.specs.Machine.{handler_for}
 use Rattle.handlers.specs.Targets.{handler_by, target_by, target_in}
 use Rattle.handlers.specs.declared.entries.TableEntry.{TableEntry}
 

@@ -4,7 +4,7 @@ ghost use Rattle.handlers.specs.Targets.{Arranges, IsAscending, is_before, next_
 ghost use Rattle.std.specs.Option.{option_or};
 ghost use Rattle.std.specs.Prelude.{IfOk, None, slice_get, ◌≡◌};
 
-use bytecode::Handler;
+use modules::Handler;
 use std::alloc::{AllocError, Global};
 
 /// An exception at a byte offset. Sites stand in the order of their exceptions, and then of their offsets.

@@ -1,11 +1,11 @@
 //! The table of a procedure's handlers.
 
-ghost use Rattle.bytecode.specs.Machine.{handler_for};
+ghost use Rattle.modules.specs.Machine.{handler_for};
 ghost use Rattle.handlers.specs.Targets.{IsAscending, target_in};
 ghost use Rattle.std.specs.Prelude.{IfOk, ◌≡◌};
 
 use crate::entries::{TableEntry, entries_of, is_before};
-use bytecode::Handler;
+use modules::Handler;
 use std::alloc::{AllocError, Global};
 use std::marker::Model;
 

@@ -4,7 +4,7 @@ ghost use Rattle.handlers.specs.Targets.{handler_by, target_by};
 ghost use Rattle.std.specs.Prelude.{IfOk, ◌≡◌};
 
 use crate::table::HandlerTable;
-use bytecode::Procedure;
+use modules::Procedure;
 use std::alloc::{AllocError, Global};
 use std::marker::Model;
 

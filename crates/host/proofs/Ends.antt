@@ -1,11 +1,11 @@
 -- A machine that has ended, and what a status reports of one.
 use Rattle.std.proofs.Common.{◌≡◌, ℕ, ◌+◌, ◌-◌, ◌≤◌, Some, sym, ap, ◌∙◌, subst, arith}
 use Rattle.std.proofs.lemmas.Option.{none-some, same_Some}
-use Rattle.bytecode.specs.Machine.{Machine, Ending, MachineCode, exec, sent_of}
+use Rattle.modules.specs.Machine.{Machine, Ending, MachineCode, exec, sent_of}
 use Rattle.machine.specs.Run.{HasEnded, ReportsStatus}
 use Rattle.machine.specs.declared.status.Status.{Status}
 use Rattle.machine.specs.declared.status.Status.TheVariants as status
-use Rattle.bytecode.proofs.Executing.{exec_more, ended_stays}
+use Rattle.modules.proofs.Executing.{exec_more, ended_stays}
 use Rattle.host.specs.Laws.{ending_of}
 
 pub same_at : (p : MachineCode) (i j : ℕ) (ending : Ending) (machine : Machine) → i ≤ j → HasEnded ending (exec p i machine)

@@ -1,12 +1,12 @@
 -- Sessions of isolated bytes are isolated.
 use Rattle.labels.specs.Sent.{OneIsPrefix}
 use Rattle.std.proofs.Common.{◌≡◌, ℕ, List, sym, subst}
-use Rattle.bytecode.specs.Contents.{ModuleContents}
-use Rattle.bytecode.specs.Form.{Spells}
-use Rattle.bytecode.specs.Format.{module_file}
-use Rattle.bytecode.specs.Machine.{sent_after}
+use Rattle.modules.specs.Contents.{ModuleContents}
+use Rattle.modules.specs.Form.{Spells}
+use Rattle.modules.specs.Format.{module_file}
+use Rattle.modules.specs.Machine.{sent_after}
 use Rattle.channels.specs.World.{numbers_of_channel}
-use Rattle.bytecode.specs.Isolated.{module_view}
+use Rattle.modules.specs.Isolated.{module_view}
 use Rattle.host.specs.Laws.{SessionsAreFreshRuns, SessionsEndAsReported, SessionsAreIsolated, SessionsStandAsReported, SessionsGoOn, SessionsShowOn, TranscriptsJoin, StepsAddUp, IdsGoUp, steps_of}
 use Rattle.host.proofs.Lives.{shown_fresh, ended_fresh, stands, goes_on, shows_on, joined, steps_add_up, ids_go_up}
 

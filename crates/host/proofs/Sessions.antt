@@ -9,11 +9,11 @@ use Rattle.std.proofs.lemmas.Grind.{common_steps}
 use Rattle.std.proofs.lemmas.List.Folds.{find_at}
 use Rattle.std.proofs.lemmas.List.Quantifiers.{position-Some}
 use Rattle.std.proofs.lemmas.Option.{none-some, slice_get_past}
-use Rattle.bytecode.specs.Machine.{Machine}
+use Rattle.modules.specs.Machine.{Machine}
 use Rattle.machine.specs.Run.{machine_of, names_of}
 use Rattle.machine.specs.declared.fault.NewRefusal.{NewRefusal}
 use Rattle.machine.specs.declared.fault.NewRefusal.TheVariants.{UnknownChannel}
-use Rattle.bytecode.specs.Contents.{ModuleContents}
+use Rattle.modules.specs.Contents.{ModuleContents}
 use Rattle.verifier.specs.Loaded.{IsLoaded}
 use Rattle.common.specs.Answers.{IfRefused}
 use Rattle.common.specs.declared.fault.OrNoMemory.{OrNoMemory}

@@ -5,12 +5,12 @@
 use Rattle.labels.specs.Sent.{OneIsPrefix}
 use Rattle.std.specs.Prelude.{◌≡◌, ℕ, ◌+◌, ◌<◌, ◌==◌, if◌then◌else◌, List, [], ◌∷◌, ◌++◌, slice_get, take, drop, Option, Some, None}
 use Rattle.labels.specs.declared.sent.Pair.{Pair}
-use Rattle.bytecode.specs.Contents.{ModuleContents}
-use Rattle.bytecode.specs.Form.{Spells}
-use Rattle.bytecode.specs.Format.{module_file}
-use Rattle.bytecode.specs.Machine.{Ending, Finished, Threw, Deep, after_steps, exec, machine_code, sent_after}
+use Rattle.modules.specs.Contents.{ModuleContents}
+use Rattle.modules.specs.Form.{Spells}
+use Rattle.modules.specs.Format.{module_file}
+use Rattle.modules.specs.Machine.{Ending, Finished, Threw, Deep, after_steps, exec, machine_code, sent_after}
 use Rattle.channels.specs.World.{InputNumbers, numbers_of_channel}
-use Rattle.bytecode.specs.Isolated.{module_view, AgreeOnInputs, IsIsolated}
+use Rattle.modules.specs.Isolated.{module_view, AgreeOnInputs, IsIsolated}
 use Rattle.machine.specs.Run.{HasEnded}
 use Rattle.machine.specs.declared.status.Status.{Status}
 use Rattle.machine.specs.declared.status.Status.TheVariants as status

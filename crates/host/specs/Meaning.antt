@@ -3,17 +3,17 @@
 -- Source: our own.
 use Rattle.std.specs.Prelude.{◌≡◌, ◌≢◌, ℕ, ◌+◌, ◌<◌, ◌≤◌, ◌^◌, ◌==◌, not, if◌then◌else◌, List, [], ◌∷◌, length, filter, Option, Some, None}
 use Rattle.labels.specs.declared.sent.Pair.{Pair}
-use Rattle.bytecode.specs.Contents.{ModuleContents}
-use Rattle.bytecode.specs.Form.{Spells}
-use Rattle.bytecode.specs.Format.{module_file}
-use Rattle.bytecode.specs.Machine.{Machine, after_steps, exec, machine_code, sent_of}
+use Rattle.modules.specs.Contents.{ModuleContents}
+use Rattle.modules.specs.Form.{Spells}
+use Rattle.modules.specs.Format.{module_file}
+use Rattle.modules.specs.Machine.{Machine, after_steps, exec, machine_code, sent_of}
 use Rattle.channels.specs.World.{InputNumbers, input_names, numbers_of_channel}
 use Rattle.machine.specs.Run.{ReportsStatus, WasRunning, names_of}
 use Rattle.machine.specs.declared.status.Status.{Status}
 use Rattle.machine.specs.declared.fault.NewRefusal.TheVariants.{UnknownChannel}
 use Rattle.verifier.specs.Refusals.{HasNoDefect}
 use Rattle.verifier.specs.Loaded.{CannotLoad}
-use Rattle.bytecode.specs.Isolated.{module_view}
+use Rattle.modules.specs.Isolated.{module_view}
 use Rattle.common.specs.declared.fault.OrNoMemory.{OrNoMemory}
 use Rattle.common.specs.declared.fault.OrNoMemory.TheVariants as faults
 use Rattle.host.specs.declared.fault.HostRefusal.{HostRefusal}

@@ -13,7 +13,7 @@ pub fn sessions_are_fresh_runs()
     ensures ended { SessionsEndAsReported }
     ensures stands { SessionsStandAsReported }
 {
-    module_file::laws::one_spelling();
+    bytecode::laws::one_spelling();
 }
 
 /// Sessions of isolated bytes are isolated: where two are opened from the same bytes, by any hosts among any events, on worlds
@@ -21,7 +21,7 @@ pub fn sessions_are_fresh_runs()
 pub fn sessions_are_isolated()
     ensures { SessionsAreIsolated }
 {
-    module_file::laws::one_spelling();
+    bytecode::laws::one_spelling();
 }
 
 /// A session that was open before goes on: by the steps that its own turns report, whatever events of other sessions come

@@ -1,4 +1,4 @@
-ghost use Rattle.bytecode.specs.Machine.{sent_of};
+ghost use Rattle.modules.specs.Machine.{sent_of};
 ghost use Rattle.common.specs.Answers.{IfRefused};
 ghost use Rattle.host.specs.Meaning.{CanOpen, CannotOpen, Takes, first_machine};
 ghost use Rattle.host.specs.Values.{contents_of};
@@ -7,10 +7,10 @@ ghost use Rattle.std.specs.Prelude.{◌≡◌, ◌==◌, IfErr, IfOk, filter, no
 
 use crate::event::Id;
 use crate::fault::HostFault;
-use bytecode::Module;
 use channels::{Sent, World};
 use common::OrNoMemory;
 use machine::{Machine, Status};
+use modules::Module;
 use std::alloc::Global;
 use std::marker::Model;
 use verifier::load;

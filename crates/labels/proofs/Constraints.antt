@@ -30,51 +30,51 @@ join_all l [] = l.least
 join_all l (v ∷ vs) = l.join v (join_all l vs)
 
 module _ {V : Type 0} (l : Lattice V) (laws : LatticeLaws l) where
-  pub join_all-above : (vs : List V) (v : V) → Contains vs v → IsTrue (l.lies_below v (join_all l vs))
+  pub join_all-above : (vs : List V) (v : V) → Contains vs v → IsTrue (l.leq v (join_all l vs))
   join_all-above [] v h = absurd (none_in_nil v h)
   join_all-above (w ∷ ws) v h =
       ⊎_elim
-      (λ same. subst (λ x. IsTrue (l.lies_below x (join_all l (w ∷ ws)))) same (laws.above_left w (join_all l ws)))
+      (λ same. subst (λ x. IsTrue (l.leq x (join_all l (w ∷ ws)))) same (laws.above_left w (join_all l ws)))
       (λ later. laws.transitive v (join_all l ws) (join_all l (w ∷ ws)) (join_all-above ws v later) (laws.above_right w (join_all l ws)))
       (Contains-cons_cases w ws v h)
 
-  pub join_all-least : (vs : List V) (b : V) → ((v : V) → Contains vs v → IsTrue (l.lies_below v b)) → IsTrue (l.lies_below (join_all l vs) b)
+  pub join_all-least : (vs : List V) (b : V) → ((v : V) → Contains vs v → IsTrue (l.leq v b)) → IsTrue (l.leq (join_all l vs) b)
   join_all-least [] b each = laws.below_all b
   join_all-least (w ∷ ws) b each =
       laws.least_above w (join_all l ws) b (each w (Contains-first w ws)) (join_all-least ws b (λ v h. each v (Contains-later w ws v h)))
 
   module _ {U : Type 0} (values : U → V) where
-    pub join_of-above : (left : List (Atom U V)) (atom : Atom U V) → Contains left atom → IsTrue (l.lies_below (value values atom) (join_of l.join l.least values left))
+    pub join_of-above : (left : List (Atom U V)) (atom : Atom U V) → Contains left atom → IsTrue (l.leq (value values atom) (join_of l.join l.least values left))
     join_of-above [] atom h = absurd (none_in_nil atom h)
     join_of-above (a ∷ rest) atom h =
         ⊎_elim
-        (λ same. subst (λ x. IsTrue (l.lies_below (value values x) (join_of l.join l.least values (a ∷ rest)))) same (laws.above_left (value values a) (join_of l.join l.least values rest)))
+        (λ same. subst (λ x. IsTrue (l.leq (value values x) (join_of l.join l.least values (a ∷ rest)))) same (laws.above_left (value values a) (join_of l.join l.least values rest)))
         (λ later. laws.transitive (value values atom) (join_of l.join l.least values rest) (join_of l.join l.least values (a ∷ rest)) (join_of-above rest atom later)
         (laws.above_right (value values a) (join_of l.join l.least values rest)))
         (Contains-cons_cases a rest atom h)
 
-    pub join_of-least : (left : List (Atom U V)) (b : V) → ((atom : Atom U V) → Contains left atom → IsTrue (l.lies_below (value values atom) b)) →
-        IsTrue (l.lies_below (join_of l.join l.least values left) b)
+    pub join_of-least : (left : List (Atom U V)) (b : V) → ((atom : Atom U V) → Contains left atom → IsTrue (l.leq (value values atom) b)) →
+        IsTrue (l.leq (join_of l.join l.least values left) b)
     join_of-least [] b each = laws.below_all b
     join_of-least (a ∷ rest) b each =
         laws.least_above (value values a) (join_of l.join l.least values rest) b (each a (Contains-first a rest))
         (join_of-least rest b (λ atom h. each atom (Contains-later a rest atom h)))
 
     -- where a left side is not below, some part of it is not
-    pub not_below-part : (left : List (Atom U V)) (b : V) → IsFalse (l.lies_below (join_of l.join l.least values left) b) →
-        (atom : Atom U V) × Contains left atom × IsFalse (l.lies_below (value values atom) b)
+    pub not_below-part : (left : List (Atom U V)) (b : V) → IsFalse (l.leq (join_of l.join l.least values left) b) →
+        (atom : Atom U V) × Contains left atom × IsFalse (l.leq (value values atom) b)
     not_below-part [] b fails = let i : true ≡ false = sym (laws.below_all b) ∙ fails in absurd (cc)
-    not_below-part (a ∷ rest) b fails = by_test (l.lies_below (value values a) b) refl (λ e.
-        by_test (l.lies_below (join_of l.join l.least values rest) b) refl
+    not_below-part (a ∷ rest) b fails = by_test (l.leq (value values a) b) refl (λ e.
+        by_test (l.leq (join_of l.join l.least values rest) b) refl
         (λ f. let i : true ≡ false = sym (laws.least_above (value values a) (join_of l.join l.least values rest) b e f) ∙ fails in absurd (cc))
         (λ f. let found = not_below-part rest b f in (found.0, Contains-later a rest found.0 found.1, found.2)))
         (λ e. (a, Contains-first a rest, e))
 
   -- the same for a join of values
-  pub not_below-one : (vs : List V) (b : V) → IsFalse (l.lies_below (join_all l vs) b) → (v : V) × Contains vs v × IsFalse (l.lies_below v b)
+  pub not_below-one : (vs : List V) (b : V) → IsFalse (l.leq (join_all l vs) b) → (v : V) × Contains vs v × IsFalse (l.leq v b)
   not_below-one [] b fails = let i : true ≡ false = sym (laws.below_all b) ∙ fails in absurd (cc)
-  not_below-one (v ∷ rest) b fails = by_test (l.lies_below v b) refl (λ e.
-      by_test (l.lies_below (join_all l rest) b) refl
+  not_below-one (v ∷ rest) b fails = by_test (l.leq v b) refl (λ e.
+      by_test (l.leq (join_all l rest) b) refl
       (λ f. let i : true ≡ false = sym (laws.least_above v (join_all l rest) b e f) ∙ fails in absurd (cc))
       (λ f. let found = not_below-one rest b f in (found.0, Contains-later v rest found.0 found.1, found.2)))
       (λ e. (v, Contains-first v rest, e))
@@ -91,7 +91,7 @@ join_of-append values (atom ∷ rest) b =
 module _ {N U V : Type 0} (l : Lattice V) (laws : LatticeLaws l) (cs : List (Constraint N U V)) where
   -- a part of the left side of a constraint that holds lies below its right side
   pub part-below : (values : U → V) (c : Constraint N U V) → IsTrue (holds l values c) → (atom : Atom U V) → Contains c.left atom →
-      IsTrue (l.lies_below (value values atom) (value values c.right))
+      IsTrue (l.leq (value values atom) (value values c.right))
   part-below values c held atom h =
       laws.transitive (value values atom) (join_of l.join l.least values c.left) (value values c.right) (join_of-above l laws values c.left atom h) held
 
@@ -102,12 +102,12 @@ module _ {N U V : Type 0} (l : Lattice V) (laws : LatticeLaws l) (cs : List (Con
       (or_cases (is_written c.right) (holds l values c) (each-of (λ c. is_written c.right || holds l values c) cs fits c h))
 
   -- what reaches an unknown lies below its value
-  pub reaches-below : (values : U → V) → FitsUnknowns l cs values → (v : V) (u : U) → Reaches cs v u → IsTrue (l.lies_below v (values u))
+  pub reaches-below : (values : U → V) → FitsUnknowns l cs values → (v : V) (u : U) → Reaches cs v u → IsTrue (l.leq v (values u))
   reaches-below values fits v u (directly c _ h from is) =
-      subst (λ r. IsTrue (l.lies_below v (value values r))) is (part-below values c (unknown-holds values fits c u h is) (Written v) from)
+      subst (λ r. IsTrue (l.leq v (value values r))) is (part-below values c (unknown-holds values fits c u h is) (Written v) from)
   reaches-below values fits v u (onward c w _ reach h from is) =
       laws.transitive v (values w) (values u) (reaches-below values fits v w reach)
-      (subst (λ r. IsTrue (l.lies_below (values w) (value values r))) is (part-below values c (unknown-holds values fits c u h is) (Unknown w) from))
+      (subst (λ r. IsTrue (l.leq (values w) (value values r))) is (part-below values c (unknown-holds values fits c u h is) (Unknown w) from))
 
   -- values that fit all constraints fit those of unknowns
   pub fits-unknowns : (values : U → V) → FitsAll l cs values → FitsUnknowns l cs values
@@ -116,17 +116,17 @@ module _ {N U V : Type 0} (l : Lattice V) (laws : LatticeLaws l) (cs : List (Con
 
   -- least values are the same up to flow both ways
   pub least-unique : (values others : U → V) → IsLeast l cs values → IsLeast l cs others → (u : U) → Occurs cs u →
-      IsTrue (l.lies_below (values u) (others u)) × IsTrue (l.lies_below (others u) (values u))
+      IsTrue (l.leq (values u) (others u)) × IsTrue (l.leq (others u) (values u))
   least-unique values others one other u occurs = (one.below others other.fits u occurs, other.below values one.fits u occurs)
 
   -- if any values fit, the least do, and lie below them
   pub least-fits : (values : U → V) → IsLeast l cs values → (others : U → V) → FitsAll l cs others → FitsAll l cs values
   least-fits values least others fits = all-from (λ c. holds l values c) cs each
     where
-      below : (u : U) → Occurs cs u → IsTrue (l.lies_below (values u) (others u))
+      below : (u : U) → Occurs cs u → IsTrue (l.leq (values u) (others u))
       below = least.below others (fits-unknowns others fits)
 
-      part : (c : Constraint N U V) → Contains cs c → (atom : Atom U V) → Contains c.left atom → IsTrue (l.lies_below (value values atom) (value others atom))
+      part : (c : Constraint N U V) → Contains cs c → (atom : Atom U V) → Contains c.left atom → IsTrue (l.leq (value values atom) (value others atom))
       part c h (Written v) from = laws.reflexive v
       part c h (Unknown u) from = below u (c, h, inl from)
 
@@ -135,7 +135,7 @@ module _ {N U V : Type 0} (l : Lattice V) (laws : LatticeLaws l) (cs : List (Con
       by_right c (Written v) h is =
           join_of-least l laws values c.left (value values c.right) (λ atom from.
           laws.transitive (value values atom) (value others atom) (value values c.right) (part c h atom from)
-          (subst (λ x. IsTrue (l.lies_below (value others atom) x)) (ap (value others) is ∙ sym (ap (value values) is))
+          (subst (λ x. IsTrue (l.leq (value others atom) x)) (ap (value others) is ∙ sym (ap (value values) is))
           (part-below others c (each-of (λ c. holds l others c) cs fits c h) atom from)))
 
       each : (c : Constraint N U V) → Contains cs c → IsTrue (holds l values c)
@@ -143,11 +143,11 @@ module _ {N U V : Type 0} (l : Lattice V) (laws : LatticeLaws l) (cs : List (Con
 
   -- a chain rules out every choice of values
   pub linked-below : (values : U → V) → FitsAll l cs values → (from : Atom U V) (chain : List (Constraint N U V)) (last : Constraint N U V) →
-      Linked cs from chain last → IsTrue (l.lies_below (value values from) (value values last.right))
+      Linked cs from chain last → IsTrue (l.leq (value values from) (value values last.right))
   linked-below values fits from chain last (ends _ c h part) = part-below values c (each-of (λ c. holds l values c) cs fits c h) from part
   linked-below values fits from chain last (goes_on _ c u rest _ h part is more) =
       laws.transitive (value values from) (values u) (value values last.right)
-      (subst (λ r. IsTrue (l.lies_below (value values from) (value values r))) is
+      (subst (λ r. IsTrue (l.leq (value values from) (value values r))) is
       (part-below values c (each-of (λ c. holds l values c) cs fits c h) from part))
       (linked-below values fits (Unknown u) rest last more)
 
@@ -155,7 +155,7 @@ module _ {N U V : Type 0} (l : Lattice V) (laws : LatticeLaws l) (cs : List (Con
       (values : U → V) → FitsAll l cs values → ⊥
   chain-rules_out from chain last is values fits =
       let flow = linked-below values fits (Written from) chain last is.linked in
-      let i : true ≡ false = sym (subst (λ r. IsTrue (l.lies_below from (value values r))) is.right_is flow) ∙ is.not_below in cc
+      let i : true ≡ false = sym (subst (λ r. IsTrue (l.leq from (value values r))) is.right_is flow) ∙ is.not_below in cc
 
   -- a chain may be led on to by a value that reaches an unknown
   pub linked-from_reaching : (v : V) (u : U) → Reaches cs v u → (chain : List (Constraint N U V)) (last : Constraint N U V) →
@@ -400,7 +400,7 @@ module _ {U : Type 0} (eq : U → U → Bool) (eq-same : (a b : U) → eq a b �
       least_values-fit = all-from (λ c. is_written c.right || holds l least_values c) cs (λ c h. by_right c c.right h refl)
         where
           part : (c : Constraint N U V) (u : U) → Contains cs c → c.right ≡ Unknown u → (atom : Atom U V) → Contains c.left atom →
-              IsTrue (l.lies_below (value least_values atom) (least_values u))
+              IsTrue (l.leq (value least_values atom) (least_values u))
           part c u h is (Written v) from = join_all-above l laws (reaching cs u) v (reaching-has cs v u (directly c u h from is))
           part c u h is (Unknown w) from = join_all-least l laws (reaching cs w) (least_values u) (λ v reach.
               join_all-above l laws (reaching cs u) v (reaching-has cs v u (onward c w u (reaching-only cs v w reach) h from is)))
@@ -408,7 +408,7 @@ module _ {U : Type 0} (eq : U → U → Bool) (eq-same : (a b : U) → eq a b �
           by_right : (c : Constraint N U V) (r : Atom U V) → Contains cs c → c.right ≡ r → IsTrue (is_written c.right || holds l least_values c)
           by_right c (Written v) h is = or_left (is_written c.right) (holds l least_values c) (ap is_written is)
           by_right c (Unknown u) h is = or_right (is_written c.right) (holds l least_values c)
-              (subst (λ r. IsTrue (l.lies_below (join_of l.join l.least least_values c.left) (value least_values r))) (sym is)
+              (subst (λ r. IsTrue (l.leq (join_of l.join l.least least_values c.left) (value least_values r))) (sym is)
               (join_of-least l laws least_values c.left (least_values u) (part c u h is)))
 
       -- least values are there
@@ -423,10 +423,10 @@ module _ {U : Type 0} (eq : U → U → Bool) (eq-same : (a b : U) → eq a b �
       pub unmet-chain : (c : Constraint N U V) (to : V) → Contains cs c → c.right ≡ Written to → IsFalse (holds l least_values c) →
           (from : V) × (chain : List (Constraint N U V)) × IsChain l cs from chain c
       unmet-chain c to h is fails =
-          let found = not_below-part l laws least_values c.left to (subst (λ r. IsFalse (l.lies_below (join_of l.join l.least least_values c.left) (value least_values r))) is fails) in
+          let found = not_below-part l laws least_values c.left to (subst (λ r. IsFalse (l.leq (join_of l.join l.least least_values c.left) (value least_values r))) is fails) in
           by_part found.0 found.1 found.2
         where
-          by_part : (atom : Atom U V) → Contains c.left atom → IsFalse (l.lies_below (value least_values atom) to) →
+          by_part : (atom : Atom U V) → Contains c.left atom → IsFalse (l.leq (value least_values atom) to) →
               (from : V) × (chain : List (Constraint N U V)) × IsChain l cs from chain c
           by_part (Written v) part fails = (v, c ∷ [], record { linked = ends (Written v) c h part; to = to; right_is = is; not_below = fails })
           by_part (Unknown u) part fails =

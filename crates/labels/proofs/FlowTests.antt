@@ -41,8 +41,8 @@ pub flows-subset : (h : PrincipalHierarchy) (a b : Label) → ((policy : ReaderP
 flows-subset h a b more = (flows-decides h a b).1 (FlowsTo-subset h a b more)
 
 -- a lattice's laws go by what its order says
-pub IsLattice-like : {V : Type 0} (lies_below like : V → V → Type 0) (join : V → V → V) (least : V) → ((a b : V) → like a b ↔ lies_below a b) → IsLattice lies_below join least → IsLattice like join least
-IsLattice-like lies_below like join least same laws = record {
+pub IsLattice-like : {V : Type 0} (leq like : V → V → Type 0) (join : V → V → V) (least : V) → ((a b : V) → like a b ↔ leq a b) → IsLattice leq join least → IsLattice like join least
+IsLattice-like leq like join least same laws = record {
   reflexive = λ a. (same a a).1 (laws.reflexive a);
   transitive = λ a b c first second. (same a c).1 (laws.transitive a b c ((same a b).0 first) ((same b c).0 second));
   above_left = λ a b. (same a (join a b)).1 (laws.above_left a b);

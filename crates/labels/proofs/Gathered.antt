@@ -64,19 +64,19 @@ module _ {N U V : Type 0} (inner : U → Bool) where
       fits-inner fits c h e = let found = inner-unknown inner c.right e in unknown-holds l laws cs w fits c found.0 h found.1
 
       -- what feeds lies below
-      pub feeds-below : FitsInner → (from to : Atom U V) → Feeds inner cs from to → IsTrue (l.lies_below (value w from) (value w to))
-      feeds-below fits from to (itself _ e same) = subst (λ x. IsTrue (l.lies_below (value w from) (value w x))) same (laws.reflexive (value w from))
+      pub feeds-below : FitsInner → (from to : Atom U V) → Feeds inner cs from to → IsTrue (l.leq (value w from) (value w to))
+      feeds-below fits from to (itself _ e same) = subst (λ x. IsTrue (l.leq (value w from) (value w x))) same (laws.reflexive (value w from))
       feeds-below fits from to (through c part _ fed h left is e) =
           laws.transitive (value w from) (value w part) (value w to) (feeds-below fits from part fed)
-          (subst (λ x. IsTrue (l.lies_below (value w part) (value w x))) is
+          (subst (λ x. IsTrue (l.leq (value w part) (value w x))) is
           (part-below l laws cs w c (fits c h (subst (λ x. IsTrue (is_inner inner x)) (sym is) e)) part left))
 
       -- the inner unknowns are no more than the join of what feeds them
       abbrev pub IsTight : Type 0
-      IsTight = (u : U) → IsTrue (inner u) → Occurs cs u → (v : V) → ((from : Atom U V) → Feeds inner cs from (Unknown u) → IsTrue (l.lies_below (value w from) v)) → IsTrue (l.lies_below (w u) v)
+      IsTight = (u : U) → IsTrue (inner u) → Occurs cs u → (v : V) → ((from : Atom U V) → Feeds inner cs from (Unknown u) → IsTrue (l.leq (value w from) v)) → IsTrue (l.leq (w u) v)
 
       pub part-tight : IsTight → (c : Constraint N U V) → Contains cs c → (part : Atom U V) → Contains c.left part → (v : V) →
-          ((from : Atom U V) → Feeds inner cs from part → IsTrue (l.lies_below (value w from) v)) → IsTrue (l.lies_below (value w part) v)
+          ((from : Atom U V) → Feeds inner cs from part → IsTrue (l.leq (value w from) v)) → IsTrue (l.leq (value w part) v)
       part-tight tight c h (Written x) left v each = each (Written x) (itself (Written x) refl refl)
       part-tight tight c h (Unknown u) left v each =
           by_test (inner u) (λ e. tight u e (c, h, inl left) v each) (λ e. each (Unknown u) (itself (Unknown u) e refl))
@@ -173,7 +173,7 @@ module _ {U : Type 0} (eq : U → U → Bool) (eq-same : (a b : U) → eq a b �
         let held : IsTrue (holds l least_inner (pinned c)) =
         unknown-holds l laws (all_pinned cs) least_inner (least_values-least eq eq-same eq-itself l laws (all_pinned cs)).fits (pinned c) found.0
         (all_pinned-has cs c h) (fixed-inner c.right e ∙ found.1) in
-        subst IsTrue (sym (ap (λ x. l.lies_below x (value extended c.right)) (join_of-extended c.left) ∙ ap (λ x. l.lies_below (join_of l.join l.least least_inner (all_fixed c.left)) x) (value-extended c.right))) held
+        subst IsTrue (sym (ap (λ x. l.leq x (value extended c.right)) (join_of-extended c.left) ∙ ap (λ x. l.leq (join_of l.join l.least least_inner (all_fixed c.left)) x) (value-extended c.right))) held
 
     -- each value that reaches an inner unknown is that of what feeds it
     reached : (v : V) (u : U) → Reaches (all_pinned cs) v u → (from : Atom U V) × Feeds inner cs from (Unknown u) × (value w from ≡ v)
@@ -190,21 +190,21 @@ module _ {U : Type 0} (eq : U → U → Bool) (eq-same : (a b : U) → eq a b �
         let found = reached v x reach in
         (found.0, through c.0 (Unknown x) (Unknown u) found.1 c.1 (subst (λ y. Contains c.0.left y) (fixed-unknown part.0 x part.2).0 part.1) right.0 right.1, found.2)
 
-    pub extended-below : (u : U) → IsTrue (inner u) → (v : V) → ((from : Atom U V) → Feeds inner cs from (Unknown u) → IsTrue (l.lies_below (value w from) v)) → IsTrue (l.lies_below (extended u) v)
+    pub extended-below : (u : U) → IsTrue (inner u) → (v : V) → ((from : Atom U V) → Feeds inner cs from (Unknown u) → IsTrue (l.leq (value w from) v)) → IsTrue (l.leq (extended u) v)
     extended-below u e v each = rw e (join_all-least l laws (reaching eq eq-same eq-itself (all_pinned cs) u) v (λ x h.
         let found = reached x u (reaching-only eq eq-same eq-itself (all_pinned cs) x u h) in
-        subst (λ y. IsTrue (l.lies_below y v)) found.2 (each found.0 found.1)))
+        subst (λ y. IsTrue (l.leq y v)) found.2 (each found.0 found.1)))
 
     pub extended-tight : IsTight inner cs l laws extended
     extended-tight u e occurs v each = extended-below u e v (λ from fed.
-        subst (λ y. IsTrue (l.lies_below y v)) (extended-outer from (feeds-outer inner cs from (Unknown u) fed)) (each from fed))
+        subst (λ y. IsTrue (l.leq y v)) (extended-outer from (feeds-outer inner cs from (Unknown u) fed)) (each from fed))
 
     -- where the values fit, those that were extended lie below, and fit too
-    extended-part : FitsInner inner cs l laws w → (a : Atom U V) → IsTrue (l.lies_below (value extended a) (value w a))
+    extended-part : FitsInner inner cs l laws w → (a : Atom U V) → IsTrue (l.leq (value extended a) (value w a))
     extended-part fits (Written v) = laws.reflexive v
     extended-part fits (Unknown u) = by_test (inner u)
         (λ e. extended-below u e (w u) (λ from fed. feeds-below inner cs l laws w fits from (Unknown u) fed))
-        (λ e. subst (λ x. IsTrue (l.lies_below x (w u))) (sym (extended-outer (Unknown u) e)) (laws.reflexive (w u)))
+        (λ e. subst (λ x. IsTrue (l.leq x (w u))) (sym (extended-outer (Unknown u) e)) (laws.reflexive (w u)))
 
     pub extended-fits : FitsUnknowns l cs w → FitsUnknowns l cs extended
     extended-fits fits = all-from (λ c. is_written c.right || holds l extended c) cs (λ c h. by_right c h c.right refl)
@@ -215,7 +215,7 @@ module _ {U : Type 0} (eq : U → U → Bool) (eq-same : (a b : U) → eq a b �
             (λ e. extended-fits_inner c h e)
             (λ e. join_of-least l laws extended c.left (value extended c.right) (λ a left.
             laws.transitive (value extended a) (value w a) (value extended c.right) (extended-part (fits-inner inner cs l laws w fits) a)
-            (subst (λ x. IsTrue (l.lies_below (value w a) x)) (sym (extended-outer c.right e))
+            (subst (λ x. IsTrue (l.leq (value w a) x)) (sym (extended-outer c.right e))
             (part-below l laws cs w c (unknown-holds l laws cs w fits c u h is) a left)))))
 
   -- the least values are tight
@@ -250,7 +250,7 @@ module _ {N U V : Type 0} (l : Lattice V) (ds : List (Constraint N U V)) (u u' :
   join_of-alike (a ∷ rest) each = rw (each a (Contains-first a rest), join_of-alike rest (λ b h. each b (Contains-later a rest b h))) refl
 
   pub holds-alike : (d : Constraint N U V) → Contains ds d → holds l u d ≡ holds l u' d
-  holds-alike d h = ap (λ x. l.lies_below x (value u d.right)) (join_of-alike d.left left) ∙ ap (λ r. l.lies_below (join_of l.join l.least u' d.left) r) (right d.right refl)
+  holds-alike d h = ap (λ x. l.leq x (value u d.right)) (join_of-alike d.left left) ∙ ap (λ r. l.leq (join_of l.join l.least u' d.left) r) (right d.right refl)
     where
       left : (a : Atom U V) → Contains d.left a → value u a ≡ value u' a
       left (Written v) k = refl
@@ -275,8 +275,8 @@ module _ {N U W V : Type 0} (l : Lattice V) (laws : LatticeLaws l) (number : U �
     pub holds-down : FitsInner inner cs l laws w → IsTrue (holds l w c) → IsTrue (holds l (pulled number w) d)
     holds-down fits held = join_of-least l laws (pulled number w) d.left (value (pulled number w) d.right) (λ a h.
         let fed = is.left.has a h in
-        subst (λ x. IsTrue (l.lies_below (value (pulled number w) a) x)) right-same
-        (subst (λ x. IsTrue (l.lies_below x (value w c.right))) (value-renamed number w a)
+        subst (λ x. IsTrue (l.leq (value (pulled number w) a) x)) right-same
+        (subst (λ x. IsTrue (l.leq x (value w c.right))) (value-renamed number w a)
         (laws.transitive (value w (renamed number a)) (value w fed.0) (value w c.right)
         (feeds-below inner cs l laws w fits (renamed number a) fed.0 fed.2)
         (laws.transitive (value w fed.0) (join_of l.join l.least w c.left) (value w c.right) (join_of-above l laws w c.left fed.0 fed.1) held))))
@@ -285,8 +285,8 @@ module _ {N U W V : Type 0} (l : Lattice V) (laws : LatticeLaws l) (number : U �
     holds-up there tight held = join_of-least l laws w c.left (value w c.right) (λ part h.
         part-tight inner cs l laws w tight c there part h (value w c.right) (λ from fed.
         let found = is.left.only part from h fed in
-        subst (λ x. IsTrue (l.lies_below x (value w c.right))) (sym (value-renamed number w found.0) ∙ ap (value w) found.2)
-        (subst (λ x. IsTrue (l.lies_below (value (pulled number w) found.0) x)) (sym right-same)
+        subst (λ x. IsTrue (l.leq x (value w c.right))) (sym (value-renamed number w found.0) ∙ ap (value w) found.2)
+        (subst (λ x. IsTrue (l.leq (value (pulled number w) found.0) x)) (sym right-same)
         (laws.transitive (value (pulled number w) found.0) (join_of l.join l.least (pulled number w) d.left) (value (pulled number w) d.right)
         (join_of-above l laws (pulled number w) d.left found.0 found.1) held))))
 
@@ -433,7 +433,7 @@ module _ {N U W V : Type 0} (ds : List (Constraint N U V)) (cs : List (Constrain
       least-same w least = record {
         fits = fits_unknowns-down w least.fits;
         below = λ others fits u occurs.
-            subst (λ x. IsTrue (l.lies_below (w (gathered.number u)) x)) (sym (raised-same others u occurs))
+            subst (λ x. IsTrue (l.leq (w (gathered.number u)) x)) (sym (raised-same others u occurs))
             (least.below (raised others) (fits_unknowns-up others fits) (gathered.number u) (occurs-there u occurs));
       }
 

@@ -12,3 +12,7 @@ mod Readers
 pub mod Written
 pub mod Constraints
 pub mod Gathered
+pub mod WordJoins
+pub mod FourWords
+pub mod WordBits
+pub mod RowBits

@@ -9,23 +9,23 @@ use Rattle.labels.specs.Lattice.{IsLattice}
 
 -- the order of a lattice as a test, its join and its least element
 pub record Lattice (V : Type 0) : Type 0 where
-  pub lies_below : V → V → Bool
+  pub leq : V → V → Bool
   pub join : V → V → V
   pub least : V
 
 -- its order is reflexive and transitive, the join is a least upper bound, and the least element lies below all
 abbrev pub LatticeLaws : {V : Type 0} → Lattice V → Type 0
-LatticeLaws l = IsLattice (λ a b. IsTrue (l.lies_below a b)) l.join l.least
+LatticeLaws l = IsLattice (λ a b. IsTrue (l.leq a b)) l.join l.least
 
 -- what is above both of two values, and below all that are: their join, or the same up to the order
 pub record IsJoin {V : Type 0} (l : Lattice V) (a b c : V) : Type 0 where
-  pub above_left : IsTrue (l.lies_below a c)
-  pub above_right : IsTrue (l.lies_below b c)
-  pub least_above : (d : V) → IsTrue (l.lies_below a d) → IsTrue (l.lies_below b d) → IsTrue (l.lies_below c d)
+  pub above_left : IsTrue (l.leq a c)
+  pub above_right : IsTrue (l.leq b c)
+  pub least_above : (d : V) → IsTrue (l.leq a d) → IsTrue (l.leq b d) → IsTrue (l.leq c d)
 
 -- that of labels under a hierarchy
 abbrev pub label_lattice : PrincipalHierarchy → Lattice Label
-label_lattice h = record { lies_below = flows h; join = λ a b. a ++ b; least = [] }
+label_lattice h = record { leq = flows h; join = λ a b. a ++ b; least = [] }
 
 -- a part of a left side, and a right side: a written value, or an unknown
 pub data Atom (U V : Type 0) : Type 0 where
@@ -55,7 +55,7 @@ join_of join least values (atom ∷ rest) = join (value values atom) (join_of jo
 
 -- a constraint that holds; values that fit all constraints, and those that fit all whose right side is an unknown
 abbrev pub holds : {N U V : Type 0} → Lattice V → (U → V) → Constraint N U V → Bool
-holds l values c = l.lies_below (join_of l.join l.least values c.left) (value values c.right)
+holds l values c = l.leq (join_of l.join l.least values c.left) (value values c.right)
 
 abbrev pub FitsAll : {N U V : Type 0} → Lattice V → List (Constraint N U V) → (U → V) → Type 0
 FitsAll l cs values = IsTrue (list_all (λ c. holds l values c) cs)
@@ -71,7 +71,7 @@ Occurs {N} {U} {V} cs u = (c : Constraint N U V) × Contains cs c × (Contains c
 -- that stands in the constraints
 pub record IsLeast {N U V : Type 0} (l : Lattice V) (cs : List (Constraint N U V)) (values : U → V) : Type 0 where
   pub fits : FitsUnknowns l cs values
-  pub below : (others : U → V) → FitsUnknowns l cs others → (u : U) → Occurs cs u → IsTrue (l.lies_below (values u) (others u))
+  pub below : (others : U → V) → FitsUnknowns l cs others → (u : U) → Occurs cs u → IsTrue (l.leq (values u) (others u))
 
 -- the first constraint with a written right side that does not hold
 abbrev pub first_unmet : {N U V : Type 0} → Lattice V → List (Constraint N U V) → (U → V) → Option (Constraint N U V)
@@ -97,7 +97,7 @@ pub record IsChain {N U V : Type 0} (l : Lattice V) (cs : List (Constraint N U V
   pub linked : Linked cs (Written from) chain last
   pub to : V
   pub right_is : last.right ≡ Written to
-  pub not_below : IsFalse (l.lies_below from to)
+  pub not_below : IsFalse (l.leq from to)
 
 -- the first constraint that the least values do not fit, with a chain that ends there
 pub record IsRefusedAt {N U V : Type 0} (l : Lattice V) (cs : List (Constraint N U V)) (from : V) (chain : List (Constraint N U V)) (last : Constraint N U V) : Type 0 where

@@ -5,6 +5,8 @@ pub mod Label
 pub mod Lattice
 pub mod PolicyOrder
 pub mod Printed
+pub mod Row
 pub mod Sent
 pub mod Sets
+pub mod Words
 pub use Rattle.principals.specs.ActsFor

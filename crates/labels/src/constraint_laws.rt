@@ -11,14 +11,14 @@ pub fn least_values_are_unique<N, U, V>()
         (cs : List (Constraint N U V)) → (values : U → V) × IsLeast l cs values }
     ensures unique { (l : Lattice V) (cs : List (Constraint N U V)) (values others : U → V) →
         IsLeast l cs values → IsLeast l cs others → (u : U) → Occurs cs u →
-        IsTrue (l.lies_below (values u) (others u)) × IsTrue (l.lies_below (others u) (values u)) }
+        IsTrue (l.leq (values u) (others u)) × IsTrue (l.leq (others u) (values u)) }
 {}
 
 /// A written value that reaches an unknown lies below each value that fits it.
 pub fn what_reaches_lies_below<N, U, V>()
     ensures { (l : Lattice V) → LatticeLaws l → (cs : List (Constraint N U V)) (values : U → V) →
         FitsUnknowns l cs values → (v : V) (u : U) → Reaches cs v u →
-        IsTrue (l.lies_below v (values u)) }
+        IsTrue (l.leq v (values u)) }
 {}
 
 /// Where any values fit all constraints, the least do.

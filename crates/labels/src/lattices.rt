@@ -12,25 +12,25 @@ use std::alloc::{AllocError, Global};
 /// the join, and some element lies below all. Two elements that lie below each other need not be the same one.
 pub trait Lattice {
     /// The elements that are stored.
-    type Element: Drop;
+    type Elem: Drop;
 
-    ghost order: { Self → LatticeOf Self.Element };
+    ghost order: { Self → LatticeOf Self.Elem };
 
     /// Whether the first lies below the second. It takes no memory.
-    fn lies_below(&self, left: &Self::Element, right: &Self::Element) -> bool
-        ensures { result ≡ (order self.now).lies_below left.now right.now };
+    fn leq(&self, left: &Self::Elem, right: &Self::Elem) -> bool
+        ensures { result ≡ (order self.now).leq left.now right.now };
 
     /// The join: above both, and below all that are above both. It fails only where memory ran out.
     fn join(
         &self,
         alloc: Global,
-        left: &Self::Element,
-        right: &Self::Element,
-    ) -> Result<Self::Element, AllocError>
+        left: &Self::Elem,
+        right: &Self::Elem,
+    ) -> Result<Self::Elem, AllocError>
         ensures { IfOk result (IsJoin (order self.now) left.now right.now) };
 
     /// The element that lies below all. It takes no memory.
-    fn least(&self, alloc: Global) -> Self::Element
+    fn least(&self, alloc: Global) -> Self::Elem
         ensures { result ≡ (order self.now).least };
 
     /// The laws: the order is reflexive and transitive, the join is a least upper bound, and the least element lies below all.
@@ -46,11 +46,11 @@ pub struct LabelLattice<'a> {
 }
 
 impl Lattice for LabelLattice<'_> {
-    type Element = Label;
+    type Elem = Label;
 
     ghost order = { λ lattice. label_lattice lattice.hierarchy.now };
 
-    fn lies_below(&self, left: &Label, right: &Label) -> bool {
+    fn leq(&self, left: &Label, right: &Label) -> bool {
         flows(self.hierarchy, left, right)
     }
 

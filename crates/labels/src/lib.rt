@@ -8,13 +8,16 @@ pub mod lattices;
 pub mod laws;
 pub mod policies;
 pub mod printed;
+pub mod rows;
 pub mod rules;
 pub mod sent;
+mod words;
 
 pub use joins::join;
 pub use label_sets::Label;
 pub use lattices::{LabelLattice, Lattice};
 pub use policies::Policy;
 pub use printed::PrintedLabel;
+pub use rows::Row;
 pub use rules::{flows, may_read};
 pub use sent::Pair;

@@ -6,21 +6,21 @@ use Rattle.std.specs.Option.{option_map}
 use Rattle.std.proofs.lemmas.List.{length-map}
 use Rattle.std.proofs.lemmas.List.Elements.{All-head, All-tail}
 use Rattle.std.proofs.lemmas.Option.{slice_get-map}
-use Rattle.bytecode.specs.declared.instruction.Instruction.{Instruction}
-use Rattle.bytecode.specs.declared.instruction.Instruction.TheVariants.{Jump, JumpIfFalse}
-use Rattle.bytecode.specs.declared.declaration.Handler.{Handler}
-use Rattle.bytecode.specs.Code.{code_length}
-use Rattle.bytecode.specs.Contents.{ProcedureContents, ModuleContents}
-use Rattle.bytecode.specs.Form.{Fits, FitEach, IsCoded, Code}
-use Rattle.bytecode.specs.Opcodes.{instructions}
-use Rattle.bytecode.specs.Format.{handler, handlers, procedure, procedures, may_start, main, program, contents, module_file}
-use Rattle.bytecode.proofs.Spelling.{is_spelled, spelled-length}
-use Rattle.bytecode.specs.Targets.{target_of, renamed_instruction, renamed_handler}
+use Rattle.modules.specs.declared.instruction.Instruction.{Instruction}
+use Rattle.modules.specs.declared.instruction.Instruction.TheVariants.{Jump, JumpIfFalse}
+use Rattle.modules.specs.declared.declaration.Handler.{Handler}
+use Rattle.modules.specs.Code.{code_length}
+use Rattle.modules.specs.Contents.{ProcedureContents, ModuleContents}
+use Rattle.modules.specs.Form.{Fits, FitEach, IsCoded, Code}
+use Rattle.modules.specs.Opcodes.{instructions}
+use Rattle.modules.specs.Format.{handler, handlers, procedure, procedures, may_start, main, program, contents, module_file}
+use Rattle.modules.proofs.Spelling.{is_spelled, spelled-length}
+use Rattle.modules.specs.Targets.{target_of, renamed_instruction, renamed_handler}
 use Rattle.layout.specs.Offsets.{offset, laid_out_procedure, laid_out}
 use Rattle.layout.specs.Graph.{HasTargetIn, IsHandlerIn, HasPositions, IsGraph}
 use Rattle.layout.proofs.Offsets.{width-renamed}
 use Rattle.layout.proofs.Tables.{offset-within}
-use Rattle.bytecode.proofs.Widths.{procedures_short}
+use Rattle.modules.proofs.Widths.{procedures_short}
 
 -- ---- code
 

@@ -6,19 +6,19 @@ use Rattle.std.specs.Option.{option_map}
 use Rattle.std.proofs.lemmas.Bool.{lt-ltb, le-ltb, ltb-true, ltb-false, ne_eqb}
 use Rattle.std.proofs.lemmas.Option.{slice_get-map}
 use Rattle.labels.specs.declared.sent.Pair.{Pair}
-use Rattle.bytecode.specs.declared.instruction.Instruction.{Instruction}
-use Rattle.bytecode.specs.declared.instruction.Instruction.TheVariants.{Jump, JumpIfFalse}
-use Rattle.bytecode.specs.declared.declaration.Handler.{Handler}
-use Rattle.bytecode.specs.declared.declaration.Slot.{Slot}
-use Rattle.bytecode.specs.Code.{width_of, instruction_at}
-use Rattle.bytecode.specs.Contents.{ProcedureContents, ModuleContents}
-use Rattle.bytecode.specs.Machine.{Header, MachineCode, Machine, Running, Ended, Stuck, Ending, header_of, code_of, handlers_of, slots_in, position_after, handler_for, machine_code, first_state, new_frame, exec, after_steps, sent_of}
-use Rattle.bytecode.specs.Targets.{renamed_instruction, renamed_handler}
+use Rattle.modules.specs.declared.instruction.Instruction.{Instruction}
+use Rattle.modules.specs.declared.instruction.Instruction.TheVariants.{Jump, JumpIfFalse}
+use Rattle.modules.specs.declared.declaration.Handler.{Handler}
+use Rattle.modules.specs.declared.declaration.Slot.{Slot}
+use Rattle.modules.specs.Code.{width_of, instruction_at}
+use Rattle.modules.specs.Contents.{ProcedureContents, ModuleContents}
+use Rattle.modules.specs.Machine.{Header, MachineCode, Machine, Running, Ended, Stuck, Ending, header_of, code_of, handlers_of, slots_in, position_after, handler_for, machine_code, first_state, new_frame, exec, after_steps, sent_of}
+use Rattle.modules.specs.Targets.{renamed_instruction, renamed_handler}
 use Rattle.layout.specs.Offsets.{offset, laid_out_procedure, laid_out, offset_in}
 use Rattle.layout.specs.Runs.{graph_program, graph_after_steps}
 use Rattle.layout.specs.SameRuns.{renamed, SameRuns, SameInterface}
 use Rattle.layout.proofs.Renaming.{Relaid, relaid, exec-same}
-use Rattle.bytecode.proofs.Widths.{width_of-pos, past}
+use Rattle.modules.proofs.Widths.{width_of-pos, past}
 
 -- ---- widths
 

@@ -4,12 +4,12 @@ use Rattle.std.specs.Option.{is_some, option_map}
 use Rattle.std.proofs.lemmas.Bool.{ltb-true, ltb-false}
 use Rattle.std.proofs.lemmas.List.Elements.{All-map}
 use Rattle.std.proofs.lemmas.Option.{slice_get-get_or}
-use Rattle.bytecode.specs.declared.instruction.Instruction.{Instruction}
-use Rattle.bytecode.specs.declared.instruction.Instruction.TheVariants.{Jump, JumpIfFalse, Return}
-use Rattle.bytecode.specs.declared.declaration.Handler.{Handler}
-use Rattle.bytecode.specs.Code.{code_length, instruction_at}
-use Rattle.bytecode.specs.Contents.{ProcedureContents, ModuleContents}
-use Rattle.bytecode.specs.Targets.{target_of, renamed_instruction, renamed_handler}
+use Rattle.modules.specs.declared.instruction.Instruction.{Instruction}
+use Rattle.modules.specs.declared.instruction.Instruction.TheVariants.{Jump, JumpIfFalse, Return}
+use Rattle.modules.specs.declared.declaration.Handler.{Handler}
+use Rattle.modules.specs.Code.{code_length, instruction_at}
+use Rattle.modules.specs.Contents.{ProcedureContents, ModuleContents}
+use Rattle.modules.specs.Targets.{target_of, renamed_instruction, renamed_handler}
 use Rattle.layout.specs.Offsets.{offset, laid_out_procedure, laid_out}
 use Rattle.layout.specs.Graph.{IsHandlerIn, HasPositions, IsGraph}
 use Rattle.layout.specs.Starts.{IsStart, IsHandlerOf, HasStarts}

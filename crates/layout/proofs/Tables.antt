@@ -2,10 +2,10 @@
 use Rattle.std.proofs.Common.{◌≡◌, ℕ, ◌+◌, ◌<◌, ◌≤◌, ◌∙◌, refl, sym, ap, List, [], ◌∷◌, ◌++◌, length, get_or, arith, add-one, below_more, length-append, map, take}
 use Rattle.std.proofs.lemmas.List.{get_or_append_left, get_or_push, map_more}
 use Rattle.std.proofs.lemmas.Option.{slice_get-get_or}
-use Rattle.bytecode.specs.declared.instruction.Instruction.{Instruction}
-use Rattle.bytecode.specs.declared.instruction.Instruction.TheVariants.{Jump, JumpIfFalse}
-use Rattle.bytecode.specs.Code.{width_of, code_length}
-use Rattle.bytecode.specs.Targets.{renamed_instruction}
+use Rattle.modules.specs.declared.instruction.Instruction.{Instruction}
+use Rattle.modules.specs.declared.instruction.Instruction.TheVariants.{Jump, JumpIfFalse}
+use Rattle.modules.specs.Code.{width_of, code_length}
+use Rattle.modules.specs.Targets.{renamed_instruction}
 use Rattle.layout.specs.Offsets.{offset}
 use Rattle.layout.specs.Graph.{HasTargetIn}
 use Rattle.layout.specs.Tables.{IsTableOf}

@@ -2,12 +2,12 @@
 -- positions: numbers of instructions in the list of their procedure, from 0 on, where a module has byte offsets.
 -- Source: our own.
 use Rattle.std.specs.Prelude.{ℕ, ◌<◌, ◌≤◌, List, length, All, IfSome}
-use Rattle.bytecode.specs.declared.instruction.Instruction.{Instruction}
-use Rattle.bytecode.specs.declared.declaration.Handler.{Handler}
-use Rattle.bytecode.specs.Contents.{ProcedureContents, ModuleContents}
-use Rattle.bytecode.specs.Form.{Fits}
-use Rattle.bytecode.specs.Format.{module_file}
-use Rattle.bytecode.specs.Targets.{target_of}
+use Rattle.modules.specs.declared.instruction.Instruction.{Instruction}
+use Rattle.modules.specs.declared.declaration.Handler.{Handler}
+use Rattle.modules.specs.Contents.{ProcedureContents, ModuleContents}
+use Rattle.modules.specs.Form.{Fits}
+use Rattle.modules.specs.Format.{module_file}
+use Rattle.modules.specs.Targets.{target_of}
 
 -- a handler of code with so many instructions: its range is not empty and ends with the code at the latest, and its target is a
 -- position of the code

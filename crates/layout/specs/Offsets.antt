@@ -1,11 +1,11 @@
 -- Byte offsets instead of positions: where the instruction at a position stands, and the module that a graph is laid out as.
 -- Source: our own.
 use Rattle.std.specs.Prelude.{ℕ, zero, suc, ◌+◌, List, [], ◌∷◌, map, slice_get}
-use Rattle.bytecode.specs.declared.instruction.Instruction.{Instruction}
-use Rattle.bytecode.specs.Code.{width_of}
-use Rattle.bytecode.specs.Contents.{ProcedureContents, ModuleContents}
-use Rattle.bytecode.specs.Machine.{code_of}
-use Rattle.bytecode.specs.Targets.{renamed_instruction, renamed_handler}
+use Rattle.modules.specs.declared.instruction.Instruction.{Instruction}
+use Rattle.modules.specs.Code.{width_of}
+use Rattle.modules.specs.Contents.{ProcedureContents, ModuleContents}
+use Rattle.modules.specs.Machine.{code_of}
+use Rattle.modules.specs.Targets.{renamed_instruction, renamed_handler}
 
 -- the byte offset of a position: the bytes of the instructions before it. At the end of the code that is how many bytes the code
 -- takes, and behind the end it goes on by one

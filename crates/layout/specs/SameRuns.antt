@@ -3,8 +3,8 @@
 -- Source: our own; a renaming of states that commutes with each step.
 use Rattle.std.specs.Prelude.{◌≡◌, ◌↔◌, ℕ, List, map, ℤ}
 use Rattle.labels.specs.declared.sent.Pair.{Pair}
-use Rattle.bytecode.specs.Contents.{ModuleContents}
-use Rattle.bytecode.specs.Machine.{Frame, Caller, State, Machine, Running, Ended, Stuck, Ending, header_of, after_steps, sent_after}
+use Rattle.modules.specs.Contents.{ModuleContents}
+use Rattle.modules.specs.Machine.{Frame, Caller, State, Machine, Running, Ended, Stuck, Ending, header_of, after_steps, sent_after}
 use Rattle.layout.specs.Offsets.{offset_in, laid_out}
 use Rattle.layout.specs.Runs.{graph_after_steps, graph_sent_after}
 

@@ -1,11 +1,11 @@
 -- The targets of a module: byte offsets where instructions begin.
 -- Source: our own; the rule for jumps and handlers of a bytecode verifier, as that of the Java virtual machine.
 use Rattle.std.specs.Prelude.{◌≡◌, ℕ, ◌<◌, ◌⊎◌, List, All, IfSome, IsSome}
-use Rattle.bytecode.specs.declared.instruction.Instruction.{Instruction}
-use Rattle.bytecode.specs.declared.declaration.Handler.{Handler}
-use Rattle.bytecode.specs.Code.{code_length, instruction_at}
-use Rattle.bytecode.specs.Contents.{ProcedureContents}
-use Rattle.bytecode.specs.Targets.{target_of}
+use Rattle.modules.specs.declared.instruction.Instruction.{Instruction}
+use Rattle.modules.specs.declared.declaration.Handler.{Handler}
+use Rattle.modules.specs.Code.{code_length, instruction_at}
+use Rattle.modules.specs.Contents.{ProcedureContents}
+use Rattle.modules.specs.Targets.{target_of}
 
 -- a byte offset is that of an instruction's first byte
 abbrev pub IsStart : List Instruction → ℕ → Type 0

@@ -1,7 +1,7 @@
--- The table of offsets of a procedure's code, which its instructions and handlers are laid out by.
+-- Private: the table of offsets of a procedure's code, which its instructions and handlers are laid out by.
 -- Source: our own.
 use Rattle.std.specs.Prelude.{◌≡◌, ℕ, ◌+◌, ◌≤◌, List, length, slice_index}
-use Rattle.bytecode.specs.declared.instruction.Instruction.{Instruction}
+use Rattle.modules.specs.declared.instruction.Instruction.{Instruction}
 use Rattle.layout.specs.Offsets.{offset}
 
 -- numbers are the offsets of the positions of code and of its end

@@ -1,12 +1,12 @@
 //! Procedures with byte offsets instead of positions.
-ghost use Rattle.bytecode.specs.Code.{code_length};
+ghost use Rattle.modules.specs.Code.{code_length};
 ghost use Rattle.layout.specs.Graph.{HasPositions, HasTargetIn, IsHandlerIn};
 ghost use Rattle.layout.specs.Offsets.{laid_out_procedure, offset};
 ghost use Rattle.layout.specs.Tables.{IsTableOf};
-ghost use Rattle.bytecode.specs.Targets.{renamed_handler, renamed_instruction, target_of};
+ghost use Rattle.modules.specs.Targets.{renamed_handler, renamed_instruction, target_of};
 ghost use Rattle.std.specs.Prelude.{All, IfOk, IfSome, length, map, slice_index, ◌<◌, ◌^◌, ◌≡◌};
 
-use bytecode::{Handler, Instruction, Procedure};
+use modules::{Handler, Instruction, Procedure};
 use std::alloc::{AllocError, Global};
 
 /// The offset of each position of the code, and of its end.

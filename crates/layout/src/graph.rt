@@ -1,10 +1,10 @@
 //! Programs whose targets are positions.
-ghost use Rattle.bytecode.specs.Contents.{ModuleContents};
+ghost use Rattle.modules.specs.Contents.{ModuleContents};
 ghost use Rattle.layout.specs.Graph.{IsGraph};
 ghost use Rattle.std.specs.Prelude.{map, ◌≡◌};
 ghost use Rattle.std.specs.String.{string_bytes};
 
-use bytecode::{Channel, Global, Procedure};
+use modules::{Channel, Global, Procedure};
 use principals::Hierarchy;
 use std::marker::Model;
 
@@ -25,7 +25,7 @@ pub struct Graph {
 }
 
 impl Model for Graph {
-    ghost use Rattle.bytecode.specs.Contents.{ModuleContents};
+    ghost use Rattle.modules.specs.Contents.{ModuleContents};
     ghost use Rattle.layout.specs.Graph.{IsGraph};
     ghost use Rattle.std.specs.Prelude.{map};
     ghost use Rattle.std.specs.String.{string_bytes};

@@ -1,7 +1,7 @@
 //! From graphs to modules.
-ghost use Rattle.bytecode.specs.Code.{code_length};
-ghost use Rattle.bytecode.specs.Form.{Fits};
-ghost use Rattle.bytecode.specs.Format.{module_file};
+ghost use Rattle.modules.specs.Code.{code_length};
+ghost use Rattle.modules.specs.Form.{Fits};
+ghost use Rattle.modules.specs.Format.{module_file};
 ghost use Rattle.layout.specs.Graph.{HasPositions};
 ghost use Rattle.layout.specs.SameRuns.{SameInterface, SameRuns};
 ghost use Rattle.layout.specs.Offsets.{laid_out, laid_out_procedure};
@@ -11,7 +11,7 @@ ghost use Rattle.std.specs.String.{string_bytes};
 
 use crate::code::lay_out_procedure;
 use crate::graph::Graph;
-use bytecode::{Channel, Module, Procedure};
+use modules::{Channel, Module, Procedure};
 use std::alloc::{AllocError, Global};
 
 /// The same names, in their order.

@@ -1,7 +1,7 @@
 //! Tokens of a text by longest match, names, and places in a text.
 //!
 //! [`lex`] cuts a text into tokens or reports its first refusal; [`is_name`] tests a whole text for
-//! one name; [`find_place`] gives the line and the column of a byte.
+//! one name; [`place`] gives the line and the column of a byte.
 #![tactic(auto)]
 
 pub mod fault;
@@ -14,5 +14,5 @@ pub mod token;
 pub use fault::{LexDefect, LexFault, LexRefusal};
 pub use lexing::{lex, one_reading};
 pub use names::is_name;
-pub use position::find_place;
+pub use position::place;
 pub use token::{Kind, Place, Span, Token};

@@ -7,7 +7,7 @@ use crate::token::Place;
 /// The line and the column of the character that begins at the byte `at` of `src`, both from 1.
 ///
 /// A line ends with U+000A, and a column is one character.
-pub fn find_place(src: &str, at: usize) -> Place
+pub fn place(src: &str, at: usize) -> Place
     requires { IsCharBoundary src.now at }
     ensures line { result.line ≡ line_of src.now at }
     ensures column { result.column ≡ column_of src.now at }

@@ -4,9 +4,9 @@ use Rattle.std.proofs.KnownBytes.{Appends-nil, Appends-trans}
 use Rattle.std.proofs.lemmas.List.{append-nil, at_drop_more}
 use Rattle.std.specs.Io.KnownBytes.{Appends}
 use Rattle.std.specs.Prelude.{flat_map}
-use Rattle.bytecode.specs.Code.{code_length, width_of}
-use Rattle.bytecode.specs.Contents.{ProcedureContents}
-use Rattle.bytecode.specs.declared.instruction.Instruction.{Instruction}
+use Rattle.modules.specs.Code.{code_length, width_of}
+use Rattle.modules.specs.Contents.{ProcedureContents}
+use Rattle.modules.specs.declared.instruction.Instruction.{Instruction}
 use Rattle.channels.specs.Sink.{AppendsPrefix}
 use Rattle.listing.specs.Listing.{code_text, instruction_line, procedure_text, procedures_text}
 

@@ -4,13 +4,13 @@ use Rattle.std.specs.Prelude.{ℕ, ◌+◌, ◌-◌, List, [], ◌∷◌, ◌++�
 use Rattle.std.specs.Fmt.{decimal, digits}
 use Rattle.principals.specs.ActsFor.{PrincipalHierarchy}
 use Rattle.labels.specs.Printed.{printed_label}
-use Rattle.bytecode.specs.Code.{width_of}
-use Rattle.bytecode.specs.Contents.{ChannelContents, ModuleContents, ProcedureContents}
-use Rattle.bytecode.specs.Opcodes.{instruction_text}
+use Rattle.modules.specs.Code.{width_of}
+use Rattle.modules.specs.Contents.{ChannelContents, ModuleContents, ProcedureContents}
+use Rattle.modules.specs.Opcodes.{instruction_text}
 use Rattle.common.specs.declared.direction.Direction.{Direction}
 use Rattle.common.specs.declared.direction.Direction.TheVariants.{Input, Output}
-use Rattle.bytecode.specs.declared.declaration.Handler.{Handler}
-use Rattle.bytecode.specs.declared.instruction.Instruction.{Instruction}
+use Rattle.modules.specs.declared.declaration.Handler.{Handler}
+use Rattle.modules.specs.declared.instruction.Instruction.{Instruction}
 
 -- ---- lines
 

@@ -4,9 +4,9 @@ ghost use Rattle.listing.specs.Listing.{channel_line, direction_word, handler_li
 ghost use Rattle.std.specs.Prelude.{◌<◌, ◌≡◌, ◌^◌, IfOk};
 ghost use Rattle.std.specs.String.{string_bytes};
 
-use bytecode::{Channel, Handler, Instruction};
 use common::Direction;
 use labels::PrintedLabel;
+use modules::{Channel, Handler, Instruction};
 use principals::Hierarchy;
 use std::alloc::{AllocError, Global};
 

@@ -1,15 +1,15 @@
 //! The listing of a module, written line by line.
 
-ghost use Rattle.bytecode.specs.Code.{code_length};
+ghost use Rattle.modules.specs.Code.{code_length};
 ghost use Rattle.channels.specs.Sink.{AppendsPrefix};
 ghost use Rattle.common.specs.Answers.{IfRefused};
 ghost use Rattle.listing.specs.Listing.{channel_line, code_text, handler_line, listing_text, procedure_text, procedures_text};
 ghost use Rattle.std.specs.Io.KnownBytes.{Appends};
-ghost use Rattle.std.specs.Prelude.{◌<◌, ◌^◌, All, IfErr, IsTrue, OnErr, OnOk, flat_map};
+ghost use Rattle.std.specs.Prelude.{◌<◌, ◌^◌, ◌≡◌, All, IfErr, IsTrue, OnErr, OnOk, flat_map};
 
 use crate::lines::{channel_line, handler_line, instruction_line, procedure_line};
-use bytecode::{Channel, Handler, Instruction, Module, Procedure};
 use channels::{Sink, ViewFault, write_all};
+use modules::{Channel, Handler, Instruction, Module, Procedure};
 use principals::Hierarchy;
 use std::alloc::Global;
 
@@ -24,6 +24,7 @@ fn write_channels<O: Sink>(
         (flat_map (channel_line hierarchy.now) channels.now)) }
     ensures prefix { OnErr result (AppendsPrefix (O.taken out.old) (O.taken out.new)
         (flat_map (channel_line hierarchy.now) channels.now)) }
+    ensures kept { OnOk result (O.has_failed out.new ≡ O.has_failed out.old) }
     ensures rejected { IfErr result (IfRefused (λ _. IsTrue (O.has_failed out.new))) }
 {
     for channel in channels {
@@ -40,6 +41,7 @@ fn write_code<O: Sink>(alloc: Global, code: &[Instruction], out: &mut O) -> Resu
         (code_text 0 code.now)) }
     ensures prefix { OnErr result (AppendsPrefix (O.taken out.old) (O.taken out.new)
         (code_text 0 code.now)) }
+    ensures kept { OnOk result (O.has_failed out.new ≡ O.has_failed out.old) }
     ensures rejected { IfErr result (IfRefused (λ _. IsTrue (O.has_failed out.new))) }
 {
     let mut offset = 0;
@@ -61,6 +63,7 @@ fn write_handlers<O: Sink>(
         (flat_map handler_line handlers.now)) }
     ensures prefix { OnErr result (AppendsPrefix (O.taken out.old) (O.taken out.new)
         (flat_map handler_line handlers.now)) }
+    ensures kept { OnOk result (O.has_failed out.new ≡ O.has_failed out.old) }
     ensures rejected { IfErr result (IfRefused (λ _. IsTrue (O.has_failed out.new))) }
 {
     for handler in handlers {
@@ -82,6 +85,7 @@ fn write_procedure<O: Sink>(
         (procedure_text number procedure.now)) }
     ensures prefix { OnErr result (AppendsPrefix (O.taken out.old) (O.taken out.new)
         (procedure_text number procedure.now)) }
+    ensures kept { OnOk result (O.has_failed out.new ≡ O.has_failed out.old) }
     ensures rejected { IfErr result (IfRefused (λ _. IsTrue (O.has_failed out.new))) }
 {
     let line = procedure_line(alloc, number)?;
@@ -101,6 +105,7 @@ fn write_procedures<O: Sink>(
         (procedures_text 0 procedures.now)) }
     ensures prefix { OnErr result (AppendsPrefix (O.taken out.old) (O.taken out.new)
         (procedures_text 0 procedures.now)) }
+    ensures kept { OnOk result (O.has_failed out.new ≡ O.has_failed out.old) }
     ensures rejected { IfErr result (IfRefused (λ _. IsTrue (O.has_failed out.new))) }
 {
     for (number, procedure) in procedures.iter().enumerate() {
@@ -122,6 +127,7 @@ pub fn write_listing<O: Sink>(alloc: Global, program: &Module, out: &mut O) -> R
         (listing_text program.now)) }
     ensures prefix { OnErr result (AppendsPrefix (O.taken out.old) (O.taken out.new)
         (listing_text program.now)) }
+    ensures kept { OnOk result (O.has_failed out.new ≡ O.has_failed out.old) }
     ensures rejected { IfErr result (IfRefused (λ _. IsTrue (O.has_failed out.new))) }
 {
     write_channels(alloc, program.hierarchy(), program.channels(), out)?;

@@ -1,18 +1,18 @@
 -- What an instruction does is the same in two programs that differ in what they fetch alone.
 use Rattle.common.specs.Functions.{same_truth}
 use Rattle.std.proofs.Common.{◌≡◌, ℕ, refl, ap, Bool, true, false, cond, not, List, [], ◌∷◌, reverse, Option, Some, None, ltb, ℤ, slice_get}
-use Rattle.bytecode.specs.Values.{has_kind}
-use Rattle.bytecode.specs.declared.instruction.Arithmetic.{Arithmetic}
-use Rattle.bytecode.specs.declared.instruction.Comparison.{Comparison}
-use Rattle.bytecode.specs.declared.instruction.Instruction.{Instruction}
-use Rattle.bytecode.specs.declared.instruction.Instruction.TheVariants.{Push, PushBoolean, Pop, Load, Store, LoadGlobal, StoreGlobal, LoadElement, StoreElement, LoadGlobalElement, StoreGlobalElement, Clear, Compute, Negate, Not, Compare, SameBoolean, OtherBoolean, Jump, JumpIfFalse, Call, Return, ReturnValue, Receive, Send, Throw}
-use Rattle.bytecode.specs.declared.value.Cell.{Cell}
-use Rattle.bytecode.specs.declared.value.Cell.TheVariants as cell
-use Rattle.bytecode.specs.declared.declaration.Slot.{Slot}
-use Rattle.bytecode.specs.declared.declaration.Slot.TheVariants as slot
+use Rattle.modules.specs.Values.{has_kind}
+use Rattle.modules.specs.declared.instruction.Arithmetic.{Arithmetic}
+use Rattle.modules.specs.declared.instruction.Comparison.{Comparison}
+use Rattle.modules.specs.declared.instruction.Instruction.{Instruction}
+use Rattle.modules.specs.declared.instruction.Instruction.TheVariants.{Push, PushBoolean, Pop, Load, Store, LoadGlobal, StoreGlobal, LoadElement, StoreElement, LoadGlobalElement, StoreGlobalElement, Clear, Compute, Negate, Not, Compare, SameBoolean, OtherBoolean, Jump, JumpIfFalse, Call, Return, ReturnValue, Receive, Send, Throw}
+use Rattle.modules.specs.declared.value.Cell.{Cell}
+use Rattle.modules.specs.declared.value.Cell.TheVariants as cell
+use Rattle.modules.specs.declared.declaration.Slot.{Slot}
+use Rattle.modules.specs.declared.declaration.Slot.TheVariants as slot
 use Rattle.common.specs.declared.direction.Direction.{Direction}
 use Rattle.common.specs.declared.direction.Direction.TheVariants.{Input, Output}
-use Rattle.bytecode.specs.Machine.{Caller, State, Machine, Header, MachineCode, handled, unwound, raised, slot_at, with_slot, with_global, loads, stores, found, loads_element, changes, stores_element, clears, with_element, element_at, computed, pushes_number, computes, compares, matches, drops, negates, inverts, branches, popped, enters, calls, takes, receives, sends, throws, act}
+use Rattle.modules.specs.Machine.{Caller, State, Machine, Header, MachineCode, handled, unwound, raised, slot_at, with_slot, with_global, loads, stores, found, loads_element, changes, stores_element, clears, with_element, element_at, computed, pushes_number, computes, compares, matches, drops, negates, inverts, branches, popped, enters, calls, takes, receives, sends, throws, act}
 
 module _ (p : MachineCode) (fetch : ℕ → ℕ → Option Instruction) where
   abbrev q : MachineCode

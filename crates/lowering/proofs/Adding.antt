@@ -1,7 +1,7 @@
 -- Pieces of code with their handlers, added one behind the other.
 use Rattle.std.proofs.Common.{◌≡◌, refl, sym, ap, ◌∙◌, ℕ, ◌+◌, List, [], ◌++◌, length, append_assoc, append-nil}
-use Rattle.bytecode.specs.declared.instruction.Instruction.{Instruction}
-use Rattle.bytecode.specs.declared.declaration.Handler.{Handler}
+use Rattle.modules.specs.declared.instruction.Instruction.{Instruction}
+use Rattle.modules.specs.declared.declaration.Handler.{Handler}
 use Rattle.std.specs.Prelude.{Bool}
 use Rattle.resolved.specs.Program.{Program}
 use Rattle.resolved.specs.Tree.{Statement, Block, Then}

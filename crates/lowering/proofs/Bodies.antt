@@ -13,9 +13,9 @@ use Rattle.resolved.specs.Meaning.{Outcome, Calls, turns, statement_meaning, blo
 use Rattle.resolved.specs.WellFormed.{variable_type, has_base, same_base, array_by, target_by, channel_is, statement_fits, block_fits, handlers_fit, is_exception}
 use Rattle.resolved.specs.Kinds.{StateFits, OutcomeFits}
 use Rattle.resolved.proofs.Sound.Meanings.{CallsKeep, statement_keeps, block_keeps}
-use Rattle.bytecode.specs.declared.instruction.Instruction.TheVariants as instruction
-use Rattle.bytecode.specs.Machine as machine
-use Rattle.bytecode.specs.Machine.{Machine}
+use Rattle.modules.specs.declared.instruction.Instruction.TheVariants as instruction
+use Rattle.modules.specs.Machine as machine
+use Rattle.modules.specs.Machine.{Machine}
 use Rattle.lowering.specs.Expressions.{value_size, arguments_size, branch_size, branch_code}
 use Rattle.lowering.specs.Code.{Loop, block_falls, is_empty, is_none_left, jump_size, jump_code, jumps_over, jumps_behind, result_size, no_place, test_place, handlers_place, statement_size, block_size, handlers_size, statement_code, block_code, handlers_code, entry_of, statement_table, block_table, handlers_table}
 use Rattle.lowering.proofs.CodePieces.{Stands, stands-front, stands-back}

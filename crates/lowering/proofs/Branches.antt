@@ -19,10 +19,10 @@ use Rattle.resolved.specs.Value.{Evaluated, Yields, Raises, then_with, prefix_va
 use Rattle.resolved.specs.WellFormed.{has_base, result_base}
 use Rattle.resolved.specs.Kinds.{StateFits, GivesBase}
 use Rattle.resolved.proofs.Sound.Values.{value_fits}
-use Rattle.bytecode.specs.declared.value.Cell.TheVariants as cell
-use Rattle.bytecode.specs.declared.instruction.Instruction.{Instruction}
-use Rattle.bytecode.specs.declared.instruction.Instruction.TheVariants.{JumpIfFalse}
-use Rattle.bytecode.specs.Machine.{Machine}
+use Rattle.modules.specs.declared.value.Cell.TheVariants as cell
+use Rattle.modules.specs.declared.instruction.Instruction.{Instruction}
+use Rattle.modules.specs.declared.instruction.Instruction.TheVariants.{JumpIfFalse}
+use Rattle.modules.specs.Machine.{Machine}
 use Rattle.lowering.specs.Expressions.{value_size, value_code, negated, negated_operator, tested, deciding, branch_size, branch_code, test_code}
 use Rattle.lowering.proofs.Negated.{operands-fit, negated-fits}
 use Rattle.lowering.proofs.CodePieces.{Stands, stands-front, stands-back}

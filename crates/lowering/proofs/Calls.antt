@@ -22,10 +22,10 @@ use Rattle.isolation.specs.Runs.{EndsAmong, GivesValue}
 use Rattle.isolation.proofs.Among.{calls-among}
 use Rattle.isolation.proofs.Declared.{ends-as-declared}
 use Rattle.isolation.proofs.Valued.{calls-give}
-use Rattle.bytecode.specs.declared.value.Cell.{Cell}
-use Rattle.bytecode.specs.declared.instruction.Instruction.TheVariants as instruction
-use Rattle.bytecode.specs.Machine as machine
-use Rattle.bytecode.specs.Machine.{Machine, Running, State, Caller, Header, handled, unwound, calls, enters, popped, new_frame}
+use Rattle.modules.specs.declared.value.Cell.{Cell}
+use Rattle.modules.specs.declared.instruction.Instruction.TheVariants as instruction
+use Rattle.modules.specs.Machine as machine
+use Rattle.modules.specs.Machine.{Machine, Running, State, Caller, Header, handled, unwound, calls, enters, popped, new_frame}
 use Rattle.lowering.specs.Interface.{slot_contents}
 use Rattle.lowering.specs.Code.{block_falls, block_size, block_code, block_table}
 use Rattle.lowering.specs.Graphs.{end_code, no_loop, body_code}

@@ -7,11 +7,11 @@ use Rattle.resolved.specs.declared.statement.Exit.TheVariants as exit
 use Rattle.resolved.specs.Tree as tree
 use Rattle.resolved.specs.Program.{Program}
 use Rattle.resolved.specs.Value.{literal_number}
-use Rattle.bytecode.specs.declared.instruction.Arithmetic.TheVariants.{Divide}
-use Rattle.bytecode.specs.declared.instruction.Comparison.TheVariants.{Less, Greater}
-use Rattle.bytecode.specs.declared.instruction.Instruction.{Instruction}
-use Rattle.bytecode.specs.declared.instruction.Instruction.TheVariants.{Push, Load, Compute, Compare, Not, Jump, JumpIfFalse, Return, Send}
-use Rattle.bytecode.specs.declared.declaration.Handler.{Handler}
+use Rattle.modules.specs.declared.instruction.Arithmetic.TheVariants.{Divide}
+use Rattle.modules.specs.declared.instruction.Comparison.TheVariants.{Less, Greater}
+use Rattle.modules.specs.declared.instruction.Instruction.{Instruction}
+use Rattle.modules.specs.declared.instruction.Instruction.TheVariants.{Push, Load, Compute, Compare, Not, Jump, JumpIfFalse, Return, Send}
+use Rattle.modules.specs.declared.declaration.Handler.{Handler}
 use Rattle.lowering.specs.Code.{block_table}
 use Rattle.lowering.specs.Graphs.{body_code}
 use Rattle.lowering.specs.Threaded.{threaded}

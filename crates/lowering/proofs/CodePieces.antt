@@ -1,6 +1,6 @@
 -- Where a piece of code stands in a longer one, and how many instructions code has.
 use Rattle.std.proofs.Common.{◌≡◌, ℕ, ◌+◌, List, ◌∷◌, ◌++◌, length, Some, sym, ap, ◌∙◌, arith, append_assoc, length-append, slice_get}
-use Rattle.bytecode.specs.declared.instruction.Instruction.{Instruction}
+use Rattle.modules.specs.declared.instruction.Instruction.{Instruction}
 use Rattle.verifier.proofs.Indices.{get-seam}
 
 -- a piece of code stands at a place

@@ -1,8 +1,8 @@
 -- The code of statements with blocks, as the pieces that are added for them, and what is left of a block or of handlers behind the first.
 use Rattle.std.proofs.Common.{◌≡◌, refl, sym, ap, subst, ◌∙◌, ℕ, ◌+◌, Bool, true, false, List, [], ◌∷◌, ◌++◌, length, arith, append_assoc, append-nil}
-use Rattle.bytecode.specs.declared.instruction.Instruction.{Instruction}
-use Rattle.bytecode.specs.declared.instruction.Instruction.TheVariants.{Jump}
-use Rattle.bytecode.specs.declared.declaration.Handler.{Handler}
+use Rattle.modules.specs.declared.instruction.Instruction.{Instruction}
+use Rattle.modules.specs.declared.instruction.Instruction.TheVariants.{Jump}
+use Rattle.modules.specs.declared.declaration.Handler.{Handler}
 use Rattle.resolved.specs.Program.{Program}
 use Rattle.resolved.specs.Tree.{Expression, Statement, If, While, Try, Nested, Block, Then, Handlers, Catch}
 use Rattle.lowering.specs.Expressions.{branch_size, branch_code}

@@ -14,8 +14,8 @@ use Rattle.resolved.specs.Ends.{same_exit, has_end, raises, thrown_ends, passes,
 use Rattle.resolved.specs.EndFaults.{fault_unless, may_stand, inner_faults, block_faults, handlers_faults}
 use Rattle.resolved.specs.declared.fault.EndDefect.TheVariants.{OutsideLoop, Unreachable, NeverRaised}
 use Rattle.resolved.specs.WellFormed.{has_base, is_exception, statement_fits, block_fits, handlers_fit}
-use Rattle.bytecode.specs.declared.instruction.Instruction.{Instruction}
-use Rattle.bytecode.specs.declared.instruction.Instruction.TheVariants as instruction
+use Rattle.modules.specs.declared.instruction.Instruction.{Instruction}
+use Rattle.modules.specs.declared.instruction.Instruction.TheVariants as instruction
 use Rattle.verifier.specs.Flow.{goes_on}
 use Rattle.lowering.specs.Expressions.{value_code, branch_size, branch_code}
 use Rattle.lowering.specs.Code.{Loop, statement_falls, block_falls, handlers_fall, jump_size, jump_code, jumps_over, jumps_behind, leave_code, return_code, statement_size, block_size, handlers_size, statement_code, block_code, handlers_code}

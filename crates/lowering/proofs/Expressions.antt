@@ -22,11 +22,11 @@ use Rattle.resolved.specs.Value.{Evaluated, Yields, Raises, literal_number, base
 use Rattle.resolved.specs.WellFormed.{variable_type, has_base, same_base, array_by, prefix_base, operand_base, result_base}
 use Rattle.resolved.specs.Kinds.{StateFits}
 use Rattle.resolved.proofs.Sound.Values.{value_fits}
-use Rattle.bytecode.specs.declared.value.Cell.{Cell}
-use Rattle.bytecode.specs.declared.value.Cell.TheVariants as cell
-use Rattle.bytecode.specs.declared.instruction.Instruction.{Instruction}
-use Rattle.bytecode.specs.declared.instruction.Instruction.TheVariants as instruction
-use Rattle.bytecode.specs.Machine.{act, goes_on, pushes_number}
+use Rattle.modules.specs.declared.value.Cell.{Cell}
+use Rattle.modules.specs.declared.value.Cell.TheVariants as cell
+use Rattle.modules.specs.declared.instruction.Instruction.{Instruction}
+use Rattle.modules.specs.declared.instruction.Instruction.TheVariants as instruction
+use Rattle.modules.specs.Machine.{act, goes_on, pushes_number}
 use Rattle.lowering.specs.Expressions.{load_element_of, prefix_instruction, operator_instruction, value_size, value_code, rest_of_short}
 use Rattle.lowering.proofs.CodePieces.{Stands, stands-front, stands-back}
 use Rattle.lowering.proofs.Sizes.{value-sized}

@@ -13,9 +13,9 @@ use Rattle.resolved.specs.EndFaults.{fault_unless, block_faults, may_end, proced
 use Rattle.resolved.specs.declared.fault.EndDefect.TheVariants.{NoValueReturned, Undeclared}
 use Rattle.resolved.specs.WellFormed.{variable_type, well_formed, block_fits}
 use Rattle.resolved.proofs.WellFormedParts as parts
-use Rattle.bytecode.specs.Contents.{ChannelContents, ProcedureContents, ModuleContents}
-use Rattle.bytecode.specs.Machine.{slot_of}
-use Rattle.bytecode.specs.declared.instruction.Instruction.TheVariants as instruction
+use Rattle.modules.specs.Contents.{ChannelContents, ProcedureContents, ModuleContents}
+use Rattle.modules.specs.Machine.{slot_of}
+use Rattle.modules.specs.declared.instruction.Instruction.TheVariants as instruction
 use Rattle.layout.specs.Graph.{HasPositions}
 use Rattle.layout.specs.Offsets.{laid_out_procedure, laid_out}
 use Rattle.layout.proofs.Fitting.{Fits-laid_out}

@@ -7,10 +7,10 @@ use Rattle.std.proofs.lemmas.Bool.{ltb-true, ltb-false}
 use Rattle.std.proofs.lemmas.List.{get_or_past, get_or-set_same, get_or-set_other, length-map}
 use Rattle.std.proofs.lemmas.List.Elements.{All-map}
 use Rattle.std.proofs.lemmas.Option.{slice_get_past, slice_get_within, slice_get-map, get_or_from_slice_get}
-use Rattle.bytecode.specs.declared.instruction.Instruction.{Instruction}
-use Rattle.bytecode.specs.declared.instruction.Instruction.TheVariants.{Jump, JumpIfFalse}
-use Rattle.bytecode.specs.Contents.{ProcedureContents}
-use Rattle.bytecode.specs.Targets.{target_of, renamed_instruction}
+use Rattle.modules.specs.declared.instruction.Instruction.{Instruction}
+use Rattle.modules.specs.declared.instruction.Instruction.TheVariants.{Jump, JumpIfFalse}
+use Rattle.modules.specs.Contents.{ProcedureContents}
+use Rattle.modules.specs.Targets.{target_of, renamed_instruction}
 use Rattle.layout.specs.Graph.{IsHandlerIn, HasTargetIn, HasPositions}
 use Rattle.lowering.specs.Threaded.{jump_of, onward, followed, final_place, threaded}
 use Rattle.lowering.proofs.Unthreaded.{threaded_procedure}

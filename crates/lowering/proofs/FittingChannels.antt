@@ -1,25 +1,26 @@
 -- The exceptions and channels of a graph are within the limits of the module file.
-use Rattle.std.proofs.Common.{◌≡◌, ◌≢◌, ℕ, ◌+◌, ◌^◌, ◌<◌, ◌≤◌, Bool, true, false, ◌||◌, List, [], ◌∷◌, ◌++◌, length, map, get_or, refl, sym, ap, ◌∙◌, subst, arith, sum_by}
-use Rattle.std.specs.Prelude.{All, Contains}
+use Rattle.std.proofs.Common.{◌≡◌, ◌≢◌, ℕ, ◌+◌, ◌^◌, ◌<◌, ◌≤◌, Bool, true, false, ◌||◌, List, [], ◌∷◌, ◌++◌, length, map, get_or, refl, sym, ap, ◌∙◌, subst, arith}
+use Rattle.std.specs.Prelude.{All, Contains, nat_le}
 use Rattle.std.specs.List.{list_all}
 use Rattle.std.proofs.lemmas.List.{map-append, length-map, get_or-map}
 use Rattle.std.proofs.lemmas.List.Elements.{All-map, All-tail}
-use Rattle.std.proofs.lemmas.List.Sums.{get_or-le-sum_by, AllPass-from_list_all}
+use Rattle.std.proofs.lemmas.Bool.{leb-true}
+use Rattle.std.proofs.lemmas.List.Sums.{AllPass-from_list_all}
 use Rattle.principals.specs.ActsFor.{PrincipalHierarchy, AllDifferent}
 use Rattle.labels.specs.Canonical.{IsCanonicalLabel}
 use Rattle.resolved.specs.Names.{IsShortName}
 use Rattle.resolved.specs.Program.{ChannelEntry}
-use Rattle.resolved.specs.WellFormed.{label_fits, label_nodes}
+use Rattle.resolved.specs.WellFormed.{label_fits, label_nodes, node_limit}
 use Rattle.common.specs.declared.direction.Direction.{Direction}
 use Rattle.common.specs.declared.direction.Direction.TheVariants.{Input, Output}
 use Rattle.common.proofs.Cases.{all_front, pairs_front}
-use Rattle.bytecode.specs.Contents.{ChannelContents}
-use Rattle.bytecode.specs.Form.{Fits}
-use Rattle.bytecode.specs.Format.{is_among, is_built_in, direction, label, channel_after, channels, channel_names, declared}
+use Rattle.modules.specs.Contents.{ChannelContents}
+use Rattle.modules.specs.Form.{Fits}
+use Rattle.modules.specs.Format.{is_among, is_built_in, direction, label, channel_after, channels, channel_names, declared}
 use Rattle.lowering.specs.Interface.{channel_contents}
 use Rattle.lowering.proofs.Fronts.{FitEach-from_fronts, All-at_seam, not_among_front}
 use Rattle.lowering.proofs.FittingNames.{behind_different, none_in_front, not_contained, name_fits, exceptions_fit}
-use Rattle.lowering.proofs.FittingLabels.{length_by_sum, label-fits}
+use Rattle.lowering.proofs.FittingLabels.{label-fits}
 use Rattle.common.specs.Exceptions.{built_in_names}
 
 direction_fits : (d : Direction) → Fits direction d
@@ -59,9 +60,6 @@ fit_channels count names all short each different = (
 abbrev name_of : ChannelEntry → List ℕ
 name_of entry = entry.name
 
-abbrev channel_size : ChannelEntry → ℕ
-channel_size entry = 1 + label_nodes entry.label
-
 -- the names of a graph's channels are those of the program's
 same_names : (entries : List ChannelEntry) → channel_names (map channel_contents entries) ≡ map (λ (entry : ChannelEntry). entry.name) entries
 same_names [] = refl
@@ -75,18 +73,21 @@ at_name P entries all k d lt =
 free-name : (names : List (List ℕ)) (name : List ℕ) → ¬ Contains built_in_names name → ¬ Contains names name → taken_by names name ≡ false
 free-name names name h k = λ i. not_contained built_in_names name h i || not_contained names name k i
 
-channels_fit : (h : PrincipalHierarchy) (names : List (List ℕ)) (entries : List ChannelEntry) → length h.names ≤ 256 → sum_by (λ (entry : ChannelEntry). 1 + label_nodes entry.label) entries ≤ 1048576
+channels_fit : (h : PrincipalHierarchy) (names : List (List ℕ)) (entries : List ChannelEntry) → length h.names ≤ 256 → length entries ≤ 1048576
+    → list_all (λ (entry : ChannelEntry). nat_le (label_nodes entry.label) node_limit) entries ≡ true
     → list_all (λ (entry : ChannelEntry). label_fits h entry.label) entries ≡ true → All IsShortName (map name_of entries)
     → All (λ name. ¬ Contains built_in_names name) (map name_of entries) → All (λ name. ¬ Contains names name) (map name_of entries)
     → AllDifferent (map name_of entries) → All (λ (entry : ChannelEntry). IsCanonicalLabel entry.label) entries
     → Fits (channels (length h.names) names) (map channel_contents entries)
-channels_fit h names entries few size fits short free new different canonical =
+channels_fit h names entries few some small fits short free new different canonical =
+    let sizes : All (λ (entry : ChannelEntry). nat_le (label_nodes entry.label) node_limit ≡ true) entries =
+    AllPass-from_list_all (λ (entry : ChannelEntry). nat_le (label_nodes entry.label) node_limit) entries small in
     let labels : All (λ (entry : ChannelEntry). label_fits h entry.label ≡ true) entries = AllPass-from_list_all (λ (entry : ChannelEntry). label_fits h entry.label) entries fits in
-    fit_channels (length h.names) names (map channel_contents entries) (omega (arith, size, length-map entries channel_contents, length_by_sum channel_size entries (λ entry. omega arith)))
+    fit_channels (length h.names) names (map channel_contents entries) (omega (arith, some, length-map entries channel_contents))
     (All-map (IsFitChannel (length h.names) names) channel_contents entries (λ k d lt. record {
       name = at_name IsShortName entries short k d lt;
       free = free-name names (get_or entries k d).name (at_name (λ name. ¬ Contains built_in_names name) entries free k d lt) (at_name (λ name. ¬ Contains names name) entries new k d lt);
-      label = label-fits h (get_or entries k d).label few (labels k d lt) (omega (arith, size, get_or-le-sum_by channel_size entries k d lt)) (canonical k d lt);
+      label = label-fits h (get_or entries k d).label few (labels k d lt) (leb-true (label_nodes (get_or entries k d).label) node_limit (sizes k d lt)) (canonical k d lt);
     }))
     (subst AllDifferent (sym (same_names entries)) different)
 
@@ -95,20 +96,20 @@ behind-all P [] ys all = all
 behind-all P (x ∷ xs) ys all = behind-all P xs ys (All-tail P x (xs ++ ys) all)
 
 pub declared-fits : (h : PrincipalHierarchy) (names : List (List ℕ)) (entries : List ChannelEntry) → length h.names ≤ 256 → length names ≤ 1048576
-    → sum_by (λ (entry : ChannelEntry). 1 + label_nodes entry.label) entries ≤ 1048576
+    → length entries ≤ 1048576 → list_all (λ (entry : ChannelEntry). nat_le (label_nodes entry.label) node_limit) entries ≡ true
     → list_all (λ (entry : ChannelEntry). label_fits h entry.label) entries ≡ true
     → All IsShortName (names ++ map (λ (entry : ChannelEntry). entry.name) entries)
     → AllDifferent (built_in_names ++ (names ++ map (λ (entry : ChannelEntry). entry.name) entries))
     → All (λ (entry : ChannelEntry). IsCanonicalLabel entry.label) entries
     → Fits (declared (length h.names)) (names, map channel_contents entries)
 unfolding declared
-declared-fits h names entries few some size fits short different canonical =
+declared-fits h names entries few exceptions some small fits short different canonical =
     let kept = names ++ map name_of entries in
     let apart : AllDifferent kept = behind_different built_in_names kept different in
     let free : All (λ name. ¬ Contains built_in_names name) kept = none_in_front built_in_names kept different in (
-      exceptions_fit names some (all_front IsShortName names (map name_of entries) short)
+      exceptions_fit names exceptions (all_front IsShortName names (map name_of entries) short)
           (all_front (λ name. ¬ Contains built_in_names name) names (map name_of entries) free) (pairs_front (λ first second. first ≢ second) names (map name_of entries) apart),
-      channels_fit h names entries few size fits (behind-all IsShortName names (map name_of entries) short)
+      channels_fit h names entries few some small fits (behind-all IsShortName names (map name_of entries) short)
           (behind-all (λ name. ¬ Contains built_in_names name) names (map name_of entries) free) (none_in_front names (map name_of entries) apart)
           (behind_different names (map name_of entries) apart) canonical,
     )

@@ -25,10 +25,10 @@ use Rattle.resolved.specs.Program.{Program, ProcedureEntry, SlotEntry, ResultEnt
 use Rattle.resolved.specs.Value.{literal_number}
 use Rattle.resolved.specs.WellFormed.{VariableType, same_base, slot_type, global_type, variable_type, scalar_by, has_length, array_by, has_base, prefix_base, operand_base, result_base, has_result, target_by, channel_is, arguments_match, parameters_of, call_matches, is_exception, may_leave_by, is_array, statement_fits, block_fits, handlers_fit, statement_nodes, block_nodes, handlers_nodes}
 use Rattle.resolved.proofs.WellFormedParts.{result_some}
-use Rattle.bytecode.specs.declared.instruction.Instruction.{Instruction}
-use Rattle.bytecode.specs.declared.instruction.Instruction.TheVariants as instruction
-use Rattle.bytecode.specs.declared.declaration.Handler.{Handler}
-use Rattle.bytecode.specs.Opcodes.{OperandFits, row_of}
+use Rattle.modules.specs.declared.instruction.Instruction.{Instruction}
+use Rattle.modules.specs.declared.instruction.Instruction.TheVariants as instruction
+use Rattle.modules.specs.declared.declaration.Handler.{Handler}
+use Rattle.modules.specs.Opcodes.{OperandFits, row_of}
 use Rattle.lowering.specs.Expressions.{load_of, store_of, load_element_of, store_element_of, prefix_instruction, operator_instruction, negated_operator, value_size, value_code, rest_of_short, arguments_code, negated, deciding, branch_size, branch_code, test_code}
 use Rattle.lowering.specs.Code.{Loop, jump_code, jumps_over, jumps_behind, kept_code, result_code, leave_code, return_code, entry_of, no_place, test_place, handlers_place, statement_size, block_size, handlers_size, statement_code, block_code, handlers_code, statement_table, block_table, handlers_table}
 use Rattle.lowering.specs.Graphs.{end_code}

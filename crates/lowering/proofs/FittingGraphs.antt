@@ -9,19 +9,19 @@ use Rattle.std.proofs.lemmas.List.Elements.{All-head, All-tail}
 use Rattle.std.proofs.lemmas.List.Sums.{get_or-le-sum_by}
 use Rattle.std.proofs.lemmas.Option.{slice_get-map, slice_get_within, slice_get-get_or}
 use Rattle.resolved.specs.Names.{HasNames}
-use Rattle.resolved.specs.Program.{Program, ProcedureEntry, ResultEntry, ChannelEntry, GlobalEntry, SlotEntry}
-use Rattle.resolved.specs.WellFormed.{size_fits, cell_count, label_fits, label_nodes, first_fits, procedure_fits, procedure_nodes, program_nodes, node_limit, main_fits, well_formed}
+use Rattle.resolved.specs.Program.{Program, ProcedureEntry, ResultEntry, GlobalEntry, SlotEntry}
+use Rattle.resolved.specs.WellFormed.{size_fits, cell_count, label_fits, first_fits, procedure_fits, procedure_nodes, program_nodes, node_limit, main_fits, well_formed}
 use Rattle.resolved.proofs.WellFormedParts.{ProcedureParts, procedure_parts, program_parts, passes_at}
-use Rattle.bytecode.specs.declared.instruction.Instruction.{Instruction}
-use Rattle.bytecode.specs.declared.instruction.Instruction.TheVariants as instruction
-use Rattle.bytecode.specs.declared.declaration.Handler.{Handler}
-use Rattle.bytecode.specs.declared.value.Kind.{Kind}
-use Rattle.bytecode.specs.declared.value.Kind.TheVariants as kind
-use Rattle.bytecode.specs.Form.{Fits, FitEach, IsCoded, Code}
-use Rattle.bytecode.specs.Format.{returned, handler, handlers, procedure, procedures, may_start, main, program as program_field, contents, module_file}
-use Rattle.bytecode.specs.Targets.{renamed_instruction}
-use Rattle.bytecode.specs.Opcodes.{instructions}
-use Rattle.bytecode.proofs.Spelling.{is_spelled, spelled-length}
+use Rattle.modules.specs.declared.instruction.Instruction.{Instruction}
+use Rattle.modules.specs.declared.instruction.Instruction.TheVariants as instruction
+use Rattle.modules.specs.declared.declaration.Handler.{Handler}
+use Rattle.modules.specs.declared.value.Kind.{Kind}
+use Rattle.modules.specs.declared.value.Kind.TheVariants as kind
+use Rattle.modules.specs.Form.{Fits, FitEach, IsCoded, Code}
+use Rattle.modules.specs.Format.{returned, handler, handlers, procedure, procedures, may_start, main, program as program_field, contents, module_file}
+use Rattle.modules.specs.Targets.{renamed_instruction}
+use Rattle.modules.specs.Opcodes.{instructions}
+use Rattle.modules.proofs.Spelling.{is_spelled, spelled-length}
 use Rattle.layout.specs.Graph.{IsHandlerIn, HasTargetIn, HasPositions}
 use Rattle.lowering.specs.Interface.{returned_kind}
 use Rattle.lowering.specs.Code.{block_falls, block_size, block_code, block_table}
@@ -38,7 +38,7 @@ use Rattle.lowering.proofs.Fronts.{FitEach-made, All-at_seam}
 use Rattle.lowering.proofs.Room.{block-room, end-room}
 use Rattle.lowering.proofs.Sizes.{both_sized, block-sized}
 use Rattle.lowering.proofs.Targets.{Below}
-use Rattle.bytecode.proofs.Widths.{code_length_most}
+use Rattle.modules.proofs.Widths.{code_length_most}
 use Rattle.common.specs.declared.limits.TheConstants.{MAX_CELLS}
 
 -- ---- code
@@ -182,7 +182,7 @@ main-fits program few h = (
 
 -- the numbers of nodes
 record HasCounts (program : Program) : Type 0 where
-  channels : sum_by (λ (entry : ChannelEntry). 1 + label_nodes entry.label) program.channels ≤ 1048576
+  channels : length program.channels ≤ 1048576
   exceptions : length program.exceptions ≤ 1048576
   globals : length program.globals ≤ 1048576
   procedures : sum_by procedure_nodes program.procedures ≤ 1048576
@@ -198,7 +198,7 @@ tables-from : (program : Program) (entry : ProcedureEntry) → HasCounts program
 tables-from program entry counts few = record {
   globals = omega (arith, counts.globals);
   slots = omega (arith, few);
-  channels = omega (arith, counts.channels, length_by_sum (λ (entry : ChannelEntry). 1 + label_nodes entry.label) program.channels (λ entry. omega arith));
+  channels = omega (arith, counts.channels);
   procedures = omega (arith, counts.procedures, length_by_sum procedure_nodes program.procedures procedure-some);
   exceptions = omega (arith, counts.exceptions);
 }
@@ -224,7 +224,7 @@ graph-fits program formed names values placed =
       (
         hierarchy-fits program.hierarchy names.hierarchy names.principals,
         (
-          declared-fits program.hierarchy program.exceptions program.channels names.hierarchy.few counts.exceptions counts.channels parts.channels_fit names.items names.different names.labels,
+          declared-fits program.hierarchy program.exceptions program.channels names.hierarchy.few counts.exceptions counts.channels parts.labels_fit parts.channels_fit names.items names.different names.labels,
           (
             globals-fit program.hierarchy program.globals counts.globals tables.0 (leb-true (sum_by (λ (entry : GlobalEntry). cell_count entry.size) program.globals) MAX_CELLS tables.1) values,
             (

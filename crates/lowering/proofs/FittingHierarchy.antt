@@ -11,8 +11,8 @@ use Rattle.principals.specs.ActsFor.{PrincipalHierarchy, IsHierarchy, AllBelow}
 use Rattle.labels.specs.Sets.{ascending_set}
 use Rattle.labels.proofs.Ascending.{ascending_set-sorted}
 use Rattle.resolved.specs.Names.{IsShortName}
-use Rattle.bytecode.specs.Form.{Fits}
-use Rattle.bytecode.specs.Format.{is_above, pair_cmp, pair_after, hierarchy}
+use Rattle.modules.specs.Form.{Fits}
+use Rattle.modules.specs.Format.{is_above, pair_cmp, pair_after, hierarchy}
 use Rattle.lowering.specs.Interface.{hierarchy_contents}
 use Rattle.lowering.proofs.Fronts.{FitEach-from_fronts, All-at_seam, above_from_sorted}
 use Rattle.lowering.proofs.FittingNames.{principals_fit, number_fits}

@@ -9,8 +9,8 @@ use Rattle.std.proofs.lemmas.Slice.Eq.{bytes_eq-Decides}
 use Rattle.std.proofs.lemmas.Str.{is_utf8-from_IsUtf8}
 use Rattle.principals.specs.ActsFor.{AllDifferent}
 use Rattle.resolved.specs.Names.{IsShortName}
-use Rattle.bytecode.specs.Form.{Fits}
-use Rattle.bytecode.specs.Format.{is_among, name_after, number_below, principals, exceptions, is_built_in}
+use Rattle.modules.specs.Form.{Fits}
+use Rattle.modules.specs.Format.{is_among, name_after, number_below, principals, exceptions, is_built_in}
 use Rattle.lowering.proofs.Fronts.{FitEach-from_fronts, All-at_seam, not_among_front}
 use Rattle.common.specs.Exceptions.{built_in_names}
 

@@ -14,15 +14,15 @@ use Rattle.resolved.specs.declared.expression.Value.{Value}
 use Rattle.resolved.specs.declared.expression.Value.TheVariants.{Number, Truth}
 use Rattle.resolved.specs.Program.{GlobalEntry, SlotEntry}
 use Rattle.resolved.specs.WellFormed.{size_fits, cell_count, label_fits, first_fits, written_fits, parameter_fits}
-use Rattle.bytecode.specs.declared.fault.ModuleDefect.TheVariants.{BadValue}
-use Rattle.bytecode.specs.declared.value.Kind.{Kind}
-use Rattle.bytecode.specs.declared.value.Kind.TheVariants as kind
-use Rattle.bytecode.specs.declared.declaration.Slot.{Slot}
-use Rattle.bytecode.specs.declared.declaration.Slot.TheVariants as slot
-use Rattle.bytecode.specs.declared.declaration.Global.{Global}
-use Rattle.bytecode.specs.declared.declaration.Global.TheVariants as global
-use Rattle.bytecode.specs.Form.{Fits, Number as NumberField, Checked}
-use Rattle.bytecode.specs.Format.{cells_of_size, is_size, variable_kind, of_scalar, first_value, global_of, global_fields, global_cells, global_after, globals, slot_of, slot_fields, slot_cells, slot_after, slots}
+use Rattle.modules.specs.declared.fault.FormatDefect.TheVariants.{BadValue}
+use Rattle.modules.specs.declared.value.Kind.{Kind}
+use Rattle.modules.specs.declared.value.Kind.TheVariants as kind
+use Rattle.modules.specs.declared.declaration.Slot.{Slot}
+use Rattle.modules.specs.declared.declaration.Slot.TheVariants as slot
+use Rattle.modules.specs.declared.declaration.Global.{Global}
+use Rattle.modules.specs.declared.declaration.Global.TheVariants as global
+use Rattle.modules.specs.Form.{Fits, Number as NumberField, Checked}
+use Rattle.modules.specs.Format.{cells_of_size, is_size, variable_kind, of_scalar, first_value, global_of, global_fields, global_cells, global_after, globals, slot_of, slot_fields, slot_cells, slot_after, slots}
 use Rattle.lowering.specs.Interface.{kind_of_base, declared_slot, slot_contents, scalar_global, declared_global, global_contents}
 use Rattle.lowering.specs.Fitting.{IsShortValue}
 use Rattle.lowering.proofs.Fronts.{FitEach-made, All-at_seam, passes_at_seam, passes_among_first, sum_at_seam}

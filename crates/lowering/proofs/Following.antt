@@ -4,14 +4,14 @@ use Rattle.std.proofs.Common.{◌≡◌, ℕ, zero, suc, ◌+◌, ◌≤◌, ref
 use Rattle.std.specs.Option.{option_map}
 use Rattle.std.proofs.Math.Path.{fun_ext}
 use Rattle.std.proofs.lemmas.Option.{slice_get-map}
-use Rattle.bytecode.specs.declared.declaration.Handler.{Handler}
-use Rattle.bytecode.specs.declared.instruction.Instruction.{Instruction}
-use Rattle.bytecode.specs.declared.instruction.Instruction.TheVariants.{Jump, JumpIfFalse}
-use Rattle.bytecode.specs.declared.value.Cell.{Cell}
-use Rattle.bytecode.specs.declared.value.Cell.TheVariants as cell
-use Rattle.bytecode.specs.Contents.{ProcedureContents, ModuleContents}
-use Rattle.bytecode.specs.Machine.{State, Machine, Running, Ended, Stuck, MachineCode, Header, goes_to, act, acts, step, exec, branches, code_of, handlers_of, handler_for, header_of, slots_in, first_slots, first_state}
-use Rattle.bytecode.specs.Targets.{renamed_instruction}
+use Rattle.modules.specs.declared.declaration.Handler.{Handler}
+use Rattle.modules.specs.declared.instruction.Instruction.{Instruction}
+use Rattle.modules.specs.declared.instruction.Instruction.TheVariants.{Jump, JumpIfFalse}
+use Rattle.modules.specs.declared.value.Cell.{Cell}
+use Rattle.modules.specs.declared.value.Cell.TheVariants as cell
+use Rattle.modules.specs.Contents.{ProcedureContents, ModuleContents}
+use Rattle.modules.specs.Machine.{State, Machine, Running, Ended, Stuck, MachineCode, Header, goes_to, act, acts, step, exec, branches, code_of, handlers_of, handler_for, header_of, slots_in, first_slots, first_state}
+use Rattle.modules.specs.Targets.{renamed_instruction}
 use Rattle.layout.specs.Runs.{graph_program}
 use Rattle.lowering.specs.Threaded.{jump_of, onward, followed, final_place}
 use Rattle.lowering.proofs.Unthreaded.{threaded_procedure, threaded_graph}

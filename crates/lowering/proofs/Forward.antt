@@ -17,8 +17,8 @@ use Rattle.resolved.specs.Program.{Program, ResultEntry, procedure_at}
 use Rattle.resolved.specs.Ends.{same_exit, has_end, statement_ends, block_ends}
 use Rattle.resolved.specs.EndFaults.{fault_unless, may_leave, may_stand, inner_faults, block_faults, handlers_faults}
 use Rattle.resolved.specs.declared.fault.EndDefect.TheVariants.{OutsideLoop, Unreachable, NeverRaised}
-use Rattle.bytecode.specs.declared.instruction.Instruction.{Instruction}
-use Rattle.bytecode.specs.declared.instruction.Instruction.TheVariants as instruction
+use Rattle.modules.specs.declared.instruction.Instruction.{Instruction}
+use Rattle.modules.specs.declared.instruction.Instruction.TheVariants as instruction
 use Rattle.lowering.specs.Expressions.{load_of, store_of, load_element_of, store_element_of, prefix_instruction, operator_instruction, value_size, value_code, rest_of_short, arguments_size, arguments_code, tested, deciding, branch_size, branch_code, test_code}
 use Rattle.lowering.specs.Code.{Loop, block_falls, jump_size, jump_code, jumps_over, jumps_behind, kept_code, result_code, leave_code, return_code, statement_size, block_size, handlers_size, statement_code, block_code, handlers_code}
 use Rattle.lowering.specs.Graphs.{end_code, no_loop, body_code}

@@ -19,13 +19,13 @@ use Rattle.resolved.specs.WellFormed.{slot_type, global_type, first_fits, size_f
 use Rattle.resolved.specs.Kinds.{ArgumentsFit}
 use Rattle.resolved.proofs.WellFormedParts.{program_parts, passes_at}
 use Rattle.resolved.proofs.Sound.Values.{same_base_is}
-use Rattle.bytecode.specs.declared.value.Cell.{Cell}
-use Rattle.bytecode.specs.declared.value.Kind.{Kind}
-use Rattle.bytecode.specs.declared.declaration.Slot.{Slot}
-use Rattle.bytecode.specs.declared.declaration.Slot.TheVariants as slot
-use Rattle.bytecode.specs.Values.{has_kind, zero_of}
-use Rattle.bytecode.specs.Contents.{ProcedureContents, ModuleContents}
-use Rattle.bytecode.specs.Machine.{Caller, Header, header_of, code_of, handlers_of, handler_for, slots_of, slot_of, popped, kinds_of, first_slot, first_cells, first_slots}
+use Rattle.modules.specs.declared.value.Cell.{Cell}
+use Rattle.modules.specs.declared.value.Kind.{Kind}
+use Rattle.modules.specs.declared.declaration.Slot.{Slot}
+use Rattle.modules.specs.declared.declaration.Slot.TheVariants as slot
+use Rattle.modules.specs.Values.{has_kind, zero_of}
+use Rattle.modules.specs.Contents.{ProcedureContents, ModuleContents}
+use Rattle.modules.specs.Machine.{Caller, Header, header_of, code_of, handlers_of, handler_for, slots_of, slot_of, popped, kinds_of, first_slot, first_cells, first_slots}
 use Rattle.layout.specs.Runs.{graph_program}
 use Rattle.lowering.specs.Interface.{kind_of_base, declared_slot, slot_contents, global_contents, scalar_global, channel_contents}
 use Rattle.lowering.specs.Code.{block_table}
@@ -97,9 +97,9 @@ setting_of program formed world f entry there callers =
       locals_there = λ k. ap (λ (o : Option Header). slice_get (slots_of o) k) heads ∙ slice_get-map slot_contents entry.slots k ∙ slot_same (slice_get entry.slots k);
       globals_there = λ k. slice_get-map slot_of (map global_contents program.globals) k ∙ ap (option_map slot_of) (slice_get-map global_contents program.globals k)
           ∙ option_twice global_contents slot_of (slice_get program.globals k) ∙ global_there program formed k (slice_get program.globals k) refl;
-      channels_there = λ k. slice_get-map (λ (channel : Rattle.bytecode.specs.Contents.ChannelContents). channel.direction) (map channel_contents program.channels) k
-          ∙ ap (option_map (λ (channel : Rattle.bytecode.specs.Contents.ChannelContents). channel.direction)) (slice_get-map channel_contents program.channels k)
-          ∙ option_twice channel_contents (λ (channel : Rattle.bytecode.specs.Contents.ChannelContents). channel.direction) (slice_get program.channels k) ∙ direction_same (slice_get program.channels k);
+      channels_there = λ k. slice_get-map (λ (channel : Rattle.modules.specs.Contents.ChannelContents). channel.direction) (map channel_contents program.channels) k
+          ∙ ap (option_map (λ (channel : Rattle.modules.specs.Contents.ChannelContents). channel.direction)) (slice_get-map channel_contents program.channels k)
+          ∙ option_twice channel_contents (λ (channel : Rattle.modules.specs.Contents.ChannelContents). channel.direction) (slice_get program.channels k) ∙ direction_same (slice_get program.channels k);
       exceptions_there = refl;
     }
 

@@ -17,7 +17,7 @@ use Rattle.labels.proofs.Ascending.{ascending_set-SameSet}
 use Rattle.labels.proofs.Elements.{All-from_each, each_from_All}
 use Rattle.labels.proofs.Written.{dedup-sorted}
 use Rattle.labels.proofs.Order.{both_tie}
-use Rattle.bytecode.specs.Format.{pair_cmp}
+use Rattle.modules.specs.Format.{pair_cmp}
 use Rattle.lowering.specs.Interface.{hierarchy_contents}
 
 pub pair_cmp-total : IsTotalOrder pair_cmp

@@ -16,9 +16,9 @@ use Rattle.resolved.specs.EndFaults.{fault_unless, may_leave, may_stand, inner_f
 use Rattle.resolved.specs.declared.fault.EndDefect.TheVariants.{OutsideLoop, Unreachable, NeverRaised, NoValueReturned, Undeclared}
 use Rattle.resolved.specs.WellFormed.{has_base, is_exception, statement_fits, block_fits, handlers_fit, procedure_fits}
 use Rattle.resolved.proofs.WellFormedParts.{program_parts, procedure_parts, passes_at}
-use Rattle.bytecode.specs.declared.instruction.Instruction.{Instruction}
-use Rattle.bytecode.specs.declared.instruction.Instruction.TheVariants as instruction
-use Rattle.bytecode.specs.declared.declaration.Handler.{Handler}
+use Rattle.modules.specs.declared.instruction.Instruction.{Instruction}
+use Rattle.modules.specs.declared.instruction.Instruction.TheVariants as instruction
+use Rattle.modules.specs.declared.declaration.Handler.{Handler}
 use Rattle.layout.specs.Graph.{IsHandlerIn, HasPositions}
 use Rattle.lowering.specs.Expressions.{value_size, value_code, arguments_code, branch_size}
 use Rattle.lowering.specs.Code.{Loop, statement_falls, block_falls, handlers_fall, is_empty, is_none_left, jump_size, jump_code, jumps_over, jumps_behind, result_code, leave_code, return_code, return_size, entry_of, statement_size, block_size, handlers_size, statement_code, block_code, handlers_code, statement_table, block_table, handlers_table}

@@ -8,9 +8,9 @@ use Rattle.resolved.specs.Program.{Program}
 use Rattle.resolved.specs.SourceState as source
 use Rattle.resolved.specs.Meaning as meaning
 use Rattle.resolved.specs.WellFormed.{well_formed}
-use Rattle.bytecode.specs.Contents.{ModuleContents}
-use Rattle.bytecode.specs.Machine as machine
-use Rattle.bytecode.specs.Machine.{Machine, Running}
+use Rattle.modules.specs.Contents.{ModuleContents}
+use Rattle.modules.specs.Machine as machine
+use Rattle.modules.specs.Machine.{Machine, Running}
 use Rattle.layout.specs.Offsets.{laid_out}
 use Rattle.layout.specs.Runs.{graph_program, graph_after_steps}
 use Rattle.layout.specs.SameRuns.{SameRuns}
@@ -23,7 +23,7 @@ use Rattle.lowering.proofs.Steps.{counted, counts, sent-before, ends-once}
 use Rattle.lowering.proofs.Unthreaded.{unthreaded_graph, graph-threaded}
 use Rattle.lowering.proofs.Following.{Follows, jump-is, runs-follow}
 use Rattle.lowering.proofs.Programs.{Comes, GoesOn, run-within-limit}
-use Rattle.bytecode.proofs.Executing.{ended_stays}
+use Rattle.modules.proofs.Executing.{ended_stays}
 
 -- what fewer steps have sent is a prefix of what more have
 sent-grows : (p : machine.MachineCode) (n m : ℕ) (from : Machine) → n ≤ m → IsPrefix (machine.sent_of (machine.exec p n from)) (machine.sent_of (machine.exec p m from))

@@ -14,19 +14,19 @@ use Rattle.common.specs.declared.direction.Direction.TheVariants as direction
 use Rattle.common.proofs.Cases.{none_there}
 use Rattle.resolved.specs.Program.{Program, ProcedureEntry, SlotEntry, ChannelEntry}
 use Rattle.resolved.specs.WellFormed.{VariableType, variable_type, scalar_by, array_by, has_length, channel_is, prefix_base, operand_base, result_base}
-use Rattle.bytecode.specs.Contents.{ProcedureContents, ModuleContents}
-use Rattle.bytecode.specs.Machine.{machine_code, header_of, kinds_of}
-use Rattle.bytecode.specs.Values.{is_same_kind}
-use Rattle.bytecode.specs.declared.instruction.Instruction.{Instruction}
-use Rattle.bytecode.specs.declared.instruction.Instruction.TheVariants as instruction
-use Rattle.bytecode.specs.declared.declaration.Slot.{Slot}
-use Rattle.bytecode.specs.declared.declaration.Slot.TheVariants as slot
-use Rattle.bytecode.specs.declared.value.Kind.{Kind}
-use Rattle.bytecode.specs.declared.value.Kind.TheVariants.{Int, Boolean}
+use Rattle.modules.specs.Contents.{ProcedureContents, ModuleContents}
+use Rattle.modules.specs.Machine.{machine_code, header_of, kinds_of}
+use Rattle.modules.specs.Values.{is_same_kind}
+use Rattle.modules.specs.declared.instruction.Instruction.{Instruction}
+use Rattle.modules.specs.declared.instruction.Instruction.TheVariants as instruction
+use Rattle.modules.specs.declared.declaration.Slot.{Slot}
+use Rattle.modules.specs.declared.declaration.Slot.TheVariants as slot
+use Rattle.modules.specs.declared.value.Kind.{Kind}
+use Rattle.modules.specs.declared.value.Kind.TheVariants.{Int, Boolean}
 use Rattle.verifier.specs.declared.fault.CodeDefect.{CodeDefect}
 use Rattle.verifier.specs.declared.fault.CodeDefect.TheVariants.{OperandKind, SlotOrIndex}
 use Rattle.verifier.specs.Fixed.{instruction_defect, is_scalar, is_array, is_input, is_output, unless}
-use Rattle.bytecode.specs.Targets.{target_of}
+use Rattle.modules.specs.Targets.{target_of}
 use Rattle.verifier.specs.Flow.{Effect, Leaves, Misses, exchange, exchanged, called, value_kinds, slot_kind, all_popped, and_then, pushed, effect, goes_on}
 use Rattle.lowering.specs.Interface.{kind_of_base, declared_slot, slot_contents, returned_kind}
 use Rattle.lowering.specs.Expressions.{load_of, store_of, load_element_of, store_element_of, prefix_instruction, operator_instruction}

@@ -7,10 +7,10 @@ use Rattle.resolved.specs.SourceState as source
 use Rattle.resolved.specs.Value.{Evaluated, Yields, Raises, truth_in}
 use Rattle.resolved.specs.Meaning.{Outcome, Ended, Stopped, Deep, OutOfTurns, after, evaluated, looped, turns, caught, normally, state_after}
 use Rattle.resolved.specs.Kinds.{StateFits}
-use Rattle.bytecode.specs.declared.value.Cell.{Cell}
-use Rattle.bytecode.specs.declared.instruction.Instruction.{Instruction}
-use Rattle.bytecode.specs.Machine as machine
-use Rattle.bytecode.specs.Machine.{Machine}
+use Rattle.modules.specs.declared.value.Cell.{Cell}
+use Rattle.modules.specs.declared.instruction.Instruction.{Instruction}
+use Rattle.modules.specs.Machine as machine
+use Rattle.modules.specs.Machine.{Machine}
 use Rattle.lowering.specs.Code.{Loop, jump_code}
 use Rattle.lowering.proofs.CodePieces.{Stands}
 use Rattle.lowering.proofs.Steps.{Leads, Strides, Waits, leads-through, strides-leads, strides-on, waits-through, waits-stride, waits-less}

@@ -21,15 +21,15 @@ use Rattle.resolved.specs.WellFormed.{VariableType, variable_type, has_base, sam
 use Rattle.resolved.specs.Kinds.{StateFits, CellsFit}
 use Rattle.resolved.proofs.Sound.Values.{value_fits}
 use Rattle.resolved.proofs.Sound.Meanings.{base_given}
-use Rattle.bytecode.specs.declared.value.Cell.{Cell}
-use Rattle.bytecode.specs.declared.value.Kind.{Kind}
-use Rattle.bytecode.specs.declared.value.Cell.TheVariants as cell
-use Rattle.bytecode.specs.declared.declaration.Slot.{Slot}
-use Rattle.bytecode.specs.declared.declaration.Slot.TheVariants as slot
-use Rattle.bytecode.specs.declared.instruction.Instruction.{Instruction}
-use Rattle.bytecode.specs.declared.instruction.Instruction.TheVariants as instruction
-use Rattle.bytecode.specs.Machine as machine
-use Rattle.bytecode.specs.Machine.{Machine, State, Header, clears, with_slot, with_element, goes_on, takes, receives, sends, throws, returns_nothing, leaves_without, returns_value, gives_back, leaves_value, raised, no_row, leaves}
+use Rattle.modules.specs.declared.value.Cell.{Cell}
+use Rattle.modules.specs.declared.value.Kind.{Kind}
+use Rattle.modules.specs.declared.value.Cell.TheVariants as cell
+use Rattle.modules.specs.declared.declaration.Slot.{Slot}
+use Rattle.modules.specs.declared.declaration.Slot.TheVariants as slot
+use Rattle.modules.specs.declared.instruction.Instruction.{Instruction}
+use Rattle.modules.specs.declared.instruction.Instruction.TheVariants as instruction
+use Rattle.modules.specs.Machine as machine
+use Rattle.modules.specs.Machine.{Machine, State, Header, clears, with_slot, with_element, goes_on, takes, receives, sends, throws, returns_nothing, leaves_without, returns_value, gives_back, leaves_value, raised, no_row, leaves}
 use Rattle.common.specs.declared.exceptions.TheConstants.{BOUNDS, END}
 use Rattle.lowering.specs.Interface.{kind_of_base}
 use Rattle.lowering.specs.Expressions.{store_of, store_element_of, value_size, value_code}
@@ -147,7 +147,7 @@ module _ (g : Setting) (loop : Loop) (h : ℕ → Option ℕ) (k : ℕ) (s : sou
       sized type is (Some count) e some =
           let S = state_at g at [] s in
           let fits : CellsFit type (s.locals slot) = fit.fits (Local slot) type is in
-          let slot_is : slot_for g (Local slot) ≡ Some (Rattle.bytecode.specs.declared.declaration.Slot.TheVariants.Array (kind_of_base type.base) count) = rw (is, e) refl in
+          let slot_is : slot_for g (Local slot) ≡ Some (Rattle.modules.specs.declared.declaration.Slot.TheVariants.Array (kind_of_base type.base) count) = rw (is, e) refl in
           does g more (instruction.Clear slot) at [] s _ stands
           (ap (clears g.p S slot) (g.locals_there slot ∙ slot_is)
           ∙ ap (λ (cells : List Cell). goes_on g.p (with_slot S slot cells) []) (cleared_cells type.base (s.locals slot) count (fits.count ∙ ap cell_count e) (λ v f. f) fits.kinds)
@@ -167,7 +167,7 @@ module _ (g : Setting) (loop : Loop) (h : ℕ → Option ℕ) (k : ℕ) (s : sou
       kind : Kind
       kind = kind_of_base type.base
 
-      slot_is : slot_for g x ≡ Some (Rattle.bytecode.specs.declared.declaration.Slot.TheVariants.Array (kind_of_base type.base) count)
+      slot_is : slot_for g x ≡ Some (Rattle.modules.specs.declared.declaration.Slot.TheVariants.Array (kind_of_base type.base) count)
       slot_is = rw (is, size) refl
 
       fits : CellsFit type (cells s x)

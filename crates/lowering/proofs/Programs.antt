@@ -31,11 +31,11 @@ use Rattle.resolved.proofs.Sound.Runs.{runs_begin_typed}
 use Rattle.isolation.specs.Runs.{EndsAmong}
 use Rattle.isolation.proofs.Among.{calls-among}
 use Rattle.isolation.proofs.Declared.{ends-as-declared}
-use Rattle.bytecode.specs.declared.value.Cell.{Cell}
-use Rattle.bytecode.specs.Contents.{ProcedureContents}
-use Rattle.bytecode.specs.Values.{zero_of}
-use Rattle.bytecode.specs.Machine as machine
-use Rattle.bytecode.specs.Machine.{Machine, Running}
+use Rattle.modules.specs.declared.value.Cell.{Cell}
+use Rattle.modules.specs.Contents.{ProcedureContents}
+use Rattle.modules.specs.Values.{zero_of}
+use Rattle.modules.specs.Machine as machine
+use Rattle.modules.specs.Machine.{Machine, Running}
 use Rattle.layout.specs.Runs.{graph_program}
 use Rattle.lowering.specs.Interface.{global_contents, scalar_global, kind_of_base}
 use Rattle.lowering.specs.Code.{block_size}

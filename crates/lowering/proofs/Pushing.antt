@@ -13,11 +13,11 @@ use Rattle.resolved.specs.Program.{Program, ProcedureEntry, SlotEntry}
 use Rattle.resolved.specs.Value.{literal_number}
 use Rattle.resolved.specs.WellFormed.{has_base, same_base, prefix_base, operand_base, result_base, variable_type, array_by, arguments_match}
 use Rattle.resolved.proofs.Sound.Values.{same_base_is}
-use Rattle.bytecode.specs.Contents.{ProcedureContents, ModuleContents}
-use Rattle.bytecode.specs.declared.instruction.Instruction.{Instruction}
-use Rattle.bytecode.specs.declared.instruction.Instruction.TheVariants as instruction
-use Rattle.bytecode.specs.declared.value.Kind.{Kind}
-use Rattle.bytecode.specs.declared.value.Kind.TheVariants.{Boolean}
+use Rattle.modules.specs.Contents.{ProcedureContents, ModuleContents}
+use Rattle.modules.specs.declared.instruction.Instruction.{Instruction}
+use Rattle.modules.specs.declared.instruction.Instruction.TheVariants as instruction
+use Rattle.modules.specs.declared.value.Kind.{Kind}
+use Rattle.modules.specs.declared.value.Kind.TheVariants.{Boolean}
 use Rattle.lowering.specs.Interface.{kind_of_base}
 use Rattle.lowering.specs.Expressions.{tested, deciding, value_size, value_code, rest_of_short, arguments_code, branch_size, branch_code, test_code}
 use Rattle.lowering.proofs.Sizes.{value-sized, branch-sized}

@@ -9,7 +9,7 @@ use Rattle.resolved.specs.Tree.{Expression, Integer, Logical, Read, Element, Una
 use Rattle.resolved.specs.Program.{Program, ProcedureEntry, ResultEntry, procedure_at}
 use Rattle.resolved.specs.WellFormed.{expression_nodes, some_nodes, statement_nodes, block_nodes, handlers_nodes, procedure_nodes, program_nodes, node_limit, well_formed}
 use Rattle.lowering.specs.Expressions.{value_size, arguments_size, branch_size, deciding}
-use Rattle.bytecode.specs.declared.instruction.Instruction.{Instruction}
+use Rattle.modules.specs.declared.instruction.Instruction.{Instruction}
 use Rattle.lowering.specs.Code.{Loop, block_code, jump_size, jumps_over, jumps_behind, result_size, return_size, statement_size, block_size, handlers_size}
 use Rattle.lowering.specs.Graphs.{end_code}
 use Rattle.lowering.proofs.Sizes.{block-sized}

@@ -6,14 +6,14 @@ use Rattle.resolved.specs.declared.expression.Variable.{Variable}
 use Rattle.resolved.specs.declared.expression.Variable.TheVariants.{Global, Local}
 use Rattle.resolved.specs.SourceState as source
 use Rattle.resolved.specs.WellFormed.{variable_type}
-use Rattle.bytecode.specs.declared.value.Cell.{Cell}
-use Rattle.bytecode.specs.declared.value.Kind.{Kind}
-use Rattle.bytecode.specs.declared.value.Cell.TheVariants as cell
-use Rattle.bytecode.specs.declared.declaration.Slot.{Slot}
-use Rattle.bytecode.specs.declared.declaration.Slot.TheVariants as slot
-use Rattle.bytecode.specs.declared.instruction.Instruction.{Instruction}
-use Rattle.bytecode.specs.Values.{has_kind}
-use Rattle.bytecode.specs.Machine.{Machine, State, act, acts, step, goes_on, with_slot, with_global, loads, stores, with_element, loads_element, stores_element, changes}
+use Rattle.modules.specs.declared.value.Cell.{Cell}
+use Rattle.modules.specs.declared.value.Kind.{Kind}
+use Rattle.modules.specs.declared.value.Cell.TheVariants as cell
+use Rattle.modules.specs.declared.declaration.Slot.{Slot}
+use Rattle.modules.specs.declared.declaration.Slot.TheVariants as slot
+use Rattle.modules.specs.declared.instruction.Instruction.{Instruction}
+use Rattle.modules.specs.Values.{has_kind}
+use Rattle.modules.specs.Machine.{Machine, State, act, acts, step, goes_on, with_slot, with_global, loads, stores, with_element, loads_element, stores_element, changes}
 use Rattle.common.specs.declared.exceptions.TheConstants.{BOUNDS}
 use Rattle.lowering.specs.Expressions.{load_of, store_of, load_element_of, store_element_of}
 use Rattle.lowering.proofs.CodePieces.{Stands, stands-here}

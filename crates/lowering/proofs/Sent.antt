@@ -4,19 +4,19 @@ use Rattle.std.proofs.Common.{ℕ, zero, suc, Bool, true, false, ℤ, List, [], 
 use Rattle.std.specs.Prelude.{if◌then◌else◌, reverse}
 use Rattle.labels.specs.Sent.{IsPrefix}
 use Rattle.labels.proofs.Prefixes.{prefix-itself, prefix-through}
-use Rattle.bytecode.specs.declared.instruction.Arithmetic.{Arithmetic}
-use Rattle.bytecode.specs.declared.instruction.Comparison.{Comparison}
-use Rattle.bytecode.specs.declared.instruction.Instruction.{Instruction}
-use Rattle.bytecode.specs.declared.instruction.Instruction.TheVariants.{Push, PushBoolean, Pop, Load, Store, LoadGlobal, StoreGlobal, LoadElement, StoreElement, LoadGlobalElement, StoreGlobalElement, Clear, Compute, Negate, Not, Compare, SameBoolean, OtherBoolean, Jump, JumpIfFalse, Call, Return, ReturnValue, Receive, Send, Throw}
-use Rattle.bytecode.specs.declared.value.Kind.{Kind}
-use Rattle.bytecode.specs.declared.declaration.Slot.{Slot}
-use Rattle.bytecode.specs.declared.declaration.Slot.TheVariants as slot
+use Rattle.modules.specs.declared.instruction.Arithmetic.{Arithmetic}
+use Rattle.modules.specs.declared.instruction.Comparison.{Comparison}
+use Rattle.modules.specs.declared.instruction.Instruction.{Instruction}
+use Rattle.modules.specs.declared.instruction.Instruction.TheVariants.{Push, PushBoolean, Pop, Load, Store, LoadGlobal, StoreGlobal, LoadElement, StoreElement, LoadGlobalElement, StoreGlobalElement, Clear, Compute, Negate, Not, Compare, SameBoolean, OtherBoolean, Jump, JumpIfFalse, Call, Return, ReturnValue, Receive, Send, Throw}
+use Rattle.modules.specs.declared.value.Kind.{Kind}
+use Rattle.modules.specs.declared.declaration.Slot.{Slot}
+use Rattle.modules.specs.declared.declaration.Slot.TheVariants as slot
 use Rattle.common.specs.declared.direction.Direction.{Direction}
 use Rattle.common.specs.declared.direction.Direction.TheVariants.{Input, Output}
-use Rattle.bytecode.specs.declared.value.Cell.{Cell}
-use Rattle.bytecode.specs.declared.value.Cell.TheVariants as cell
-use Rattle.bytecode.specs.Values.{has_kind}
-use Rattle.bytecode.specs.Machine.{element_at, with_element, Frame, Caller, State, Machine, Running, Ended, Stuck, sent_of, Header, MachineCode, handled, unwound, raised, slot_at, with_slot, with_global, loads, stores, found, loads_element, changes, stores_element, clears, computed, pushes_number, computes, compares, matches, drops, negates, inverts, branches, popped, enters, calls, leaves, leaves_without, returns_nothing, leaves_value, gives_back, returns_value, takes, receives, sends, throws, act, acts, step, exec}
+use Rattle.modules.specs.declared.value.Cell.{Cell}
+use Rattle.modules.specs.declared.value.Cell.TheVariants as cell
+use Rattle.modules.specs.Values.{has_kind}
+use Rattle.modules.specs.Machine.{element_at, with_element, Frame, Caller, State, Machine, Running, Ended, Stuck, sent_of, Header, MachineCode, handled, unwound, raised, slot_at, with_slot, with_global, loads, stores, found, loads_element, changes, stores_element, clears, computed, pushes_number, computes, compares, matches, drops, negates, inverts, branches, popped, enters, calls, leaves, leaves_without, returns_nothing, leaves_value, gives_back, returns_value, takes, receives, sends, throws, act, acts, step, exec}
 use Rattle.common.specs.declared.exceptions.TheConstants.{ARITH, BOUNDS, END}
 use Rattle.common.specs.declared.limits.TheConstants.{MAX_FRAMES}
 

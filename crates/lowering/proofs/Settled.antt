@@ -18,15 +18,15 @@ use Rattle.resolved.specs.declared.fault.EndDefect.TheVariants.{OutsideLoop, Unr
 use Rattle.resolved.specs.WellFormed.{VariableType, variable_type, has_base, same_base, scalar_by, array_by, target_by, has_result, channel_is, parameters_of, arguments_match, call_matches, is_array, is_exception, may_leave_by, statement_fits, block_fits, handlers_fit}
 use Rattle.resolved.proofs.WellFormedParts.{procedure_at_is}
 use Rattle.resolved.proofs.Sound.Values.{same_base_is}
-use Rattle.bytecode.specs.Contents.{ProcedureContents, ModuleContents}
-use Rattle.bytecode.specs.Machine.{Header, machine_code, header_of}
+use Rattle.modules.specs.Contents.{ProcedureContents, ModuleContents}
+use Rattle.modules.specs.Machine.{Header, machine_code, header_of}
 use Rattle.common.specs.declared.direction.Direction.{Direction}
-use Rattle.bytecode.specs.declared.declaration.Handler.{Handler}
-use Rattle.bytecode.specs.declared.declaration.Slot.TheVariants as slot
-use Rattle.bytecode.specs.declared.instruction.Instruction.{Instruction}
-use Rattle.bytecode.specs.declared.instruction.Instruction.TheVariants as instruction
-use Rattle.bytecode.specs.declared.value.Kind.{Kind}
-use Rattle.bytecode.specs.declared.value.Kind.TheVariants.{Int}
+use Rattle.modules.specs.declared.declaration.Handler.{Handler}
+use Rattle.modules.specs.declared.declaration.Slot.TheVariants as slot
+use Rattle.modules.specs.declared.instruction.Instruction.{Instruction}
+use Rattle.modules.specs.declared.instruction.Instruction.TheVariants as instruction
+use Rattle.modules.specs.declared.value.Kind.{Kind}
+use Rattle.modules.specs.declared.value.Kind.TheVariants.{Int}
 use Rattle.verifier.specs.Fixed as fixed
 use Rattle.verifier.specs.Flow.{pushed}
 use Rattle.lowering.specs.Interface.{kind_of_base, declared_slot, returned_kind}

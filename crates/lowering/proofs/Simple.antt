@@ -20,14 +20,14 @@ use Rattle.resolved.specs.Value.{base_of, zero_value}
 use Rattle.resolved.specs.Meaning.{Ended, kept_in}
 use Rattle.resolved.specs.WellFormed.{VariableType, variable_type, has_base, same_base, scalar_by, array_by, target_by, channel_is, is_array, may_leave_by, is_exception, has_result, cell_count}
 use Rattle.resolved.proofs.Sound.Values.{same_base_is}
-use Rattle.bytecode.specs.declared.value.Cell.{Cell}
-use Rattle.bytecode.specs.declared.value.Kind.{Kind}
-use Rattle.bytecode.specs.declared.value.Cell.TheVariants as cell
-use Rattle.bytecode.specs.declared.declaration.Slot.TheVariants as slot
-use Rattle.bytecode.specs.declared.instruction.Instruction.{Instruction}
-use Rattle.bytecode.specs.declared.instruction.Instruction.TheVariants as instruction
-use Rattle.bytecode.specs.Values.{zero_of, has_kind}
-use Rattle.bytecode.specs.Machine.{State, returns_nothing, leaves_without, returns_value, gives_back, leaves_value, raised, no_row}
+use Rattle.modules.specs.declared.value.Cell.{Cell}
+use Rattle.modules.specs.declared.value.Kind.{Kind}
+use Rattle.modules.specs.declared.value.Cell.TheVariants as cell
+use Rattle.modules.specs.declared.declaration.Slot.TheVariants as slot
+use Rattle.modules.specs.declared.instruction.Instruction.{Instruction}
+use Rattle.modules.specs.declared.instruction.Instruction.TheVariants as instruction
+use Rattle.modules.specs.Values.{zero_of, has_kind}
+use Rattle.modules.specs.Machine.{State, returns_nothing, leaves_without, returns_value, gives_back, leaves_value, raised, no_row}
 use Rattle.lowering.specs.Interface.{kind_of_base, returned_kind}
 use Rattle.lowering.specs.Expressions.{store_of}
 use Rattle.lowering.specs.Code.{Loop, kept_code, leave_code}

@@ -7,16 +7,16 @@ use Rattle.std.proofs.lemmas.Bool.{lt-ltb, le-ltb, ltb-true, ltb-false, ne_eqb, 
 use Rattle.std.proofs.lemmas.Bool.Decides.{nat_tests}
 use Rattle.std.proofs.lemmas.List.Elements.{All-head, All-tail, All-map, All-contains}
 use Rattle.std.proofs.lemmas.Option.{slice_get-get_or, same_Some}
-use Rattle.bytecode.specs.Code.{width_of, code_length, instruction_at}
-use Rattle.bytecode.specs.Contents.{ProcedureContents, ModuleContents}
-use Rattle.bytecode.specs.Machine.{machine_code}
-use Rattle.bytecode.specs.declared.declaration.Handler.{Handler}
-use Rattle.bytecode.specs.declared.instruction.Instruction.{Instruction}
-use Rattle.bytecode.specs.declared.instruction.Instruction.TheVariants.{Jump, JumpIfFalse, Return}
-use Rattle.bytecode.specs.declared.value.Kind.{Kind}
+use Rattle.modules.specs.Code.{width_of, code_length, instruction_at}
+use Rattle.modules.specs.Contents.{ProcedureContents, ModuleContents}
+use Rattle.modules.specs.Machine.{machine_code}
+use Rattle.modules.specs.declared.declaration.Handler.{Handler}
+use Rattle.modules.specs.declared.instruction.Instruction.{Instruction}
+use Rattle.modules.specs.declared.instruction.Instruction.TheVariants.{Jump, JumpIfFalse, Return}
+use Rattle.modules.specs.declared.value.Kind.{Kind}
 use Rattle.layout.specs.Graph.{IsHandlerIn, HasPositions}
 use Rattle.layout.specs.Offsets.{offset, laid_out_procedure}
-use Rattle.bytecode.specs.Targets.{target_of, renamed_instruction, renamed_handler}
+use Rattle.modules.specs.Targets.{target_of, renamed_instruction, renamed_handler}
 use Rattle.layout.proofs.Fitting.{length-renamed}
 use Rattle.layout.proofs.Offsets.{width-renamed, offset-start, offset-less, fetched, next_at}
 use Rattle.layout.proofs.Starts.{start-at}
@@ -28,7 +28,7 @@ use Rattle.verifier.specs.Flow.{Edge, next, jumps, caught, Leaves, Misses, effec
 use Rattle.verifier.proofs.Laws.{flows_well}
 use Rattle.lowering.proofs.Flowing.{IsSound, EachSound, sound-at, kinds_at, along, onward, following}
 use Rattle.lowering.proofs.Settled.{Catches}
-use Rattle.bytecode.proofs.Widths.{width_of-pos}
+use Rattle.modules.proofs.Widths.{width_of-pos}
 use Rattle.lowering.proofs.Finals.{target-renamed}
 
 -- a procedure of a graph whose code flows and stays inside

@@ -15,11 +15,11 @@ use Rattle.resolved.specs.WellFormed.{has_base, has_result, same_base, target_by
 use Rattle.resolved.specs.Kinds.{StateFits, ArgumentsFit}
 use Rattle.resolved.proofs.WellFormedParts.{procedure_at_is}
 use Rattle.resolved.proofs.Sound.Values.{same_base_is, values_match, GivesMatch}
-use Rattle.bytecode.specs.declared.value.Cell.{Cell}
-use Rattle.bytecode.specs.declared.instruction.Instruction.{Instruction}
-use Rattle.bytecode.specs.declared.instruction.Instruction.TheVariants as instruction
-use Rattle.bytecode.specs.Machine as machine
-use Rattle.bytecode.specs.Machine.{Machine}
+use Rattle.modules.specs.declared.value.Cell.{Cell}
+use Rattle.modules.specs.declared.instruction.Instruction.{Instruction}
+use Rattle.modules.specs.declared.instruction.Instruction.TheVariants as instruction
+use Rattle.modules.specs.Machine as machine
+use Rattle.modules.specs.Machine.{Machine}
 use Rattle.lowering.specs.Expressions.{value_size, value_code, arguments_size, arguments_code}
 use Rattle.lowering.specs.Code.{Loop, result_size, result_code}
 use Rattle.lowering.proofs.CodePieces.{Stands, stands-front, stands-back}

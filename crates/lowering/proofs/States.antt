@@ -13,12 +13,12 @@ use Rattle.resolved.specs.Program as resolved
 use Rattle.resolved.specs.SourceState as source
 use Rattle.resolved.specs.Value.{base_of}
 use Rattle.resolved.specs.WellFormed.{VariableType, variable_type}
-use Rattle.bytecode.specs.declared.value.Cell.{Cell}
-use Rattle.bytecode.specs.declared.value.Cell.TheVariants as cell
-use Rattle.bytecode.specs.declared.declaration.Slot.{Slot}
-use Rattle.bytecode.specs.declared.instruction.Instruction.{Instruction}
-use Rattle.bytecode.specs.Values.{has_kind}
-use Rattle.bytecode.specs.Machine.{Machine, Running, State, Frame, Caller, MachineCode, Header, slots_of, with_slot, with_global, handled, raised, unwound, leaves, leaves_value}
+use Rattle.modules.specs.declared.value.Cell.{Cell}
+use Rattle.modules.specs.declared.value.Cell.TheVariants as cell
+use Rattle.modules.specs.declared.declaration.Slot.{Slot}
+use Rattle.modules.specs.declared.instruction.Instruction.{Instruction}
+use Rattle.modules.specs.Values.{has_kind}
+use Rattle.modules.specs.Machine.{Machine, Running, State, Frame, Caller, MachineCode, Header, slots_of, with_slot, with_global, handled, raised, unwound, leaves, leaves_value}
 use Rattle.lowering.specs.Interface.{kind_of_base, declared_slot, returned_kind}
 
 abbrev pub cell_of : Value → Cell

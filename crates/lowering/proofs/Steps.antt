@@ -2,11 +2,11 @@
 use Rattle.std.proofs.Common.{◌≡◌, ℕ, zero, suc, ◌+◌, ◌≤◌, List, Option, Some, None, refl, sym, ap, ◌∙◌, subst, arith}
 use Rattle.labels.specs.declared.sent.Pair.{Pair}
 use Rattle.labels.specs.Sent.{IsPrefix}
-use Rattle.bytecode.specs.Machine.{State, Machine, Running, Ended, Stuck, Ending, MachineCode, sent_of, step, exec}
+use Rattle.modules.specs.Machine.{State, Machine, Running, Ended, Stuck, Ending, MachineCode, sent_of, step, exec}
 use Rattle.labels.proofs.Prefixes.{prefix-itself}
 use Rattle.lowering.specs.Threaded.{jump_of}
 use Rattle.lowering.proofs.Sent.{exec-keeps}
-use Rattle.bytecode.proofs.Executing.{ended_stays}
+use Rattle.modules.proofs.Executing.{ended_stays}
 
 -- ---- steps that count: all but those at an unconditional jump, which threaded code may leave out
 abbrev pub counted : (jump : Option ℕ) → ℕ

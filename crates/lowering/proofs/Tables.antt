@@ -5,8 +5,8 @@ use Rattle.std.proofs.lemmas.Bool.{ltb-true, ltb-false}
 use Rattle.std.proofs.lemmas.Bool.Decides.{nat_tests}
 use Rattle.resolved.specs.Tree.{Statement, Assign, Clear, Store, Receive, Send, Call, If, While, Leave, ReturnWith, Try, Nested, Block, Empty, Then, Handlers, NoMore, Catch}
 use Rattle.resolved.specs.Program.{Program}
-use Rattle.bytecode.specs.declared.declaration.Handler.{Handler}
-use Rattle.bytecode.specs.Machine.{handler_for}
+use Rattle.modules.specs.declared.declaration.Handler.{Handler}
+use Rattle.modules.specs.Machine.{handler_for}
 use Rattle.lowering.specs.Expressions.{branch_size}
 use Rattle.lowering.specs.Code.{no_place, handlers_place, statement_size, block_size, handlers_size, entry_of, statement_table, block_table, handlers_table}
 use Rattle.lowering.proofs.States.{Setting}

@@ -1,6 +1,6 @@
 -- The graph of a program before its code is threaded, and that it then is the graph of the program.
 use Rattle.std.proofs.Common.{◌≡◌, refl, ap, List, [], ◌∷◌, map}
-use Rattle.bytecode.specs.Contents.{ProcedureContents, ModuleContents}
+use Rattle.modules.specs.Contents.{ProcedureContents, ModuleContents}
 use Rattle.resolved.specs.Program.{Program, ProcedureEntry}
 use Rattle.lowering.specs.Graphs.{body_code, procedure_contents, graph_of}
 use Rattle.lowering.specs.Threaded.{threaded}

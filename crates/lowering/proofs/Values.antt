@@ -16,13 +16,13 @@ use Rattle.resolved.specs.SourceState.{value_of, cells, cell_at}
 use Rattle.resolved.specs.Value.{Evaluated, Yields, Raises, then_with, base_of, checked_index}
 use Rattle.resolved.specs.WellFormed.{VariableType, variable_type, same_base, scalar_by, array_by, has_length, cell_count}
 use Rattle.resolved.specs.Kinds.{StateFits, CellsFit}
-use Rattle.bytecode.specs.declared.value.Cell.{Cell}
-use Rattle.bytecode.specs.declared.value.Kind.{Kind}
-use Rattle.bytecode.specs.declared.value.Cell.TheVariants as cell
-use Rattle.bytecode.specs.declared.declaration.Slot.{Slot}
-use Rattle.bytecode.specs.declared.declaration.Slot.TheVariants as slot
-use Rattle.bytecode.specs.declared.instruction.Instruction.{Instruction}
-use Rattle.bytecode.specs.Machine.{Machine, act, loads, scalar_cell, element_at, loads_element, found, goes_on}
+use Rattle.modules.specs.declared.value.Cell.{Cell}
+use Rattle.modules.specs.declared.value.Kind.{Kind}
+use Rattle.modules.specs.declared.value.Cell.TheVariants as cell
+use Rattle.modules.specs.declared.declaration.Slot.{Slot}
+use Rattle.modules.specs.declared.declaration.Slot.TheVariants as slot
+use Rattle.modules.specs.declared.instruction.Instruction.{Instruction}
+use Rattle.modules.specs.Machine.{Machine, act, loads, scalar_cell, element_at, loads_element, found, goes_on}
 use Rattle.common.specs.declared.exceptions.TheConstants.{BOUNDS}
 use Rattle.lowering.specs.Interface.{kind_of_base}
 use Rattle.lowering.specs.Expressions.{load_of, load_element_of}

@@ -1,8 +1,8 @@
 -- A graph by its parts.
 use Rattle.std.proofs.Common.{◌≡◌, ℕ, List, map}
 use Rattle.principals.specs.ActsFor.{PrincipalHierarchy}
-use Rattle.bytecode.specs.declared.declaration.Global.{Global}
-use Rattle.bytecode.specs.Contents.{ChannelContents, ProcedureContents, ModuleContents}
+use Rattle.modules.specs.declared.declaration.Global.{Global}
+use Rattle.modules.specs.Contents.{ChannelContents, ProcedureContents, ModuleContents}
 use Rattle.resolved.specs.Program.{Program}
 use Rattle.lowering.specs.Interface.{hierarchy_contents, channel_contents, global_contents}
 use Rattle.lowering.specs.Graphs.{procedure_contents, graph_of}

@@ -1,10 +1,10 @@
--- What the code of a part of a procedure adds to the instructions and the handlers that are there.
+-- Private: what the code of a part of a procedure adds to the instructions and the handlers that are there.
 -- Source: our own.
 use Rattle.std.specs.Prelude.{ℕ, List, length, ◌++◌, ◌≡◌}
 use Rattle.resolved.specs.Tree.{Statement, Block, Handlers}
 use Rattle.resolved.specs.Program.{Program}
-use Rattle.bytecode.specs.declared.instruction.Instruction.{Instruction}
-use Rattle.bytecode.specs.declared.declaration.Handler.{Handler}
+use Rattle.modules.specs.declared.instruction.Instruction.{Instruction}
+use Rattle.modules.specs.declared.declaration.Handler.{Handler}
 use Rattle.lowering.specs.Code.{Loop, statement_code, statement_table, block_code, block_table, handlers_code, handlers_table}
 
 -- instructions for the place behind those that were there, and handlers for it

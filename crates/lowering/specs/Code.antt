@@ -8,9 +8,9 @@ use Rattle.resolved.specs.declared.statement.Exit.{Exit}
 use Rattle.resolved.specs.declared.statement.Exit.TheVariants as exit
 use Rattle.resolved.specs.Tree.{Expression, Statement, Assign, Clear, Store, Receive, Send, Call, If, While, Leave, ReturnWith, Try, Nested, Block, Empty, Then, Handlers, NoMore, Catch}
 use Rattle.resolved.specs.Program.{Program, ResultEntry, procedure_at}
-use Rattle.bytecode.specs.declared.instruction.Instruction.{Instruction}
-use Rattle.bytecode.specs.declared.instruction.Instruction.TheVariants as instruction
-use Rattle.bytecode.specs.declared.declaration.Handler.{Handler}
+use Rattle.modules.specs.declared.instruction.Instruction.{Instruction}
+use Rattle.modules.specs.declared.instruction.Instruction.TheVariants as instruction
+use Rattle.modules.specs.declared.declaration.Handler.{Handler}
 use Rattle.lowering.specs.Expressions.{store_of, store_element_of, value_size, value_code, arguments_size, arguments_code, branch_size, branch_code}
 
 -- where `break` and `continue` go: behind the loop, and to its test

@@ -1,9 +1,9 @@
 -- What it means that no jump leads to an unconditional jump.
 -- Source: our own.
 use Rattle.std.specs.Prelude.{◌≡◌, List, [], All, IfSome, IsTrue, None, slice_get}
-use Rattle.bytecode.specs.declared.instruction.Instruction.{Instruction}
-use Rattle.bytecode.specs.Contents.{ProcedureContents}
-use Rattle.bytecode.specs.Targets.{target_of}
+use Rattle.modules.specs.declared.instruction.Instruction.{Instruction}
+use Rattle.modules.specs.Contents.{ProcedureContents}
+use Rattle.modules.specs.Targets.{target_of}
 use Rattle.resolved.specs.EndFaults.{end_faults}
 use Rattle.resolved.specs.Program.{Program}
 use Rattle.resolved.specs.WellFormed.{well_formed}

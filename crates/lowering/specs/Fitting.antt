@@ -8,8 +8,8 @@ use Rattle.resolved.specs.EndFaults.{end_faults}
 use Rattle.resolved.specs.Names.{HasNames}
 use Rattle.resolved.specs.Program.{Program, GlobalEntry}
 use Rattle.resolved.specs.WellFormed.{well_formed}
-use Rattle.bytecode.specs.Form.{Fits}
-use Rattle.bytecode.specs.Format.{module_file}
+use Rattle.modules.specs.Form.{Fits}
+use Rattle.modules.specs.Format.{module_file}
 use Rattle.lowering.specs.Graphs.{graph_of}
 
 -- a number of 32 bits, or a truth

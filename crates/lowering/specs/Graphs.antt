@@ -3,9 +3,9 @@
 use Rattle.std.specs.Prelude.{Bool, true, false, List, [], ◌∷◌, ◌++◌, map}
 use Rattle.resolved.specs.Tree.{Block}
 use Rattle.resolved.specs.Program.{Program, ProcedureEntry}
-use Rattle.bytecode.specs.declared.instruction.Instruction.{Instruction}
-use Rattle.bytecode.specs.declared.instruction.Instruction.TheVariants.{Return}
-use Rattle.bytecode.specs.Contents.{ProcedureContents, ModuleContents}
+use Rattle.modules.specs.declared.instruction.Instruction.{Instruction}
+use Rattle.modules.specs.declared.instruction.Instruction.TheVariants.{Return}
+use Rattle.modules.specs.Contents.{ProcedureContents, ModuleContents}
 use Rattle.lowering.specs.Interface.{hierarchy_contents, channel_contents, global_contents, slot_contents, returned_kind}
 use Rattle.lowering.specs.Code.{Loop, block_falls, block_code, block_table}
 use Rattle.lowering.specs.Threaded.{threaded}

@@ -9,14 +9,14 @@ use Rattle.resolved.specs.declared.expression.Base.TheVariants as base
 use Rattle.resolved.specs.declared.expression.Value.{Value}
 use Rattle.resolved.specs.declared.expression.Value.TheVariants.{Number, Truth}
 use Rattle.resolved.specs.Program.{ChannelEntry, GlobalEntry, SlotEntry, ResultEntry}
-use Rattle.bytecode.specs.declared.declaration.Slot.{Slot}
-use Rattle.bytecode.specs.declared.declaration.Slot.TheVariants as slot
-use Rattle.bytecode.specs.declared.declaration.Global.{Global}
-use Rattle.bytecode.specs.declared.declaration.Global.TheVariants as global
-use Rattle.bytecode.specs.declared.value.Kind.{Kind}
-use Rattle.bytecode.specs.declared.value.Kind.TheVariants as kind
-use Rattle.bytecode.specs.Contents.{ChannelContents}
-use Rattle.bytecode.specs.Format.{pair_cmp}
+use Rattle.modules.specs.declared.declaration.Slot.{Slot}
+use Rattle.modules.specs.declared.declaration.Slot.TheVariants as slot
+use Rattle.modules.specs.declared.declaration.Global.{Global}
+use Rattle.modules.specs.declared.declaration.Global.TheVariants as global
+use Rattle.modules.specs.declared.value.Kind.{Kind}
+use Rattle.modules.specs.declared.value.Kind.TheVariants as kind
+use Rattle.modules.specs.Contents.{ChannelContents}
+use Rattle.modules.specs.Format.{pair_cmp}
 
 -- the same principals, and the written pairs in ascending order, each once
 abbrev pub hierarchy_contents : PrincipalHierarchy → PrincipalHierarchy

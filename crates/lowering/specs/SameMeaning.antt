@@ -9,7 +9,7 @@ use Rattle.resolved.specs.Program.{Program}
 use Rattle.resolved.specs.SourceState.{World}
 use Rattle.resolved.specs.Meaning.{Outcome, Ended, Stopped, Deep, OutOfTurns, run_within, frame_limit, sent_by}
 use Rattle.resolved.specs.WellFormed.{well_formed}
-use Rattle.bytecode.specs.Machine as machine
+use Rattle.modules.specs.Machine as machine
 use Rattle.layout.specs.Offsets.{laid_out}
 use Rattle.layout.specs.Runs.{graph_after_steps}
 use Rattle.lowering.specs.Graphs.{graph_of}

@@ -2,8 +2,8 @@
 -- before, each instruction has its position, and the handlers are the same.
 -- Source: our own; jump threading as textbooks on compilers give it.
 use Rattle.std.specs.Prelude.{ℕ, zero, suc, List, length, map, slice_get, Option, Some, None, nat_lt, if◌then◌else◌}
-use Rattle.bytecode.specs.declared.instruction.Instruction.{Instruction}
-use Rattle.bytecode.specs.Targets.{target_of, renamed_instruction}
+use Rattle.modules.specs.declared.instruction.Instruction.{Instruction}
+use Rattle.modules.specs.Targets.{target_of, renamed_instruction}
 use Rattle.verifier.specs.Flow.{goes_on}
 
 -- where an unconditional jump goes: it has a target, and control does not go on behind it

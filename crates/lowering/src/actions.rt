@@ -2,7 +2,7 @@
 ghost use Rattle.resolved.specs.CoreOf.{program_of};
 ghost use Rattle.resolved.specs.Program.{procedure_at};
 ghost use Rattle.resolved.specs.TreeOf.{expression_of, some_expression_of};
-ghost use Rattle.bytecode.specs.declared.instruction.Instruction.TheVariants as instruction;
+ghost use Rattle.modules.specs.declared.instruction.Instruction.TheVariants as instruction;
 ghost use Rattle.lowering.specs.Code.{kept_code, result_code, result_size, return_code, return_size};
 ghost use Rattle.lowering.specs.Expressions.{arguments_code, arguments_size, store_element_of, store_of, value_code, value_size};
 ghost use Rattle.std.specs.Prelude.{OnOk, [], if◌then◌else◌, length, map, ◌++◌, ◌+◌, ◌<◌, ◌^◌, ◌∷◌, ◌≡◌};
@@ -10,7 +10,7 @@ ghost use Rattle.std.specs.Prelude.{OnOk, [], if◌then◌else◌, length, map, 
 use crate::emitter::push;
 use crate::instructions::{store_element_of, store_of};
 use crate::operands::{push_arguments, push_value};
-use bytecode::Instruction;
+use modules::Instruction;
 use resolved::expression::{Expression, Variable};
 use resolved::program::Core;
 use std::alloc::AllocError;

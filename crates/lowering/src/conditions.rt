@@ -7,7 +7,7 @@ ghost use Rattle.std.specs.Prelude.{OnOk, if◌then◌else◌, length, ◌++◌,
 use crate::emitter::push;
 use crate::instructions::operator_instruction;
 use crate::operands::{push_value, value_size};
-use bytecode::Instruction;
+use modules::Instruction;
 use resolved::expression::{Connective, Expression, Operator, Prefix};
 use std::alloc::AllocError;
 

@@ -11,7 +11,7 @@ use crate::conditions::{branch_size, push_branch};
 use crate::emitter::{next_place, push};
 use crate::endings::{jumps_behind, jumps_over};
 use crate::lengths::{block_size, handlers_size, jump_size};
-use bytecode::{Handler, Instruction};
+use modules::{Handler, Instruction};
 use resolved::expression::Expression;
 use resolved::program::Core;
 use resolved::statement::{self, Exit, Statement};

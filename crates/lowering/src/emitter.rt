@@ -1,7 +1,7 @@
 //! Adding instructions to code.
 ghost use Rattle.std.specs.Prelude.{OnOk, [], length, ◌++◌, ◌<◌, ◌^◌, ◌∷◌, ◌≡◌};
 
-use bytecode::Instruction;
+use modules::Instruction;
 use std::alloc::AllocError;
 
 /// Adds an instruction.

@@ -2,7 +2,7 @@
 ghost use Rattle.lowering.specs.Expressions.{load_element_of, load_of, operator_instruction, prefix_instruction, store_element_of, store_of};
 ghost use Rattle.std.specs.Prelude.{◌≡◌};
 
-use bytecode::{Arithmetic, Comparison, Instruction};
+use modules::{Arithmetic, Comparison, Instruction};
 use resolved::expression::{Operator, Prefix, Variable};
 
 /// The instruction of an operator before its operand.

@@ -4,7 +4,7 @@ ghost use Rattle.lowering.specs.Interface.{channel_contents, declared_global, gl
 ghost use Rattle.lowering.specs.Fitting.{IsShortValue};
 ghost use Rattle.std.specs.Prelude.{All, IfOk, map, ◌≡◌};
 
-use bytecode::{Channel, Kind};
+use modules::{Channel, Kind};
 use principals::Hierarchy;
 use resolved::expression::{Base, Value};
 use resolved::tables;
@@ -56,24 +56,24 @@ pub(crate) fn kind_of_base(base: Base) -> Kind
 }
 
 /// The global that holds a value at first.
-fn scalar_global(value: Value) -> bytecode::Global
+fn scalar_global(value: Value) -> modules::Global
     ensures exact { result ≡ scalar_global value }
     ensures short { IsShortValue value }
 {
     match value {
-        Value::Number(number) => bytecode::Global::Int(number),
-        Value::Truth(truth) => bytecode::Global::Boolean(truth),
+        Value::Number(number) => modules::Global::Int(number),
+        Value::Truth(truth) => modules::Global::Boolean(truth),
     }
 }
 
 /// A scalar global that holds a value at first, or an array of so many elements.
-fn declared_global(base: Base, size: Option<u32>, first: Value) -> bytecode::Global
+fn declared_global(base: Base, size: Option<u32>, first: Value) -> modules::Global
     ensures exact { result ≡ declared_global base size first }
     ensures short { IsShortValue first }
 {
     match size {
         None => scalar_global(first),
-        Some(count) => bytecode::Global::Array(kind_of_base(base), count),
+        Some(count) => modules::Global::Array(kind_of_base(base), count),
     }
 }
 
@@ -81,7 +81,7 @@ fn declared_global(base: Base, size: Option<u32>, first: Value) -> bytecode::Glo
 pub(crate) fn globals_of(
     alloc: Global,
     globals: &[tables::GlobalVariable],
-) -> Result<Vec<bytecode::Global>, AllocError>
+) -> Result<Vec<modules::Global>, AllocError>
     ensures exact { IfOk result (λ made.
         made.items ≡ map global_contents (map global_entry globals.now)) }
     ensures short { IfOk result (λ _. All (λ entry. IsShortValue entry.first)

@@ -6,7 +6,7 @@ ghost use Rattle.std.specs.Prelude.{OnOk, length, map, ◌++◌, ◌+◌, ◌<�
 
 use crate::emitter::{next_place, push};
 use crate::instructions::{load_element_of, load_of, operator_instruction, prefix_instruction};
-use bytecode::Instruction;
+use modules::Instruction;
 use resolved::expression::{Connective, Expression};
 use std::alloc::AllocError;
 

@@ -12,7 +12,7 @@ use crate::emitter::push;
 use crate::endings::block_falls;
 use crate::interface::kind_of_base;
 use crate::threading::thread;
-use bytecode::{Instruction, Kind, Procedure, Slot};
+use modules::{Instruction, Kind, Procedure, Slot};
 use resolved::expression::Base;
 use resolved::program::Core;
 use resolved::tables;

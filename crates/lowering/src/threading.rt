@@ -1,9 +1,9 @@
 //! Jump threading: a jump to an unconditional jump goes at once where that one leads in the end.
-ghost use Rattle.bytecode.specs.Targets.{renamed_instruction};
+ghost use Rattle.modules.specs.Targets.{renamed_instruction};
 ghost use Rattle.lowering.specs.Threaded.{final_place, jump_of, onward, threaded};
 ghost use Rattle.std.specs.Prelude.{IfOk, Some, get_or, length, ◌<◌, ◌^◌, ◌≡◌, ℕ};
 
-use bytecode::Instruction;
+use modules::Instruction;
 use std::alloc::{AllocError, Global};
 
 /// The final place of a place; one behind the code is its own.

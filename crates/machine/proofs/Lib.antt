@@ -10,6 +10,7 @@ pub mod Reporting
 pub mod First
 pub mod Clearing
 pub mod Stepping
+pub mod Growing
 pub mod Switching
 pub mod OpenCells
 pub mod Entering

@@ -1,3 +1,4 @@
+pub mod Growth
 pub mod Live
 pub mod Run
 pub mod Steps

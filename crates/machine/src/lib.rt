@@ -5,6 +5,7 @@ pub mod fault;
 mod frames;
 mod inner;
 mod input;
+pub mod laws;
 mod live;
 pub mod run;
 pub mod status;

@@ -45,9 +45,9 @@ grouped_nested room r le left [] inner h = inner
 grouped_nested room r le left (next ∷ others) inner h =
     grouped_nested room (pred r) (omega (arith, le, pred_less r)) (BinaryTree (expression_at left) next.0 left next.1) others (omega (arith, le, h.0), inner, roomier (pred r) (pred room) (pred_le r room le) next.1 h.1) h.2
 
-module _ (fits : ℕ → Type 0) (longest : ℕ) where
+module _ (fits : ℕ → Type 0) (word : List ℕ → Type 0) (number : ℕ → Type 0) where
   abbrev Written : ExpressionTree → Type 0
-  Written tree = IsWrittenExpression fits longest tree
+  Written tree = IsWrittenExpression fits word number tree
 
   place_fits : (tree : ExpressionTree) → Written tree → fits (expression_at tree)
   place_fits (IntegerTree at value) h = h.0
@@ -57,28 +57,28 @@ module _ (fits : ℕ → Type 0) (longest : ℕ) where
   place_fits (UnaryTree at operator operand) h = h.0
   place_fits (BinaryTree at operator left right) h = h.0
 
-  grouped_written : (left : ExpressionTree) (others : List (BinaryOperator × ExpressionTree)) → Written left → AreWrittenOthers fits longest others → Written (grouped left others)
+  grouped_written : (left : ExpressionTree) (others : List (BinaryOperator × ExpressionTree)) → Written left → AreWrittenOthers fits word number others → Written (grouped left others)
   grouped_written left [] inner h = inner
   grouped_written left (next ∷ others) inner h =
       grouped_written (BinaryTree (expression_at left) next.0 left next.1) others (place_fits left inner, inner, h.0) h.1
 
   module _ (room : ℕ) where
     abbrev Having : {A : Type 0} → Form A → A → ℕ → Type 0
-    Having F tree k = Has fits longest room F tree k
+    Having F tree k = Has fits word number room F tree k
 
     abbrev Fitted : ExpressionTree → ℕ → Type 0
-    Fitted tree k = FitExpression fits longest room tree k
+    Fitted tree k = FitExpression fits word number room tree k
 
-    pub others_fit : (line : Line) (others : List (BinaryOperator × ExpressionTree)) (k : ℕ) → Having (others_of line) others k → FitOthers fits longest room others k
+    pub others_fit : (line : Line) (others : List (BinaryOperator × ExpressionTree)) (k : ℕ) → Having (others_of line) others k → FitOthers fits word number room others k
     others_fit line others k (inl h) =
         let inner = h.1.3 in
-        subst (λ list. FitOthers fits longest room list k) (sym h.2) (record {
+        subst (λ list. FitOthers fits word number room list k) (sym h.2) (record {
           written = inner.written;
           few = omega (arith, inner.few, h.1.4);
           nested = (h.1.1, inner.nested.0, inner.nested.1);
         })
     others_fit line others k (inr h) =
-        subst (λ list. FitOthers fits longest room list k) (sym h.0) (record { written = tt; few = omega arith; nested = tt })
+        subst (λ list. FitOthers fits word number room list k) (sym h.0) (record { written = tt; few = omega arith; nested = tt })
 
     chain_fits : (line : Line) (F : Form ExpressionTree) → ((tree : ExpressionTree) (k : ℕ) → Having F tree k → Fitted tree k) → (tree : ExpressionTree) (k : ℕ) → Having (chain line F) tree k → Fitted tree k
     chain_fits line F f tree k h =
@@ -97,7 +97,7 @@ module _ (fits : ℕ → Type 0) (longest : ℕ) where
     pub index_fits : (tree : ExpressionTree) (k : ℕ) → Having index tree k → FitIndex tree k
     unfolding index
     index_fits tree k h =
-        let front = from_before fits longest room (level (only kinds.OpenBracket) Expression) kinds.CloseBracket h.0 k h.1 in
+        let front = from_before fits word number room (level (only kinds.OpenBracket) Expression) kinds.CloseBracket h.0 k h.1 in
         let inner = front.1.3 in
         subst (λ t. FitIndex t k) (sym h.2) (record {
           written = inner.written;
@@ -108,7 +108,7 @@ module _ (fits : ℕ → Type 0) (longest : ℕ) where
     parenthesised_fits : (tree : ExpressionTree) (k : ℕ) → Having parenthesised tree k → Fitted tree k
     unfolding parenthesised
     parenthesised_fits tree k h =
-        let front = from_before fits longest room (level (only kinds.OpenParenthesis) Expression) kinds.CloseParenthesis h.0 k h.1 in
+        let front = from_before fits word number room (level (only kinds.OpenParenthesis) Expression) kinds.CloseParenthesis h.0 k h.1 in
         let inner = front.1.3 in
         subst (λ t. Fitted t k) (sym h.2) (record {
           written = inner.written;
@@ -117,7 +117,7 @@ module _ (fits : ℕ → Type 0) (longest : ℕ) where
         })
 
     -- a name, and an index behind it or none
-    with_index : (named : NameTree) (found : Option ExpressionTree) (i j : ℕ) → Fit (IsWrittenName fits longest named) 1 (Unit {0}) i → Having (optional index) found j → Fitted (variable_tree named found) (i + j)
+    with_index : (named : NameTree) (found : Option ExpressionTree) (i j : ℕ) → Fit (IsWrittenName fits word number named) 1 (Unit {0}) i → Having (optional index) found j → Fitted (variable_tree named found) (i + j)
     with_index named found i j front (inl h) =
         let one = index_fits h.0 j h.1 in
         subst (λ (o : Option ExpressionTree). Fitted (variable_tree named o) (i + j)) (sym h.2) (record { written = (front.written, one.written); few = omega (arith, front.few, one.few); nested = one.nested })
@@ -128,7 +128,7 @@ module _ (fits : ℕ → Type 0) (longest : ℕ) where
     unfolding variable
     variable_fits tree k h =
         let both = h.1 in
-        subst (λ t. Fitted t k) (sym h.2) (subst (Fitted (variable_tree h.0.0 h.0.1)) (sym both.4) (with_index h.0.0 h.0.1 both.0 both.1 (name_fits fits longest room h.0.0 both.0 both.2) both.3))
+        subst (λ t. Fitted t k) (sym h.2) (subst (Fitted (variable_tree h.0.0 h.0.1)) (sym both.4) (with_index h.0.0 h.0.1 both.0 both.1 (name_fits fits word number room h.0.0 both.0 both.2) both.3))
 
     signed_fits : (tree : ExpressionTree) (k : ℕ) → Having signed tree k → Fitted tree k
     unfolding signed
@@ -142,7 +142,7 @@ module _ (fits : ℕ → Type 0) (longest : ℕ) where
 
     integer_tree_fits : (tree : ExpressionTree) (k : ℕ) (found : ℕ × ℕ) → Having integer found k → tree ≡ IntegerTree found.0 found.1 → Fitted tree k
     integer_tree_fits tree k found h e =
-        let one = integer_fits fits longest room found k h in
+        let one = integer_fits fits word number room found k h in
         subst (λ t. Fitted t k) (sym e) (record { written = (one.0, one.1); few = omega (arith, one.2); nested = tt })
 
     primary_fits : (tree : ExpressionTree) (k : ℕ) → Having primary tree k → Fitted tree k
@@ -151,7 +151,7 @@ module _ (fits : ℕ → Type 0) (longest : ℕ) where
       | inl one ↦ integer_tree_fits tree k one.0 one.1 one.2
       | inr h ↦ elim h [
         | inl one ↦
-            let found = truth_fits fits longest room one.0 k one.1 in
+            let found = truth_fits fits word number room one.0 k one.1 in
             subst (λ t. Fitted t k) (sym one.2) (record { written = found.0; few = omega (arith, found.1); nested = tt })
         | inr h ↦ elim h [ inl one ↦ variable_fits tree k one | inr one ↦ parenthesised_fits tree k one ]
       ]
@@ -196,15 +196,15 @@ module _ (fits : ℕ → Type 0) (longest : ℕ) where
     pub unary_symbol_fits : (tree : ExpressionTree) (k : ℕ) → Having unary tree k → Fitted tree k
     unary_symbol_fits tree k h = unary_fits tree k h
 
-    pub expressions_fit : (trees : List ExpressionTree) (k : ℕ) → Having expressions trees k → FitExpressions fits longest room trees k
+    pub expressions_fit : (trees : List ExpressionTree) (k : ℕ) → Having expressions trees k → FitExpressions fits word number room trees k
     unfolding expressions
     expressions_fit trees k h =
-        some_fit fits longest room kinds.Comma expression Written expression_nodes (IsNestedExpression room) expression_fits trees k h
+        some_fit fits word number room kinds.Comma expression Written expression_nodes (IsNestedExpression room) expression_fits trees k h
 
     pub arguments_fit : (trees : List ExpressionTree) (k : ℕ) → Having arguments trees k → Fit (All Written trees) (2 + sum_by expression_nodes trees) ((0 < room) × All (IsNestedExpression (pred room)) trees) k
     unfolding arguments
     arguments_fit trees k h =
-        let front = from_before fits longest room (level (only kinds.OpenParenthesis) Arguments) kinds.CloseParenthesis h.0 k h.1 in
+        let front = from_before fits word number room (level (only kinds.OpenParenthesis) Arguments) kinds.CloseParenthesis h.0 k h.1 in
         let inner = front.1.3 in
         subst (λ (list : List ExpressionTree). Fit (All Written list) (2 + sum_by expression_nodes list) ((0 < room) × All (IsNestedExpression (pred room)) list) k) (sym h.2) (record {
           written = inner.written;

@@ -1,16 +1,14 @@
 -- Names, labels, integers and base types fit.
-use Rattle.std.proofs.Common.{◌≡◌, ℕ, ◌+◌, ◌≤◌, List, [], ◌∷◌, length, Bool, true, false, cond, refl, sym, subst, inl, inr, sum_by, arith}
+use Rattle.std.proofs.Common.{◌≡◌, ℕ, ◌+◌, List, [], ◌∷◌, length, Bool, true, false, cond, refl, sym, subst, inl, inr, sum_by, arith}
 use Rattle.std.specs.Prelude.{Option, None, Some}
 use Rattle.std.specs.List.{All}
 use Rattle.std.proofs.lemmas.List.Sums.{sum_by-cons}
 use Rattle.std.proofs.lemmas.Option.{cond_some}
 use Rattle.lexer.specs.declared.token.Kind.{Kind}
 use Rattle.lexer.specs.declared.token.Kind.TheVariants as kinds
-use Rattle.common.specs.declared.limits.TheConstants.{MAX_INTEGER}
-use Rattle.lexer.specs.Listing as listing
 use Rattle.syntax.specs.declared.tree.BaseType.{BaseType}
 use Rattle.syntax.specs.Form.{Form, ◌·◌, only, shape, same_kind}
-use Rattle.syntax.specs.Grammar.{at, ◌▸◌, name, readers, policy, policies, label, optional_label, base, integer, truth, size, value_of}
+use Rattle.syntax.specs.Grammar.{at, ◌▸◌, name, readers, policy, policies, label, optional_label, base, integer, truth, size}
 use Rattle.syntax.specs.Nodes.{policy_nodes, label_nodes, optional_label_nodes}
 use Rattle.syntax.specs.Tree.{NameTree, PolicyTree, LabelTree, SizeTree}
 use Rattle.syntax.specs.Written.{IsWrittenName, IsWrittenPolicy, IsWrittenLabel, IsWrittenOptionalLabel, IsWrittenSize}
@@ -28,82 +26,77 @@ shape_name _ e = e
 name_is : (kind : Kind) (value : Unit {0}) → only kinds.Name (shape kind) ≡ Some value → kind ≡ kinds.Name
 name_is kind value e = shape_name kind (same_kind-equal (shape kind) kinds.Name (cond_some (same_kind (shape kind) kinds.Name) tt value e).0)
 
-value_small : (kind : Kind) (text : List ℕ) → listing.SpellsToken kind text → value_of kind ≤ MAX_INTEGER
-value_small (kinds.Integer value) text h = h.2
-value_small kinds.Name text h = omega arith
-value_small _ text h = omega arith
-
 ones : {A : Type 0} (list : List A) → length list ≡ sum_by (λ one. 1) list
 ones [] = refl
 ones (first ∷ list) = omega (arith, sum_by-cons (λ one. 1) first list, ones list)
 
-module _ (fits : ℕ → Type 0) (longest room : ℕ) where
+module _ (fits : ℕ → Type 0) (word : List ℕ → Type 0) (number : ℕ → Type 0) (room : ℕ) where
   abbrev Having : {A : Type 0} → Form A → A → ℕ → Type 0
-  Having F tree k = Has fits longest room F tree k
+  Having F tree k = Has fits word number room F tree k
 
-  pub name_fits : (tree : NameTree) (k : ℕ) → Having name tree k → Fit (IsWrittenName fits longest tree) 1 (Nothing tree) k
+  pub name_fits : (tree : NameTree) (k : ℕ) → Having name tree k → Fit (IsWrittenName fits word number tree) 1 (Nothing tree) k
   unfolding name
   name_fits tree k h =
       let token = h.1.0 in
       let kind_is = name_is h.0.0.kind h.0.1 h.1.1 in
-      subst (λ t. Fit (IsWrittenName fits longest t) 1 (Nothing t) k) (sym h.2) (record {
-        written = (token.place, subst (λ kind. listing.SpellsToken kind h.0.0.text) kind_is token.spelled, token.short);
+      subst (λ t. Fit (IsWrittenName fits word number t) 1 (Nothing t) k) (sym h.2) (record {
+        written = (token.place, token.named kind_is);
         few = omega (arith, h.1.2);
         nested = tt;
       })
 
-  readers_fit : (trees : List NameTree) (k : ℕ) → Having readers trees k → Fit (All (IsWrittenName fits longest) trees) (sum_by (λ one. 1) trees) (All Nothing trees) k
+  readers_fit : (trees : List NameTree) (k : ℕ) → Having readers trees k → Fit (All (IsWrittenName fits word number) trees) (sum_by (λ one. 1) trees) (All Nothing trees) k
   unfolding readers
-  readers_fit trees k h = some_fit fits longest room kinds.Comma name (IsWrittenName fits longest) (λ one. 1) Nothing name_fits trees k h
+  readers_fit trees k h = some_fit fits word number room kinds.Comma name (IsWrittenName fits word number) (λ one. 1) Nothing name_fits trees k h
 
-  policy_fits : (tree : PolicyTree) (k : ℕ) → Having policy tree k → Fit (IsWrittenPolicy fits longest tree) (policy_nodes tree) (Nothing tree) k
+  policy_fits : (tree : PolicyTree) (k : ℕ) → Having policy tree k → Fit (IsWrittenPolicy fits word number tree) (policy_nodes tree) (Nothing tree) k
   unfolding policy
   policy_fits tree k h =
       let both = h.1 in
-      let front = from_before fits longest room name kinds.Colon h.0.0 both.0 both.2 in
+      let front = from_before fits word number room name kinds.Colon h.0.0 both.0 both.2 in
       let owner = name_fits h.0.0 front.0 front.1 in
       let others = readers_fit h.0.1 both.1 both.3 in
-      subst (λ t. Fit (IsWrittenPolicy fits longest t) (policy_nodes t) (Nothing t) k) (sym h.2) (record {
+      subst (λ t. Fit (IsWrittenPolicy fits word number t) (policy_nodes t) (Nothing t) k) (sym h.2) (record {
         written = (owner.written, others.written);
         few = omega (arith, owner.few, others.few, ones h.0.1, front.2, both.4);
         nested = tt;
       })
 
-  policies_fit : (trees : List PolicyTree) (k : ℕ) → Having policies trees k → Fit (All (IsWrittenPolicy fits longest) trees) (sum_by policy_nodes trees) (All Nothing trees) k
+  policies_fit : (trees : List PolicyTree) (k : ℕ) → Having policies trees k → Fit (All (IsWrittenPolicy fits word number) trees) (sum_by policy_nodes trees) (All Nothing trees) k
   unfolding policies
   policies_fit trees k h =
-      some_fit fits longest room kinds.Semicolon policy (IsWrittenPolicy fits longest) policy_nodes Nothing policy_fits trees k h
+      some_fit fits word number room kinds.Semicolon policy (IsWrittenPolicy fits word number) policy_nodes Nothing policy_fits trees k h
 
-  pub label_fits : (tree : LabelTree) (k : ℕ) → Having label tree k → Fit (IsWrittenLabel fits longest tree) (1 + label_nodes tree) (Nothing tree) k
+  pub label_fits : (tree : LabelTree) (k : ℕ) → Having label tree k → Fit (IsWrittenLabel fits word number tree) (1 + label_nodes tree) (Nothing tree) k
   unfolding label
   label_fits tree k h =
-      let inner = from_before fits longest room (at kinds.OpenBrace · policies) kinds.CloseBrace h.0 k h.1 in
+      let inner = from_before fits word number room (at kinds.OpenBrace · policies) kinds.CloseBrace h.0 k h.1 in
       let both = inner.1 in
-      let here = from_at fits longest room kinds.OpenBrace h.0.0 both.0 both.2 in
+      let here = from_at fits word number room kinds.OpenBrace h.0.0 both.0 both.2 in
       let list = policies_fit h.0.1 both.1 both.3 in
-      subst (λ t. Fit (IsWrittenLabel fits longest t) (1 + label_nodes t) (Nothing t) k) (sym h.2) (record {
+      subst (λ t. Fit (IsWrittenLabel fits word number t) (1 + label_nodes t) (Nothing t) k) (sym h.2) (record {
         written = (here.0, list.written);
         few = omega (arith, list.few, here.1, both.4, inner.2);
         nested = tt;
       })
 
-  pub optional_label_fits : (tree : Option LabelTree) (k : ℕ) → Having optional_label tree k → Fit (IsWrittenOptionalLabel fits longest tree) (optional_label_nodes tree) (Nothing tree) k
+  pub optional_label_fits : (tree : Option LabelTree) (k : ℕ) → Having optional_label tree k → Fit (IsWrittenOptionalLabel fits word number tree) (optional_label_nodes tree) (Nothing tree) k
   unfolding optional_label
   optional_label_fits tree k (inl h) =
       let one = label_fits h.0 k h.1 in
-      subst (λ t. Fit (IsWrittenOptionalLabel fits longest t) (optional_label_nodes t) (Nothing t) k) (sym h.2) (record { written = one.written; few = omega (arith, one.few); nested = tt })
+      subst (λ t. Fit (IsWrittenOptionalLabel fits word number t) (optional_label_nodes t) (Nothing t) k) (sym h.2) (record { written = one.written; few = omega (arith, one.few); nested = tt })
   optional_label_fits tree k (inr h) =
-      subst (λ t. Fit (IsWrittenOptionalLabel fits longest t) (optional_label_nodes t) (Nothing t) k) (sym h.0) (record { written = tt; few = omega arith; nested = tt })
+      subst (λ t. Fit (IsWrittenOptionalLabel fits word number t) (optional_label_nodes t) (Nothing t) k) (sym h.0) (record { written = tt; few = omega arith; nested = tt })
 
   pub base_fits : (found : ℕ × BaseType) (k : ℕ) → Having base found k → fits found.0 × (k ≡ 1)
   unfolding base
   base_fits found k h = (subst (λ (pair : ℕ × BaseType). fits pair.0) (sym h.2) h.1.0.place, h.1.2)
 
-  pub integer_fits : (found : ℕ × ℕ) (k : ℕ) → Having integer found k → fits found.0 × (found.1 ≤ MAX_INTEGER) × (k ≡ 1)
+  pub integer_fits : (found : ℕ × ℕ) (k : ℕ) → Having integer found k → fits found.0 × number found.1 × (k ≡ 1)
   unfolding integer
   integer_fits found k h = (
     subst (λ (pair : ℕ × ℕ). fits pair.0) (sym h.2) h.1.0.place,
-    subst (λ (pair : ℕ × ℕ). pair.1 ≤ MAX_INTEGER) (sym h.2) (value_small h.0.0.kind h.0.0.text h.1.0.spelled),
+    subst (λ (pair : ℕ × ℕ). number pair.1) (sym h.2) h.1.0.valued,
     h.1.2,
   )
 
@@ -111,13 +104,13 @@ module _ (fits : ℕ → Type 0) (longest room : ℕ) where
   unfolding truth
   truth_fits found k h = (subst (λ (pair : ℕ × Bool). fits pair.0) (sym h.2) h.1.0.place, h.1.2)
 
-  pub size_fits : (tree : SizeTree) (k : ℕ) → Having size tree k → Fit (IsWrittenSize fits longest tree) 3 (Nothing tree) k
+  pub size_fits : (tree : SizeTree) (k : ℕ) → Having size tree k → Fit (IsWrittenSize fits word number tree) 3 (Nothing tree) k
   unfolding size
   size_fits tree k h =
-      let front = from_before fits longest room (kinds.OpenBracket ▸ integer) kinds.CloseBracket h.0 k h.1 in
-      let inner = from_after fits longest room kinds.OpenBracket integer h.0 front.0 front.1 in
+      let front = from_before fits word number room (kinds.OpenBracket ▸ integer) kinds.CloseBracket h.0 k h.1 in
+      let inner = from_after fits word number room kinds.OpenBracket integer h.0 front.0 front.1 in
       let here = integer_fits h.0 inner.0 inner.1 in
-      subst (λ t. Fit (IsWrittenSize fits longest t) 3 (Nothing t) k) (sym h.2) (record {
+      subst (λ t. Fit (IsWrittenSize fits word number t) 3 (Nothing t) k) (sym h.2) (record {
         written = (here.0, here.1);
         few = omega (arith, here.2, inner.2, front.2);
         nested = tt;

@@ -31,28 +31,28 @@ abbrev otherwise_nodes : Option BlockTree → ℕ
 otherwise_nodes None = 0
 otherwise_nodes (Some body) = block_nodes body
 
-module _ (fits : ℕ → Type 0) (longest room : ℕ) where
+module _ (fits : ℕ → Type 0) (word : List ℕ → Type 0) (number : ℕ → Type 0) (room : ℕ) where
   abbrev Having : {A : Type 0} → Form A → A → ℕ → Type 0
-  Having F tree k = Has fits longest room F tree k
+  Having F tree k = Has fits word number room F tree k
 
   abbrev FitCall : CallTree → ℕ → Type 0
-  FitCall tree k = Fit (IsWrittenCall fits longest tree) (call_nodes tree) (IsNestedCall room tree) k
+  FitCall tree k = Fit (IsWrittenCall fits word number tree) (call_nodes tree) (IsNestedCall room tree) k
 
   abbrev FitRight : RightTree → ℕ → Type 0
-  FitRight tree k = Fit (IsWrittenRight fits longest tree) (right_nodes tree) (IsNestedRight room tree) k
+  FitRight tree k = Fit (IsWrittenRight fits word number tree) (right_nodes tree) (IsNestedRight room tree) k
 
   abbrev FitBlock : BlockTree → ℕ → Type 0
-  FitBlock tree k = Fit (IsWrittenBlock fits longest tree) (1 + block_nodes tree) (IsNestedBlock room tree) k
+  FitBlock tree k = Fit (IsWrittenBlock fits word number tree) (1 + block_nodes tree) (IsNestedBlock room tree) k
 
   abbrev FitStatement : StatementTree → ℕ → Type 0
-  FitStatement tree k = Fit (IsWrittenStatement fits longest tree) (statement_nodes tree) (IsNestedStatement room tree) k
+  FitStatement tree k = Fit (IsWrittenStatement fits word number tree) (statement_nodes tree) (IsNestedStatement room tree) k
 
   call_fits : (tree : CallTree) (k : ℕ) → Having call tree k → FitCall tree k
   unfolding call
   call_fits tree k h =
       let both = h.1 in
-      let named = name_fits fits longest room h.0.0 both.0 both.2 in
-      let list = arguments_fit fits longest room h.0.1 both.1 both.3 in
+      let named = name_fits fits word number room h.0.0 both.0 both.2 in
+      let list = arguments_fit fits word number room h.0.1 both.1 both.3 in
       subst (λ t. FitCall t k) (sym h.2) (record {
         written = (named.written, list.written);
         few = omega (arith, list.few, named.few, both.4);
@@ -60,11 +60,11 @@ module _ (fits : ℕ → Type 0) (longest room : ℕ) where
       })
 
   -- a keyword and a name
-  keyed : (kind : Kind) (pair : ℕ × NameTree) (k : ℕ) → Having (at kind · name) pair k → fits pair.0 × IsWrittenName fits longest pair.1 × (2 ≤ k)
+  keyed : (kind : Kind) (pair : ℕ × NameTree) (k : ℕ) → Having (at kind · name) pair k → fits pair.0 × IsWrittenName fits word number pair.1 × (2 ≤ k)
   keyed kind pair k h =
-      let word = from_at fits longest room kind pair.0 h.0 h.2 in
-      let named = name_fits fits longest room pair.1 h.1 h.3 in
-      (word.0, named.written, omega (arith, word.1, named.few, h.4))
+      let keyword = from_at fits word number room kind pair.0 h.0 h.2 in
+      let named = name_fits fits word number room pair.1 h.1 h.3 in
+      (keyword.0, named.written, omega (arith, keyword.1, named.few, h.4))
 
   pub right_fits : (tree : RightTree) (k : ℕ) → Having right tree k → FitRight tree k
   unfolding right
@@ -77,7 +77,7 @@ module _ (fits : ℕ → Type 0) (longest room : ℕ) where
           let inner = call_fits one.0 k one.1 in
           subst (λ t. FitRight t k) (sym one.2) (record { written = inner.written; few = inner.few; nested = inner.nested })
       | inr one ↦
-          let inner = expression_fits fits longest room one.0 k one.1 in
+          let inner = expression_fits fits word number room one.0 k one.1 in
           subst (λ t. FitRight t k) (sym one.2) (record { written = inner.written; few = inner.few; nested = inner.nested })
     ]
   ]
@@ -85,7 +85,7 @@ module _ (fits : ℕ → Type 0) (longest room : ℕ) where
   pub block_fits : (tree : BlockTree) (k : ℕ) → Having block tree k → FitBlock tree k
   unfolding block
   block_fits tree k h =
-      let front = from_before fits longest room (level (only kinds.OpenBrace) Statements) kinds.CloseBrace h.0 k h.1 in
+      let front = from_before fits word number room (level (only kinds.OpenBrace) Statements) kinds.CloseBrace h.0 k h.1 in
       let inner = front.1.3 in
       subst (λ t. FitBlock t k) (sym h.2) (record {
         written = (front.1.2.place, inner.written);
@@ -93,18 +93,18 @@ module _ (fits : ℕ → Type 0) (longest room : ℕ) where
         nested = (front.1.1, inner.nested);
       })
 
-  condition_fits : (tree : ExpressionTree) (k : ℕ) → Having condition tree k → Fit (IsWrittenExpression fits longest tree) (2 + expression_nodes tree) (IsNestedExpression room tree) k
+  condition_fits : (tree : ExpressionTree) (k : ℕ) → Having condition tree k → Fit (IsWrittenExpression fits word number tree) (2 + expression_nodes tree) (IsNestedExpression room tree) k
   unfolding condition
   condition_fits tree k h =
-      let front = from_before fits longest room (kinds.OpenParenthesis ▸ expression) kinds.CloseParenthesis tree k h in
-      let inner = from_after fits longest room kinds.OpenParenthesis expression tree front.0 front.1 in
-      let one = expression_fits fits longest room tree inner.0 inner.1 in
+      let front = from_before fits word number room (kinds.OpenParenthesis ▸ expression) kinds.CloseParenthesis tree k h in
+      let inner = from_after fits word number room kinds.OpenParenthesis expression tree front.0 front.1 in
+      let one = expression_fits fits word number room tree inner.0 inner.1 in
       record { written = one.written; few = omega (arith, one.few, inner.2, front.2); nested = one.nested }
 
   -- what stands behind the name of a local
   abbrev FirstWritten : FirstTree → Type 0
-  FirstWritten (FirstValue value) = IsWrittenRight fits longest value
-  FirstWritten (FirstSize size) = IsWrittenSize fits longest size
+  FirstWritten (FirstValue value) = IsWrittenRight fits word number value
+  FirstWritten (FirstSize size) = IsWrittenSize fits word number size
 
   abbrev FirstNested : FirstTree → Type 0
   FirstNested (FirstValue value) = IsNestedRight room value
@@ -112,14 +112,14 @@ module _ (fits : ℕ → Type 0) (longest room : ℕ) where
 
   first_fits : (tree : FirstTree) (k : ℕ) → Having (first_with right) tree k → Fit (FirstWritten tree) (1 + first_nodes tree) (FirstNested tree) k
   first_fits tree k (inl h) =
-      let inner = from_after fits longest room kinds.Assign right h.0 k h.1 in
+      let inner = from_after fits word number room kinds.Assign right h.0 k h.1 in
       let one = right_fits h.0 inner.0 inner.1 in
       subst (λ t. Fit (FirstWritten t) (1 + first_nodes t) (FirstNested t) k) (sym h.2) (record { written = one.written; few = omega (arith, one.few, inner.2); nested = one.nested })
   first_fits tree k (inr h) =
-      let one = size_fits fits longest room h.0 k h.1 in
+      let one = size_fits fits word number room h.0 k h.1 in
       subst (λ t. Fit (FirstWritten t) (1 + first_nodes t) (FirstNested t) k) (sym h.2) (record { written = one.written; few = omega (arith, one.few); nested = tt })
 
-  local_fits : (place : ℕ) (base : BaseType) (label : Option LabelTree) (named : NameTree) (first : FirstTree) (k : ℕ) → fits place → IsWrittenOptionalLabel fits longest label → IsWrittenName fits longest named → Fit (FirstWritten first) (2 + (optional_label_nodes label + first_nodes first)) (FirstNested first) k → FitStatement (local_tree place base label named first) k
+  local_fits : (place : ℕ) (base : BaseType) (label : Option LabelTree) (named : NameTree) (first : FirstTree) (k : ℕ) → fits place → IsWrittenOptionalLabel fits word number label → IsWrittenName fits word number named → Fit (FirstWritten first) (2 + (optional_label_nodes label + first_nodes first)) (FirstNested first) k → FitStatement (local_tree place base label named first) k
   local_fits place base label named (FirstValue value) k here labelled written one =
       record { written = (here, labelled, written, one.written); few = omega (arith, one.few); nested = one.nested }
   local_fits place base label named (FirstSize size) k here labelled written one =
@@ -127,13 +127,13 @@ module _ (fits : ℕ → Type 0) (longest room : ℕ) where
 
   declare_fits : (tree : StatementTree) (k : ℕ) → Having (declare_with right) tree k → FitStatement tree k
   declare_fits tree k h =
-      let line = from_before fits longest room (base · optional_label · name · first_with right) kinds.Semicolon h.0 k h.1 in
+      let line = from_before fits word number room (base · optional_label · name · first_with right) kinds.Semicolon h.0 k h.1 in
       let a = line.1 in
       let b = a.2 in
       let c = b.2 in
-      let typed = base_fits fits longest room h.0.0.0.0 c.0 c.2 in
-      let labelled = optional_label_fits fits longest room h.0.0.0.1 c.1 c.3 in
-      let named = name_fits fits longest room h.0.0.1 b.1 b.3 in
+      let typed = base_fits fits word number room h.0.0.0.0 c.0 c.2 in
+      let labelled = optional_label_fits fits word number room h.0.0.0.1 c.1 c.3 in
+      let named = name_fits fits word number room h.0.0.1 b.1 b.3 in
       let first = first_fits h.0.1 a.1 a.3 in
       subst (λ t. FitStatement t k) (sym h.2) (local_fits h.0.0.0.0.0 h.0.0.0.0.1 h.0.0.0.1 h.0.0.1 h.0.1 k typed.0 labelled.written named.written (record {
         written = first.written;
@@ -143,9 +143,9 @@ module _ (fits : ℕ → Type 0) (longest room : ℕ) where
 
   -- what stands behind the name that a statement begins with
   abbrev BehindWritten : BehindTree → Type 0
-  BehindWritten (AssignedTree value) = IsWrittenRight fits longest value
-  BehindWritten (AtIndexTree index value) = IsWrittenExpression fits longest index × IsWrittenExpression fits longest value
-  BehindWritten (ArgumentsTree arguments) = All (IsWrittenExpression fits longest) arguments
+  BehindWritten (AssignedTree value) = IsWrittenRight fits word number value
+  BehindWritten (AtIndexTree index value) = IsWrittenExpression fits word number index × IsWrittenExpression fits word number value
+  BehindWritten (ArgumentsTree arguments) = All (IsWrittenExpression fits word number) arguments
 
   abbrev BehindNested : BehindTree → Type 0
   BehindNested (AssignedTree value) = IsNestedRight room value
@@ -158,27 +158,27 @@ module _ (fits : ℕ → Type 0) (longest room : ℕ) where
   behind_fits : (tree : BehindTree) (k : ℕ) → Having (behind_with right) tree k → FitBehind tree k
   behind_fits tree k h = elim h [
     | inl one ↦
-        let inner = from_after fits longest room kinds.Assign right one.0 k one.1 in
+        let inner = from_after fits word number room kinds.Assign right one.0 k one.1 in
         let value = right_fits one.0 inner.0 inner.1 in
         subst (λ t. FitBehind t k) (sym one.2) (record { written = value.written; few = omega (arith, value.few, inner.2); nested = value.nested })
     | inr h ↦ elim h [
       | inl one ↦
           let both = one.1 in
-          let front = from_before fits longest room index kinds.Assign one.0.0 both.0 both.2 in
-          let index = index_fits fits longest room one.0.0 front.0 front.1 in
-          let value = expression_fits fits longest room one.0.1 both.1 both.3 in
+          let front = from_before fits word number room index kinds.Assign one.0.0 both.0 both.2 in
+          let index = index_fits fits word number room one.0.0 front.0 front.1 in
+          let value = expression_fits fits word number room one.0.1 both.1 both.3 in
           subst (λ t. FitBehind t k) (sym one.2) (record {
             written = (index.written, value.written);
             few = omega (arith, index.few, value.few, front.2, both.4);
             nested = (index.nested.0, index.nested.1, value.nested);
           })
       | inr one ↦
-          let list = arguments_fit fits longest room one.0 k one.1 in
+          let list = arguments_fit fits word number room one.0 k one.1 in
           subst (λ t. FitBehind t k) (sym one.2) (record { written = list.written; few = omega (arith, list.few); nested = list.nested })
     ]
   ]
 
-  with_name : (named : NameTree) (behind : BehindTree) (k : ℕ) → IsWrittenName fits longest named → Fit (BehindWritten behind) (2 + behind_nodes behind) (BehindNested behind) k → FitStatement (named_tree named behind) k
+  with_name : (named : NameTree) (behind : BehindTree) (k : ℕ) → IsWrittenName fits word number named → Fit (BehindWritten behind) (2 + behind_nodes behind) (BehindNested behind) k → FitStatement (named_tree named behind) k
   with_name named (AssignedTree value) k written one =
       record { written = (written, one.written); few = omega (arith, one.few); nested = one.nested }
   with_name named (AtIndexTree index value) k written one =
@@ -188,9 +188,9 @@ module _ (fits : ℕ → Type 0) (longest room : ℕ) where
 
   named_fits : (tree : StatementTree) (k : ℕ) → Having (named_with right) tree k → FitStatement tree k
   named_fits tree k h =
-      let line = from_before fits longest room (name · behind_with right) kinds.Semicolon h.0 k h.1 in
+      let line = from_before fits word number room (name · behind_with right) kinds.Semicolon h.0 k h.1 in
       let both = line.1 in
-      let named = name_fits fits longest room h.0.0 both.0 both.2 in
+      let named = name_fits fits word number room h.0.0 both.0 both.2 in
       let behind = behind_fits h.0.1 both.1 both.3 in
       subst (λ t. FitStatement t k) (sym h.2) (with_name h.0.0 h.0.1 k named.written (record {
         written = behind.written;
@@ -201,18 +201,18 @@ module _ (fits : ℕ → Type 0) (longest room : ℕ) where
   receive_fits : (tree : StatementTree) (k : ℕ) → Having receive tree k → FitStatement tree k
   unfolding receive
   receive_fits tree k h =
-      let line = from_before fits longest room (at kinds.Receive · name) kinds.Semicolon h.0 k h.1 in
+      let line = from_before fits word number room (at kinds.Receive · name) kinds.Semicolon h.0 k h.1 in
       let both = keyed kinds.Receive h.0 line.0 line.1 in
       subst (λ t. FitStatement t k) (sym h.2) (record { written = (both.0, both.1); few = omega (arith, both.2, line.2); nested = tt })
 
   send_fits : (tree : StatementTree) (k : ℕ) → Having send tree k → FitStatement tree k
   unfolding send
   send_fits tree k h =
-      let line = from_before fits longest room (at kinds.Send · name ◂ kinds.Comma · expression) kinds.Semicolon h.0 k h.1 in
+      let line = from_before fits word number room (at kinds.Send · name ◂ kinds.Comma · expression) kinds.Semicolon h.0 k h.1 in
       let a = line.1 in
-      let front = from_before fits longest room (at kinds.Send · name) kinds.Comma h.0.0 a.0 a.2 in
+      let front = from_before fits word number room (at kinds.Send · name) kinds.Comma h.0.0 a.0 a.2 in
       let both = keyed kinds.Send h.0.0 front.0 front.1 in
-      let value = expression_fits fits longest room h.0.1 a.1 a.3 in
+      let value = expression_fits fits word number room h.0.1 a.1 a.3 in
       subst (λ t. FitStatement t k) (sym h.2) (record {
         written = (both.0, both.1, value.written);
         few = omega (arith, both.2, value.few, front.2, a.4, line.2);
@@ -222,7 +222,7 @@ module _ (fits : ℕ → Type 0) (longest room : ℕ) where
   -- an `else`, or none
   abbrev OtherwiseWritten : Option BlockTree → Type 0
   OtherwiseWritten None = Unit {0}
-  OtherwiseWritten (Some body) = IsWrittenBlock fits longest body
+  OtherwiseWritten (Some body) = IsWrittenBlock fits word number body
 
   abbrev OtherwiseNested : Option BlockTree → Type 0
   OtherwiseNested None = Unit {0}
@@ -234,13 +234,13 @@ module _ (fits : ℕ → Type 0) (longest room : ℕ) where
   otherwise_fits : (tree : Option BlockTree) (k : ℕ) → Having otherwise tree k → FitOtherwise tree k
   unfolding otherwise
   otherwise_fits tree k (inl h) =
-      let inner = from_after fits longest room kinds.Else block h.0 k h.1 in
+      let inner = from_after fits word number room kinds.Else block h.0 k h.1 in
       let body = block_fits h.0 inner.0 inner.1 in
       subst (λ t. FitOtherwise t k) (sym h.2) (record { written = body.written; few = omega (arith, body.few, inner.2); nested = body.nested })
   otherwise_fits tree k (inr h) =
       subst (λ t. FitOtherwise t k) (sym h.0) (record { written = tt; few = omega arith; nested = tt })
 
-  if_fits : (place : ℕ) (condition : ExpressionTree) (body : BlockTree) (otherwise : Option BlockTree) (k : ℕ) → fits place → IsWrittenExpression fits longest condition → IsNestedExpression room condition → IsWrittenBlock fits longest body → IsNestedBlock room body → Fit (OtherwiseWritten otherwise) (1 + (expression_nodes condition + (block_nodes body + otherwise_nodes otherwise))) (OtherwiseNested otherwise) k → FitStatement (if_tree place condition body otherwise) k
+  if_fits : (place : ℕ) (condition : ExpressionTree) (body : BlockTree) (otherwise : Option BlockTree) (k : ℕ) → fits place → IsWrittenExpression fits word number condition → IsNestedExpression room condition → IsWrittenBlock fits word number body → IsNestedBlock room body → Fit (OtherwiseWritten otherwise) (1 + (expression_nodes condition + (block_nodes body + otherwise_nodes otherwise))) (OtherwiseNested otherwise) k → FitStatement (if_tree place condition body otherwise) k
   if_fits place condition body None k here a b c d one =
       record { written = (here, a, c); few = omega (arith, one.few); nested = (b, d) }
   if_fits place condition body (Some otherwise) k here a b c d one =
@@ -252,13 +252,13 @@ module _ (fits : ℕ → Type 0) (longest room : ℕ) where
       let a = h.1 in
       let b = a.2 in
       let c = b.2 in
-      let word = from_at fits longest room kinds.If h.0.0.0.0 c.0 c.2 in
+      let keyword = from_at fits word number room kinds.If h.0.0.0.0 c.0 c.2 in
       let test = condition_fits h.0.0.0.1 c.1 c.3 in
       let body = block_fits h.0.0.1 b.1 b.3 in
       let other = otherwise_fits h.0.1 a.1 a.3 in
-      subst (λ t. FitStatement t k) (sym h.2) (if_fits h.0.0.0.0 h.0.0.0.1 h.0.0.1 h.0.1 k word.0 test.written test.nested body.written body.nested (record {
+      subst (λ t. FitStatement t k) (sym h.2) (if_fits h.0.0.0.0 h.0.0.0.1 h.0.0.1 h.0.1 k keyword.0 test.written test.nested body.written body.nested (record {
         written = other.written;
-        few = omega (arith, word.1, test.few, body.few, other.few, a.4, b.4, c.4);
+        few = omega (arith, keyword.1, test.few, body.few, other.few, a.4, b.4, c.4);
         nested = other.nested;
       }))
 
@@ -267,44 +267,44 @@ module _ (fits : ℕ → Type 0) (longest room : ℕ) where
   while_fits tree k h =
       let a = h.1 in
       let b = a.2 in
-      let word = from_at fits longest room kinds.While h.0.0.0 b.0 b.2 in
+      let keyword = from_at fits word number room kinds.While h.0.0.0 b.0 b.2 in
       let test = condition_fits h.0.0.1 b.1 b.3 in
       let body = block_fits h.0.1 a.1 a.3 in
       subst (λ t. FitStatement t k) (sym h.2) (record {
-        written = (word.0, test.written, body.written);
-        few = omega (arith, word.1, test.few, body.few, a.4, b.4);
+        written = (keyword.0, test.written, body.written);
+        few = omega (arith, keyword.1, test.few, body.few, a.4, b.4);
         nested = (test.nested, body.nested);
       })
 
   break_fits : (tree : StatementTree) (k : ℕ) → Having break_statement tree k → FitStatement tree k
   unfolding break_statement
   break_fits tree k h =
-      let line = from_before fits longest room (at kinds.Break) kinds.Semicolon h.0 k h.1 in
-      let word = from_at fits longest room kinds.Break h.0 line.0 line.1 in
-      subst (λ t. FitStatement t k) (sym h.2) (record { written = word.0; few = omega (arith, word.1, line.2); nested = tt })
+      let line = from_before fits word number room (at kinds.Break) kinds.Semicolon h.0 k h.1 in
+      let keyword = from_at fits word number room kinds.Break h.0 line.0 line.1 in
+      subst (λ t. FitStatement t k) (sym h.2) (record { written = keyword.0; few = omega (arith, keyword.1, line.2); nested = tt })
 
   continue_fits : (tree : StatementTree) (k : ℕ) → Having continue_statement tree k → FitStatement tree k
   unfolding continue_statement
   continue_fits tree k h =
-      let line = from_before fits longest room (at kinds.Continue) kinds.Semicolon h.0 k h.1 in
-      let word = from_at fits longest room kinds.Continue h.0 line.0 line.1 in
-      subst (λ t. FitStatement t k) (sym h.2) (record { written = word.0; few = omega (arith, word.1, line.2); nested = tt })
+      let line = from_before fits word number room (at kinds.Continue) kinds.Semicolon h.0 k h.1 in
+      let keyword = from_at fits word number room kinds.Continue h.0 line.0 line.1 in
+      subst (λ t. FitStatement t k) (sym h.2) (record { written = keyword.0; few = omega (arith, keyword.1, line.2); nested = tt })
 
   throw_fits : (tree : StatementTree) (k : ℕ) → Having throw_statement tree k → FitStatement tree k
   unfolding throw_statement
   throw_fits tree k h =
-      let line = from_before fits longest room (at kinds.Throw · name) kinds.Semicolon h.0 k h.1 in
+      let line = from_before fits word number room (at kinds.Throw · name) kinds.Semicolon h.0 k h.1 in
       let both = keyed kinds.Throw h.0 line.0 line.1 in
       subst (λ t. FitStatement t k) (sym h.2) (record { written = (both.0, both.1); few = omega (arith, both.2, line.2); nested = tt })
 
   abbrev FitReturned : Option ExpressionTree → ℕ → Type 0
   FitReturned tree k =
-      Fit (IsWrittenOptionalExpression fits longest tree) (optional_expression_nodes tree) (IsNestedOptionalExpression room tree) k
+      Fit (IsWrittenOptionalExpression fits word number tree) (optional_expression_nodes tree) (IsNestedOptionalExpression room tree) k
 
   returned_fits : (tree : Option ExpressionTree) (k : ℕ) → Having returned tree k → FitReturned tree k
   unfolding returned
   returned_fits tree k (inl h) =
-      let one = expression_fits fits longest room h.0 k h.1 in
+      let one = expression_fits fits word number room h.0 k h.1 in
       subst (λ t. FitReturned t k) (sym h.2) (record { written = one.written; few = one.few; nested = one.nested })
   returned_fits tree k (inr h) =
       subst (λ t. FitReturned t k) (sym h.0) (record { written = tt; few = omega arith; nested = tt })
@@ -312,39 +312,39 @@ module _ (fits : ℕ → Type 0) (longest room : ℕ) where
   return_fits : (tree : StatementTree) (k : ℕ) → Having return_statement tree k → FitStatement tree k
   unfolding return_statement
   return_fits tree k h =
-      let line = from_before fits longest room (at kinds.Return · returned) kinds.Semicolon h.0 k h.1 in
+      let line = from_before fits word number room (at kinds.Return · returned) kinds.Semicolon h.0 k h.1 in
       let both = line.1 in
-      let word = from_at fits longest room kinds.Return h.0.0 both.0 both.2 in
+      let keyword = from_at fits word number room kinds.Return h.0.0 both.0 both.2 in
       let value = returned_fits h.0.1 both.1 both.3 in
       subst (λ t. FitStatement t k) (sym h.2) (record {
-        written = (word.0, value.written);
-        few = omega (arith, word.1, value.few, both.4, line.2);
+        written = (keyword.0, value.written);
+        few = omega (arith, keyword.1, value.few, both.4, line.2);
         nested = value.nested;
       })
 
   abbrev FitCatch : CatchTree → ℕ → Type 0
   FitCatch tree k =
-      Fit (fits tree.at × IsWrittenName fits longest tree.exception × IsWrittenBlock fits longest tree.body) (2 + block_nodes tree.body) (IsNestedBlock room tree.body) k
+      Fit (fits tree.at × IsWrittenName fits word number tree.exception × IsWrittenBlock fits word number tree.body) (2 + block_nodes tree.body) (IsNestedBlock room tree.body) k
 
   catch_fits : (tree : CatchTree) (k : ℕ) → Having catch tree k → FitCatch tree k
   unfolding catch
   catch_fits tree k h =
       let a = h.1 in
-      let close = from_before fits longest room (at kinds.Catch ◂ kinds.OpenParenthesis · name) kinds.CloseParenthesis h.0.0 a.0 a.2 in
+      let close = from_before fits word number room (at kinds.Catch ◂ kinds.OpenParenthesis · name) kinds.CloseParenthesis h.0.0 a.0 a.2 in
       let b = close.1 in
-      let front = from_before fits longest room (at kinds.Catch) kinds.OpenParenthesis h.0.0.0 b.0 b.2 in
-      let word = from_at fits longest room kinds.Catch h.0.0.0 front.0 front.1 in
-      let named = name_fits fits longest room h.0.0.1 b.1 b.3 in
+      let front = from_before fits word number room (at kinds.Catch) kinds.OpenParenthesis h.0.0.0 b.0 b.2 in
+      let keyword = from_at fits word number room kinds.Catch h.0.0.0 front.0 front.1 in
+      let named = name_fits fits word number room h.0.0.1 b.1 b.3 in
       let body = block_fits h.0.1 a.1 a.3 in
       subst (λ t. FitCatch t k) (sym h.2) (record {
-        written = (word.0, named.written, body.written);
-        few = omega (arith, word.1, named.few, body.few, a.4, b.4, front.2, close.2);
+        written = (keyword.0, named.written, body.written);
+        few = omega (arith, keyword.1, named.few, body.few, a.4, b.4, front.2, close.2);
         nested = body.nested;
       })
 
   abbrev FitCatches : List CatchTree → ℕ → Type 0
   FitCatches trees k =
-      Fit (AreWrittenCatches fits longest (catches_of trees)) (catches_nodes (catches_of trees)) (AreNestedCatches room (catches_of trees)) k
+      Fit (AreWrittenCatches fits word number (catches_of trees)) (catches_nodes (catches_of trees)) (AreNestedCatches room (catches_of trees)) k
 
   one_more : (tree : CatchTree) (trees : List CatchTree) (i j k : ℕ) → FitCatch tree i → FitCatches trees j → k ≡ i + j → FitCatches (tree ∷ trees) k
   one_more tree trees i j k one others e = record {
@@ -368,12 +368,12 @@ module _ (fits : ℕ → Type 0) (longest room : ℕ) where
   attempt_fits tree k h =
       let a = h.1 in
       let b = a.2 in
-      let word = from_at fits longest room kinds.Try h.0.0.0 b.0 b.2 in
+      let keyword = from_at fits word number room kinds.Try h.0.0.0 b.0 b.2 in
       let body = block_fits h.0.0.1 b.1 b.3 in
       let list = catches_fit h.0.1 a.1 a.3 in
       subst (λ t. FitStatement t k) (sym h.2) (record {
-        written = (word.0, body.written, list.written);
-        few = omega (arith, word.1, body.few, list.few, a.4, b.4);
+        written = (keyword.0, body.written, list.written);
+        few = omega (arith, keyword.1, body.few, list.few, a.4, b.4);
         nested = (body.nested, list.nested);
       })
 
@@ -417,7 +417,7 @@ module _ (fits : ℕ → Type 0) (longest room : ℕ) where
     ]
   ]
 
-  each_statement : (trees : List StatementTree) (k : ℕ) → Each (Having statement) trees k → FitStatements fits longest room trees k
+  each_statement : (trees : List StatementTree) (k : ℕ) → Each (Having statement) trees k → FitStatements fits word number room trees k
   each_statement [] k h = record { written = tt; few = omega arith; nested = tt }
   each_statement (tree ∷ trees) k h =
       let one = statement_fits tree h.0 h.2 in
@@ -429,17 +429,17 @@ module _ (fits : ℕ → Type 0) (longest room : ℕ) where
       }
 
 -- what holds of each symbol's form holds of the symbol
-pub symbols_fit : (fits : ℕ → Type 0) (longest : ℕ) (symbol : Symbol) (room : ℕ) (tree : tree_of symbol) (k : ℕ) → Has fits longest room (production symbol) tree k → Fits fits longest symbol room tree k
+pub symbols_fit : (fits : ℕ → Type 0) (word : List ℕ → Type 0) (number : ℕ → Type 0) (symbol : Symbol) (room : ℕ) (tree : tree_of symbol) (k : ℕ) → Has fits word number room (production symbol) tree k → Fits fits word number symbol room tree k
 unfolding production
-symbols_fit fits longest Expression room tree k h = expression_fits fits longest room tree k h
-symbols_fit fits longest Unary room tree k h = unary_symbol_fits fits longest room tree k h
-symbols_fit fits longest (Operands line) room tree k h =
-    let one = operand_fits fits longest room line tree.0 h.0 h.2 in
-    let others = others_fit fits longest room line tree.1 h.1 h.3 in
+symbols_fit fits word number Expression room tree k h = expression_fits fits word number room tree k h
+symbols_fit fits word number Unary room tree k h = unary_symbol_fits fits word number room tree k h
+symbols_fit fits word number (Operands line) room tree k h =
+    let one = operand_fits fits word number room line tree.0 h.0 h.2 in
+    let others = others_fit fits word number room line tree.1 h.1 h.3 in
     record {
       written = (one.written, others.written);
       few = omega (arith, one.few, others.few, h.4);
       nested = (one.nested, others.nested);
     }
-symbols_fit fits longest Arguments room tree k h = expressions_fit fits longest room tree k h
-symbols_fit fits longest Statements room tree k h = each_statement fits longest room tree k h
+symbols_fit fits word number Arguments room tree k h = expressions_fit fits word number room tree k h
+symbols_fit fits word number Statements room tree k h = each_statement fits word number room tree k h

@@ -5,11 +5,11 @@ use Rattle.std.specs.List.{All}
 use Rattle.std.proofs.lemmas.List.Elements.{All-nil, All-cons}
 use Rattle.std.proofs.lemmas.List.Sums.{sum_by-cons}
 use Rattle.lexer.specs.declared.token.Kind.{Kind}
-use Rattle.lexer.specs.Listing.{IsSpelled}
+use Rattle.lexer.specs.declared.token.Kind.TheVariants as kinds
 use Rattle.lexer.specs.Terminal.{Terminal}
 use Rattle.syntax.specs.declared.tree.BinaryOperator.{BinaryOperator}
 use Rattle.syntax.specs.Form.{Form}
-use Rattle.syntax.specs.Grammar.{key, at, ◌▸◌, ◌◂◌, separated, some}
+use Rattle.syntax.specs.Grammar.{key, at, ◌▸◌, ◌◂◌, separated, some, value_of}
 use Rattle.syntax.specs.Nesting.{IsNestedExpression, AreNestedStatements}
 use Rattle.syntax.specs.Nodes.{expression_nodes, statements_nodes}
 use Rattle.syntax.specs.Symbol.{Expression, Unary, Operands, Arguments, Statements}
@@ -22,11 +22,11 @@ pub record Fit (W : Type 0) (nodes : ℕ) (D : Type 0) (k : ℕ) : Type 0 where
   pub few : nodes ≤ k
   pub nested : D
 
--- a token of a text, at a place that fits
-pub record Fitting (fits : ℕ → Type 0) (longest : ℕ) (token : Terminal) : Type 0 where
+-- a token at a place that fits, whose text fits where it is a name, and whose value fits
+pub record Fitting (fits : ℕ → Type 0) (word : List ℕ → Type 0) (number : ℕ → Type 0) (token : Terminal) : Type 0 where
   pub place : fits token.start
-  pub spelled : IsSpelled token
-  pub short : length token.text ≤ longest
+  pub named : token.kind ≡ kinds.Name → word token.text
+  pub valued : number (value_of token.kind)
 
 -- operators with their right operands
 abbrev pub others_nodes : List (BinaryOperator × ExpressionTree) → ℕ
@@ -37,40 +37,40 @@ abbrev pub AreNestedOthers : ℕ → List (BinaryOperator × ExpressionTree) →
 AreNestedOthers room [] = Unit {0}
 AreNestedOthers room (next ∷ others) = (0 < room) × IsNestedExpression (pred room) next.1 × AreNestedOthers (pred room) others
 
-module _ (fits : ℕ → Type 0) (longest : ℕ) where
+module _ (fits : ℕ → Type 0) (word : List ℕ → Type 0) (number : ℕ → Type 0) where
   abbrev pub AreWrittenOthers : List (BinaryOperator × ExpressionTree) → Type 0
   AreWrittenOthers [] = Unit {0}
-  AreWrittenOthers (next ∷ others) = IsWrittenExpression fits longest next.1 × AreWrittenOthers others
+  AreWrittenOthers (next ∷ others) = IsWrittenExpression fits word number next.1 × AreWrittenOthers others
 
   abbrev pub FitExpression : ℕ → ExpressionTree → ℕ → Type 0
-  FitExpression room tree k = Fit (IsWrittenExpression fits longest tree) (expression_nodes tree) (IsNestedExpression room tree) k
+  FitExpression room tree k = Fit (IsWrittenExpression fits word number tree) (expression_nodes tree) (IsNestedExpression room tree) k
 
   abbrev pub FitOthers : ℕ → List (BinaryOperator × ExpressionTree) → ℕ → Type 0
   FitOthers room others k = Fit (AreWrittenOthers others) (others_nodes others) (AreNestedOthers room others) k
 
   abbrev pub FitExpressions : ℕ → List ExpressionTree → ℕ → Type 0
   FitExpressions room trees k =
-      Fit (All (IsWrittenExpression fits longest) trees) (sum_by expression_nodes trees) (All (IsNestedExpression room) trees) k
+      Fit (All (IsWrittenExpression fits word number) trees) (sum_by expression_nodes trees) (All (IsNestedExpression room) trees) k
 
   abbrev pub FitStatements : ℕ → List StatementTree → ℕ → Type 0
   FitStatements room trees k =
-      Fit (AreWrittenStatements fits longest (statements_of trees)) (statements_nodes (statements_of trees)) (AreNestedStatements room (statements_of trees)) k
+      Fit (AreWrittenStatements fits word number (statements_of trees)) (statements_nodes (statements_of trees)) (AreNestedStatements room (statements_of trees)) k
 
   abbrev pub Fits : Held
   Fits Expression room tree k = FitExpression room tree k
   Fits Unary room tree k = FitExpression room tree k
   Fits (Operands line) room pair k =
-      Fit (IsWrittenExpression fits longest pair.0 × AreWrittenOthers pair.1) (expression_nodes pair.0 + others_nodes pair.1) (IsNestedExpression room pair.0 × AreNestedOthers room pair.1) k
+      Fit (IsWrittenExpression fits word number pair.0 × AreWrittenOthers pair.1) (expression_nodes pair.0 + others_nodes pair.1) (IsNestedExpression room pair.0 × AreNestedOthers room pair.1) k
   Fits Arguments room trees k = FitExpressions room trees k
   Fits Statements room trees k = FitStatements room trees k
 
   -- what a form's tokens say of its tree
   abbrev pub Has : ℕ → {A : Type 0} → Form A → A → ℕ → Type 0
-  Has room F tree k = Holds (Fitting fits longest) Fits room F tree k
+  Has room F tree k = Holds (Fitting fits word number) Fits room F tree k
 
   module _ (room : ℕ) where
-    pub from_key : (kind : Kind) (token : Terminal) (k : ℕ) → Has room (key kind) token k → Fitting fits longest token × (k ≡ 1)
-    from_key kind token k h = (subst (Fitting fits longest) (sym h.2) h.1.0, h.1.2)
+    pub from_key : (kind : Kind) (token : Terminal) (k : ℕ) → Has room (key kind) token k → Fitting fits word number token × (k ≡ 1)
+    from_key kind token k h = (subst (Fitting fits word number) (sym h.2) h.1.0, h.1.2)
 
     pub from_at : (kind : Kind) (place k : ℕ) → Has room (at kind) place k → fits place × (k ≡ 1)
     from_at kind place k h = (subst fits (sym h.2) h.1.0.place, h.1.2)

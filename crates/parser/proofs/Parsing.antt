@@ -8,17 +8,16 @@ use Rattle.common.specs.declared.fault.OrNoMemory.TheVariants.{NoMemory, Refused
 use Rattle.parser.specs.declared.fault.ParseRefusal.{ParseRefusal}
 use Rattle.common.specs.Answers.{IfRefused}
 use Rattle.common.proofs.Casting.{refused-weaker}
-use Rattle.parser.specs.OfText.{IsOfText}
 use Rattle.parser.specs.Reading.{IsRead, read}
 use Rattle.parser.specs.Refusal.{AreTokensRefused}
 use Rattle.syntax.specs.declared.tree.Item.{Item}
 use Rattle.syntax.specs.Grammar.{SpellsProgram, program}
-use Rattle.syntax.specs.Limits.{IsProgram}
+use Rattle.syntax.specs.Nesting.{IsNested}
 use Rattle.syntax.specs.Nodes.{program_nodes}
 use Rattle.syntax.specs.Tree.{ProgramTree, program_tree}
 use Rattle.parser.proofs.Programs.{Verdict, verdict}
 use Rattle.parser.proofs.Refusals.{one_refusal, spelled_not_refused}
-use Rattle.parser.proofs.Spelled.{few_nodes, spelled_program}
+use Rattle.parser.proofs.Spelled.{few_nodes, spelled_nested}
 
 -- what is said of the items, and of the fault, by what reading gives
 module _ (tokens : List Token) (terminated : IsTerminated (terminals_of tokens)) where
@@ -32,13 +31,13 @@ module _ (tokens : List Token) (terminated : IsTerminated (terminals_of tokens))
   items_only items left e tree spelled =
       sym ((subst (Verdict (terminals_of tokens)) e (verdict (terminals_of tokens) terminated)).2 0 tree spelled)
 
-  pub items_bounded : (items : List Item) (left : List Token) → IsOfText (terminals_of tokens) → WasRead (Ok items) left → program_nodes (program_tree items) ≤ length tokens
-  items_bounded items left text e =
-      omega (arith, few_nodes (terminals_of tokens) (program_tree items) (items_spelled items left e) text.spelled, length-map tokens terminal_of)
+  pub items_bounded : (items : List Item) (left : List Token) → WasRead (Ok items) left → program_nodes (program_tree items) ≤ length tokens
+  items_bounded items left e =
+      omega (arith, few_nodes (terminals_of tokens) (program_tree items) (items_spelled items left e), length-map tokens terminal_of)
 
-  pub items_program : (items : List Item) (left : List Token) → IsOfText (terminals_of tokens) → WasRead (Ok items) left → IsProgram (program_tree items)
-  items_program items left text e =
-      spelled_program (terminals_of tokens) (program_tree items) text (items_spelled items left e)
+  pub items_nested : (items : List Item) (left : List Token) → WasRead (Ok items) left → IsNested 64 (program_tree items)
+  items_nested items left e =
+      spelled_nested (terminals_of tokens) (program_tree items) (items_spelled items left e)
 
   pub items_not_refused : (items : List Item) (left : List Token) → WasRead (Ok items) left → (refusal : ParseRefusal) → AreTokensRefused (terminals_of tokens) refusal → ⊥
   items_not_refused items left e refusal refused =

@@ -5,6 +5,5 @@ pub use Rattle.syntax.specs.Symbol
 pub use Rattle.syntax.specs.Tree
 pub mod Defects
 pub mod Laws
-pub mod OfText
 pub mod Reading
 pub mod Refusal

@@ -6,7 +6,6 @@ ghost use Rattle.syntax.specs.Laws.{SpellsOneTree, SpelledIsTerminated, SpelledH
 ghost use Rattle.syntax.specs.Nodes.{program_nodes};
 ghost use Rattle.syntax.specs.Tree.{ProgramTree, program_tree};
 ghost use Rattle.parser.specs.Laws.{IsSpelledOrRefused, IsNotSpelledAndRefused, HasOneRefusal};
-ghost use Rattle.parser.specs.OfText.{IsOfText};
 ghost use Rattle.parser.specs.Reading.{IsRead, read};
 ghost use Rattle.parser.specs.Refusal.{AreTokensRefused};
 
@@ -32,15 +31,14 @@ impl<'a> Parser<'a> {
 
 /// The program that tokens spell.
 ///
-/// Precondition: the tokens are as the lexer makes them of a text of at most 1 MiB. The last one, and no other, is the end marker.
+/// Precondition: the last token, and no other, is the end marker.
 ///
 /// # Errors
 ///
 /// The first fault in the order of the tokens: one that is unexpected, or one that opens a level where 64 are open. At one token
 /// the first comes before the second. Or out of memory.
 pub fn parse(alloc: Global, tokens: &[Token<'_>]) -> Result<Program, ParseFault>
-    requires terminated { IsTerminated (terminals_of tokens.now) }
-    requires of_text { IsOfText (terminals_of tokens.now) }
+    requires ended { IsTerminated (terminals_of tokens.now) }
 
     // All the tokens together spell the answer, which has at most as many nodes.
     ensures accepted { IfOk result (λ items.
@@ -66,9 +64,9 @@ pub fn parse(alloc: Global, tokens: &[Token<'_>]) -> Result<Program, ParseFault>
     Ok(Program::new(items))
 }
 
-/// The laws that tokens spell at most one tree, and that what they spell ends in the one end marker; and, where each token has the
-/// text of its kind, that a tree has at most as many nodes as there are tokens, is nested at most 64 levels deep, and has its
-/// names, integers and places of the tokens.
+/// The laws that tokens spell at most one tree, that what they spell ends in the one end marker, and that the tree has at most as
+/// many nodes as there are tokens and is nested at most 64 levels deep; and, where each token has the text of its kind, that it
+/// has its names, integers and places of the tokens.
 pub fn spelling_laws()
     ensures one_tree { SpellsOneTree }
     ensures terminated { SpelledIsTerminated }

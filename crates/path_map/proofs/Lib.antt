@@ -1,6 +1,10 @@
 pub mod Summary
 pub mod Rows
 pub mod Single
+pub mod Alike
+pub mod Pieces
+pub mod Kept
 pub mod Walking
 pub mod Forms
 pub mod Procedures
+pub mod Declared

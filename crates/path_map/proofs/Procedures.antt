@@ -1,5 +1,5 @@
 -- The faults of a procedure, and the entries and faults of all of a program's.
-use Rattle.std.proofs.Common.{◌≡◌, refl, sym, ap, ◌∙◌, subst, ℕ, List, [], ◌∷◌, ◌++◌, Bool, true, false, not, ◌&&◌, ◌||◌, map, flat_map, append_assoc, append-nil, take, drop, get_or, length, ◌<◌, ◌≤◌, ◌+◌, suc}
+use Rattle.std.proofs.Common.{◌≡◌, refl, sym, ap, ◌∙◌, subst, ℕ, List, [], ◌∷◌, ◌++◌, Bool, true, false, not, ◌&&◌, ◌||◌, map, flat_map, take, drop, get_or, length, ◌<◌, ◌≤◌, ◌+◌, suc}
 use Rattle.std.specs.Prelude.{◌==◌, is_some, Some, None, Option}
 use Rattle.std.specs.List.{list_all}
 use Rattle.std.proofs.lemmas.List.{map-append, take_more, take-append-drop}
@@ -29,10 +29,11 @@ use Rattle.resolved.specs.declared.fault.EndRefusal.{EndRefusal}
 use Rattle.path_map.specs.FirstFault.{IsFirstEndFault}
 use Rattle.path_map.specs.Exits.{exits_of, raised_by}
 use Rattle.path_map.specs.Joins.{join_raised}
-use Rattle.path_map.specs.Paths.{block_paths}
+use Rattle.path_map.specs.Paths.{AreAlike, block_paths}
 use Rattle.path_map.specs.Sets.{AreDeclared, is_one_of, row_has, throws}
 use Rattle.path_map.specs.Walks.{IsFound}
 use Rattle.path_map.proofs.Summary.{same-number, raised-append, throws-thrown}
+use Rattle.path_map.proofs.Alike.{alike-refl, alike-step, alike-end}
 use Rattle.path_map.proofs.Walking.{first-left}
 use Rattle.resolved.proofs.Exits.{all-has}
 
@@ -113,7 +114,7 @@ pub record Ended (program : Program) (procedure : ProcedureEntry) (raised : List
   pub clean : block_faults program false true procedure.body ≡ []
   pub value : (is_some procedure.result && has_end (block_ends program procedure.body) Normal) ≡ (is_some procedure.result && exits.normal)
 
-pub walked : (program : Program) (procedure : Procedure) (body : List S.Statement) (old new : List Exits) (none raised : List ℕ) (exits : Exits)
+pub walked : (program : Program) (procedure : Procedure) (body : List S.Statement) (old new : List (List Exit)) (none raised : List ℕ) (exits : Exits)
     → body ≡ procedure.body.items → ((e : ℕ) → row_has none e ≡ false)
     → IsFound (block_ends program (block_of body)) (block_paths program (block_of body)) old new none raised exits
     → block_faults program false true (block_of body) ≡ []
@@ -140,43 +141,44 @@ all-may-end program procedure list raised exits declared lent ended are =
     ∙ ap (λ (x : Exits). not (x.breaks || (x.continues || not declared))) (sym ended.summary)
 
 -- along the procedures of a program
-pub record Beside (program : Program) (all tail : List ProcedureEntry) (now : List Exits) : Type 0 where
-  pub entries : now ++ map exits_of (flat_map (λ (procedure : ProcedureEntry). block_paths program procedure.body) tail)
-      ≡ map exits_of (flat_map (λ (procedure : ProcedureEntry). block_paths program procedure.body) all)
+pub record Beside (program : Program) (all tail : List ProcedureEntry) (now : List (List Exit)) : Type 0 where
+  pub entries : AreAlike (now ++ flat_map (λ (procedure : ProcedureEntry). block_paths program procedure.body) tail)
+      (flat_map (λ (procedure : ProcedureEntry). block_paths program procedure.body) all)
   pub faults : flat_map (procedure_faults program) tail ≡ flat_map (procedure_faults program) all
 
 module _ (program : Program) (all : List ProcedureEntry) where
-  pub beside-begin : (now : List Exits) → now ≡ [] → Beside program all all now
+  pub beside-begin : (now : List (List Exit)) → now ≡ [] → Beside program all all now
   beside-begin now none = record {
-    entries = ap (λ xs. xs ++ map exits_of (flat_map (λ (procedure : ProcedureEntry). block_paths program procedure.body) all)) none;
+    entries =
+        let paths = flat_map (λ (procedure : ProcedureEntry). block_paths program procedure.body) all in
+        subst (λ xs. AreAlike (xs ++ paths) paths) (sym none) (alike-refl paths);
     faults = refl;
   }
 
-  pub beside-first : (procedure : ProcedureEntry) (tail : List ProcedureEntry) (now : List Exits) (fault : OrNoMemory EndRefusal) → Beside program all (procedure ∷ tail) now
+  pub beside-first : (procedure : ProcedureEntry) (tail : List ProcedureEntry) (now : List (List Exit)) (fault : OrNoMemory EndRefusal) → Beside program all (procedure ∷ tail) now
       → IfRefused (IsFirstEndFault (procedure_faults program procedure)) fault → IfRefused (IsFirstEndFault (flat_map (procedure_faults program) all)) fault
   beside-first procedure tail now fault along first =
       subst (λ faults. IfRefused (IsFirstEndFault faults) fault) along.faults
       (first-left (procedure_faults program procedure) (flat_map (procedure_faults program) tail) fault first)
 
-  pub beside-step : (procedure : ProcedureEntry) (tail : List ProcedureEntry) (now next : List Exits) → Beside program all (procedure ∷ tail) now
-      → next ≡ now ++ map exits_of (block_paths program procedure.body) → procedure_faults program procedure ≡ []
+  pub beside-step : (procedure : ProcedureEntry) (tail : List ProcedureEntry) (now next : List (List Exit)) → Beside program all (procedure ∷ tail) now
+      → AreAlike next (now ++ block_paths program procedure.body) → procedure_faults program procedure ≡ []
       → Beside program all tail next
   beside-step procedure tail now next along grown clean =
       let rest = flat_map (λ (other : ProcedureEntry). block_paths program other.body) tail in
       record {
         entries =
-            ap (λ xs. xs ++ map exits_of rest) grown
-            ∙ append_assoc now (map exits_of (block_paths program procedure.body)) (map exits_of rest)
-            ∙ ap (λ xs. now ++ xs) (sym (map-append exits_of (block_paths program procedure.body) rest))
-            ∙ along.entries;
+            alike-step next now (block_paths program procedure.body) rest
+            (flat_map (λ (other : ProcedureEntry). block_paths program other.body) all) grown along.entries;
         faults = sym (ap (λ xs. xs ++ flat_map (procedure_faults program) tail) clean) ∙ along.faults;
       }
 
-  pub beside-end : (now : List Exits) → Beside program all [] now
-      → now ≡ map exits_of (flat_map (λ (procedure : ProcedureEntry). block_paths program procedure.body) all)
-  beside-end now along = sym (append-nil now) ∙ along.entries
+  pub beside-end : (now : List (List Exit)) → Beside program all [] now
+      → AreAlike now (flat_map (λ (procedure : ProcedureEntry). block_paths program procedure.body) all)
+  beside-end now along =
+      alike-end now (flat_map (λ (procedure : ProcedureEntry). block_paths program procedure.body) all) along.entries
 
-  pub beside-clean : (now : List Exits) → Beside program all [] now → flat_map (procedure_faults program) all ≡ []
+  pub beside-clean : (now : List (List Exit)) → Beside program all [] now → flat_map (procedure_faults program) all ≡ []
   beside-clean now along = sym along.faults
 
 -- along declared exceptions

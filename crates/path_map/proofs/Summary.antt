@@ -82,7 +82,7 @@ pub throws-thrown : (es : List ℕ) (e : ℕ) → throws (thrown_ends es) e ≡ 
 throws-thrown [] e = refl
 throws-thrown (x ∷ es) e = ap (λ b. (e == x) || b) (throws-thrown es e)
 
-none-thrown : (exit : Exit) → ((e : ℕ) → same_exit exit (Throw e) ≡ false) → (es : List ℕ) → has_end (thrown_ends es) exit ≡ false
+pub none-thrown : (exit : Exit) → ((e : ℕ) → same_exit exit (Throw e) ≡ false) → (es : List ℕ) → has_end (thrown_ends es) exit ≡ false
 none-thrown exit differs [] = refl
 none-thrown exit differs (e ∷ es) = rw (differs e) (none-thrown exit differs es)
 

@@ -1,7 +1,10 @@
 pub mod Exits
+pub mod Pieces
+pub mod EndsOf
 pub mod Paths
 pub mod FirstFault
 pub mod Joins
 pub mod Sets
 pub mod Rows
+pub mod Entries
 pub mod Walks

@@ -1,11 +1,12 @@
--- The possible ends of every statement and block of a program, in the order in which a walk along the text meets them: a block
--- before its statements, a statement before the blocks in it, and these in the order of the text.
+-- Private: the possible ends of every statement and block of a program in one list, in the order in which the walk meets them, and
+-- what it is to have found the ends of such a list.
 -- Source: our own.
-use Rattle.std.specs.Prelude.{List, [], ◌∷◌, ◌++◌, flat_map}
+use Rattle.std.specs.Prelude.{List, [], ◌∷◌, ◌++◌, flat_map, ⊤}
 use Rattle.resolved.specs.declared.statement.Exit.{Exit}
 use Rattle.resolved.specs.Tree.{Statement, Assign, Clear, Store, Receive, Send, Call, If, While, Leave, ReturnWith, Try, Nested, Block, Empty, Then, Handlers, NoMore, Catch}
 use Rattle.resolved.specs.Program.{Program, ProcedureEntry}
 use Rattle.resolved.specs.Ends.{statement_ends, block_ends}
+use Rattle.path_map.specs.EndsOf.{SameEnds}
 
 -- of the blocks in a statement, of the statements of a block, and of the bodies of handlers, each with what is in it
 abbrev mutual
@@ -41,6 +42,13 @@ statement_paths program statement = statement_ends program statement ∷ inner_p
 
 abbrev pub block_paths : Program → Block → List (List Exit)
 block_paths program block = block_ends program block ∷ rest_paths program block
+
+-- lists of ends of which each has the same ends as the other's
+abbrev pub AreAlike : List (List Exit) → List (List Exit) → Type 0
+AreAlike [] [] = ⊤
+AreAlike [] (y ∷ ys) = ⊥
+AreAlike (x ∷ xs) [] = ⊥
+AreAlike (x ∷ xs) (y ∷ ys) = SameEnds x y × AreAlike xs ys
 
 -- of the bodies of all procedures
 abbrev pub program_paths : Program → List (List Exit)

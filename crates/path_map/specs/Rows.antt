@@ -1,4 +1,4 @@
--- Rows of the exceptions that procedures declare.
+-- Private: rows of the exceptions that procedures declare.
 -- Source: our own.
 use Rattle.std.specs.Prelude.{◌≡◌, ℕ, List, Bool, Option, Some, None, slice_index_or}
 use Rattle.resolved.specs.declared.program.Core.{Core}

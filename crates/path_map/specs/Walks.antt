@@ -1,6 +1,6 @@
--- What a walk finds of a piece of a program.
+-- Private: what a walk finds of a piece of a program.
 -- Source: our own.
-use Rattle.std.specs.Prelude.{◌≡◌, ℕ, List, [], ◌++◌, Bool, true, not, ◌&&◌, map}
+use Rattle.std.specs.Prelude.{◌≡◌, ℕ, List, [], ◌++◌, Bool, true, not, ◌&&◌}
 use Rattle.resolved.specs.declared.program.Core.{Core}
 use Rattle.resolved.specs.declared.statement.Exit.{Exit}
 use Rattle.resolved.specs.declared.statement.Statement as S
@@ -13,39 +13,39 @@ use Rattle.resolved.specs.EndFaults.{inner_faults, block_faults, handlers_faults
 use Rattle.resolved.specs.declared.fault.EndRefusal.{EndRefusal}
 use Rattle.path_map.specs.declared.exits.Exits.{Exits}
 use Rattle.path_map.specs.Exits.{exits_of}
-use Rattle.path_map.specs.Paths.{statement_paths, inner_paths, block_paths, rest_paths, handlers_paths}
+use Rattle.path_map.specs.Paths.{AreAlike, statement_paths, inner_paths, block_paths, rest_paths, handlers_paths}
 use Rattle.path_map.specs.Sets.{IsSum, row_has, throws}
 
--- of a piece with these ends, and with these in it, where `old` are the entries before it and `had` the exceptions so far
-pub record IsFound (ends : List Exit) (paths : List (List Exit)) (old new : List Exits) (had has : List ℕ) (found : Exits) : Type 0 where
+-- of a piece with these ends, and with these in it, where `old` are the ends before it and `had` the exceptions so far
+pub record IsFound (ends : List Exit) (paths : List (List Exit)) (old new : List (List Exit)) (had has : List ℕ) (found : Exits) : Type 0 where
   pub summary : found ≡ exits_of ends
-  pub entries : new ≡ old ++ map exits_of paths
+  pub entries : AreAlike new (old ++ paths)
   pub raised : IsSum had (throws ends) has
 
 -- of a piece with nothing in it
 abbrev pub IsFoundAlone : (ends : List Exit) → (had has : List ℕ) → Exits → Type 0
-IsFoundAlone ends had has found = (entries : List Exits) → IsFound ends [] entries entries had has found
+IsFoundAlone ends had has found = (entries : List (List Exit)) → IsFound ends [] entries entries had has found
 
 -- of a block with its own entry, and without it
-abbrev pub IsBlockFound : Core → List S.Statement → (old new : List Exits) (had has : List ℕ) → Exits → Type 0
+abbrev pub IsBlockFound : Core → List S.Statement → (old new : List (List Exit)) (had has : List ℕ) → Exits → Type 0
 IsBlockFound core block =
     IsFound (block_ends (program_of core) (block_of block)) (block_paths (program_of core) (block_of block))
 
-abbrev pub AreStatementsFound : Core → List S.Statement → (old new : List Exits) (had has : List ℕ) → Exits → Type 0
+abbrev pub AreStatementsFound : Core → List S.Statement → (old new : List (List Exit)) (had has : List ℕ) → Exits → Type 0
 AreStatementsFound core block =
     IsFound (block_ends (program_of core) (block_of block)) (rest_paths (program_of core) (block_of block))
 
 -- of a statement with its own entry, and without it
-abbrev pub IsStatementFound : Core → S.Statement → (old new : List Exits) (had has : List ℕ) → Exits → Type 0
+abbrev pub IsStatementFound : Core → S.Statement → (old new : List (List Exit)) (had has : List ℕ) → Exits → Type 0
 IsStatementFound core statement =
     IsFound (statement_ends (program_of core) (statement_of statement)) (statement_paths (program_of core) (statement_of statement))
 
-abbrev pub IsFormFound : Core → S.Statement → (old new : List Exits) (had has : List ℕ) → Exits → Type 0
+abbrev pub IsFormFound : Core → S.Statement → (old new : List (List Exit)) (had has : List ℕ) → Exits → Type 0
 IsFormFound core statement =
     IsFound (statement_ends (program_of core) (statement_of statement)) (inner_paths (program_of core) (statement_of statement))
 
 -- of handlers
-abbrev pub AreHandlersFound : Core → List Handler → (old new : List Exits) (had has : List ℕ) → Exits → Type 0
+abbrev pub AreHandlersFound : Core → List Handler → (old new : List (List Exit)) (had has : List ℕ) → Exits → Type 0
 AreHandlersFound core handlers =
     IsFound (handlers_ends (program_of core) (handlers_of handlers)) (handlers_paths (program_of core) (handlers_of handlers))
 

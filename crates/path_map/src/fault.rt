@@ -1,4 +1,4 @@
-//! What `find_ends` answers where it found no ends.
+//! What `ends` answers where it found no ends.
 
 use common::OrNoMemory;
 use resolved::EndRefusal;

@@ -1,4 +1,4 @@
-//! The path map of a program: what the possible ends of each statement and block are, or the first fault of the ends.
+//! The possible ends of each statement and block of a program, or the first fault of the ends.
 #![tactic(auto)]
 
 mod calls;
@@ -7,10 +7,12 @@ pub mod fault;
 pub mod map;
 pub mod raises;
 mod set;
+pub mod table;
 mod walk;
 
 pub use exits::{Exits, Raised};
 pub use fault::EndFault;
-pub use map::{PathMap, find_ends};
+pub use map::ends;
 pub use raises::Raises;
 pub use resolved::{EndDefect, EndRefusal};
+pub use table::Ends;

@@ -1,8 +1,8 @@
 //! The path map of a program.
 ghost use Rattle.common.specs.Answers.{IfRefused};
-ghost use Rattle.path_map.specs.Exits.{exits_of};
+ghost use Rattle.path_map.specs.EndsOf.{AreEndsOf};
 ghost use Rattle.path_map.specs.FirstFault.{IsFirstEndFault};
-ghost use Rattle.path_map.specs.Paths.{block_paths, program_paths};
+ghost use Rattle.path_map.specs.Paths.{AreAlike, block_paths};
 ghost use Rattle.path_map.specs.Sets.{AreDeclared, row_has};
 ghost use Rattle.resolved.specs.CoreOf.{program_of};
 ghost use Rattle.resolved.specs.EndFaults.{end_faults, procedure_faults};
@@ -14,53 +14,44 @@ use crate::calls::Walk;
 use crate::exits::{Exits, Raised};
 use crate::fault::EndFault;
 use crate::set::ExceptionSet;
+use crate::table::Ends;
 use crate::walk::{refuse, walk_block};
 use resolved::EndDefect;
 use resolved::program::Core;
 use resolved::tables::{Procedure, Thrown};
 use std::alloc::Global;
 
-/// The possible ends of each statement and block of a program. A block comes before its statements, and a statement before the
-/// blocks in it: so a walk over the same program in the order of the text that counts each block and each statement as it comes to
-/// it finds its entry under that number.
-#[derive(Debug, Drop)]
-pub struct PathMap {
-    pub entries: Vec<Exits>,
-}
-
-/// The path map of a program, or the first fault of its ends.
+/// The possible ends of each statement and block of a program, or the first fault of its ends. A block has a number before its
+/// statements, and a statement before the blocks in it: so a walk over the same program in the order of the text that counts each
+/// block and each statement as it comes to it finds its ends under that number.
 ///
-/// It takes time and memory in proportion to the program, and for each call and each `try` one step more for each 64 exceptions.
-pub fn find_ends(alloc: Global, core: &Core) -> Result<PathMap, EndFault>
-    ensures found { IfOk result (λ found. found.entries.items
-        ≡ map exits_of (program_paths (program_of core.now))) }
+/// It takes time and memory in proportion to the program, and for each statement and block with several exceptions one step more for
+/// each 64 exceptions.
+pub fn ends(alloc: Global, core: &Core) -> Result<Ends, EndFault>
+    ensures found { IfOk result (AreEndsOf (program_of core.now)) }
     ensures accepted { OnOk result (end_faults (program_of core.now) ≡ []) }
     ensures first_fault { IfErr result (IfRefused
         (IsFirstEndFault (end_faults (program_of core.now)))) }
 {
     let walk = Walk::along(alloc, core)?;
-    let mut entries = Vec::new(alloc);
+    let mut table = Ends::new(alloc, core.procedures.len())?;
     for procedure in &core.procedures {
-        walk_procedure(&walk, procedure, &mut entries)?;
+        walk_procedure(&walk, procedure, &mut table)?;
     }
-    Ok(PathMap { entries })
+    Ok(table)
 }
 
 // Finds the ends of a procedure's body and of what is in it.
-fn walk_procedure(
-    walk: &Walk,
-    procedure: &Procedure,
-    entries: &mut Vec<Exits>,
-) -> Result<(), EndFault>
-    ensures found { OnOk result (entries.new.items ≡ entries.old.items ++ map exits_of
-        (block_paths (program_of walk.now.core.now) (procedure_entry procedure.now).body)) }
+fn walk_procedure(walk: &Walk, procedure: &Procedure, table: &mut Ends) -> Result<(), EndFault>
+    ensures found { OnOk result (AreAlike table.new (table.old ++ block_paths
+        (program_of walk.now.core.now) (procedure_entry procedure.now).body)) }
     ensures accepted { OnOk result (procedure_faults
         (program_of walk.now.core.now) (procedure_entry procedure.now) ≡ []) }
     ensures first_fault { IfErr result (IfRefused (IsFirstEndFault (procedure_faults
         (program_of walk.now.core.now) (procedure_entry procedure.now)))) }
 {
     let mut raised = ExceptionSet::new(walk.alloc);
-    let exits = walk_block(walk, false, &procedure.body, entries, &mut raised)?;
+    let exits = walk_block(walk, false, &procedure.body, table, &mut raised)?;
     if lacks_value(procedure, exits) {
         return Err(refuse(EndDefect::NoValueReturned, procedure.at));
     }

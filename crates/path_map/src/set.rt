@@ -1,6 +1,6 @@
 //! Sets of exceptions.
 ghost use Rattle.path_map.specs.Sets.{IsSummaryOf, IsSum, row_has, word_has};
-ghost use Rattle.std.specs.Prelude.{OnOk, false, length, not, ℕ, ◌&&◌, ◌<◌, ◌==◌, ◌≡◌, ◌≤◌};
+ghost use Rattle.std.specs.Prelude.{IsTrue, OnOk, false, length, not, ℕ, ◌&&◌, ◌<◌, ◌==◌, ◌≡◌, ◌≤◌};
 
 use crate::exits::Raised;
 use std::alloc::{AllocError, Global};
@@ -71,6 +71,13 @@ impl ExceptionSet {
             self.words[i] |= *word;
         }
         Ok(())
+    }
+
+    // Whether the rows are the same.
+    pub(crate) fn is_same(&self, other: &ExceptionSet) -> bool
+        ensures { IsTrue result → self.now.words.items ≡ other.now.words.items }
+    {
+        self.words == other.words
     }
 
     // The summary of the set.

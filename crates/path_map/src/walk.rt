@@ -1,10 +1,8 @@
 //! The walk along a program that finds its ends.
 ghost use Rattle.common.specs.Answers.{IfRefused};
 ghost use Rattle.path_map.specs.FirstFault.{IsFirstEndFault};
-ghost use Rattle.path_map.specs.Joins.{only_raised};
 ghost use Rattle.path_map.specs.Sets.{AreRaised};
 ghost use Rattle.path_map.specs.Walks.{AreHandlersFound, AreLeft, AreStatementsFound, AreThrown, IsBlockFound, IsFormFound, IsFoundAlone, IsStatementFound, faults_of_block, faults_of_handlers, faults_within};
-ghost use Rattle.path_map.specs.declared.exits.Raised.TheVariants.{Nothing};
 ghost use Rattle.common.specs.declared.fault.OrNoMemory.TheVariants.{Refused};
 ghost use Rattle.resolved.specs.CoreOf.{program_of};
 ghost use Rattle.resolved.specs.EndFaults.{may_stand};
@@ -21,6 +19,7 @@ use crate::exits::{Exits, Raised};
 use crate::fault::EndFault;
 use crate::raises::{Raises, index_can_raise, raises_of, raises_of_all, raises_of_some};
 use crate::set::ExceptionSet;
+use crate::table::Ends;
 use common::OrNoMemory;
 use common::exceptions::END;
 use resolved::expression::Expression;
@@ -35,18 +34,20 @@ pub(crate) fn walk_block(
     walk: &Walk,
     in_loop: bool,
     block: &[Statement],
-    entries: &mut Vec<Exits>,
+    table: &mut Ends,
     raised: &mut ExceptionSet,
 ) -> Result<Exits, EndFault>
     ensures found { IfOk result (IsBlockFound walk.now.core.now block.now
-        entries.old.items entries.new.items raised.old.words.items raised.new.words.items) }
+        table.old table.new raised.old.words.items raised.new.words.items) }
     ensures accepted { OnOk result (faults_of_block walk.now.core.now in_loop block.now ≡ []) }
     ensures first_fault { IfErr result (IfRefused (IsFirstEndFault
         (faults_of_block walk.now.core.now in_loop block.now))) }
 {
-    let at = reserve(entries)?;
-    let exits = walk_statements(walk, in_loop, block, entries, raised)?;
-    entries[at] = exits;
+    let at = table.reserve()?;
+    let mut own = ExceptionSet::new(walk.alloc);
+    let exits = walk_statements(walk, in_loop, block, table, &mut own)?;
+    raised.unite(&own)?;
+    table.put(at, exits, own, None)?;
     Ok(exits)
 }
 
@@ -56,11 +57,11 @@ fn walk_statements(
     walk: &Walk,
     in_loop: bool,
     block: &[Statement],
-    entries: &mut Vec<Exits>,
+    table: &mut Ends,
     raised: &mut ExceptionSet,
 ) -> Result<Exits, EndFault>
     ensures found { IfOk result (AreStatementsFound walk.now.core.now block.now
-        entries.old.items entries.new.items raised.old.words.items raised.new.words.items) }
+        table.old table.new raised.old.words.items raised.new.words.items) }
     ensures accepted { OnOk result (faults_of_block walk.now.core.now in_loop block.now ≡ []) }
     ensures first_fault { IfErr result (IfRefused (IsFirstEndFault
         (faults_of_block walk.now.core.now in_loop block.now))) }
@@ -73,7 +74,7 @@ fn walk_statements(
         if !exits.normal {
             return Err(refuse(EndDefect::Unreachable, statement.at()));
         }
-        let found = walk_statement(walk, in_loop, statement, entries, raised)?;
+        let found = walk_statement(walk, in_loop, statement, table, raised)?;
         exits = exits.then(found);
     }
     Ok(exits)
@@ -85,18 +86,20 @@ fn walk_statement(
     walk: &Walk,
     in_loop: bool,
     statement: &Statement,
-    entries: &mut Vec<Exits>,
+    table: &mut Ends,
     raised: &mut ExceptionSet,
 ) -> Result<Exits, EndFault>
     ensures found { IfOk result (IsStatementFound walk.now.core.now statement.now
-        entries.old.items entries.new.items raised.old.words.items raised.new.words.items) }
+        table.old table.new raised.old.words.items raised.new.words.items) }
     ensures accepted { OnOk result (faults_within walk.now.core.now in_loop statement.now ≡ []) }
     ensures first_fault { IfErr result (IfRefused (IsFirstEndFault
         (faults_within walk.now.core.now in_loop statement.now))) }
 {
-    let at = reserve(entries)?;
-    let exits = walk_form(walk, in_loop, statement, entries, raised)?;
-    entries[at] = exits;
+    let at = table.reserve()?;
+    let mut own = ExceptionSet::new(walk.alloc);
+    let exits = walk_form(walk, in_loop, statement, table, &mut own)?;
+    raised.unite(&own)?;
+    table.put(at, exits, own, call_of(statement))?;
     Ok(exits)
 }
 
@@ -106,11 +109,11 @@ fn walk_form(
     walk: &Walk,
     in_loop: bool,
     statement: &Statement,
-    entries: &mut Vec<Exits>,
+    table: &mut Ends,
     raised: &mut ExceptionSet,
 ) -> Result<Exits, EndFault>
     ensures found { IfOk result (IsFormFound walk.now.core.now statement.now
-        entries.old.items entries.new.items raised.old.words.items raised.new.words.items) }
+        table.old table.new raised.old.words.items raised.new.words.items) }
     ensures accepted { OnOk result (faults_within walk.now.core.now in_loop statement.now ≡ []) }
     ensures first_fault { IfErr result (IfRefused (IsFirstEndFault
         (faults_within walk.now.core.now in_loop statement.now))) }
@@ -132,25 +135,25 @@ fn walk_form(
         }
         Statement::If(_, condition, yes_block, no_block) => {
             let tested = test(condition, raised)?;
-            let yes = walk_block(walk, in_loop, yes_block, entries, raised)?;
-            let no = walk_block(walk, in_loop, no_block, entries, raised)?;
+            let yes = walk_block(walk, in_loop, yes_block, table, raised)?;
+            let no = walk_block(walk, in_loop, no_block, table, raised)?;
             Ok(tested.join(yes).join(no))
         }
         Statement::While(_, _, condition, body) => {
             let tested = test(condition, raised)?;
-            let body = walk_block(walk, true, body, entries, raised)?;
+            let body = walk_block(walk, true, body, table, raised)?;
             Ok(tested.join(body).of_loop())
         }
         Statement::Leave(_, exit) => Ok(leave(*exit, raised)?),
         Statement::Return(_, value) => Ok(give_back(raises_of_some(value), raised)?),
         Statement::Try(_, block, handlers) => {
             let mut inner = ExceptionSet::new(walk.alloc);
-            let tried = walk_block(walk, in_loop, block, entries, &mut inner)?;
-            let handled = walk_handlers(walk, in_loop, handlers, &mut inner, entries, raised)?;
+            let tried = walk_block(walk, in_loop, block, table, &mut inner)?;
+            let handled = walk_handlers(walk, in_loop, handlers, &mut inner, table, raised)?;
             raised.unite(&inner)?;
             Ok(tried.with(inner.summary()).join(handled))
         }
-        Statement::Nested(_, block) => walk_block(walk, in_loop, block, entries, raised),
+        Statement::Nested(_, block) => walk_block(walk, in_loop, block, table, raised),
     }
 }
 
@@ -161,11 +164,11 @@ fn walk_handlers(
     in_loop: bool,
     handlers: &[Handler],
     inner: &mut ExceptionSet,
-    entries: &mut Vec<Exits>,
+    table: &mut Ends,
     raised: &mut ExceptionSet,
 ) -> Result<Exits, EndFault>
     ensures found { IfOk result (AreHandlersFound walk.now.core.now handlers.now
-        entries.old.items entries.new.items raised.old.words.items raised.new.words.items) }
+        table.old table.new raised.old.words.items raised.new.words.items) }
     ensures left { OnOk result (AreLeft inner.old.words.items inner.new.words.items
         (handlers_of handlers.now)) }
     ensures accepted { OnOk result ((ends : List Exit) → AreThrown inner.old.words.items ends →
@@ -180,20 +183,18 @@ fn walk_handlers(
         if !inner.remove(handler.exception) {
             return Err(refuse(EndDefect::NeverRaised, handler.at));
         }
-        let found = walk_block(walk, in_loop, &handler.body, entries, raised)?;
+        let found = walk_block(walk, in_loop, &handler.body, table, raised)?;
         exits = exits.join(found);
     }
     Ok(exits)
 }
 
-// Makes room for an entry, and gives its number.
-fn reserve(entries: &mut Vec<Exits>) -> Result<usize, AllocError>
-    ensures number { IfOk result (λ at. at ≡ length entries.old.items) }
-    ensures room { OnOk result (entries.new.items ≡ entries.old.items ++ only_raised Nothing ∷ []) }
-{
-    let at = entries.len();
-    entries.push(Exits::raise_only(Raised::Nothing))?;
-    Ok(at)
+// Of a call, its callee and what its arguments raise.
+fn call_of(statement: &Statement) -> Option<(u32, Raises)> {
+    match statement {
+        Statement::Call(_, callee, arguments, _) => Some((*callee, raises_of_all(arguments))),
+        _ => None,
+    }
 }
 
 // The ends of a statement that goes on or raises these exceptions.

@@ -10,7 +10,7 @@ ghost use Rattle.principals.specs.declared.fault.HierarchyDefect.TheVariants.{Un
 ghost use Rattle.std.specs.Prelude.{Contains, IfErr, IfOk, OnOk, Some, [], ◌∷◌, ◌++◌, length, slice_get, ◌<◌, ◌≡◌, ◌≤◌};
 
 use crate::Hierarchy;
-use crate::fault::{HierarchyDefect, HierarchyFault, HierarchyRefusal};
+use crate::fault::{HierFault, HierarchyDefect, HierarchyRefusal};
 use crate::principal_set::PrincipalSet;
 use crate::reading::Statement;
 use common::OrNoMemory;
@@ -20,11 +20,7 @@ use lexer::Token;
 use std::alloc::Global;
 
 /// Declares one more principal.
-fn declare(
-    alloc: Global,
-    names: &mut IndexSet<String>,
-    name: &Token<'_>,
-) -> Result<(), HierarchyFault>
+fn declare(alloc: Global, names: &mut IndexSet<String>, name: &Token<'_>) -> Result<(), HierFault>
     ensures added { OnOk result (names_of names.new ≡ names_of names.old ++ name.now.text.now ∷
         []) }
     ensures fresh { OnOk result (¬ Contains (names_of names.old) name.now.text.now) }
@@ -86,7 +82,7 @@ fn find_pair(
 pub(crate) fn hierarchy_of(
     alloc: Global,
     statements: &[Statement<'_>],
-) -> Result<Hierarchy, HierarchyFault>
+) -> Result<Hierarchy, HierFault>
     ensures described { IfOk result (IsDescribedBy (entries_of statements.now)) }
     ensures kept { IfOk result IsHierarchy }
     ensures first_fault { IfErr result (IfRefused (IsFirstRefusal (entries_of statements.now))) }

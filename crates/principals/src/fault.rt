@@ -75,7 +75,7 @@ impl fmt::Display for HierarchyRefusal {
 impl Error for HierarchyRefusal {}
 
 /// Why a text gave no hierarchy.
-pub type HierarchyFault = OrNoMemory<HierarchyRefusal>;
+pub type HierFault = OrNoMemory<HierarchyRefusal>;
 
 impl From<LexRefusal> for HierarchyRefusal {
     ghost from_gives = { λ lex refusal. refusal ≡ refusal_of_lex lex };

@@ -16,7 +16,7 @@ mod table;
 
 use common::limits::MAX_PRINCIPALS;
 pub use fault::{
-    HierarchyDefect, HierarchyFault, HierarchyRefusal, UNKNOWN_PRINCIPAL, UNKNOWN_PRINCIPAL_WORDS,
+    HierFault, HierarchyDefect, HierarchyRefusal, UNKNOWN_PRINCIPAL, UNKNOWN_PRINCIPAL_WORDS,
 };
 use indexmap::IndexSet;
 pub use principal_set::PrincipalSet;

@@ -8,7 +8,7 @@ ghost use Rattle.std.specs.Prelude.{IfErr, IfOk, ◌≡◌};
 
 use crate::Hierarchy;
 use crate::declaring::hierarchy_of;
-use crate::fault::{HierarchyDefect, HierarchyFault, HierarchyRefusal};
+use crate::fault::{HierFault, HierarchyDefect, HierarchyRefusal};
 use crate::reading::read_statements;
 use common::OrNoMemory;
 use common::limits::MAX_TEXT;
@@ -21,7 +21,7 @@ impl Hierarchy {
     /// The text is a list of items: `principal A, B;` declares principals, and `A actsfor B;` writes that `A` acts for `B`.
     /// The length of the text is tested first, then the form of the whole text, then the items in order. Each principal is
     /// declared once, before it is named in a pair; there are at most 256. Out of memory is reported only where memory ran out.
-    pub fn read(alloc: Global, text: &str) -> Result<Hierarchy, HierarchyFault>
+    pub fn read(alloc: Global, text: &str) -> Result<Hierarchy, HierFault>
         // At a hierarchy it is that of the text, and no text of a hierarchy is refused.
         ensures accepted { IfOk result (IsHierarchyOf text.now) }
         ensures complete { (hierarchy : PrincipalHierarchy) → IsHierarchyOf text.now hierarchy →
@@ -40,7 +40,7 @@ impl Hierarchy {
 }
 
 /// What [`Hierarchy::read`] gives.
-fn read_text(alloc: Global, text: &str) -> Result<Hierarchy, HierarchyFault>
+fn read_text(alloc: Global, text: &str) -> Result<Hierarchy, HierFault>
     ensures accepted { IfOk result (IsHierarchyOf text.now) }
     ensures kept { IfOk result IsHierarchy }
     ensures first_fault { IfErr result (IfRefused (IsRefusedText text.now)) }

@@ -6,7 +6,7 @@ ghost use Rattle.principals.specs.HierarchyText.{IsHierarchyForm};
 ghost use Rattle.principals.specs.Reading.{entries_of, IsFormRefusal, role_of};
 ghost use Rattle.std.specs.Prelude.{IfErr, IfOk, ◌≡◌};
 
-use crate::fault::{HierarchyDefect, HierarchyFault, HierarchyRefusal};
+use crate::fault::{HierFault, HierarchyDefect, HierarchyRefusal};
 use common::OrNoMemory;
 use lexer::{Kind, Token};
 use std::alloc::Global;
@@ -128,7 +128,7 @@ impl<'a> Progress<'a> {
 pub(crate) fn read_statements<'a>(
     alloc: Global,
     tokens: &[Token<'a>],
-) -> Result<Vec<Statement<'a>>, HierarchyFault>
+) -> Result<Vec<Statement<'a>>, HierFault>
     requires { IsTerminated (terminals_of tokens.now) }
     ensures form { IfOk result (λ statements. IsHierarchyForm (terminals_of tokens.now)
         (entries_of statements.items)) }

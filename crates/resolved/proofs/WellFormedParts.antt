@@ -6,7 +6,7 @@ use Rattle.std.proofs.lemmas.Option.{get_or_from_slice_get}
 use Rattle.std.proofs.lemmas.Bool.{and_from, and_parts}
 use Rattle.resolved.specs.declared.expression.Base.{Base}
 use Rattle.resolved.specs.Program.{Program, ProcedureEntry, ResultEntry, SlotEntry, ChannelEntry, procedure_at}
-use Rattle.resolved.specs.WellFormed.{has_result, parameter_fits, parameters_of, size_fits, written_fits, cell_count, result_fits, label_fits, throws_fit, block_fits, block_loops, counts_from, procedure_fits, globals_fit, main_fits, program_nodes, node_limit, well_formed}
+use Rattle.resolved.specs.WellFormed.{has_result, parameter_fits, parameters_of, size_fits, written_fits, cell_count, result_fits, label_fits, label_nodes, throws_fit, block_fits, block_loops, counts_from, procedure_fits, globals_fit, main_fits, program_nodes, node_limit, well_formed}
 use Rattle.common.specs.declared.limits.TheConstants.{MAX_CELLS, MAX_PRINCIPALS}
 
 eleven : (a b c d e f g i j k l : Bool) → (a && b && c && d && e && f && g && i && j && k && l) ≡ true
@@ -40,26 +40,28 @@ eleven_back : (a b c d e f g i j k l : Bool)
 eleven_back a b c d e f g i j k l h0 h1 h2 h3 h4 h5 h6 h7 h8 h9 h10 =
     and_from (a && b && c && d && e && f && g && i && j && k) l (and_from (a && b && c && d && e && f && g && i && j) k (and_from (a && b && c && d && e && f && g && i) j (and_from (a && b && c && d && e && f && g) i (and_from (a && b && c && d && e && f) g (and_from (a && b && c && d && e) f (and_from (a && b && c && d) e (and_from (a && b && c) d (and_from (a && b) c (and_from a b h0 h1) h2) h3) h4) h5) h6) h7) h8) h9) h10
 
-six : (a b c d e f : Bool) → (a && b && c && d && e && f) ≡ true
-    → (a ≡ true) × (b ≡ true) × (c ≡ true) × (d ≡ true) × (e ≡ true) × (f ≡ true)
-six a b c d e f h =
-    let h5 : ((a && b && c && d && e) ≡ true) × (f ≡ true) = and_parts (a && b && c && d && e) f h in
+seven : (a b c d e f g : Bool) → (a && b && c && d && e && f && g) ≡ true
+    → (a ≡ true) × (b ≡ true) × (c ≡ true) × (d ≡ true) × (e ≡ true) × (f ≡ true) × (g ≡ true)
+seven a b c d e f g h =
+    let h6 : ((a && b && c && d && e && f) ≡ true) × (g ≡ true) = and_parts (a && b && c && d && e && f) g h in
+    let h5 : ((a && b && c && d && e) ≡ true) × (f ≡ true) = and_parts (a && b && c && d && e) f h6.0 in
     let h4 : ((a && b && c && d) ≡ true) × (e ≡ true) = and_parts (a && b && c && d) e h5.0 in
     let h3 : ((a && b && c) ≡ true) × (d ≡ true) = and_parts (a && b && c) d h4.0 in
     let h2 : ((a && b) ≡ true) × (c ≡ true) = and_parts (a && b) c h3.0 in
     let h1 : ((a) ≡ true) × (b ≡ true) = and_parts (a) b h2.0 in
-    (h1.0, h1.1, h2.1, h3.1, h4.1, h5.1)
+    (h1.0, h1.1, h2.1, h3.1, h4.1, h5.1, h6.1)
 
-six_back : (a b c d e f : Bool)
+seven_back : (a b c d e f g : Bool)
     → a ≡ true
     → b ≡ true
     → c ≡ true
     → d ≡ true
     → e ≡ true
     → f ≡ true
-    → (a && b && c && d && e && f) ≡ true
-six_back a b c d e f h0 h1 h2 h3 h4 h5 =
-    and_from (a && b && c && d && e) f (and_from (a && b && c && d) e (and_from (a && b && c) d (and_from (a && b) c (and_from a b h0 h1) h2) h3) h4) h5
+    → g ≡ true
+    → (a && b && c && d && e && f && g) ≡ true
+seven_back a b c d e f g h0 h1 h2 h3 h4 h5 h6 =
+    and_from (a && b && c && d && e && f) g (and_from (a && b && c && d && e) f (and_from (a && b && c && d) e (and_from (a && b && c) d (and_from (a && b) c (and_from a b h0 h1) h2) h3) h4) h5) h6
 
 -- a procedure that fits
 pub record ProcedureParts (program : Program) (procedure : ProcedureEntry) : Type 0 where
@@ -128,16 +130,18 @@ pub record ProgramParts (program : Program) : Type 0 where
   pub procedures_fit : list_all (procedure_fits program) program.procedures ≡ true
   pub main_is : main_fits (slice_get program.procedures program.main) ≡ true
   pub nodes_fit : nat_le (program_nodes program) node_limit ≡ true
+  pub labels_fit : list_all (λ (entry : ChannelEntry). nat_le (label_nodes entry.label) node_limit) program.channels ≡ true
 
 pub program_parts : (program : Program) → well_formed program ≡ true → ProgramParts program
 program_parts program h =
-    let parts = six
+    let parts = seven
     (nat_le (length program.hierarchy.names) MAX_PRINCIPALS)
     (list_all (λ (entry : ChannelEntry). label_fits program.hierarchy entry.label) program.channels)
     (globals_fit program)
     (list_all (procedure_fits program) program.procedures)
     (main_fits (slice_get program.procedures program.main))
     (nat_le (program_nodes program) node_limit)
+    (list_all (λ (entry : ChannelEntry). nat_le (label_nodes entry.label) node_limit) program.channels)
     h in
     record {
       principals_fit = parts.0;
@@ -146,18 +150,20 @@ program_parts program h =
       procedures_fit = parts.3;
       main_is = parts.4;
       nodes_fit = parts.5;
+      labels_fit = parts.6;
     }
 
 pub program_from_parts : (program : Program) → ProgramParts program → well_formed program ≡ true
 program_from_parts program parts =
-    six_back
+    seven_back
     (nat_le (length program.hierarchy.names) MAX_PRINCIPALS)
     (list_all (λ (entry : ChannelEntry). label_fits program.hierarchy entry.label) program.channels)
     (globals_fit program)
     (list_all (procedure_fits program) program.procedures)
     (main_fits (slice_get program.procedures program.main))
     (nat_le (program_nodes program) node_limit)
-    parts.principals_fit parts.channels_fit parts.globals_are parts.procedures_fit parts.main_is parts.nodes_fit
+    (list_all (λ (entry : ChannelEntry). nat_le (label_nodes entry.label) node_limit) program.channels)
+    parts.principals_fit parts.channels_fit parts.globals_are parts.procedures_fit parts.main_is parts.nodes_fit parts.labels_fit
 
 -- what passes a test that all elements pass
 pub passes_at : {A : Type 0} (test : A → Bool) (xs : List A) (i : ℕ) (x : A) → list_all test xs ≡ true → slice_get xs i ≡ Some x

@@ -282,7 +282,7 @@ main_fits (Some procedure) = procedure.parameters == 0 && is_none procedure.resu
 
 -- ---- limits
 
--- the nodes of a tree
+-- the nodes of a program, and those of one label
 abbrev pub node_limit : ℕ
 node_limit = MAX_TEXT
 
@@ -296,8 +296,7 @@ abbrev pub size_fits : Option ℕ → Bool
 size_fits None = true
 size_fits (Some length) = nat_lt 0 length && nat_le length MAX_ELEMENTS
 
--- no refusal, since a source is short: how many nodes a program has, its expressions, statements and handlers, and the entries of its tables with the policies and
--- readers of channels
+-- no refusal, since a source is short: how many nodes a program has, its expressions, statements and handlers, and the entries of its tables
 abbrev pub expression_nodes : Expression → ℕ
 expression_nodes (Integer n) = 1
 expression_nodes (Logical b) = 1
@@ -334,16 +333,16 @@ abbrev mutual
   handlers_nodes NoMore = 0
   handlers_nodes (Catch at handled body rest) = 1 + block_nodes body + handlers_nodes rest
 
-abbrev pub label_nodes : Label → ℕ
-label_nodes label = sum_by (λ (policy : ReaderPolicy). 1 + length policy.readers) label
-
 abbrev pub procedure_nodes : ProcedureEntry → ℕ
 procedure_nodes procedure = 1 + length procedure.slots + length procedure.throws + block_nodes procedure.body
 
 abbrev pub program_nodes : Program → ℕ
 program_nodes program =
-    sum_by (λ (entry : ChannelEntry). 1 + label_nodes entry.label) program.channels
-    + length program.exceptions + length program.globals + sum_by procedure_nodes program.procedures
+    length program.channels + length program.exceptions + length program.globals + sum_by procedure_nodes program.procedures
+
+-- no refusal, since a source is short: how many policies a label has, and readers in them
+abbrev pub label_nodes : Label → ℕ
+label_nodes label = sum_by (λ (policy : ReaderPolicy). 1 + length policy.readers) label
 
 -- ---- procedures, globals and programs
 -- 704 too many cells: those of a frame
@@ -377,3 +376,4 @@ well_formed program =
     && list_all (procedure_fits program) program.procedures
     && main_fits (slice_get program.procedures program.main)
     && nat_le (program_nodes program) node_limit
+    && list_all (λ (entry : ChannelEntry). nat_le (label_nodes entry.label) node_limit) program.channels

@@ -9,7 +9,7 @@ use crate::line::words_of;
 use crate::texts::Texts;
 use channels::Device;
 use common::OrNoMemory;
-use flowc::{Task, TaskFault, TaskResult, perform, read_task};
+use flowc::{Done, Task, TaskFault, perform, task};
 use std::alloc::Global;
 
 /// Answers a command line, whose files are texts. The bytes that it leaves for a file become the text of that name.
@@ -31,7 +31,7 @@ pub fn answer_command(
 
 fn task_of(alloc: Global, line: &str) -> Result<Result<Task, TaskFault>, LineFault> {
     let words = words_of(alloc, line)?;
-    Ok(read_task(alloc, &words))
+    Ok(task(alloc, &words))
 }
 
 fn answer_task(texts: &mut Texts, asked: &Task, answer: &mut Vec<u8>) -> Result<(), LineFault> {
@@ -60,7 +60,7 @@ fn answer_files(
     asked: &Task,
     files: &[Vec<u8>],
     answer: &mut Vec<u8>,
-) -> Result<TaskResult, LineFault>
+) -> Result<Done, LineFault>
     requires files { length files.now ≡ files_of asked.now }
 {
     let mut out = Device::new(Vec::new(alloc));
@@ -73,7 +73,7 @@ fn answer_files(
 }
 
 // A module becomes a text. Where a build makes none, no text has the name.
-fn keep(texts: &mut Texts, asked: &Task, outcome: TaskResult) -> Result<(), LineFault> {
+fn keep(texts: &mut Texts, asked: &Task, outcome: Done) -> Result<(), LineFault> {
     let Task::Build { out, .. } = asked else {
         return Ok(());
     };

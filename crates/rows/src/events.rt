@@ -4,11 +4,11 @@ use crate::answer::{write, write_lines};
 use crate::fault::{LineFault, LineRefusal};
 use crate::line::{number_of, words_of};
 use crate::texts::Texts;
+use bytecode::decode;
 use channels::{Pair, World};
 use common::OrNoMemory;
 use flowc::{Answer, Event, HostFault, HostRefusal, LoadRefusal};
 use machine::Status;
-use module_file::decode;
 use std::alloc::{AllocError, Global};
 
 /// The event that words ask for: `open MODULE WORLD`, `open MODULE WORLD OTHER` with a world of the inputs of another module,

@@ -1,5 +1,5 @@
 use common::OrNoMemory;
-use flowc::{ModuleRefusal, WorldRefusal};
+use flowc::{FormatRefusal, WorldRefusal};
 use std::fmt;
 
 /// What is wrong with a line of a data file, or with the file.
@@ -47,8 +47,8 @@ impl fmt::Display for LineRefusal {
     }
 }
 
-impl From<ModuleRefusal> for LineRefusal {
-    fn from(_refusal: ModuleRefusal) -> LineRefusal {
+impl From<FormatRefusal> for LineRefusal {
+    fn from(_refusal: FormatRefusal) -> LineRefusal {
         LineRefusal::NoModule
     }
 }

@@ -10,7 +10,7 @@ use Rattle.solver.specs.declared.broken.Broken.{Broken}
 use Rattle.solver.specs.declared.edges.Edge.{Edge}
 use Rattle.solver.specs.declared.edges.Edges.{Edges}
 use Rattle.solver.specs.declared.search.Found.{Found}
-use Rattle.solver.specs.declared.system.Atom.TheVariants.{Unknown, Written}
+use Rattle.solver.specs.declared.constraints.Atom.TheVariants.{Unknown, Written}
 
 pub earliest-append : (best : Option Broken) (a b : List Broken) → earliest best (a ++ b) ≡ earliest (earliest best a) b
 earliest-append best [] b = refl

@@ -4,8 +4,8 @@ use Rattle.std.proofs.lemmas.List.{reverse-append}
 use Rattle.solver.specs.Reach.{CameFrom, EndsAt, IsTrail, LeadsTo, LeadsOn, ParentsFall, earlier, ends, goes_on, itself, nothing_found}
 use Rattle.solver.specs.declared.edges.Edges.{Edges}
 use Rattle.solver.specs.declared.search.Found.{Found}
-use Rattle.solver.specs.declared.system.Atom.{Atom}
-use Rattle.solver.specs.declared.system.Atom.TheVariants.{Unknown, Written}
+use Rattle.solver.specs.declared.constraints.Atom.{Atom}
+use Rattle.solver.specs.declared.constraints.Atom.TheVariants.{Unknown, Written}
 
 -- what was walked back so far leads on to the end, from what the parent names
 pub record IsWalked (edges : Edges) (n : ℕ) (found : List Found) (at : ℕ) (chain : List ℕ) (last : ℕ) (to : Atom) : Type 0 where

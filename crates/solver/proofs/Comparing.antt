@@ -11,8 +11,8 @@ use Rattle.solver.specs.Bits.{has_bit}
 use Rattle.solver.specs.Breaker.{AreKnownRows, BreaksSides, IsBreakerOf, IsFirstBreaker, IsKnownRow, IsKnown, NoneBreaks, nothing, some}
 use Rattle.solver.specs.Rows.{atom_has, left_has}
 use Rattle.solver.specs.declared.number_set.NumberSet.{NumberSet}
-use Rattle.solver.specs.declared.system.Atom.{Atom}
-use Rattle.solver.specs.declared.system.Constraint.{Constraint}
+use Rattle.solver.specs.declared.constraints.Atom.{Atom}
+use Rattle.solver.specs.declared.constraints.Constraint.{Constraint}
 use Rattle.common.proofs.Cases.{last_cases}
 
 -- one more atom of a left side

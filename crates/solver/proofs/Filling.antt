@@ -10,7 +10,7 @@ use Rattle.solver.specs.Rows.{AreRows, AreSized, has_at}
 use Rattle.solver.specs.Spread.{AreMasks, mask_at}
 use Rattle.solver.specs.declared.edges.Edges.{Edges}
 use Rattle.solver.specs.declared.number_set.NumberSet.{NumberSet}
-use Rattle.solver.specs.declared.system.Atom.TheVariants.{Unknown}
+use Rattle.solver.specs.declared.constraints.Atom.TheVariants.{Unknown}
 use Rattle.solver.proofs.Spreading.{row_at-inside}
 use Rattle.common.proofs.Cases.{last_cases}
 

@@ -12,12 +12,12 @@ use Rattle.solver.specs.Broken.{written_at}
 use Rattle.solver.specs.Links.{AreBelow, InRange, IsBelow, Link, edges_at, left_links, link, links_of, same}
 use Rattle.solver.specs.Reach as reach
 use Rattle.solver.specs.Reach.{LeadsTo, ReachesBy, edge, row_of}
-use Rattle.solver.specs.System.{atom_of, constraint_of}
+use Rattle.solver.specs.Constraints.{atom_of, constraint_of}
 use Rattle.solver.specs.declared.edges.Edge.{Edge}
 use Rattle.solver.specs.declared.edges.Edges.{Edges}
-use Rattle.solver.specs.declared.system.Atom.{Atom}
-use Rattle.solver.specs.declared.system.Atom.TheVariants.{Unknown, Written}
-use Rattle.solver.specs.declared.system.Constraint.{Constraint}
+use Rattle.solver.specs.declared.constraints.Atom.{Atom}
+use Rattle.solver.specs.declared.constraints.Atom.TheVariants.{Unknown, Written}
+use Rattle.solver.specs.declared.constraints.Constraint.{Constraint}
 use Rattle.common.proofs.Cases.{contained_map, contained_map_only, contained_place, contained_at}
 
 -- ---- lists

@@ -9,8 +9,8 @@ use Rattle.solver.specs.Reach.{EndsAt, IsTrace, IsTrail, LeadsTo, LeadsOn, nothi
 use Rattle.solver.specs.declared.broken.Broken.{Broken}
 use Rattle.solver.specs.declared.edges.Edges.{Edges}
 use Rattle.solver.specs.declared.search.Found.{Found}
-use Rattle.solver.specs.declared.system.Atom.{Atom}
-use Rattle.solver.specs.declared.system.Atom.TheVariants.{Unknown, Written}
+use Rattle.solver.specs.declared.constraints.Atom.{Atom}
+use Rattle.solver.specs.declared.constraints.Atom.TheVariants.{Unknown, Written}
 use Rattle.solver.proofs.Candidates.{IsOfEdge, broken, candidates-has, candidates-only, earliest-first, earliest-none, found_candidates-has, found_candidates-only, of_value}
 
 module _ (edges : Edges) (below : ℕ → ℕ → Bool) (n : ℕ) (found : List Found) (trace : IsTrace edges n found) where

@@ -6,9 +6,9 @@ use Rattle.std.specs.Global.{Global}
 use Rattle.std.specs.declared.vec.Vec.{Vec}
 use Rattle.solver.specs.Links.{Link, edges_at, link, left_links, links_of, row_at, same}
 use Rattle.solver.specs.declared.edges.Edge.{Edge}
-use Rattle.solver.specs.declared.system.Atom.{Atom}
-use Rattle.solver.specs.declared.system.Atom.TheVariants.{Unknown, Written}
-use Rattle.solver.specs.declared.system.Constraint.{Constraint}
+use Rattle.solver.specs.declared.constraints.Atom.{Atom}
+use Rattle.solver.specs.declared.constraints.Atom.TheVariants.{Unknown, Written}
+use Rattle.solver.specs.declared.constraints.Constraint.{Constraint}
 
 pub row_at-read : (rows : List (Vec Edge Global)) (i : ℕ) (d : Vec Edge Global) → i < length rows → (get_or rows i d).items ≡ row_at rows i
 row_at-read [] i d h = absurd (omega arith)

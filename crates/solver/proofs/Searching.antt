@@ -12,8 +12,8 @@ use Rattle.solver.specs.Reach.{AllMarked, CameFrom, Grows, Has, IsStep, IsTrace,
 use Rattle.solver.specs.declared.edges.Edge.{Edge}
 use Rattle.solver.specs.declared.edges.Edges.{Edges}
 use Rattle.solver.specs.declared.search.Found.{Found}
-use Rattle.solver.specs.declared.system.Atom.{Atom}
-use Rattle.solver.specs.declared.system.Atom.TheVariants.{Unknown, Written}
+use Rattle.solver.specs.declared.constraints.Atom.{Atom}
+use Rattle.solver.specs.declared.constraints.Atom.TheVariants.{Unknown, Written}
 use Rattle.common.proofs.Cases.{last_cases}
 
 -- ---- marks

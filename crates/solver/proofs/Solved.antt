@@ -16,13 +16,13 @@ use Rattle.solver.specs.Links.{AreBelow, InRange, IsBelow, edges_at, links_of, r
 use Rattle.solver.specs.Reach as reach
 use Rattle.solver.specs.Reach.{CameFrom, IsTrail, LeadsTo, LeadsOn, ReachesBy, LeadsInside, nothing_found, row_of}
 use Rattle.solver.specs.Rows.{AreRows, atom_has, has_at, left_has, reached_by, unknowns_with}
-use Rattle.solver.specs.System.{Picks, atom_of, constraint_of, is_among, row_join, rows_with, values_of}
+use Rattle.solver.specs.Constraints.{Picks, atom_of, constraint_of, is_among, row_join, rows_with, values_of}
 use Rattle.solver.specs.declared.edges.Edges.{Edges}
 use Rattle.solver.specs.declared.number_set.NumberSet.{NumberSet}
 use Rattle.solver.specs.declared.search.Found.{Found}
-use Rattle.solver.specs.declared.system.Atom.{Atom}
-use Rattle.solver.specs.declared.system.Atom.TheVariants.{Unknown, Written}
-use Rattle.solver.specs.declared.system.Constraint.{Constraint}
+use Rattle.solver.specs.declared.constraints.Atom.{Atom}
+use Rattle.solver.specs.declared.constraints.Atom.TheVariants.{Unknown, Written}
+use Rattle.solver.specs.declared.constraints.Constraint.{Constraint}
 use Rattle.solver.proofs.Meaning.{AreEdges, at-map, in_table, leads-part, part-leads, reaches-to}
 use Rattle.solver.proofs.Values.{is_among-row}
 use Rattle.common.proofs.Cases.{by_test, contained_map, contained_map_only, contained_place, contained_at, there_map_only}
@@ -153,35 +153,35 @@ module _ {T V : Type 0} (l : Lattice V) (laws : LatticeLaws l) (table : List V) 
   join-is [] = refl
   join-is (n ∷ ns) = ap (λ x. l.join (written_at l table n) x) (join-is ns)
 
-  below-vals : (n u : ℕ) → n < length table → ReachesBy edges n u → IsTrue (l.lies_below (written_at l table n) (vals u))
+  below-vals : (n u : ℕ) → n < length table → ReachesBy edges n u → IsTrue (l.leq (written_at l table n) (vals u))
   below-vals n u h r =
       let has = are_rows.complete u n r in
       let in' : Contains (reaching u) n =
       subst (λ m. Contains (reaching u) m) (zero-add n) (rows_with-has 0 (length table) rows u n h (subst (λ m. IsTrue (has_at rows u m)) (sym (zero-add n)) has)) in
-      subst (λ x. IsTrue (l.lies_below (written_at l table n) x)) (sym (join-is (reaching u)))
+      subst (λ x. IsTrue (l.leq (written_at l table n) x)) (sym (join-is (reaching u)))
       (join_all-above l laws (map (written_at l table) (reaching u)) (written_at l table n) (contained_map (written_at l table) (reaching u) n in'))
 
   row-reaches : (u n : ℕ) → Contains (reaching u) n → (n < length table) × ReachesBy edges n u
   row-reaches u n h = let found = rows_with-only 0 (length table) rows u n h in (omega (arith, found.0), are_rows.sound u n found.1)
 
-  vals-least : (u : ℕ) (b : V) → ((n : ℕ) → n < length table → ReachesBy edges n u → IsTrue (l.lies_below (written_at l table n) b)) → IsTrue (l.lies_below (vals u) b)
+  vals-least : (u : ℕ) (b : V) → ((n : ℕ) → n < length table → ReachesBy edges n u → IsTrue (l.leq (written_at l table n) b)) → IsTrue (l.leq (vals u) b)
   vals-least u b each =
-      subst (λ x. IsTrue (l.lies_below x b)) (sym (join-is (reaching u)))
+      subst (λ x. IsTrue (l.leq x b)) (sym (join-is (reaching u)))
       (join_all-least l laws (map (written_at l table) (reaching u)) b (λ v h.
       let source = contained_map_only (written_at l table) (reaching u) v h in
       let r = row-reaches u source.0 source.1 in
-      subst (λ x. IsTrue (l.lies_below x b)) source.2 (each source.0 r.0 r.1)))
+      subst (λ x. IsTrue (l.leq x b)) source.2 (each source.0 r.0 r.1)))
 
-  vals-not_below : (u : ℕ) (b : V) → IsFalse (l.lies_below (vals u) b) → (n : ℕ) × (n < length table) × ReachesBy edges n u × IsFalse (l.lies_below (written_at l table n) b)
+  vals-not_below : (u : ℕ) (b : V) → IsFalse (l.leq (vals u) b) → (n : ℕ) × (n < length table) × ReachesBy edges n u × IsFalse (l.leq (written_at l table n) b)
   vals-not_below u b fails =
-      let one = not_below-one l laws (map (written_at l table) (reaching u)) b (subst (λ x. IsFalse (l.lies_below x b)) (join-is (reaching u)) fails) in
+      let one = not_below-one l laws (map (written_at l table) (reaching u)) b (subst (λ x. IsFalse (l.leq x b)) (join-is (reaching u)) fails) in
       let source = contained_map_only (written_at l table) (reaching u) one.0 one.1 in
       let r = row-reaches u source.0 source.1 in
-      (source.0, r.0, r.1, subst (λ x. IsFalse (l.lies_below x b)) (sym source.2) one.2)
+      (source.0, r.0, r.1, subst (λ x. IsFalse (l.leq x b)) (sym source.2) one.2)
 
   -- ---- least
   part-fits : (i : ℕ) (c : Constraint T) (u : ℕ) → slice_get cs i ≡ Some c → c.right ≡ Unknown u → (a : Atom) → Contains c.left.items a →
-      IsTrue (l.lies_below (value vals (atom_of l table a)) (vals u))
+      IsTrue (l.leq (value vals (atom_of l table a)) (vals u))
   part-fits i c u at right (Written n) part =
       below-vals n u (in_table l table cs edges are unknowns range c n (contained_at cs i c at) part)
       (reach.directly i u (subst (λ r. LeadsTo edges (Written n) i r) right (part-leads cs edges are i c (Written n) at part)))
@@ -190,10 +190,10 @@ module _ {T V : Type 0} (l : Lattice V) (laws : LatticeLaws l) (table : List V) 
 
   unknown-fits : (i : ℕ) (c : Constraint T) (u : ℕ) → slice_get cs i ≡ Some c → c.right ≡ Unknown u → IsTrue (holds l vals (one_meant c))
   unknown-fits i c u at right =
-      subst (λ r. IsTrue (l.lies_below (join_of l.join l.least vals (map (atom_of l table) c.left.items)) (value vals (atom_of l table r)))) (sym right)
+      subst (λ r. IsTrue (l.leq (join_of l.join l.least vals (map (atom_of l table) c.left.items)) (value vals (atom_of l table r)))) (sym right)
       (join_of-least l laws vals (map (atom_of l table) c.left.items) (vals u) (λ atom h.
       let source = contained_map_only (atom_of l table) c.left.items atom h in
-      subst (λ x. IsTrue (l.lies_below (value vals x) (vals u))) source.2 (part-fits i c u at right source.0 source.1)))
+      subst (λ x. IsTrue (l.leq (value vals x) (vals u))) source.2 (part-fits i c u at right source.0 source.1)))
 
   fit-right : (i : ℕ) (c : Constraint T) (r : Atom) → slice_get cs i ≡ Some c → c.right ≡ r → IsTrue (is_written (one_meant c).right || holds l vals (one_meant c))
   fit-right i c (Written n) at right = or_left (is_written (one_meant c).right) (holds l vals (one_meant c)) (ap (λ r. is_written (atom_of l table r)) right)
@@ -217,7 +217,7 @@ module _ {T V : Type 0} (l : Lattice V) (laws : LatticeLaws l) (table : List V) 
     pub fails : below number to ≡ false
 
   unbroken-part : (i : ℕ) (c : Constraint T) (to : ℕ) → slice_get cs i ≡ Some c → (a : Atom) → Contains c.left.items a →
-      IsFalse (l.lies_below (value vals (atom_of l table a)) (written_at l table to)) → PartBreaks c to
+      IsFalse (l.leq (value vals (atom_of l table a)) (written_at l table to)) → PartBreaks c to
   unbroken-part i c to at (Written n) part fails = record {
     number = n;
     inside = in_table l table cs edges are unknowns range c n (contained_at cs i c at) part;
@@ -239,9 +239,9 @@ module _ {T V : Type 0} (l : Lattice V) (laws : LatticeLaws l) (table : List V) 
   unbroken-holds i c (Written to) at right none =
       by_test (holds l vals (one_meant c)) (λ e. e) (λ fails.
       let part = not_below-part l laws vals (map (atom_of l table) c.left.items) (written_at l table to)
-      (subst (λ r. IsFalse (l.lies_below (join_of l.join l.least vals (map (atom_of l table) c.left.items)) (value vals (atom_of l table r)))) right fails) in
+      (subst (λ r. IsFalse (l.leq (join_of l.join l.least vals (map (atom_of l table) c.left.items)) (value vals (atom_of l table r)))) right fails) in
       let source = contained_map_only (atom_of l table) c.left.items part.0 part.1 in
-      let found = unbroken-part i c to at source.0 source.1 (subst (λ x. IsFalse (l.lies_below (value vals x) (written_at l table to))) (sym source.2) part.2) in
+      let found = unbroken-part i c to at source.0 source.1 (subst (λ x. IsFalse (l.leq (value vals x) (written_at l table to))) (sym source.2) part.2) in
       absurd (none found.number found.inside (record { constraint = c; at = at; sides = record { to = to; is = right; member = found.member; fails = found.fails } })))
 
   pub solved-fits : ((n i : ℕ) → n < length table → Breaks below rows cs n i → ⊥) → FitsAll l all_meant vals
@@ -268,7 +268,7 @@ module _ {T V : Type 0} (l : Lattice V) (laws : LatticeLaws l) (table : List V) 
       }
 
   -- a constraint that is broken along edges does not hold
-  arrives-below : (n : ℕ) (from : Atom) → n < length table → Arrives edges n from → IsTrue (l.lies_below (written_at l table n) (value vals (atom_of l table from)))
+  arrives-below : (n : ℕ) (from : Atom) → n < length table → Arrives edges n from → IsTrue (l.leq (written_at l table n) (value vals (atom_of l table from)))
   arrives-below n _ h itself = laws.reflexive (written_at l table n)
   arrives-below n _ h (onward u r) = below-vals n u h r
 
@@ -283,7 +283,7 @@ module _ {T V : Type 0} (l : Lattice V) (laws : LatticeLaws l) (table : List V) 
         by_test (holds l vals (one_meant c)) (λ held.
             let flows = laws.transitive (written_at l table n) (value vals (atom_of l table from)) (value vals (atom_of l table c.right)) (arrives-below n from h arrives)
             (part-below l laws all_meant vals (one_meant c) held (atom_of l table from) (contained_map (atom_of l table) c.left.items from here)) in
-            let flows_to : l.lies_below (written_at l table n) (written_at l table to) ≡ true = subst (λ r. IsTrue (l.lies_below (written_at l table n) (value vals (atom_of l table r)))) right flows in
+            let flows_to : l.leq (written_at l table n) (written_at l table to) ≡ true = subst (λ r. IsTrue (l.leq (written_at l table n) (value vals (atom_of l table r)))) right flows in
             let no : true ≡ false = sym flows_to ∙ fails in absurd (cc))
             (λ e. e),
       )

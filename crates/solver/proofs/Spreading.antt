@@ -16,8 +16,8 @@ use Rattle.solver.specs.Reach.{LeadsTo, ReachesBy, directly, edge, onward, row_o
 use Rattle.solver.specs.Spread.{AllJoined, AreMasks, Spreads, mask_at, more, same}
 use Rattle.solver.specs.declared.edges.Edge.{Edge}
 use Rattle.solver.specs.declared.edges.Edges.{Edges}
-use Rattle.solver.specs.declared.system.Atom.{Atom}
-use Rattle.solver.specs.declared.system.Atom.TheVariants.{Unknown, Written}
+use Rattle.solver.specs.declared.constraints.Atom.{Atom}
+use Rattle.solver.specs.declared.constraints.Atom.TheVariants.{Unknown, Written}
 
 -- ---- one word
 max-left : (a b : ℕ) → a ≡ 1 → b < 2 → max a b ≡ 1

@@ -8,7 +8,7 @@ use Rattle.labels.specs.Constraints.{IsJoin, LatticeLaws, Lattice}
 use Rattle.solver.specs.Bits.{has_bit}
 use Rattle.solver.specs.Broken.{written_at}
 use Rattle.solver.specs.Rows.{has_at, reached_by, unknowns_with}
-use Rattle.solver.specs.System.{AreAlike, is_among, row_join, rows_with}
+use Rattle.solver.specs.Constraints.{AreAlike, is_among, row_join, rows_with}
 use Rattle.solver.specs.declared.number_set.NumberSet.{NumberSet}
 use Rattle.solver.proofs.Members.{neq-eqb}
 
@@ -91,14 +91,14 @@ rows_with-more rows i u t is =
 
 -- above each of these written elements, and below all that are
 pub record IsLeastAbove {V : Type 0} (l : Lattice V) (table : List V) (value : V) (ns : List ℕ) : Type 0 where
-  pub above : (n : ℕ) → Contains ns n → IsTrue (l.lies_below (written_at l table n) value)
-  pub least : (b : V) → ((n : ℕ) → Contains ns n → IsTrue (l.lies_below (written_at l table n) b)) → IsTrue (l.lies_below value b)
+  pub above : (n : ℕ) → Contains ns n → IsTrue (l.leq (written_at l table n) value)
+  pub least : (b : V) → ((n : ℕ) → Contains ns n → IsTrue (l.leq (written_at l table n) b)) → IsTrue (l.leq value b)
 
 module _ {V : Type 0} (l : Lattice V) (laws : LatticeLaws l) (table : List V) where
   pub least-above_none : (value : V) → value ≡ l.least → IsLeastAbove l table value []
   least-above_none value e = record {
     above = λ n h. absurd (none_in_nil n h);
-    least = λ b each. subst (λ v. IsTrue (l.lies_below v b)) (sym e) (laws.below_all b);
+    least = λ b each. subst (λ v. IsTrue (l.leq v b)) (sym e) (laws.below_all b);
   }
 
   pub row_join-least_above : (ns : List ℕ) → IsLeastAbove l table (row_join l table ns) ns
@@ -107,7 +107,7 @@ module _ {V : Type 0} (l : Lattice V) (laws : LatticeLaws l) (table : List V) wh
       let rest = row_join-least_above ns in
       record {
         above = λ m h. ⊎_elim
-            (λ (is : n ≡ m). subst (λ x. IsTrue (l.lies_below (written_at l table x) (row_join l table (n ∷ ns)))) is (laws.above_left (written_at l table n) (row_join l table ns)))
+            (λ (is : n ≡ m). subst (λ x. IsTrue (l.leq (written_at l table x) (row_join l table (n ∷ ns)))) is (laws.above_left (written_at l table n) (row_join l table ns)))
             (λ k. laws.transitive (written_at l table m) (row_join l table ns) (row_join l table (n ∷ ns)) (rest.above m k) (laws.above_right (written_at l table n) (row_join l table ns)))
             (Contains-cons_cases n ns m h);
         least = λ b each. laws.least_above (written_at l table n) (row_join l table ns) b (each n (Contains-first n ns)) (rest.least b (λ m k. each m (Contains-later n ns m k)));
@@ -116,14 +116,14 @@ module _ {V : Type 0} (l : Lattice V) (laws : LatticeLaws l) (table : List V) wh
   pub alike-none : (value : V) → value ≡ l.least → AreAlike l (row_join l table []) value
   alike-none value e = record {
     to = laws.below_all value;
-    from = subst (λ v. IsTrue (l.lies_below v l.least)) (sym e) (laws.below_all l.least);
+    from = subst (λ v. IsTrue (l.leq v l.least)) (sym e) (laws.below_all l.least);
   }
 
   pub alike-one : (element value : V) (n : ℕ) → element ≡ written_at l table n → IsJoin l l.least element value → AreAlike l (row_join l table (n ∷ [])) value
   alike-one element value n is join = record {
-    to = laws.least_above (written_at l table n) l.least value (subst (λ v. IsTrue (l.lies_below v value)) is join.above_right) (laws.below_all value);
+    to = laws.least_above (written_at l table n) l.least value (subst (λ v. IsTrue (l.leq v value)) is join.above_right) (laws.below_all value);
     from = join.least_above (row_join l table (n ∷ [])) (laws.below_all _)
-        (subst (λ v. IsTrue (l.lies_below v (row_join l table (n ∷ [])))) (sym is) (laws.above_left (written_at l table n) l.least));
+        (subst (λ v. IsTrue (l.leq v (row_join l table (n ∷ [])))) (sym is) (laws.above_left (written_at l table n) l.least));
   }
 
   pub alike-both : (left right value : V) (xs ys : List ℕ) → AreAlike l (row_join l table xs) left → AreAlike l (row_join l table ys) right → IsJoin l left right value →

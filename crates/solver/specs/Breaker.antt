@@ -1,4 +1,4 @@
--- The constraints with a written right side that a written element breaks: by rows of bits, and along edges with a chain.
+-- Private: the constraints with a written right side that a written element breaks: by rows of bits, and along edges with a chain.
 -- Source: our own.
 use Rattle.std.specs.Prelude.{◌≡◌, ℕ, ◌/◌, ◌<◌, ◌≤◌, List, Bool, true, false, Option, Some, None, IsTrue, length, slice_get, slice_index_or}
 use Rattle.solver.specs.Reach.{LeadsTo, LeadsOn, ReachesBy}
@@ -6,9 +6,9 @@ use Rattle.solver.specs.Bits.{has_bit}
 use Rattle.solver.specs.Rows.{left_has}
 use Rattle.solver.specs.declared.edges.Edges.{Edges}
 use Rattle.solver.specs.declared.number_set.NumberSet.{NumberSet}
-use Rattle.solver.specs.declared.system.Atom.{Atom}
-use Rattle.solver.specs.declared.system.Atom.TheVariants.{Unknown, Written}
-use Rattle.solver.specs.declared.system.Constraint.{Constraint}
+use Rattle.solver.specs.declared.constraints.Atom.{Atom}
+use Rattle.solver.specs.declared.constraints.Atom.TheVariants.{Unknown, Written}
+use Rattle.solver.specs.declared.constraints.Constraint.{Constraint}
 
 -- an element reaches a left side, and does not lie below the written right side
 pub record BreaksSides (below : ℕ → ℕ → Bool) (rows : List NumberSet) (left : List Atom) (right : Atom) (n : ℕ) : Type 0 where

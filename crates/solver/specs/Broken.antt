@@ -7,15 +7,15 @@ use Rattle.solver.specs.declared.broken.Broken.{Broken}
 use Rattle.solver.specs.declared.edges.Edge.{Edge}
 use Rattle.solver.specs.declared.edges.Edges.{Edges}
 use Rattle.solver.specs.declared.search.Found.{Found}
-use Rattle.solver.specs.declared.system.Atom.{Atom}
-use Rattle.solver.specs.declared.system.Atom.TheVariants.{Unknown, Written}
+use Rattle.solver.specs.declared.constraints.Atom.{Atom}
+use Rattle.solver.specs.declared.constraints.Atom.TheVariants.{Unknown, Written}
 
 -- the written element of a number, and whether one lies below another
 abbrev pub written_at : {V : Type 0} → Lattice V → List V → ℕ → V
 written_at l table n = slice_index_or table n l.least
 
 abbrev pub is_below : {V : Type 0} → Lattice V → List V → ℕ → ℕ → Bool
-is_below l table n m = l.lies_below (written_at l table n) (written_at l table m)
+is_below l table n m = l.leq (written_at l table n) (written_at l table m)
 
 -- written right sides lie inside the table
 abbrev pub RightsInside : ℕ → List Edge → Type 0

@@ -5,4 +5,4 @@ pub mod Links
 pub mod Reach
 pub mod Rows
 pub mod Spread
-pub mod System
+pub mod Constraints

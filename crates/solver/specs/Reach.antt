@@ -1,12 +1,12 @@
--- What a written element reaches along edges, and the chains to it that a search finds.
+-- Private: what a written element reaches along edges, and the chains to it that a search finds.
 -- Source: our own.
 use Rattle.std.specs.Prelude.{◌≡◌, ℕ, suc, ◌<◌, ◌≤◌, List, [], ◌∷◌, ◌++◌, length, set, Bool, true, false, IsTrue, Contains, slice_index_or}
 use Rattle.solver.specs.Links.{row_at}
 use Rattle.solver.specs.declared.edges.Edge.{Edge}
 use Rattle.solver.specs.declared.edges.Edges.{Edges}
 use Rattle.solver.specs.declared.search.Found.{Found}
-use Rattle.solver.specs.declared.system.Atom.{Atom}
-use Rattle.solver.specs.declared.system.Atom.TheVariants.{Unknown, Written}
+use Rattle.solver.specs.declared.constraints.Atom.{Atom}
+use Rattle.solver.specs.declared.constraints.Atom.TheVariants.{Unknown, Written}
 
 -- the edges from an atom, and one of them
 abbrev pub row_of : Edges → Atom → List Edge

@@ -6,8 +6,8 @@ use Rattle.solver.specs.Bits.{has_bit}
 use Rattle.solver.specs.Reach.{ReachesBy}
 use Rattle.solver.specs.declared.edges.Edges.{Edges}
 use Rattle.solver.specs.declared.number_set.NumberSet.{NumberSet}
-use Rattle.solver.specs.declared.system.Atom.{Atom}
-use Rattle.solver.specs.declared.system.Atom.TheVariants.{Unknown, Written}
+use Rattle.solver.specs.declared.constraints.Atom.{Atom}
+use Rattle.solver.specs.declared.constraints.Atom.TheVariants.{Unknown, Written}
 
 -- a number is a member of the row of an unknown
 abbrev pub has_at : List NumberSet → (u n : ℕ) → Bool

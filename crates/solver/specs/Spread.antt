@@ -1,11 +1,11 @@
--- Words of bits that spread along edges: for each unknown which of 64 written elements, from one on, reach it.
+-- Private: words of bits that spread along edges: for each unknown which of 64 written elements, from one on, reach it.
 -- Source: our own.
 use Rattle.std.specs.Prelude.{◌≡◌, ◌≢◌, ℕ, ◌<◌, ◌+◌, ◌^◌, List, [], ◌∷◌, ◌++◌, length, set, Contains, slice_index_or, bit_or}
 use Rattle.std.specs.Int.{bit_at}
 use Rattle.solver.specs.Reach.{ReachesBy, edge}
 use Rattle.solver.specs.declared.edges.Edge.{Edge}
 use Rattle.solver.specs.declared.edges.Edges.{Edges}
-use Rattle.solver.specs.declared.system.Atom.TheVariants.{Unknown}
+use Rattle.solver.specs.declared.constraints.Atom.TheVariants.{Unknown}
 
 -- the word of an unknown
 abbrev pub mask_at : List ℕ → ℕ → ℕ

@@ -7,9 +7,9 @@ ghost use Rattle.solver.specs.Bits.{has_bit};
 ghost use Rattle.solver.specs.Rows.{AreSized, atom_has, left_has};
 ghost use Rattle.std.specs.Prelude.{Bool, IfOk, IsTrue, OnOk, Some, false, length, true, ℕ, ◌+◌, ◌/◌, ◌<◌, ◌||◌, ◌≡◌};
 
-use crate::broken::lies_below;
+use crate::broken::leq;
+use crate::constraints::{Atom, Constraint};
 use crate::number_set::NumberSet;
-use crate::system::{Atom, Constraint};
 use labels::Lattice;
 use std::alloc::{AllocError, Global};
 
@@ -18,7 +18,7 @@ use std::alloc::{AllocError, Global};
 pub fn first_breaker<L: Lattice, T>(
     alloc: Global,
     lattice: &L,
-    written: &[L::Element],
+    written: &[L::Elem],
     constraints: &[Constraint<T>],
     rows: &[NumberSet],
 ) -> Result<Option<usize>, AllocError>
@@ -41,7 +41,7 @@ pub fn first_breaker<L: Lattice, T>(
 fn breaker_of<L: Lattice, T>(
     alloc: Global,
     lattice: &L,
-    written: &[L::Element],
+    written: &[L::Elem],
     constraint: &Constraint<T>,
     rows: &[NumberSet],
     known: &mut Vec<Option<NumberSet>>,
@@ -119,7 +119,7 @@ fn add_atom(row: &mut NumberSet, atom: Atom, rows: &[NumberSet])
 fn first_above<L: Lattice>(
     alloc: Global,
     lattice: &L,
-    written: &[L::Element],
+    written: &[L::Elem],
     left: &NumberSet,
     known: &mut Option<NumberSet>,
     to: usize,
@@ -156,7 +156,7 @@ fn known_row(alloc: Global, known: Option<NumberSet>, count: usize) -> Result<Nu
 // The same, given what is known to lie below. A word of which all members are known costs one step.
 fn compare<L: Lattice>(
     lattice: &L,
-    written: &[L::Element],
+    written: &[L::Elem],
     left: &NumberSet,
     known: &mut NumberSet,
     to: usize,
@@ -181,7 +181,7 @@ fn compare<L: Lattice>(
 // The same of the 64 numbers of one word.
 fn compare_word<L: Lattice>(
     lattice: &L,
-    written: &[L::Element],
+    written: &[L::Elem],
     left: &NumberSet,
     known: &mut NumberSet,
     to: usize,
@@ -213,7 +213,7 @@ fn compare_word<L: Lattice>(
 // Whether a number is no member of a row, or its element lies below another one. It is then known.
 fn stays_below<L: Lattice>(
     lattice: &L,
-    written: &[L::Element],
+    written: &[L::Elem],
     left: &NumberSet,
     known: &mut NumberSet,
     to: usize,
@@ -234,7 +234,7 @@ fn stays_below<L: Lattice>(
     if !left.has(n) || known.has(n) {
         return true;
     }
-    if !lies_below(lattice, written, n, to) {
+    if !leq(lattice, written, n, to) {
         return false;
     }
     known.set(n);

@@ -2,12 +2,12 @@
 //! the right side.
 ghost use Rattle.solver.specs.Broken.{AllRightsInside, FoundInside, RightsInside, broken_by, candidates, earliest, found_candidates, is_below, precedes};
 ghost use Rattle.solver.specs.Reach.{row_of};
-ghost use Rattle.solver.specs.declared.system.Atom.TheVariants.{Written};
+ghost use Rattle.solver.specs.declared.constraints.Atom.TheVariants.{Written};
 ghost use Rattle.std.specs.Prelude.{[], length, ◌++◌, ◌<◌, ◌∷◌, ◌≡◌};
 
+use crate::constraints::Atom;
 use crate::edges::{Edge, Edges};
 use crate::search::Found;
-use crate::system::Atom;
 use labels::Lattice;
 
 /// A constraint that a written element breaks.
@@ -22,14 +22,14 @@ pub struct Broken {
 }
 
 /// Whether a written element lies below another one.
-pub fn lies_below<L: Lattice>(lattice: &L, written: &[L::Element], value: usize, to: usize) -> bool
+pub fn leq<L: Lattice>(lattice: &L, written: &[L::Elem], value: usize, to: usize) -> bool
     requires value { value < length written.now }
     requires to { to < length written.now }
     ensures { result ≡ is_below (L.order lattice.now) written.now value to }
 {
     lattice.keep_laws();
     // Equal labels share a number, so that a great one is seldom compared with itself.
-    value == to || lattice.lies_below(&written[value], &written[to])
+    value == to || lattice.leq(&written[value], &written[to])
 }
 
 // Whether a constraint stands before the one that was found so far.
@@ -45,7 +45,7 @@ fn comes_before(by: usize, best: &Option<Broken>) -> bool
 // The earlier of what was found so far and of the constraint of this edge, if the written element breaks it.
 fn earlier_of_edge<L: Lattice>(
     lattice: &L,
-    written: &[L::Element],
+    written: &[L::Elem],
     edge: Edge,
     value: usize,
     parent: usize,
@@ -59,7 +59,7 @@ fn earlier_of_edge<L: Lattice>(
     let Atom::Written(to) = edge.to else {
         return best;
     };
-    if lies_below(lattice, written, value, to as usize) {
+    if leq(lattice, written, value, to as usize) {
         return best;
     }
     if !comes_before(edge.by, &best) {
@@ -76,7 +76,7 @@ fn earlier_of_edge<L: Lattice>(
 // The same of all these edges.
 fn earlier_of_edges<L: Lattice>(
     lattice: &L,
-    written: &[L::Element],
+    written: &[L::Elem],
     edges: &[Edge],
     value: usize,
     parent: usize,
@@ -97,7 +97,7 @@ fn earlier_of_edges<L: Lattice>(
 /// The same of the edges from a written element and from all that it reaches.
 pub fn earlier_of_value<L: Lattice>(
     lattice: &L,
-    written: &[L::Element],
+    written: &[L::Elem],
     edges: &Edges,
     found: &[Found],
     value: usize,

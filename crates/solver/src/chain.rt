@@ -1,8 +1,8 @@
 //! The chain back from a constraint to the written element that reaches it.
 ghost use Rattle.solver.specs.Reach.{EndsAt, IsTrail, LeadsOn, ParentsFall};
 ghost use Rattle.solver.specs.declared.edges.Edges.{Edges};
-ghost use Rattle.solver.specs.declared.system.Atom.{Atom};
-ghost use Rattle.solver.specs.declared.system.Atom.TheVariants.{Written};
+ghost use Rattle.solver.specs.declared.constraints.Atom.{Atom};
+ghost use Rattle.solver.specs.declared.constraints.Atom.TheVariants.{Written};
 ghost use Rattle.std.specs.Prelude.{IfOk, length, ℕ, ◌≤◌};
 
 use crate::search::Found;

@@ -1,9 +1,9 @@
 //! Where each part of a left side leads: the constraints in which it stands, with their right sides.
 ghost use Rattle.solver.specs.Links.{AreBelow, InRange, IsBelow, link, edges_at, left_links, links_of, row_at};
-ghost use Rattle.solver.specs.declared.system.Atom.TheVariants.{Unknown, Written};
+ghost use Rattle.solver.specs.declared.constraints.Atom.TheVariants.{Unknown, Written};
 ghost use Rattle.std.specs.Prelude.{IfOk, OnOk, [], length, ℕ, ◌++◌, ◌<◌, ◌∷◌, ◌≡◌, ◌≢◌};
 
-use crate::system::{Atom, Constraint};
+use crate::constraints::{Atom, Constraint};
 use std::alloc::{AllocError, Global};
 
 /// That some part leads to the right side of a constraint.

@@ -5,6 +5,7 @@
 mod breaker;
 mod broken;
 mod chain;
+pub mod constraints;
 mod edges;
 pub mod fault;
 mod number_set;
@@ -13,9 +14,8 @@ mod search;
 pub mod solution;
 pub mod solving;
 mod spread;
-pub mod system;
 
+pub use constraints::{Atom, Constraint, Constraints};
 pub use fault::{SolveFault, SolveRefusal};
 pub use solution::Solution;
 pub use solving::solve;
-pub use system::{Atom, Constraint, System};

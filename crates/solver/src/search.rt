@@ -1,10 +1,10 @@
 //! What one written element reaches: a search along the edges, that looks at the edges from an unknown once, when it is found.
 ghost use Rattle.solver.specs.Reach.{AllMarked, Grows, IsTrace, LeadsInside, LeadInside, row_of};
-ghost use Rattle.solver.specs.declared.system.Atom.TheVariants.{Written};
+ghost use Rattle.solver.specs.declared.constraints.Atom.TheVariants.{Written};
 ghost use Rattle.std.specs.Prelude.{IfOk, OnOk, if◌then◌else◌, length, set, slice_index_or, true, false, ◌++◌, ◌<◌, ◌∷◌, ◌≡◌, []};
 
+use crate::constraints::Atom;
 use crate::edges::{Edge, Edges};
-use crate::system::Atom;
 use std::alloc::{AllocError, Global};
 
 /// An unknown that a written element reaches, by a constraint, from the element itself or from an unknown found earlier.

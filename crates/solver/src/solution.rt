@@ -1,6 +1,6 @@
 //! The least values of the unknowns.
 ghost use Rattle.solver.specs.Rows.{AreSized, has_at, reached_by};
-ghost use Rattle.solver.specs.System.{AreAlike, row_join, rows_with, values_of};
+ghost use Rattle.solver.specs.Constraints.{AreAlike, row_join, rows_with, values_of};
 ghost use Rattle.std.specs.Prelude.{All, IfOk, length, ◌<◌, ◌≡◌, ◌≤◌};
 
 use crate::number_set::NumberSet;
@@ -44,9 +44,9 @@ impl Solution {
         &self,
         alloc: Global,
         lattice: &L,
-        written: &[L::Element],
+        written: &[L::Elem],
         unknown: u32,
-    ) -> Result<L::Element, AllocError>
+    ) -> Result<L::Elem, AllocError>
         requires { length self.now ≤ length written.now }
         ensures { IfOk result (AreAlike (L.order lattice.now)
             (values_of (L.order lattice.now) written.now self.now unknown)) }
@@ -92,9 +92,9 @@ fn numbers_of(
 fn join_all<L: Lattice>(
     alloc: Global,
     lattice: &L,
-    written: &[L::Element],
+    written: &[L::Elem],
     numbers: &[usize],
-) -> Result<L::Element, AllocError>
+) -> Result<L::Elem, AllocError>
     requires { All (λ number. number < length written.now) numbers.now }
     ensures { IfOk result (AreAlike (L.order lattice.now)
         (row_join (L.order lattice.now) written.now numbers.now)) }

@@ -4,18 +4,18 @@ ghost use Rattle.solver.specs.Broken.{AllRightsInside, is_below};
 ghost use Rattle.solver.specs.Links.{InRange};
 ghost use Rattle.solver.specs.Reach.{LeadsInside};
 ghost use Rattle.common.specs.Answers.{IfRefused};
-ghost use Rattle.solver.specs.System.{IsSolution, IsSolveRefusal};
+ghost use Rattle.solver.specs.Constraints.{IsSolution, IsSolveRefusal};
 ghost use Rattle.std.specs.Prelude.{IfErr, IfOk, length, ℕ, ◌<◌, ◌≡◌};
 
 use crate::breaker::first_breaker;
 use crate::broken::earlier_of_value;
 use crate::chain::chain_to;
+use crate::constraints::Constraints;
 use crate::edges::{Edges, edges_of};
 use crate::fault::{SolveFault, SolveRefusal};
 use crate::reached::rows_of;
 use crate::search::trace;
 use crate::solution::Solution;
-use crate::system::System;
 use common::OrNoMemory;
 use labels::Lattice;
 use std::alloc::{AllocError, Global};
@@ -30,7 +30,7 @@ use std::alloc::{AllocError, Global};
 pub fn solve<L: Lattice, T>(
     alloc: Global,
     lattice: &L,
-    system: &System<L::Element, T>,
+    system: &Constraints<L::Elem, T>,
 ) -> Result<Solution, SolveFault>
     requires { InRange (length system.now.written.items) system.now.unknowns
         system.now.constraints.items }
@@ -58,7 +58,7 @@ pub fn solve<L: Lattice, T>(
 fn find_refusal<L: Lattice>(
     alloc: Global,
     lattice: &L,
-    written: &[L::Element],
+    written: &[L::Elem],
     edges: &Edges,
     value: usize,
 ) -> Result<SolveRefusal, AllocError>

@@ -3,8 +3,8 @@ ghost use Rattle.solver.specs.Reach.{LeadInside, LeadsInside};
 ghost use Rattle.solver.specs.Spread.{AllJoined, AreMasks, Spreads};
 ghost use Rattle.std.specs.Prelude.{IfOk, OnOk, [], bit_or, if◌then◌else◌, length, set, slice_index_or, ◌++◌, ◌<◌, ◌==◌, ◌^◌, ◌∷◌, ◌≡◌, ◌≤◌};
 
+use crate::constraints::Atom;
 use crate::edges::{Edge, Edges};
-use crate::system::Atom;
 use std::alloc::{AllocError, Global};
 
 // A search for the elements of a block: for each unknown which of them reach it so far, and the unknowns whose word grew, in order.

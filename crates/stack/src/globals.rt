@@ -1,11 +1,11 @@
-ghost use Rattle.bytecode.specs.Machine.{first_global, slot_of};
+ghost use Rattle.modules.specs.Machine.{first_global, slot_of};
 ghost use Rattle.stack.specs.Globals.{HasPut};
 ghost use Rattle.stack.specs.Slab.{cell_in};
 ghost use Rattle.std.specs.List.{flat_map};
 ghost use Rattle.std.specs.Prelude.{IfOk, OnOk, is_some, length, map, ◌++◌, ◌≡◌};
 
 use crate::shape::{Shape, repeat};
-use bytecode::{Cell, Global as Variable, Kind, Slot};
+use modules::{Cell, Global as Variable, Kind, Slot};
 use std::alloc::{AllocError, Global};
 use std::marker::Model;
 
@@ -17,7 +17,7 @@ pub struct Globals {
 }
 
 impl Model for Globals {
-    ghost use Rattle.bytecode.specs.declared.value.Cell.{Cell};
+    ghost use Rattle.modules.specs.declared.value.Cell.{Cell};
     ghost use Rattle.stack.specs.Slab.{cut, total};
     ghost use Rattle.std.specs.Prelude.{List, length, ◌≤◌};
 

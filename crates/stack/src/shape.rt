@@ -1,9 +1,9 @@
 //! The cells of slots that lie one behind another.
 
 ghost use Rattle.stack.specs.Slab.{cells_in, place_in, total};
-ghost use Rattle.std.specs.Prelude.{IfOk, OnErr, OnOk, map, replicate, slice_get, ◌++◌, ◌≡◌};
+ghost use Rattle.std.specs.Prelude.{IfOk, OnErr, OnOk, map, replicate, slice_get, ◌++◌, ◌<◌, ◌^◌, ◌≡◌};
 
-use bytecode::{Cell, Kind, Slot};
+use modules::{Cell, Kind, Slot};
 use std::alloc::{AllocError, Global};
 use std::marker::Model;
 
@@ -32,19 +32,17 @@ impl Model for Shape {
 }
 
 impl Shape {
-    /// The shape of these slots.
+    /// The shape of these slots. Precondition: they have fewer than 2^63 cells.
     pub fn of(alloc: Global, slots: &[Slot]) -> Result<Shape, AllocError>
+        requires { total (map cells_in slots.now) < 2 ^ 63 }
         ensures { IfOk result (λ shape. shape ≡ map cells_in slots.now) }
     {
         let mut spans = Vec::new(alloc);
         let mut start: usize = 0;
         for slot in slots {
             let count = count_of(*slot);
-            let Some(next) = start.checked_add(count) else {
-                return Err(AllocError);
-            };
             spans.push(Span { start, count })?;
-            start = next;
+            start += count;
         }
         Ok(Shape { spans })
     }
@@ -73,7 +71,8 @@ fn span_at(spans: &[Span], number: usize) -> Option<Span>
 
 /// How many cells a slot has.
 pub fn count_of(slot: Slot) -> usize
-    ensures { result ≡ cells_in slot }
+    ensures cells { result ≡ cells_in slot }
+    ensures few { result < 2 ^ 32 }
 {
     match slot {
         Slot::Scalar(_) => 1,
@@ -81,27 +80,23 @@ pub fn count_of(slot: Slot) -> usize
     }
 }
 
-/// How many cells slots have.
-pub fn cells_of(slots: &[Slot]) -> Result<usize, AllocError>
-    ensures { IfOk result (λ size. size ≡ total (map cells_in slots.now)) }
+/// How many cells slots have. Precondition: they are fewer than 2^63.
+pub fn cells_of(slots: &[Slot]) -> usize
+    requires { total (map cells_in slots.now) < 2 ^ 63 }
+    ensures { result ≡ total (map cells_in slots.now) }
 {
     let mut size: usize = 0;
     for slot in slots {
-        let Some(next) = size.checked_add(count_of(*slot)) else {
-            return Err(AllocError);
-        };
-        size = next;
+        size += count_of(*slot);
     }
-    Ok(size)
+    size
 }
 
 /// Adds a cell so many times.
 pub fn repeat(cells: &mut Vec<Cell>, cell: Cell, count: usize) -> Result<(), AllocError>
+    requires { count < 2 ^ 32 }
     ensures accepted { OnOk result (cells.new.items ≡ cells.old.items ++ replicate count cell) }
     ensures unchanged { OnErr result (cells.new.items ≡ cells.old.items) }
 {
-    let Some(length) = cells.len().checked_add(count) else {
-        return Err(AllocError);
-    };
-    cells.resize(length, cell)
+    cells.resize(cells.len() + count, cell)
 }

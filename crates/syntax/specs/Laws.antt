@@ -7,7 +7,7 @@ use Rattle.syntax.specs.Grammar.{SpellsProgram}
 use Rattle.syntax.specs.Nesting.{IsNested}
 use Rattle.syntax.specs.Nodes.{program_nodes}
 use Rattle.syntax.specs.Tree.{ProgramTree}
-use Rattle.syntax.specs.Written.{IsWritten}
+use Rattle.syntax.specs.Written.{IsInteger, IsNameWithin, IsWritten}
 use Rattle.common.specs.declared.limits.TheConstants.{MAX_LEVELS}
 
 -- tokens spell at most one tree
@@ -19,17 +19,15 @@ SpellsOneTree =
 abbrev pub SpelledIsTerminated : Type 0
 SpelledIsTerminated = (tokens : List Terminal) (tree : ProgramTree) → SpellsProgram tokens tree → IsTerminated tokens
 
--- where each token has the text of its kind, a tree has at most as many nodes as the tokens that spell it
+-- a tree has at most as many nodes as the tokens that spell it
 abbrev pub SpelledHasFewNodes : Type 0
 SpelledHasFewNodes =
-    (tokens : List Terminal) (tree : ProgramTree) → SpellsProgram tokens tree → All IsSpelled tokens
-    → program_nodes tree ≤ length tokens
+    (tokens : List Terminal) (tree : ProgramTree) → SpellsProgram tokens tree → program_nodes tree ≤ length tokens
 
 -- and it is nested at most so deep
 abbrev pub SpelledIsNested : Type 0
 SpelledIsNested =
-    (tokens : List Terminal) (tree : ProgramTree) → SpellsProgram tokens tree → All IsSpelled tokens
-    → IsNested MAX_LEVELS tree
+    (tokens : List Terminal) (tree : ProgramTree) → SpellsProgram tokens tree → IsNested MAX_LEVELS tree
 
 -- what tokens spell is written: where each token has the text of its kind, which has at most so many bytes, the tree's names are
 -- names of at most so many bytes, its integers are small enough, and its nodes stand where tokens begin
@@ -37,4 +35,4 @@ abbrev pub SpelledIsWritten : Type 0
 SpelledIsWritten =
     (longest : ℕ) (tokens : List Terminal) (tree : ProgramTree) → SpellsProgram tokens tree → All IsSpelled tokens
     → All (λ token. length token.text ≤ longest) tokens
-    → IsWritten (Contains (map (λ token. token.start) tokens)) longest tree
+    → IsWritten (Contains (map (λ token. token.start) tokens)) (IsNameWithin longest) IsInteger tree

@@ -1,7 +1,7 @@
--- What holds of the tree of a text beside its form: its names are names and not too long, its integers are small enough, and
--- its nodes stand at places that fit.
+-- What holds of the tree of a text beside its form: its nodes stand at places that fit, its names have texts that fit, and its
+-- integers fit too.
 -- Source: our own.
-use Rattle.std.specs.Prelude.{ℕ, ◌≤◌, Option, None, Some, length, IsTrue, All}
+use Rattle.std.specs.Prelude.{ℕ, ◌≤◌, List, Option, None, Some, length, IsTrue, All}
 use Rattle.common.specs.declared.limits.TheConstants.{MAX_INTEGER}
 use Rattle.lexer.specs.Words.{is_name_text}
 use Rattle.syntax.specs.Tree.{NameTree, PolicyTree, LabelTree, ExpressionTree, IntegerTree, TruthTree, VariableTree, ElementTree, UnaryTree, BinaryTree, CallTree, RightTree, ReceivedTree, CalledTree, ValueTree, SizeTree, StatementTree, DeclareTree, DeclareArrayTree, AssignTree, AssignElementTree, CallTree', ReceiveTree, SendTree, IfTree, IfElseTree, WhileTree, BreakTree, ContinueTree, ThrowTree, ReturnTree, TryTree, NestedTree, BlockTree, BlockOf, StatementTrees, NoStatement, StatementThen, CatchTrees, NoCatch, CatchThen, ChannelTree, ConstantTree, IntegerConstant, TruthConstant, GlobalValueTree, ScalarTree, ArrayTree, GlobalTree, WrittenResultTree, NothingTree, ResultTree, ParameterTree, ThrownTree, ProcedureTree, ItemTree, ChannelItem, ExceptionItem, GlobalItem, ProcedureItem, ProgramTree}
@@ -10,10 +10,18 @@ use Rattle.syntax.specs.Tree.{NameTree, PolicyTree, LabelTree, ExpressionTree, I
 abbrev pub Anywhere : ℕ → Type 0
 Anywhere at = Unit {0}
 
--- Places have to fit, and names have at most so many bytes.
-module _ (fits : ℕ → Type 0) (longest : ℕ) where
+-- a text that is a name, of at most so many bytes
+abbrev pub IsNameWithin : (longest : ℕ) → List ℕ → Type 0
+IsNameWithin longest text = IsTrue (is_name_text text) × (length text ≤ longest)
+
+-- an integer that may be written
+abbrev pub IsInteger : ℕ → Type 0
+IsInteger value = value ≤ MAX_INTEGER
+
+-- Places have to fit, and the texts of names, and integers.
+module _ (fits : ℕ → Type 0) (word : List ℕ → Type 0) (number : ℕ → Type 0) where
   abbrev pub IsWrittenName : NameTree → Type 0
-  IsWrittenName name = fits name.at × IsTrue (is_name_text name.text) × (length name.text ≤ longest)
+  IsWrittenName name = fits name.at × word name.text
 
   abbrev pub IsWrittenPolicy : PolicyTree → Type 0
   IsWrittenPolicy policy = IsWrittenName policy.owner × All IsWrittenName policy.readers
@@ -26,7 +34,7 @@ module _ (fits : ℕ → Type 0) (longest : ℕ) where
   IsWrittenOptionalLabel (Some label) = IsWrittenLabel label
 
   abbrev pub IsWrittenExpression : ExpressionTree → Type 0
-  IsWrittenExpression (IntegerTree at value) = fits at × (value ≤ MAX_INTEGER)
+  IsWrittenExpression (IntegerTree at value) = fits at × number value
   IsWrittenExpression (TruthTree at value) = fits at
   IsWrittenExpression (VariableTree name) = IsWrittenName name
   IsWrittenExpression (ElementTree array index) = IsWrittenName array × IsWrittenExpression index
@@ -46,7 +54,7 @@ module _ (fits : ℕ → Type 0) (longest : ℕ) where
   IsWrittenRight (ValueTree value) = IsWrittenExpression value
 
   abbrev pub IsWrittenSize : SizeTree → Type 0
-  IsWrittenSize size = fits size.at × (size.size ≤ MAX_INTEGER)
+  IsWrittenSize size = fits size.at × number size.size
 
   abbrev mutual
     pub IsWrittenStatement : StatementTree → Type 0
@@ -87,7 +95,7 @@ module _ (fits : ℕ → Type 0) (longest : ℕ) where
   IsWrittenChannel channel = fits channel.at × IsWrittenLabel channel.label × IsWrittenName channel.name
 
   abbrev pub IsWrittenConstant : ConstantTree → Type 0
-  IsWrittenConstant (IntegerConstant at negative value) = fits at × (value ≤ MAX_INTEGER)
+  IsWrittenConstant (IntegerConstant at negative value) = fits at × number value
   IsWrittenConstant (TruthConstant at value) = fits at
 
   abbrev pub IsWrittenGlobalValue : GlobalValueTree → Type 0

@@ -1,12 +1,9 @@
-//! A program, which is made only of a tree that a text can have.
+//! A program, which is made only of a tree that tokens can spell.
 
-ghost use Rattle.common.specs.declared.limits.TheConstants.{MAX_LEVELS, MAX_TEXT};
-ghost use Rattle.std.specs.Prelude.{◌≡◌, ◌≤◌};
-ghost use Rattle.syntax.specs.Limits.{IsProgram, most_nodes};
+ghost use Rattle.common.specs.declared.limits.TheConstants.{MAX_LEVELS};
+ghost use Rattle.std.specs.Prelude.{◌≡◌};
 ghost use Rattle.syntax.specs.Nesting.{IsNested};
-ghost use Rattle.syntax.specs.Nodes.{program_nodes};
 ghost use Rattle.syntax.specs.Tree.{program_tree};
-ghost use Rattle.syntax.specs.Written.{Anywhere, IsWritten};
 
 use crate::tree::Item;
 use std::marker::Model;
@@ -27,18 +24,19 @@ impl Model for Program {
 
     ghost coded = { Prim.hlevel (codes, statements.the_row.coded) };
 
-    ghost use Rattle.syntax.specs.Limits.{IsProgram};
+    ghost use Rattle.common.specs.declared.limits.TheConstants.{MAX_LEVELS};
+    ghost use Rattle.syntax.specs.Nesting.{IsNested};
     ghost use Rattle.syntax.specs.Tree.{program_tree};
 
     ghost view = { λ program. program.items.items };
 
-    ghost invariant = { λ program. IsProgram (program_tree program.items.items) };
+    ghost invariant = { λ program. IsNested MAX_LEVELS (program_tree program.items.items) };
 }
 
 impl Program {
-    /// The program of these items.
+    /// The program of these items. Precondition: they are nested at most 64 levels deep.
     pub fn new(items: Vec<Item>) -> Program
-        requires program { IsProgram (program_tree items.items) }
+        requires nested { IsNested MAX_LEVELS (program_tree items.items) }
         ensures same { result ≡ items.items }
     {
         Program { items }
@@ -48,11 +46,7 @@ impl Program {
     pub fn items(&self) -> &[Item]
         ensures same { result.now ≡ self.now }
 
-        // Names are names of at most 1 MiB, and integers are at most 2147483647.
-        ensures written { IsWritten Anywhere MAX_TEXT (program_tree self.now) }
-
-        // There are at most 1,048,577 nodes, nested at most 64 levels deep.
-        ensures few { program_nodes (program_tree self.now) ≤ most_nodes }
+        // They are nested at most 64 levels deep.
         ensures nested { IsNested MAX_LEVELS (program_tree self.now) }
     {
         self.items.as_slice()

@@ -1,6 +1,6 @@
 //! Sources of the whole language: what stands before labels is right, or the first fault is found at its byte.
 
-use acceptance::{Cause, EndDefect, LexDefect, NameDefect, ParseDefect};
+use acceptance::{Cause, EndDefect, LexDefect, ParseDefect, TypeDefect};
 use analysis::analyse;
 use common::OrNoMemory;
 use principals::Hierarchy;
@@ -10,48 +10,48 @@ use std::test::Fail;
 const SOURCES: [(&str, Option<(Cause, usize)>); 46] = [
     (
         "output{} pub; void main() { int a[0]; }",
-        Some((Cause::Name(NameDefect::ArraySize), 34)),
+        Some((Cause::Name(TypeDefect::ArraySize), 34)),
     ),
     ("void main() { int a[65536]; }", None),
     (
         "void main() { int a[65537]; }",
-        Some((Cause::Name(NameDefect::ArraySize), 20)),
+        Some((Cause::Name(TypeDefect::ArraySize), 20)),
     ),
     (
         "void main() { boolean b = 1 < 2 < 3; }",
-        Some((Cause::Name(NameDefect::WrongType), 26)),
+        Some((Cause::Name(TypeDefect::WrongType), 26)),
     ),
     (
         "void main() { main(1); }",
-        Some((Cause::Name(NameDefect::WrongArgumentCount), 14)),
+        Some((Cause::Name(TypeDefect::WrongArgumentCount), 14)),
     ),
     (
         "exception End; void main() { }",
-        Some((Cause::Name(NameDefect::DeclaredTwice), 10)),
+        Some((Cause::Name(TypeDefect::DeclaredTwice), 10)),
     ),
     (
         "void f() { }",
-        Some((Cause::Name(NameDefect::NoProperMain), 0)),
+        Some((Cause::Name(TypeDefect::NoProperMain), 0)),
     ),
     (
         "int{} main() { return 1; }",
-        Some((Cause::Name(NameDefect::NoProperMain), 6)),
+        Some((Cause::Name(TypeDefect::NoProperMain), 6)),
     ),
     (
         "void main(int{} n) { }",
-        Some((Cause::Name(NameDefect::NoProperMain), 5)),
+        Some((Cause::Name(TypeDefect::NoProperMain), 5)),
     ),
     (
         "output{} pub; void main() { send pub, x; }",
-        Some((Cause::Name(NameDefect::UnknownName), 38)),
+        Some((Cause::Name(TypeDefect::UnknownName), 38)),
     ),
     (
         "void main() { { int x = 1; } x = 2; }",
-        Some((Cause::Name(NameDefect::UnknownName), 29)),
+        Some((Cause::Name(TypeDefect::UnknownName), 29)),
     ),
     (
         "void main() { int x = 1; { int x = 2; } }",
-        Some((Cause::Name(NameDefect::DeclaredTwice), 31)),
+        Some((Cause::Name(TypeDefect::DeclaredTwice), 31)),
     ),
     (
         "void main() { { int x = 1; } { boolean x = true; } int x = 2; }",
@@ -59,43 +59,43 @@ const SOURCES: [(&str, Option<(Cause, usize)>); 46] = [
     ),
     (
         "void main() { int x = x; }",
-        Some((Cause::Name(NameDefect::UnknownName), 22)),
+        Some((Cause::Name(TypeDefect::UnknownName), 22)),
     ),
     (
         "void main() { int main = 1; }",
-        Some((Cause::Name(NameDefect::DeclaredTwice), 18)),
+        Some((Cause::Name(TypeDefect::DeclaredTwice), 18)),
     ),
     (
         "void f(int{} a, int{} a) { } void main() { }",
-        Some((Cause::Name(NameDefect::DeclaredTwice), 22)),
+        Some((Cause::Name(TypeDefect::DeclaredTwice), 22)),
     ),
     (
         "void main() { main = 1; }",
-        Some((Cause::Name(NameDefect::WrongUse), 14)),
+        Some((Cause::Name(TypeDefect::WrongUse), 14)),
     ),
     (
         "void main() { int a[2]; a = 1; }",
-        Some((Cause::Name(NameDefect::WrongUse), 24)),
+        Some((Cause::Name(TypeDefect::WrongUse), 24)),
     ),
     (
         "void main() { int x = 1; x[0] = 1; }",
-        Some((Cause::Name(NameDefect::WrongUse), 25)),
+        Some((Cause::Name(TypeDefect::WrongUse), 25)),
     ),
     (
         "input{} q; void main() { send q, 1; }",
-        Some((Cause::Name(NameDefect::WrongUse), 30)),
+        Some((Cause::Name(TypeDefect::WrongUse), 30)),
     ),
     (
         "output{} pub; void main() { receive pub; }",
-        Some((Cause::Name(NameDefect::WrongUse), 36)),
+        Some((Cause::Name(TypeDefect::WrongUse), 36)),
     ),
     (
         "global int{Bob:} g = 1; void main() { }",
-        Some((Cause::Name(NameDefect::UnknownPrincipal), 11)),
+        Some((Cause::Name(TypeDefect::UnknownPrincipal), 11)),
     ),
     (
         "global boolean{} g = 1; void main() { }",
-        Some((Cause::Name(NameDefect::WrongType), 21)),
+        Some((Cause::Name(TypeDefect::WrongType), 21)),
     ),
     (
         "global int{Alice:} g = -1; void main() { g = g + 1; }",
@@ -103,7 +103,7 @@ const SOURCES: [(&str, Option<(Cause, usize)>); 46] = [
     ),
     (
         "void main() { if (1) { } }",
-        Some((Cause::Name(NameDefect::WrongType), 18)),
+        Some((Cause::Name(TypeDefect::WrongType), 18)),
     ),
     ("void main() { while (true) { break; } }", None),
     (
@@ -145,31 +145,31 @@ const SOURCES: [(&str, Option<(Cause, usize)>); 46] = [
     ),
     (
         "int{} f() { return 1; } void main() { boolean b = f(); }",
-        Some((Cause::Name(NameDefect::WrongType), 50)),
+        Some((Cause::Name(TypeDefect::WrongType), 50)),
     ),
     (
         "void f() { } void main() { int x = f(); }",
-        Some((Cause::Name(NameDefect::WrongType), 35)),
+        Some((Cause::Name(TypeDefect::WrongType), 35)),
     ),
     (
         "void main() { boolean b = true && 1; }",
-        Some((Cause::Name(NameDefect::WrongType), 34)),
+        Some((Cause::Name(TypeDefect::WrongType), 34)),
     ),
     (
         "void main() { boolean b = 1 == true; }",
-        Some((Cause::Name(NameDefect::WrongType), 31)),
+        Some((Cause::Name(TypeDefect::WrongType), 31)),
     ),
     (
         "int{} f() { return; } void main() { }",
-        Some((Cause::Name(NameDefect::WrongType), 12)),
+        Some((Cause::Name(TypeDefect::WrongType), 12)),
     ),
     (
         "void main() { return 1; }",
-        Some((Cause::Name(NameDefect::WrongType), 21)),
+        Some((Cause::Name(TypeDefect::WrongType), 21)),
     ),
     (
         "input{} q; void main() { boolean b = receive q; }",
-        Some((Cause::Name(NameDefect::WrongType), 37)),
+        Some((Cause::Name(TypeDefect::WrongType), 37)),
     ),
     (
         "void main() { int x = ; }",
@@ -181,7 +181,7 @@ const SOURCES: [(&str, Option<(Cause, usize)>); 46] = [
     ),
     (
         "global int{} a[65536]; global int{} b[65536]; global int{} c[65536]; global int{} d[65536]; global int{} e[65536]; global int{} f[65536]; global int{} g[65536]; global int{} h[65536]; global int{} i[65536]; global int{} j[65536]; global int{} k[65536]; global int{} l[65536]; global int{} m[65536]; global int{} n[65536]; global int{} o[65536]; global int{} p[65536]; global int{} q = 1; void main() { }",
-        Some((Cause::Name(NameDefect::TooManyCells), 381)),
+        Some((Cause::Name(TypeDefect::TooManyCells), 381)),
     ),
 ];
 

@@ -2,7 +2,7 @@
 
 use common::limits::MAX_TEXT;
 use principals::laws::Relation;
-use principals::{Hierarchy, HierarchyFault, laws};
+use principals::{HierFault, Hierarchy, laws};
 use std::alloc::Global;
 use std::test::Fail;
 
@@ -62,7 +62,7 @@ fn a_copy_knows_who_acts_for_whom(rt: HostRuntime) -> Result<(), Fail> {
 }
 
 // Whether the hierarchy of one text contains that of another.
-fn contains(alloc: Global, all: &str, part: &str) -> Result<bool, HierarchyFault> {
+fn contains(alloc: Global, all: &str, part: &str) -> Result<bool, HierFault> {
     let all = Hierarchy::read(alloc, all)?;
     let part = Hierarchy::read(alloc, part)?;
     Ok(all.contains(&part))

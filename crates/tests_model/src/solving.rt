@@ -6,7 +6,7 @@ ghost use Rattle.std.specs.Prelude.{IfOk, [], length, ◌∷◌, ◌<◌, ◌≡
 use common::OrNoMemory;
 use labels::{Label, LabelLattice, Policy};
 use principals::Hierarchy;
-use solver::{Atom, Constraint, System, solve};
+use solver::{Atom, Constraint, Constraints, solve};
 use std::alloc::{AllocError, Global};
 use std::test::Fail;
 
@@ -31,14 +31,14 @@ fn flow(alloc: Global, left: Atom, right: Atom) -> Result<Constraint<u8>, AllocE
 }
 
 // The secret flows to an unknown, and that to the secret or to everybody.
-fn system(alloc: Global, to: u32) -> Result<System<Label, u8>, AllocError>
+fn system(alloc: Global, to: u32) -> Result<Constraints<Label, u8>, AllocError>
     requires { to < 2 }
     ensures { IfOk result (λ system. InRange (length system.written.items) system.unknowns
         system.constraints.items) }
 {
     let first = flow(alloc, Atom::Written(0), Atom::Unknown(0))?;
     let second = flow(alloc, Atom::Unknown(0), Atom::Written(to))?;
-    Ok(System {
+    Ok(Constraints {
         written: vec![in alloc; secret(alloc)?, Label::least(alloc)]?,
         unknowns: 1,
         constraints: vec![in alloc; first, second]?,

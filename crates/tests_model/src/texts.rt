@@ -1,6 +1,6 @@
 //! Places and names, and the law that each text is cut in one way.
 
-use lexer::{Place, find_place, is_name, one_reading};
+use lexer::{Place, is_name, one_reading, place};
 
 #[test]
 fn finds_places(rt: HostRuntime) {
@@ -12,7 +12,7 @@ fn finds_places(rt: HostRuntime) {
         ("", 0, 1, 1),
     ] {
         assert!(rt; text.is_char_boundary(at));
-        assert_eq!(rt; find_place(text, at), Place { line, column });
+        assert_eq!(rt; place(text, at), Place { line, column });
     }
 }
 
@@ -47,6 +47,6 @@ fn finds_a_place_far_down(rt: HostRuntime) -> Result<(), std::test::Fail> {
     let text = lines.as_str();
     assert!(rt; text.is_char_boundary(size));
     let line = size + 1;
-    assert_eq!(rt; find_place(text, size), Place { line, column: 1 });
+    assert_eq!(rt; place(text, size), Place { line, column: 1 });
     Ok(())
 }

@@ -1,23 +1,23 @@
 //! The number and the words of each defect and refusal.
 
-use bytecode::ModuleDefect;
+use bytecode::FormatRefusal;
 use channels::WorldDefect;
 use common::OrNoMemory;
 use host::{HostFault, HostRefusal};
 use machine::NewRefusal;
-use module_file::ModuleRefusal;
+use modules::FormatDefect;
 use std::test::Fail;
 use verifier::{CodeDefect, CodeRefusal, LoadRefusal};
 
 #[test]
 fn defects_of_bytes(rt: HostRuntime) {
     for (defect, number, words) in [
-        (ModuleDefect::Magic, 801, "magic"),
-        (ModuleDefect::Version, 802, "version"),
-        (ModuleDefect::Short, 803, "short"),
-        (ModuleDefect::BadValue, 804, "bad value"),
-        (ModuleDefect::NotCanonical, 805, "not canonical"),
-        (ModuleDefect::Trailing, 806, "trailing bytes"),
+        (FormatDefect::Magic, 801, "magic"),
+        (FormatDefect::Version, 802, "version"),
+        (FormatDefect::Short, 803, "short"),
+        (FormatDefect::BadValue, 804, "bad value"),
+        (FormatDefect::NotCanonical, 805, "not canonical"),
+        (FormatDefect::Trailing, 806, "trailing bytes"),
     ] {
         assert!(rt;
             defect.number() == number && defect.words() == words,
@@ -68,8 +68,8 @@ fn the_refusal_of_a_machine(rt: HostRuntime) -> Result<(), Fail> {
 
 #[test]
 fn refusals_of_a_host(rt: HostRuntime) -> Result<(), Fail> {
-    let in_bytes = ModuleRefusal {
-        defect: ModuleDefect::Trailing,
+    let in_bytes = FormatRefusal {
+        defect: FormatDefect::Trailing,
         offset: 9,
     };
     let in_code = CodeRefusal {

@@ -2,11 +2,11 @@
 //!
 //! Undisturbed these tests show that the calls answer; `tools/out-of-memory` runs them with each allocation refused in turn.
 
+use bytecode::decode;
 use channels::World;
 use common::OrNoMemory;
 use host::{Event, Host, HostFault, HostRefusal, Id, laws};
 use machine::Status;
-use module_file::decode;
 use std::alloc::Global;
 use std::test::Fail;
 

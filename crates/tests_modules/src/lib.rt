@@ -1,12 +1,12 @@
-//! Tests of `bytecode`, `channels`, `listing`, `verifier`, `machine` and `host`: what no row of the program `rows` reaches.
+//! Tests of `modules`, `bytecode`, `channels`, `listing`, `verifier`, `machine` and `host`: what no row of the program `rows` reaches.
 #![tactic(auto)]
 
 #[cfg(test)]
 mod faults;
 #[cfg(test)]
-mod hosts;
+mod files;
 #[cfg(test)]
-mod modules;
+mod hosts;
 #[cfg(test)]
 mod runs;
 #[cfg(test)]

@@ -1,10 +1,10 @@
 //! Runs of a machine, counted step by step.
 
-use bytecode::{Cell, Instruction, Module};
+use bytecode::{decode, encode};
 use channels::{Pair, World};
 use common::OrNoMemory;
 use machine::{Machine, NewFault, NewRefusal, Status};
-use module_file::{decode, encode};
+use modules::{Cell, Instruction, Module};
 use std::alloc::Global;
 use std::test::Fail;
 use verifier::{load, verify};

@@ -1,9 +1,9 @@
 //! Worlds, lists of what was sent, and sinks that fail.
 
-use bytecode::Module;
+use bytecode::decode;
 use channels::{Device, InputList, Pair, Sent, Sink, SinkFault, World, write_all, write_view};
 use common::OrNoMemory;
-use module_file::decode;
+use modules::Module;
 use std::alloc::Global;
 use std::io::Cursor;
 use std::test::Fail;

@@ -2,8 +2,8 @@
 
 use common::OrNoMemory;
 use flowc::{
-    Cause, CompileFault, EndDefect, HierarchyDefect, LexDefect, NameDefect, ParseDefect,
-    check_texts, compile,
+    Cause, EndDefect, Fault, HierarchyDefect, LexDefect, ParseDefect, TypeDefect, check_texts,
+    compile,
 };
 use std::alloc::Global;
 use std::test::Fail;
@@ -40,25 +40,25 @@ const CAUSES: [(Cause, u32, &str); 26] = [
         "unexpected token",
     ),
     (Cause::Parse(ParseDefect::TooDeep), 202, "nested too deep"),
-    (Cause::Name(NameDefect::UnknownName), 301, "unknown name"),
+    (Cause::Name(TypeDefect::UnknownName), 301, "unknown name"),
     (
-        Cause::Name(NameDefect::DeclaredTwice),
+        Cause::Name(TypeDefect::DeclaredTwice),
         302,
         "declared twice",
     ),
     (
-        Cause::Name(NameDefect::UnknownPrincipal),
+        Cause::Name(TypeDefect::UnknownPrincipal),
         303,
         "unknown principal",
     ),
-    (Cause::Name(NameDefect::NoProperMain), 304, "no proper main"),
-    (Cause::Name(NameDefect::WrongType), 401, "wrong type"),
+    (Cause::Name(TypeDefect::NoProperMain), 304, "no proper main"),
+    (Cause::Name(TypeDefect::WrongType), 401, "wrong type"),
     (
-        Cause::Name(NameDefect::WrongArgumentCount),
+        Cause::Name(TypeDefect::WrongArgumentCount),
         402,
         "wrong argument count",
     ),
-    (Cause::Name(NameDefect::WrongUse), 403, "wrong use"),
+    (Cause::Name(TypeDefect::WrongUse), 403, "wrong use"),
     (Cause::End(EndDefect::Unreachable), 501, "unreachable"),
     (
         Cause::End(EndDefect::NoValueReturned),
@@ -74,8 +74,8 @@ const CAUSES: [(Cause, u32, &str); 26] = [
     (Cause::End(EndDefect::OutsideLoop), 505, "not in a loop"),
     (Cause::FlowNotAllowed, 601, "flow not allowed"),
     (Cause::TextTooLong, 701, "text too long"),
-    (Cause::Name(NameDefect::ArraySize), 703, "array size"),
-    (Cause::Name(NameDefect::TooManyCells), 704, "too many cells"),
+    (Cause::Name(TypeDefect::ArraySize), 703, "array size"),
+    (Cause::Name(TypeDefect::TooManyCells), 704, "too many cells"),
 ];
 
 #[test]
@@ -90,7 +90,7 @@ fn has_a_number_and_words_for_each_cause(rt: HostRuntime) -> Result<(), Fail> {
 }
 
 // How many bytes a program is compiled to, or its fault.
-fn size_of(alloc: Global) -> Result<usize, CompileFault> {
+fn size_of(alloc: Global) -> Result<usize, Fault> {
     let source = b"output{} pub; void main() { send pub, 7; }";
     Ok(compile(alloc, b"", source)?.len())
 }

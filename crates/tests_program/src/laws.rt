@@ -35,11 +35,11 @@ fn laws_of_isolation(_rt: HostRuntime) {
 
 #[test]
 fn laws_of_compiling(_rt: HostRuntime) {
-    names::laws::found_programs_are_well_formed();
-    names::laws::item_names_are_proper_and_different();
-    names::laws::item_names_are_utf8();
-    names::laws::hierarchies_and_channel_labels_are_kept();
-    names::laws::numbers_read_as_names();
+    types::laws::found_programs_are_well_formed();
+    types::laws::item_names_are_proper_and_different();
+    types::laws::item_names_are_utf8();
+    types::laws::hierarchies_and_channel_labels_are_kept();
+    types::laws::numbers_read_as_names();
     layout::laws::layout_keeps_runs();
     lowering::laws::graphs_keep_meaning();
     lowering::laws::modules_keep_meaning();

@@ -3,7 +3,7 @@
 ghost use Rattle.std.specs.Prelude.{true};
 
 use channels::{Device, Sink, SinkFault};
-use flowc::{TaskResult, perform, read_task};
+use flowc::{Done, perform, task};
 use std::alloc::Global;
 use std::test::Fail;
 
@@ -31,8 +31,8 @@ impl Sink for Closed {
 }
 
 // Runs the module for a standard output that takes nothing, and leaves what goes to standard error in a list.
-fn run_closed<E: Sink>(alloc: Global, err: &mut E) -> Result<TaskResult, Fail> {
-    let asked = read_task(alloc, &["flowc", "run", "m.flob", "w.txt"])?;
+fn run_closed<E: Sink>(alloc: Global, err: &mut E) -> Result<Done, Fail> {
+    let asked = task(alloc, &["flowc", "run", "m.flob", "w.txt"])?;
     let files = [Vec::from_slice(alloc, &SEVEN)?, Vec::new(alloc)];
     Ok(perform(alloc, &asked, &files, &mut Closed, err))
 }

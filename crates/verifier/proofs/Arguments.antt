@@ -1,11 +1,11 @@
 -- The arguments of a call are popped the last one first: whole blocks, and then one after another.
 use Rattle.std.proofs.Common.{◌≡◌, ℕ, ◌+◌, ◌<◌, zero, suc, ◌*◌, ◌-◌, ◌≤◌, ◌/◌, List, [], ◌∷◌, ◌++◌, length, map, reverse, take, drop, get_or, min, Some, refl, sym, ap, ◌∙◌, arith, length-append}
 use Rattle.std.proofs.lemmas.List.{length-reverse, length-take, reverse-append, take_min, take_more}
-use Rattle.bytecode.specs.Machine.{kinds_of}
-use Rattle.bytecode.specs.declared.value.Kind.{Kind}
-use Rattle.bytecode.specs.declared.value.Kind.TheVariants.{Int}
-use Rattle.bytecode.specs.declared.declaration.Slot.{Slot}
-use Rattle.bytecode.specs.declared.declaration.Slot.TheVariants.{Scalar, Array}
+use Rattle.modules.specs.Machine.{kinds_of}
+use Rattle.modules.specs.declared.value.Kind.{Kind}
+use Rattle.modules.specs.declared.value.Kind.TheVariants.{Int}
+use Rattle.modules.specs.declared.declaration.Slot.{Slot}
+use Rattle.modules.specs.declared.declaration.Slot.TheVariants.{Scalar, Array}
 use Rattle.verifier.specs.Flow.{Effect, Leaves, Misses, all_popped, and_then, popped, slot_kind}
 use Rattle.verifier.specs.Operands.{bit, packed, blocks, full_blocks}
 use Rattle.verifier.specs.declared.fault.CodeDefect.{CodeDefect}

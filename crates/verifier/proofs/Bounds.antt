@@ -1,10 +1,10 @@
 -- What a module that has a spelling keeps to: lengths of four bytes, and a procedure in which a run may start.
 use Rattle.std.proofs.Common.{◌≡◌, ℕ, zero, suc, ◌<◌, ◌^◌, true, List, [], ◌∷◌, ◌++◌, length, slice_get, Some, None, subst}
-use Rattle.bytecode.specs.Code.{code_length}
-use Rattle.bytecode.specs.Contents.{ProcedureContents, ModuleContents}
-use Rattle.bytecode.specs.Form.{Fits, FitEach}
-use Rattle.bytecode.specs.Format.{may_start, main, handlers, procedure, procedures, program, contents, module_file}
-use Rattle.bytecode.proofs.Widths.{procedure_short}
+use Rattle.modules.specs.Code.{code_length}
+use Rattle.modules.specs.Contents.{ProcedureContents, ModuleContents}
+use Rattle.modules.specs.Form.{Fits, FitEach}
+use Rattle.modules.specs.Format.{may_start, main, handlers, procedure, procedures, program, contents, module_file}
+use Rattle.modules.proofs.Widths.{procedure_short}
 
 pub record IsBounded (m : ModuleContents) : Type 0 where
   pub few : length m.procedures < 2 ^ 32

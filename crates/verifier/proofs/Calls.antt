@@ -2,14 +2,14 @@
 use Rattle.std.proofs.Common.{◌≡◌, ℕ, zero, suc, ◌+◌, Bool, true, false, if◌then◌else◌, List, [], ◌∷◌, ◌++◌, length, map, reverse, slice_get, Option, Some, None, refl, sym, ap, ◌∙◌, subst, append-nil, append_assoc}
 use Rattle.std.specs.Prelude.{nat_lt, is_none, is_some}
 use Rattle.std.proofs.lemmas.List.{reverse-append}
-use Rattle.bytecode.specs.Code.{width_of, instruction_at}
-use Rattle.bytecode.specs.Contents.{ProcedureContents, ModuleContents}
-use Rattle.bytecode.specs.Machine as machine
-use Rattle.bytecode.specs.Machine.{State, Caller, Machine, Running, Ended, Deep, Header, machine_code, header_of, code_of, position_after, kinds_of}
-use Rattle.bytecode.specs.Values.{kind_of, is_same_kind}
-use Rattle.bytecode.specs.declared.instruction.Instruction.TheVariants.{Call, Return, ReturnValue}
-use Rattle.bytecode.specs.declared.value.Kind.{Kind}
-use Rattle.bytecode.specs.declared.value.Cell.{Cell}
+use Rattle.modules.specs.Code.{width_of, instruction_at}
+use Rattle.modules.specs.Contents.{ProcedureContents, ModuleContents}
+use Rattle.modules.specs.Machine as machine
+use Rattle.modules.specs.Machine.{State, Caller, Machine, Running, Ended, Deep, Header, machine_code, header_of, code_of, position_after, kinds_of}
+use Rattle.modules.specs.Values.{kind_of, is_same_kind}
+use Rattle.modules.specs.declared.instruction.Instruction.TheVariants.{Call, Return, ReturnValue}
+use Rattle.modules.specs.declared.value.Kind.{Kind}
+use Rattle.modules.specs.declared.value.Cell.{Cell}
 use Rattle.verifier.specs.Refusals.{HasNoDefect}
 use Rattle.verifier.specs.Flow.{Effect, Leaves, Misses, and_then, all_popped, effect, exchanged, called, pushed, value_kinds}
 use Rattle.verifier.specs.declared.fault.CodeDefect.TheVariants.{OperandKind}

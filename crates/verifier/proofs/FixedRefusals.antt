@@ -5,15 +5,15 @@ use Rattle.std.specs.List.{Contains}
 use Rattle.std.specs.Prelude.{◌&&◌, is_some, nat_lt}
 use Rattle.std.proofs.lemmas.Bool.{and_parts}
 use Rattle.std.proofs.lemmas.List.{drop_more}
-use Rattle.bytecode.specs.Code.{width_of, code_length, instruction_at}
-use Rattle.bytecode.specs.Contents.{ProcedureContents, ModuleContents}
-use Rattle.bytecode.specs.declared.instruction.Instruction.{Instruction}
-use Rattle.bytecode.specs.declared.declaration.Handler.{Handler}
+use Rattle.modules.specs.Code.{width_of, code_length, instruction_at}
+use Rattle.modules.specs.Contents.{ProcedureContents, ModuleContents}
+use Rattle.modules.specs.declared.instruction.Instruction.{Instruction}
+use Rattle.modules.specs.declared.declaration.Handler.{Handler}
 use Rattle.verifier.specs.Fixed.{instruction_defect, instruction_refusals, handler_defect, handler_refusals, procedure_refusals, fixed_refusals, refusals_at, unless, is_start, is_end, has_right_offsets}
 use Rattle.verifier.specs.Verified.{own_refusals}
-use Rattle.bytecode.specs.declared.instruction.Instruction.TheVariants.{Jump, JumpIfFalse}
-use Rattle.bytecode.specs.Machine.{machine_code}
-use Rattle.bytecode.specs.Targets.{target_of}
+use Rattle.modules.specs.declared.instruction.Instruction.TheVariants.{Jump, JumpIfFalse}
+use Rattle.modules.specs.Machine.{machine_code}
+use Rattle.modules.specs.Targets.{target_of}
 use Rattle.verifier.specs.Boundaries.{IsBoundary, KeepsBoundaries}
 use Rattle.verifier.specs.declared.fault.CodeDefect.{CodeDefect}
 use Rattle.verifier.specs.declared.fault.CodeDefect.TheVariants as defect

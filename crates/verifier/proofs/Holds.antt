@@ -3,15 +3,15 @@ use Rattle.common.specs.Functions.{updated}
 use Rattle.std.proofs.Common.{◌≡◌, ℕ, zero, suc, ◌==◌, Bool, true, false, if◌then◌else◌, List, [], ◌∷◌, length, map, take, replicate, slice_get, slice_set, Option, Some, None, refl, sym, ap, ◌∙◌, subst, pos, negsuc, ℤ}
 use Rattle.std.specs.Prelude.{nat_lt}
 use Rattle.std.proofs.lemmas.Bool.{eqb-true}
-use Rattle.bytecode.specs.Machine.{element_at, with_element, scalar_cell, first_cells, first_slot, first_slots, first_global, slot_of, cells_of_global, kinds_of}
-use Rattle.bytecode.specs.Values.{kind_of, zero_of, is_same_kind}
-use Rattle.bytecode.specs.declared.value.Kind.{Kind}
-use Rattle.bytecode.specs.declared.value.Kind.TheVariants as kind
-use Rattle.bytecode.specs.declared.value.Cell.{Cell}
-use Rattle.bytecode.specs.declared.declaration.Slot.{Slot}
-use Rattle.bytecode.specs.declared.declaration.Slot.TheVariants as slot
-use Rattle.bytecode.specs.declared.declaration.Global.{Global}
-use Rattle.bytecode.specs.declared.declaration.Global.TheVariants as global
+use Rattle.modules.specs.Machine.{element_at, with_element, scalar_cell, first_cells, first_slot, first_slots, first_global, slot_of, cells_of_global, kinds_of}
+use Rattle.modules.specs.Values.{kind_of, zero_of, is_same_kind}
+use Rattle.modules.specs.declared.value.Kind.{Kind}
+use Rattle.modules.specs.declared.value.Kind.TheVariants as kind
+use Rattle.modules.specs.declared.value.Cell.{Cell}
+use Rattle.modules.specs.declared.declaration.Slot.{Slot}
+use Rattle.modules.specs.declared.declaration.Slot.TheVariants as slot
+use Rattle.modules.specs.declared.declaration.Global.{Global}
+use Rattle.modules.specs.declared.declaration.Global.TheVariants as global
 use Rattle.verifier.specs.Flow.{slot_kind}
 
 abbrev pub AllOf : Kind → List Cell → Type 0

@@ -3,13 +3,13 @@ use Rattle.common.specs.Functions.{updated}
 use Rattle.std.proofs.Common.{◌≡◌, ◌≢◌, ◌⊎◌, inl, inr, ℕ, ◌==◌, Bool, true, false, if◌then◌else◌, List, [], ◌∷◌, Option, Some, None, refl, sym, ap, ◌∙◌, subst, arith}
 use Rattle.std.proofs.lemmas.Bool.Decides.{nat_tests}
 use Rattle.std.proofs.lemmas.Bool.{eqb-true, cases_eq}
-use Rattle.bytecode.specs.Contents.{ProcedureContents, ModuleContents}
-use Rattle.bytecode.specs.Code.{code_length, instruction_at}
-use Rattle.bytecode.specs.declared.value.Kind.{Kind}
-use Rattle.bytecode.specs.declared.instruction.Instruction.{Instruction}
+use Rattle.modules.specs.Contents.{ProcedureContents, ModuleContents}
+use Rattle.modules.specs.Code.{code_length, instruction_at}
+use Rattle.modules.specs.declared.value.Kind.{Kind}
+use Rattle.modules.specs.declared.instruction.Instruction.{Instruction}
 use Rattle.verifier.specs.declared.fault.CodeDefect.{CodeDefect}
 use Rattle.verifier.specs.Flow.{Edge, Flow, starts, grows, nowhere, effect, Misses, IsOperandDefect, misses, meets, falls, FlowsWell, between}
-use Rattle.bytecode.specs.declared.value.Kind.TheVariants.{Int, Boolean}
+use Rattle.modules.specs.declared.value.Kind.TheVariants.{Int, Boolean}
 use Rattle.verifier.specs.declared.fault.CodeDefect.TheVariants.{FallsOffEnd}
 
 -- a table that is finished: it has the start, keeps every edge, each of its instructions finds its operands, and none is at the end

@@ -2,18 +2,18 @@
 use Rattle.std.proofs.Common.{◌≡◌, inl, inr, ℕ, zero, suc, ◌==◌, Bool, true, false, if◌then◌else◌, List, [], ◌∷◌, map, slice_get, Option, Some, None, refl, sym, ap, ◌∙◌, subst}
 use Rattle.std.specs.Prelude.{ℤ, nat_lt, is_none, is_some}
 use Rattle.std.proofs.lemmas.Bool.{and_parts}
-use Rattle.bytecode.specs.Code.{instruction_at}
-use Rattle.bytecode.specs.Contents.{ProcedureContents, ModuleContents}
-use Rattle.bytecode.specs.Machine as machine
-use Rattle.bytecode.specs.Machine.{State, Machine, Running, Ended, Stuck, machine_code, header_of, code_of, slots_of, slot_at, slots_in, with_slot, with_global, first_state, first_slots, act, acts, step, exec, after_steps}
-use Rattle.bytecode.specs.Format.{may_start}
-use Rattle.bytecode.specs.Values.{kind_of}
-use Rattle.bytecode.specs.declared.instruction.Instruction.{Instruction}
-use Rattle.bytecode.specs.declared.instruction.Instruction.TheVariants.{Push, PushBoolean, Pop, Load, Store, LoadGlobal, StoreGlobal, LoadElement, StoreElement, LoadGlobalElement, StoreGlobalElement, Clear, Compute, Negate, Not, Compare, SameBoolean, OtherBoolean, Jump, JumpIfFalse, Call, Return, ReturnValue, Receive, Send, Throw}
-use Rattle.bytecode.specs.declared.value.Kind.{Kind}
-use Rattle.bytecode.specs.declared.value.Cell.{Cell}
-use Rattle.bytecode.specs.declared.value.Cell.TheVariants as cell
-use Rattle.bytecode.specs.declared.declaration.Slot.{Slot}
+use Rattle.modules.specs.Code.{instruction_at}
+use Rattle.modules.specs.Contents.{ProcedureContents, ModuleContents}
+use Rattle.modules.specs.Machine as machine
+use Rattle.modules.specs.Machine.{State, Machine, Running, Ended, Stuck, machine_code, header_of, code_of, slots_of, slot_at, slots_in, with_slot, with_global, first_state, first_slots, act, acts, step, exec, after_steps}
+use Rattle.modules.specs.Format.{may_start}
+use Rattle.modules.specs.Values.{kind_of}
+use Rattle.modules.specs.declared.instruction.Instruction.{Instruction}
+use Rattle.modules.specs.declared.instruction.Instruction.TheVariants.{Push, PushBoolean, Pop, Load, Store, LoadGlobal, StoreGlobal, LoadElement, StoreElement, LoadGlobalElement, StoreGlobalElement, Clear, Compute, Negate, Not, Compare, SameBoolean, OtherBoolean, Jump, JumpIfFalse, Call, Return, ReturnValue, Receive, Send, Throw}
+use Rattle.modules.specs.declared.value.Kind.{Kind}
+use Rattle.modules.specs.declared.value.Cell.{Cell}
+use Rattle.modules.specs.declared.value.Cell.TheVariants as cell
+use Rattle.modules.specs.declared.declaration.Slot.{Slot}
 use Rattle.verifier.specs.Refusals.{HasNoDefect}
 use Rattle.verifier.specs.Fixed.{instruction_defect, is_scalar, is_array, is_input, is_output}
 use Rattle.verifier.specs.Flow.{Edge, next, jumps, caught, Flow, starts, grows, nowhere, Effect, Leaves, Misses, and_then, effect, slot_kind}

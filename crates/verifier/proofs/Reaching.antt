@@ -7,13 +7,13 @@ use Rattle.std.proofs.lemmas.List.{length-replicate, get_or-set_same, get_or-set
 use Rattle.std.proofs.lemmas.List.Elements.{Contains-append_left, Contains-push, Contains-push_cases}
 use Rattle.std.proofs.Math.ListN.{length-set}
 use Rattle.std.proofs.lemmas.Bool.{cases_lt, eqb-true, cases_eq}
-use Rattle.bytecode.specs.Contents.{ProcedureContents, ModuleContents}
-use Rattle.bytecode.specs.Code.{width_of, code_length, instruction_at}
-use Rattle.bytecode.specs.declared.value.Kind.{Kind}
-use Rattle.bytecode.specs.declared.declaration.Handler.{Handler}
-use Rattle.bytecode.specs.declared.instruction.Instruction.{Instruction}
+use Rattle.modules.specs.Contents.{ProcedureContents, ModuleContents}
+use Rattle.modules.specs.Code.{width_of, code_length, instruction_at}
+use Rattle.modules.specs.declared.value.Kind.{Kind}
+use Rattle.modules.specs.declared.declaration.Handler.{Handler}
+use Rattle.modules.specs.declared.instruction.Instruction.{Instruction}
 use Rattle.verifier.specs.declared.fault.CodeDefect.{CodeDefect}
-use Rattle.bytecode.specs.Targets.{target_of}
+use Rattle.modules.specs.Targets.{target_of}
 use Rattle.verifier.specs.Flow.{Edge, next, jumps, caught, Flow, starts, nowhere, grows, misses, meets, falls, IsOperandDefect, FlowsWell, between, effect, all_popped, pushed, exchanged, signature, is_own, and_then, Leaves, Misses, goes_on}
 use Rattle.verifier.specs.Operands.{list_of, IsLonger}
 use Rattle.verifier.specs.Boundaries.{IsBoundary, KeepsBoundaries}

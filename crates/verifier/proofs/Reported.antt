@@ -1,6 +1,6 @@
 -- What the verifier reports.
 use Rattle.std.proofs.Common.{◌≡◌, inl, inr, ℕ, zero, suc, ◌+◌, ◌<◌, List, [], ◌∷◌, ◌++◌, length, get_or, slice_get, Some, None, sym, ap, ◌∙◌, subst, arith}
-use Rattle.bytecode.specs.Contents.{ProcedureContents, ModuleContents}
+use Rattle.modules.specs.Contents.{ProcedureContents, ModuleContents}
 use Rattle.verifier.specs.Refusals.{HasNoDefect, IsOperandRefusal, IsCodeRefusal, IsCodeRefusalAfter}
 use Rattle.verifier.specs.Fixed.{fixed_refusals}
 use Rattle.verifier.specs.Flow.{FlowsWell, IsOperandDefect}

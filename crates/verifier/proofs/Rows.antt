@@ -1,25 +1,25 @@
 -- Each instruction without a defect that finds its operands has a row, and leads to a state of a run again.
 use Rattle.common.specs.Functions.{updated}
 use Rattle.std.proofs.Common.{◌≡◌, ℕ, Bool, true, false, if◌then◌else◌, List, [], ◌∷◌, ◌++◌, map, replicate, Option, Some, None, refl, sym, ap, ◌∙◌, subst, ℤ}
-use Rattle.bytecode.specs.Contents.{ProcedureContents, ModuleContents}
-use Rattle.bytecode.specs.Machine as machine
-use Rattle.bytecode.specs.Machine.{State, Caller, Machine, Running, Ended, Stuck, Deep, Header, machine_code, header_of, code_of, slots_of, slot_at, with_slot, with_global, element_at, with_element, computed, first_slots, kinds_of}
+use Rattle.modules.specs.Contents.{ProcedureContents, ModuleContents}
+use Rattle.modules.specs.Machine as machine
+use Rattle.modules.specs.Machine.{State, Caller, Machine, Running, Ended, Stuck, Deep, Header, machine_code, header_of, code_of, slots_of, slot_at, with_slot, with_global, element_at, with_element, computed, first_slots, kinds_of}
 use Rattle.common.specs.declared.exceptions.TheConstants.{ARITH, BOUNDS, END}
-use Rattle.bytecode.specs.Values.{kind_of, zero_of, is_same_kind}
-use Rattle.bytecode.specs.declared.instruction.Arithmetic.{Arithmetic}
-use Rattle.bytecode.specs.declared.instruction.Comparison.{Comparison}
-use Rattle.bytecode.specs.declared.instruction.Instruction.{Instruction}
-use Rattle.bytecode.specs.declared.value.Kind.{Kind}
-use Rattle.bytecode.specs.declared.value.Kind.TheVariants as kind
-use Rattle.bytecode.specs.declared.value.Cell.{Cell}
-use Rattle.bytecode.specs.declared.value.Cell.TheVariants as cell
-use Rattle.bytecode.specs.declared.declaration.Slot.{Slot}
-use Rattle.bytecode.specs.declared.declaration.Slot.TheVariants as slot
+use Rattle.modules.specs.Values.{kind_of, zero_of, is_same_kind}
+use Rattle.modules.specs.declared.instruction.Arithmetic.{Arithmetic}
+use Rattle.modules.specs.declared.instruction.Comparison.{Comparison}
+use Rattle.modules.specs.declared.instruction.Instruction.{Instruction}
+use Rattle.modules.specs.declared.value.Kind.{Kind}
+use Rattle.modules.specs.declared.value.Kind.TheVariants as kind
+use Rattle.modules.specs.declared.value.Cell.{Cell}
+use Rattle.modules.specs.declared.value.Cell.TheVariants as cell
+use Rattle.modules.specs.declared.declaration.Slot.{Slot}
+use Rattle.modules.specs.declared.declaration.Slot.TheVariants as slot
 use Rattle.common.specs.declared.direction.Direction.{Direction}
 use Rattle.common.specs.declared.direction.Direction.TheVariants.{Input, Output}
 use Rattle.verifier.specs.Refusals.{HasNoDefect}
 use Rattle.verifier.specs.Fixed.{is_scalar, is_array, is_input, is_output}
-use Rattle.bytecode.specs.Targets.{target_of}
+use Rattle.modules.specs.Targets.{target_of}
 use Rattle.verifier.specs.Flow.{Effect, Leaves, Misses, and_then, all_popped, effect, goes_on, pushed, slot_kind}
 use Rattle.verifier.specs.declared.fault.CodeDefect.TheVariants.{OperandKind}
 use Rattle.verifier.proofs.Holds.{AllOf, same_of, all_zero, element_kind, with_element_kind, scalar_kind}

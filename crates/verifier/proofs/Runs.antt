@@ -5,18 +5,18 @@ use Rattle.std.specs.Prelude.{◌&&◌, not, nat_lt}
 use Rattle.std.specs.List.{Contains}
 use Rattle.std.proofs.lemmas.Bool.{and_parts}
 use Rattle.std.proofs.lemmas.Bool.Decides.{nat_tests}
-use Rattle.bytecode.specs.Code.{width_of, instruction_at}
-use Rattle.bytecode.specs.Contents.{ProcedureContents, ModuleContents}
-use Rattle.bytecode.specs.Machine as machine
-use Rattle.bytecode.specs.Machine.{State, Frame, Caller, Machine, Running, Ended, Stuck, Finished, Threw, Deep, machine_code, header_of, code_of, handlers_of, handler_for, position_after, handled, unwound, raised, leaves, leaves_value, new_frame, slots_of, slot_of}
-use Rattle.bytecode.specs.Values.{kind_of}
-use Rattle.bytecode.specs.declared.instruction.Instruction.{Instruction}
-use Rattle.bytecode.specs.declared.instruction.Instruction.TheVariants.{Call}
-use Rattle.bytecode.specs.declared.value.Kind.{Kind}
-use Rattle.bytecode.specs.declared.value.Cell.{Cell}
-use Rattle.bytecode.specs.declared.declaration.Handler.{Handler}
+use Rattle.modules.specs.Code.{width_of, instruction_at}
+use Rattle.modules.specs.Contents.{ProcedureContents, ModuleContents}
+use Rattle.modules.specs.Machine as machine
+use Rattle.modules.specs.Machine.{State, Frame, Caller, Machine, Running, Ended, Stuck, Finished, Threw, Deep, machine_code, header_of, code_of, handlers_of, handler_for, position_after, handled, unwound, raised, leaves, leaves_value, new_frame, slots_of, slot_of}
+use Rattle.modules.specs.Values.{kind_of}
+use Rattle.modules.specs.declared.instruction.Instruction.{Instruction}
+use Rattle.modules.specs.declared.instruction.Instruction.TheVariants.{Call}
+use Rattle.modules.specs.declared.value.Kind.{Kind}
+use Rattle.modules.specs.declared.value.Cell.{Cell}
+use Rattle.modules.specs.declared.declaration.Handler.{Handler}
 use Rattle.verifier.specs.Refusals.{HasNoDefect}
-use Rattle.bytecode.specs.Targets.{target_of}
+use Rattle.modules.specs.Targets.{target_of}
 use Rattle.verifier.specs.Flow.{next, jumps, caught, Leaves, effect, goes_on, pushed, FlowsWell}
 use Rattle.verifier.proofs.Holds.{Holds}
 use Rattle.verifier.proofs.Laws.{IsInFlow, along_in_flow}

@@ -7,8 +7,8 @@ use Rattle.std.proofs.lemmas.Bool.{cases_eq}
 use Rattle.std.specs.Prelude.{IfSome}
 use Rattle.verifier.specs.Operands.{list_of, packed, spelled, HasAbove, IsLink, IsShared}
 use Rattle.verifier.specs.declared.operands.Link.{Link}
-use Rattle.bytecode.specs.declared.value.Kind.{Kind}
-use Rattle.bytecode.specs.declared.value.Kind.TheVariants.{Int, Boolean}
+use Rattle.modules.specs.declared.value.Kind.{Kind}
+use Rattle.modules.specs.declared.value.Kind.TheVariants.{Int, Boolean}
 use Rattle.common.proofs.Cases.{last_cases}
 
 pub spelled_push : (lists : List (List Kind)) (links : List Link) (link : Link) → spelled lists (links ++ link ∷ []) ≡ spelled lists links ++ (link.kind ∷ list_of (spelled lists links) link.below) ∷ []

@@ -1,11 +1,11 @@
 -- The frames of a run have no more operands than the greatest depth of their procedures.
 use Rattle.std.proofs.Common.{◌≡◌, ℕ, zero, suc, ◌<◌, ◌≤◌, List, length, map, get_or, slice_get, Option, Some, None, sym, ◌∙◌, subst, arith}
 use Rattle.std.proofs.lemmas.List.{length-map}
-use Rattle.bytecode.specs.Contents.{ProcedureContents, ModuleContents}
-use Rattle.bytecode.specs.Machine.{Caller, Frame, Machine}
-use Rattle.bytecode.specs.Values.{kind_of}
-use Rattle.bytecode.specs.declared.instruction.Instruction.TheVariants.{Call}
-use Rattle.bytecode.specs.declared.value.Kind.{Kind}
+use Rattle.modules.specs.Contents.{ProcedureContents, ModuleContents}
+use Rattle.modules.specs.Machine.{Caller, Frame, Machine}
+use Rattle.modules.specs.Values.{kind_of}
+use Rattle.modules.specs.declared.instruction.Instruction.TheVariants.{Call}
+use Rattle.modules.specs.declared.value.Kind.{Kind}
 use Rattle.verifier.specs.Depth.{IsMet, IsWithinDepth, FramesAreWithin, IsNeverDeeper, found, left}
 use Rattle.verifier.specs.Refusals.{HasNoDefect}
 use Rattle.verifier.specs.Flow.{pushed}

@@ -1,12 +1,12 @@
--- Where control may go: to an instruction's first byte, or to the end of the code.
+-- Private: where control may go: to an instruction's first byte, or to the end of the code.
 -- Source: our own.
 use Rattle.std.specs.Prelude.{◌≡◌, ℕ, ◌+◌, Some, ◌⊎◌}
 use Rattle.std.specs.List.{Contains}
-use Rattle.bytecode.specs.Contents.{ProcedureContents}
-use Rattle.bytecode.specs.Code.{width_of, code_length, instruction_at}
-use Rattle.bytecode.specs.declared.instruction.Instruction.{Instruction}
-use Rattle.bytecode.specs.declared.declaration.Handler.{Handler}
-use Rattle.bytecode.specs.Targets.{target_of}
+use Rattle.modules.specs.Contents.{ProcedureContents}
+use Rattle.modules.specs.Code.{width_of, code_length, instruction_at}
+use Rattle.modules.specs.declared.instruction.Instruction.{Instruction}
+use Rattle.modules.specs.declared.declaration.Handler.{Handler}
+use Rattle.modules.specs.Targets.{target_of}
 
 -- an instruction's offset, or the end
 abbrev pub IsBoundary : ProcedureContents → ℕ → Type 0

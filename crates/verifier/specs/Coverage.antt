@@ -1,8 +1,8 @@
--- Handlers by the offsets that they cover: a tree over their ends, in the order of their starts.
+-- Private: handlers by the offsets that they cover: a tree over their ends, in the order of their starts.
 -- Source: our own; a tree in which each node is the greater one of its children.
 use Rattle.std.specs.Prelude.{◌≡◌, ℕ, zero, suc, ◌+◌, ◌≤◌, ◌<◌, List, length, slice_index_or, ◌⊎◌}
 use Rattle.std.specs.List.Sorted.{IsNonDecreasingBy, IsPermutation}
-use Rattle.bytecode.specs.declared.declaration.Handler.{Handler}
+use Rattle.modules.specs.declared.declaration.Handler.{Handler}
 use Rattle.verifier.specs.declared.coverage.Coverage.{Coverage}
 use Rattle.verifier.specs.declared.ends.Ends.{Ends}
 

@@ -1,7 +1,7 @@
 -- The number and the words of what is wrong in a module's code, and of what bytes are refused for.
 -- Source: our own.
 use Rattle.std.specs.Prelude.{ℕ, List, codes}
-use Rattle.bytecode.specs.Defects.{module_defect_number, module_defect_words}
+use Rattle.modules.specs.Defects.{module_defect_number, module_defect_words}
 use Rattle.verifier.specs.declared.fault.CodeDefect.{CodeDefect}
 use Rattle.verifier.specs.declared.fault.CodeDefect.TheVariants.{Jump, OperandKind, OperandDepth, SlotOrIndex, FallsOffEnd}
 use Rattle.verifier.specs.declared.loading.LoadRefusal.{LoadRefusal}

@@ -2,11 +2,11 @@
 -- Source: our own; the greatest depth of operands that a class file of the Java virtual machine has for a method, found and not written.
 use Rattle.std.specs.Prelude.{◌≡◌, ℕ, ℤ, ◌≤◌, List, length, slice_get, Option, Some}
 use Rattle.std.specs.List.{Contains}
-use Rattle.bytecode.specs.Contents.{ProcedureContents, ModuleContents}
-use Rattle.bytecode.specs.Code.{instruction_at}
-use Rattle.bytecode.specs.Machine.{Caller, Frame, Machine, Running, Ended, Stuck, after_steps}
-use Rattle.bytecode.specs.declared.instruction.Instruction.{Instruction}
-use Rattle.bytecode.specs.declared.value.Kind.{Kind}
+use Rattle.modules.specs.Contents.{ProcedureContents, ModuleContents}
+use Rattle.modules.specs.Code.{instruction_at}
+use Rattle.modules.specs.Machine.{Caller, Frame, Machine, Running, Ended, Stuck, after_steps}
+use Rattle.modules.specs.declared.instruction.Instruction.{Instruction}
+use Rattle.modules.specs.declared.value.Kind.{Kind}
 use Rattle.verifier.specs.Flow.{Flow, Leaves, effect}
 
 -- the kinds of operands that an instruction finds or leaves, by the tables that the flow may give

@@ -1,10 +1,10 @@
 -- Which bytes are loaded: they spell a module whose code has no defect; and why others are not.
 -- Source: our own.
 use Rattle.std.specs.Prelude.{◌≡◌, ℕ, List, Some}
-use Rattle.bytecode.specs.Contents.{ModuleContents}
-use Rattle.bytecode.specs.Form.{Spells}
-use Rattle.bytecode.specs.Format.{module_file}
-use Rattle.module_file.specs.Decoded.{first_refusal}
+use Rattle.modules.specs.Contents.{ModuleContents}
+use Rattle.modules.specs.Form.{Spells}
+use Rattle.modules.specs.Format.{module_file}
+use Rattle.bytecode.specs.Decoded.{first_refusal}
 use Rattle.verifier.specs.Refusals.{HasNoDefect, IsCodeRefusal}
 use Rattle.verifier.specs.declared.loading.LoadRefusal.{LoadRefusal}
 use Rattle.verifier.specs.declared.loading.LoadRefusal.TheVariants.{Bytes, Code}

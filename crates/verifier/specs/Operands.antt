@@ -1,8 +1,8 @@
--- Lists of kinds that are kept once each, and go by their numbers; and kinds as bits, of which 64 are compared at once.
+-- Private: lists of kinds that are kept once each, and go by their numbers; and kinds as bits, of which 64 are compared at once.
 -- Source: our own.
 use Rattle.std.specs.Prelude.{◌≡◌, ◌≢◌, ℕ, zero, suc, ◌+◌, ◌*◌, ◌/◌, ◌<◌, ◌≤◌, List, [], ◌∷◌, ◌++◌, drop, length, max, slice_index_or, Option, Some, None}
-use Rattle.bytecode.specs.declared.value.Kind.{Kind}
-use Rattle.bytecode.specs.declared.value.Kind.TheVariants.{Int, Boolean}
+use Rattle.modules.specs.declared.value.Kind.{Kind}
+use Rattle.modules.specs.declared.value.Kind.TheVariants.{Int, Boolean}
 use Rattle.verifier.specs.declared.operands.Link.{Link}
 
 abbrev pub list_of : List (List Kind) → ℕ → List Kind

@@ -1,8 +1,8 @@
--- The parameters of a procedure, as a call pops them: in blocks of 64 kinds.
+-- Private: the parameters of a procedure, as a call pops them: in blocks of 64 kinds.
 -- Source: our own.
 use Rattle.std.specs.Prelude.{ℕ, List, reverse}
-use Rattle.bytecode.specs.Contents.{ProcedureContents}
-use Rattle.bytecode.specs.Machine.{header_of}
+use Rattle.modules.specs.Contents.{ProcedureContents}
+use Rattle.modules.specs.Machine.{header_of}
 use Rattle.verifier.specs.Operands.{full_blocks}
 
 -- the kinds of the parameters, the last one first, in all blocks that they fill

@@ -2,7 +2,7 @@
 -- operands; and which of them a verifier reports.
 -- Source: our own; the rules are those of a bytecode verifier, as that of the Java virtual machine.
 use Rattle.std.specs.Prelude.{◌≡◌, List, [], ◌∷◌, slice_get, Some}
-use Rattle.bytecode.specs.Contents.{ProcedureContents, ModuleContents}
+use Rattle.modules.specs.Contents.{ProcedureContents, ModuleContents}
 use Rattle.verifier.specs.Fixed.{fixed_refusals}
 use Rattle.verifier.specs.Flow.{IsOperandDefect}
 use Rattle.verifier.specs.declared.fault.CodeRefusal.{CodeRefusal}

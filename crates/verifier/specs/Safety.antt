@@ -1,8 +1,8 @@
 -- What a verified module promises: no step of any run of it lacks a row of the machine's table.
 -- Source: our own; the promise is that of a bytecode verifier, as that of the Java virtual machine.
 use Rattle.std.specs.Prelude.{ℕ, List, ℤ}
-use Rattle.bytecode.specs.Contents.{ModuleContents}
-use Rattle.bytecode.specs.Machine.{Machine, Running, Ended, Stuck, after_steps}
+use Rattle.modules.specs.Contents.{ModuleContents}
+use Rattle.modules.specs.Machine.{Machine, Running, Ended, Stuck, after_steps}
 
 abbrev pub HasRow : Machine → Type 0
 HasRow (Running s) = Unit {0}

@@ -1,11 +1,12 @@
 -- What is known of a module that was verified, and of each procedure that was looked at.
 -- Source: our own.
 use Rattle.std.specs.Prelude.{◌≡◌, ℕ, List, [], ◌∷◌, ◌++◌, map, slice_get, slice_index_or, Option, Some, None}
-use Rattle.bytecode.specs.Contents.{ProcedureContents, ModuleContents}
+use Rattle.modules.specs.Contents.{ProcedureContents, ModuleContents}
 use Rattle.verifier.specs.Depth.{IsGreatestDepth}
 use Rattle.verifier.specs.Refusals.{HasNoDefect}
 use Rattle.verifier.specs.Fixed.{instruction_refusals, handler_refusals}
 use Rattle.verifier.specs.Flow.{FlowsWell, IsOperandDefect}
+use Rattle.verifier.specs.Index.{indexes_of}
 use Rattle.verifier.specs.Safety.{IsNeverStuck}
 use Rattle.verifier.specs.Positions.{VerifiedCode, positioned, positioned_codes}
 use Rattle.verifier.specs.declared.fault.CodeRefusal.{CodeRefusal}
@@ -14,11 +15,13 @@ pub record IsVerified (m : ModuleContents) : Type 0 where
   pub no_defect : HasNoDefect m
   pub never_stuck : IsNeverStuck m
 
--- the same beside the code of each procedure, with positions as targets, and the greatest number of its operands
-pub record HasCodes (m : ModuleContents) (codes : List VerifiedCode) : Type 0 where
+-- the same beside the code of each procedure, with positions as targets, the greatest number of its operands, and the index of
+-- its code
+pub record HasCodes (m : ModuleContents) (codes : List VerifiedCode) (indexes : List (List (Option ℕ))) : Type 0 where
   pub verified : IsVerified m
   pub codes_are : map (λ code. code.instructions) codes ≡ positioned_codes m
   pub depths : (k : ℕ) (p : ProcedureContents) (d : VerifiedCode) → slice_get m.procedures k ≡ Some p → IsGreatestDepth m p (slice_index_or codes k d).greatest_depth
+  pub indexes_are : indexes ≡ indexes_of m
 
 -- the fixed refusals of a procedure with a number: instructions by offset, then handlers in order
 abbrev pub own_refusals : ModuleContents → ℕ → ProcedureContents → List CodeRefusal

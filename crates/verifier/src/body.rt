@@ -1,12 +1,12 @@
 //! A procedure as the search for defects looks at it.
 
-ghost use Rattle.bytecode.specs.Code.{code_length, instruction_at};
+ghost use Rattle.modules.specs.Code.{code_length, instruction_at};
 ghost use Rattle.std.specs.Prelude.{IfOk, ◌<◌, ◌^◌, ◌≡◌};
 ghost use Rattle.verifier.specs.Search.{IsSearchableBody};
 
 use crate::index::Index;
 use crate::parameters::PackedModule;
-use bytecode::{Instruction, Procedure};
+use modules::{Instruction, Procedure};
 use std::alloc::{AllocError, Global};
 
 /// A procedure of a module, and the index of its code.

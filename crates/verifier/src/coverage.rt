@@ -1,12 +1,12 @@
 //! The handlers of a procedure, by the offsets that they cover.
 
-ghost use Rattle.bytecode.specs.declared.declaration.Handler.{Handler as TheHandler};
+ghost use Rattle.modules.specs.declared.declaration.Handler.{Handler as TheHandler};
 ghost use Rattle.std.specs.List.{Contains};
 ghost use Rattle.std.specs.Prelude.{IfNone, IfOk, IfSome, length, ℕ, ◌<◌, ◌^◌, ◌≡◌, ◌⊎◌, ◌≤◌};
 ghost use Rattle.verifier.specs.Coverage.{IsCoverage, IsSortedByStart, Waits, left};
 
 use crate::ends::Ends;
-use bytecode::Handler;
+use modules::Handler;
 use std::alloc::{AllocError, Global};
 
 /// The handlers of a procedure, of which some wait until control comes to an offset that they cover.

@@ -1,7 +1,7 @@
 //! From the bytes of a module file to a verified module.
-ghost use Rattle.bytecode.specs.Contents.{ModuleContents};
-ghost use Rattle.bytecode.specs.Form.{Spells};
-ghost use Rattle.bytecode.specs.Format.{module_file};
+ghost use Rattle.modules.specs.Contents.{ModuleContents};
+ghost use Rattle.modules.specs.Form.{Spells};
+ghost use Rattle.modules.specs.Format.{module_file};
 ghost use Rattle.common.specs.Answers.{Answers, IfRefused};
 ghost use Rattle.std.specs.Prelude.{◌≡◌, IfErr, IfOk, Some};
 ghost use Rattle.verifier.specs.Refusals.{HasNoDefect};
@@ -11,8 +11,8 @@ ghost use Rattle.verifier.specs.declared.loading.LoadRefusal.TheVariants.{Bytes,
 
 use crate::fault::CodeRefusal;
 use crate::verified::{Verified, verify};
+use bytecode::{FormatRefusal, decode};
 use common::OrNoMemory;
-use module_file::{ModuleRefusal, decode};
 use std::alloc::Global;
 use std::error::Error;
 use std::fmt;
@@ -21,7 +21,7 @@ use std::fmt;
 #[derive(Clone, Copy, Debug, PartialEq, Eq)]
 pub enum LoadRefusal {
     /// 801 to 806: the bytes spell no module.
-    Bytes(ModuleRefusal),
+    Bytes(FormatRefusal),
     /// 811 to 815: the module is refused for this in its code.
     Code(CodeRefusal),
 }
@@ -61,10 +61,10 @@ impl Error for LoadRefusal {}
 /// Why bytes were not loaded.
 pub type LoadFault = OrNoMemory<LoadRefusal>;
 
-impl From<ModuleRefusal> for LoadRefusal {
+impl From<FormatRefusal> for LoadRefusal {
     ghost from_gives = { λ refusal given. given ≡ Bytes refusal };
 
-    fn from(refusal: ModuleRefusal) -> LoadRefusal {
+    fn from(refusal: FormatRefusal) -> LoadRefusal {
         LoadRefusal::Bytes(refusal)
     }
 }

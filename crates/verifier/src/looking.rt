@@ -11,25 +11,32 @@ ghost use Rattle.verifier.specs.Verified.{HasCodes, AddsVerifiedCode, IsRefusalO
 use crate::body::Body;
 use crate::fault::{CodeRefusal, VerifyFault};
 use crate::fixed::find_body_refusal;
+use crate::index::Index;
 use crate::parameters::PackedModule;
 use crate::positions::Code;
 use crate::search::{FlowRefusal, find_defect};
 use common::OrNoMemory;
 use std::alloc::Global;
 
-/// Looks for a defect of a module's code, and answers the code of each procedure where there is none.
+/// What is kept of the procedures of a module: the code of each, and the index of that code.
+#[derive(Drop)]
+pub(crate) struct Kept {
+    pub codes: Vec<Code>,
+    pub indexes: Vec<Index>,
+}
+
+/// Looks for a defect of a module's code, and answers what is kept of each procedure where there is none.
 ///
 /// A defect that an instruction or a handler has by itself is reported before each one of the flow. So past one of
 /// the flow the search goes on, for those alone.
-pub(crate) fn look_for_defects(
-    alloc: Global,
-    program: &PackedModule,
-) -> Result<Vec<Code>, VerifyFault>
-    ensures accepted { IfOk result (λ codes. HasCodes program.now codes.items) }
+pub(crate) fn look_for_defects(alloc: Global, program: &PackedModule) -> Result<Kept, VerifyFault>
+    ensures accepted { IfOk result (λ kept. HasCodes program.now kept.codes.items
+        kept.indexes.items) }
     ensures rejected { IfErr result (IfRefused (IsCodeRefusal program.now)) }
 {
     let procedures = program.procedures();
     let mut codes = Vec::new(alloc);
+    let mut indexes = Vec::new(alloc);
     let mut found = None;
     let mut number = 0;
     for procedure in procedures {
@@ -38,10 +45,11 @@ pub(crate) fn look_for_defects(
             return Err(OrNoMemory::Refused(refusal));
         }
         found = look_for_flow_refusal(alloc, &body, number, found, &mut codes)?;
+        indexes.push(body.index)?;
         number += 1;
     }
     match found {
-        None => Ok(codes),
+        None => Ok(Kept { codes, indexes }),
         Some(refusal) => Err(OrNoMemory::Refused(refusal)),
     }
 }

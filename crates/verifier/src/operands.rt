@@ -3,10 +3,10 @@
 ghost use Rattle.verifier.specs.Flow.{Leaves, Misses, all_popped, between, popped};
 ghost use Rattle.verifier.specs.Operands.{bit, full_blocks, greatest, list_of, packed, IsLonger};
 ghost use Rattle.std.specs.Prelude.{◌≡◌, ◌≢◌, ◌+◌, ◌*◌, ◌<◌, ◌≤◌, ◌^◌, ℕ, List, Some, ◌∷◌, [], IfOk, IfErr, IfNone, IfSome, OnOk, drop, length, map};
-ghost use Rattle.bytecode.specs.declared.value.Kind.{Kind};
+ghost use Rattle.modules.specs.declared.value.Kind.{Kind};
 
 use crate::fault::CodeDefect;
-use bytecode::Kind;
+use modules::Kind;
 use std::alloc::{AllocError, Global};
 use std::marker::Model;
 
@@ -76,7 +76,7 @@ pub struct Operands {
 
 impl Model for Operands {
     ghost use Rattle.verifier.specs.Operands.{IsShared, spelled};
-    ghost use Rattle.bytecode.specs.declared.value.Kind.{Kind};
+    ghost use Rattle.modules.specs.declared.value.Kind.{Kind};
     ghost use Rattle.std.specs.Prelude.{List, [], ◌∷◌};
 
     ghost Value = { List (List Kind) };

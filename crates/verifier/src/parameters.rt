@@ -1,16 +1,16 @@
 //! The parameters of procedures, as calls pop them.
 
-ghost use Rattle.bytecode.specs.Contents.{ProcedureContents};
-ghost use Rattle.bytecode.specs.Form.{Fits};
-ghost use Rattle.bytecode.specs.Format.{module_file};
-ghost use Rattle.bytecode.specs.Machine.{kinds_of};
+ghost use Rattle.modules.specs.Contents.{ProcedureContents};
+ghost use Rattle.modules.specs.Form.{Fits};
+ghost use Rattle.modules.specs.Format.{module_file};
+ghost use Rattle.modules.specs.Machine.{kinds_of};
 ghost use Rattle.std.specs.Prelude.{Some, ◌<◌, ◌≤◌, ◌≡◌, IfOk, length, map, reverse, slice_get, string_bytes, take};
 ghost use Rattle.verifier.specs.Flow as flow;
 ghost use Rattle.verifier.specs.Operands.{packed};
 ghost use Rattle.verifier.specs.Parameters.{parameter_blocks};
 
 use crate::operands::bit_of;
-use bytecode::{Channel, Global as Variable, Kind, Module, Procedure, Slot};
+use modules::{Channel, Global as Variable, Kind, Module, Procedure, Slot};
 use std::alloc::{AllocError, Global};
 use std::marker::Model;
 
@@ -72,7 +72,7 @@ pub(crate) struct PackedModule {
 }
 
 impl Model for PackedModule {
-    ghost use Rattle.bytecode.specs.Contents.{ModuleContents};
+    ghost use Rattle.modules.specs.Contents.{ModuleContents};
     ghost use Rattle.std.specs.Prelude.{◌≡◌, map};
     ghost use Rattle.verifier.specs.Parameters.{parameter_blocks};
 

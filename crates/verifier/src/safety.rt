@@ -1,8 +1,8 @@
 //! Laws: what it means that a module's code has a defect, or none.
 
-ghost use Rattle.bytecode.specs.Contents.{ModuleContents};
-ghost use Rattle.bytecode.specs.Form.{Fits};
-ghost use Rattle.bytecode.specs.Format.{module_file};
+ghost use Rattle.modules.specs.Contents.{ModuleContents};
+ghost use Rattle.modules.specs.Form.{Fits};
+ghost use Rattle.modules.specs.Format.{module_file};
 ghost use Rattle.verifier.specs.Depth.{IsNeverDeeper};
 ghost use Rattle.verifier.specs.Refusals.{HasNoDefect, IsCodeRefusal};
 ghost use Rattle.verifier.specs.Positions.{ReadsAsCode};

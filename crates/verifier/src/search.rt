@@ -1,14 +1,14 @@
 //! The search for a defect of the flow of operands: from the start along each edge, one list of kinds for each offset.
 
-ghost use Rattle.bytecode.specs.Code.{code_length, instruction_at, width_of};
-ghost use Rattle.bytecode.specs.Contents.{ModuleContents, ProcedureContents};
-ghost use Rattle.bytecode.specs.declared.declaration.Handler.{Handler};
-ghost use Rattle.bytecode.specs.declared.value.Kind.{Kind};
+ghost use Rattle.modules.specs.Code.{code_length, instruction_at, width_of};
+ghost use Rattle.modules.specs.Contents.{ModuleContents, ProcedureContents};
+ghost use Rattle.modules.specs.declared.declaration.Handler.{Handler};
+ghost use Rattle.modules.specs.declared.value.Kind.{Kind};
 ghost use Rattle.common.specs.Answers.{IfRefused};
 ghost use Rattle.common.specs.declared.fault.OrNoMemory.TheVariants.{Refused};
 ghost use Rattle.std.specs.List.{Contains};
 ghost use Rattle.std.specs.Prelude.{List, Some, false, true, ℕ, [], ◌≡◌, ◌+◌, ◌<◌, ◌≤◌, ◌^◌, ◌∷◌, IfErr, IfOk, OnOk, length};
-ghost use Rattle.bytecode.specs.Targets as targets;
+ghost use Rattle.modules.specs.Targets as targets;
 ghost use Rattle.verifier.specs.Flow as flow;
 ghost use Rattle.verifier.specs.Flow.{FlowsWell};
 ghost use Rattle.verifier.specs.Depth.{IsGreatestDepth};
@@ -23,8 +23,8 @@ use crate::fault::CodeDefect;
 use crate::numbers::Numbers;
 use crate::operands::Operands;
 use crate::work::Work;
-use bytecode::Instruction;
 use common::OrNoMemory;
+use modules::Instruction;
 use std::alloc::Global;
 
 /// A refusal for a defect of the flow of a procedure: what is wrong, and the offset where.

@@ -1,17 +1,19 @@
-ghost use Rattle.bytecode.specs.Machine.{code_of};
+ghost use Rattle.modules.specs.Machine.{code_of};
 ghost use Rattle.std.specs.Prelude.{IfErr, IfOk, OnOk, Some, length, slice_get, ◌<◌, ◌≡◌};
-ghost use Rattle.bytecode.specs.Contents.{ProcedureContents};
+ghost use Rattle.modules.specs.Contents.{ProcedureContents};
 ghost use Rattle.common.specs.Answers.{IfRefused};
 ghost use Rattle.verifier.specs.Depth.{IsGreatestDepth};
+ghost use Rattle.verifier.specs.Index.{indexes_of};
 ghost use Rattle.verifier.specs.Refusals.{HasNoDefect, IsCodeRefusal};
 ghost use Rattle.verifier.specs.Safety.{IsNeverStuck};
 ghost use Rattle.verifier.specs.Positions.{positioned};
 
 use crate::fault::VerifyFault;
-use crate::looking::look_for_defects;
+use crate::index::Index;
+use crate::looking::{Kept, look_for_defects};
 use crate::parameters::PackedModule;
 use crate::positions::Code;
-use bytecode::{Instruction, Module};
+use modules::{Instruction, Module};
 use std::alloc::Global;
 use std::marker::Model;
 
@@ -20,19 +22,20 @@ use std::marker::Model;
 #[derive(Debug, Drop)]
 pub struct Verified {
     inner: Module,
-    // The code of each procedure.
+    // The code of each procedure, and the index of that code.
     codes: Vec<Code>,
+    indexes: Vec<Index>,
 }
 
 impl Model for Verified {
-    ghost use Rattle.bytecode.specs.Contents.{ModuleContents};
+    ghost use Rattle.modules.specs.Contents.{ModuleContents};
     ghost use Rattle.verifier.specs.Verified.{HasCodes};
 
     ghost Value = { ModuleContents };
 
     ghost view = { λ v. v.inner };
 
-    ghost invariant = { λ v. HasCodes v.inner v.codes.items };
+    ghost invariant = { λ v. HasCodes v.inner v.codes.items v.indexes.items };
 }
 
 impl Verified {
@@ -52,6 +55,13 @@ impl Verified {
         ensures { result.now ≡ positioned (code_of (slice_get self.now.procedures procedure)) }
     {
         self.codes[procedure as usize].instructions()
+    }
+
+    /// For each procedure the index of its code. It takes no memory.
+    pub fn indexes(&self) -> &[Index]
+        ensures { result.now ≡ indexes_of self.now }
+    {
+        &self.indexes
     }
 
     /// The greatest number of operands that an instruction of a procedure finds or leaves, where control reaches it. No frame of
@@ -77,9 +87,10 @@ pub fn verify(alloc: Global, program: Module) -> Result<Verified, VerifyFault>
     ensures rejected { IfErr result (IfRefused (IsCodeRefusal program)) }
 {
     let packed = PackedModule::new(alloc, program)?;
-    let codes = look_for_defects(alloc, &packed)?;
+    let Kept { codes, indexes } = look_for_defects(alloc, &packed)?;
     Ok(Verified {
         inner: packed.into_module(),
         codes,
+        indexes,
     })
 }

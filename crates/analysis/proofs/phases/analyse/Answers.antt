@@ -7,14 +7,18 @@ use Rattle.common.proofs.Casting.{cast-answer, map-answer, mapped-ok}
 use Rattle.syntax.specs.Tree.{program_tree}
 use Rattle.resolved.specs.CoreOf.{program_of}
 use Rattle.resolved.specs.EndFaults.{end_faults}
-use Rattle.names.specs.Finding.{IsRefusalOf, give}
-use Rattle.names.specs.Resolution.{resolution}
+use Rattle.types.specs.Finding.{IsRefusalOf, give}
+use Rattle.types.specs.Resolution.{resolution}
 use Rattle.path_map.specs.FirstFault.{IsFirstEndFault}
 use Rattle.acceptance.specs.Accepted.{IsResolvedFrom, IsTreeOf}
 use Rattle.acceptance.specs.Refused.{IsNoText, NoText}
+use Rattle.acceptance.proofs.ProperNames.{tree_of_text}
 use Rattle.analysis.specs.Reported.{IsSourceRefusal, of_bytes}
 use Rattle.analysis.proofs.Faults.{named, ended}
 use Rattle.analysis.proofs.phases.analyse.Goals as goal
+
+pub resolve-requires : goal.resolve-requires
+resolve-requires c = record { of_text = tree_of_text _ _ c.in_ok-tree.ensures.spelled }
 
 pub returns-in_err-text-clause-first_fault : goal.returns-in_err-text-clause-first_fault
 returns-in_err-text-clause-first_fault c =
@@ -64,7 +68,7 @@ returns-in_err-ends-clause-first_fault c =
     } in
     rw (p.1, p.2) (IfErr-at_err (IfRefused (IsSourceRefusal h source)) c.in_err-ends.was
     (cast-answer (IsFirstEndFault (end_faults program)) (IsSourceRefusal h source) (λ r s is first. rw is (ended h source program r from first))
-    c.find_ends.result c.map_err-3.result c.map_err-3.ensures.cases c.find_ends.ensures.first_fault))
+    c.ends.result c.map_err-3.result c.map_err-3.ensures.cases c.ends.ensures.first_fault))
 
 pub returns-clause-resolved : goal.returns-clause-resolved
 returns-clause-resolved c =

@@ -6,7 +6,6 @@ use Rattle.common.proofs.Casting.{cast-answer, mapped-ok}
 use Rattle.lexer.specs.Cut.{IsCut, IsTextRefused}
 use Rattle.lexer.specs.Terminal.{terminals_of}
 use Rattle.parser.specs.Refusal.{AreTokensRefused}
-use Rattle.parser.proofs.Spelled.{cut_of_text}
 use Rattle.analysis.specs.Reported.{IsSourceRefusal}
 use Rattle.analysis.proofs.Faults.{lexed, parsed}
 use Rattle.analysis.proofs.phases.read.Goals as goal
@@ -30,11 +29,3 @@ returns-in_err-tree-clause-first_fault c = λ h.
     (cast-answer (AreTokensRefused (terminals_of c.as_slice.result.now)) (IsSourceRefusal h source)
     (λ r s is refused. rw is (parsed h source (terminals_of c.as_slice.result.now) r c.requires.text (rw c.as_slice.ensures.value cut) refused))
     c.parse.result c.map_err-2.result c.map_err-2.ensures.cases c.parse.ensures.first_fault))
-
-pub parse-requires-clause-of_text : goal.parse-requires-clause-of_text
-parse-requires-clause-of_text c =
-    let source = c.args.source.now in
-    let tokens = c.in_ok-tokens.tokens in
-    let cut : IsCut source (terminals_of tokens.items) =
-    mapped-ok c.lex.result (Ok tokens) tokens (λ found. IsCut source (terminals_of found.items)) refl c.in_ok-tokens.ensures.cases (λ fault no. no) c.lex.ensures.accepted in
-    rw c.as_slice.ensures.value (cut_of_text source (terminals_of tokens.items) c.utf8.source cut c.requires.text.short)

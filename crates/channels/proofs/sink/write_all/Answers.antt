@@ -1,6 +1,7 @@
 use Rattle.std.proofs.Common.{◌≡◌, ℕ, ◌-◌, List, ◌++◌, length, take, drop, ap, ◌∙◌, sym, append_assoc, take-append-drop, length-drop}
 use Rattle.std.proofs.Math.Seq.{take-length}
 use Rattle.std.proofs.KnownBytes.{Appends-trans}
+use Rattle.channels.proofs.Sinks.{not_failed}
 use Rattle.channels.proofs.sink.write_all.Goals as goal
 
 -- what was taken of the rest stands behind the front, and the rest of it is left
@@ -18,4 +19,5 @@ loop-rest-preserved g c = (
   c.loop-rest.invariant.0 ++ take c.in_ok-count.count c.loop-rest.rest.now,
   moved _ c.loop-rest.rest.now _ _ c.loop-rest.invariant.1,
   Appends-trans _ _ _ _ _ c.loop-rest.invariant.2 c.in_ok-count.ensures.taken,
+  c.in_ok-count.ensures.fails ∙ not_failed _ _ _ c.if-count-eq0.false ∙ c.loop-rest.invariant.3,
 )

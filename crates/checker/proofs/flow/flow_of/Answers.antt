@@ -3,7 +3,7 @@ use Rattle.std.specs.Prelude.{Contains, Option, flat_map}
 use Rattle.labels.specs.Label.{Label, ReaderPolicy, Covers}
 use Rattle.labels.specs.Constraints.{label_lattice}
 use Rattle.resolved.specs.declared.target.Target.{Target}
-use Rattle.solver.specs.declared.system.Constraint.{Constraint}
+use Rattle.solver.specs.declared.constraints.Constraint.{Constraint}
 use Rattle.checker.specs.Reported.{report_at, reported_by}
 use Rattle.checker.proofs.Refusals.{index-inside, last-read, right-written, flow-fails, right-inside, labels-read, last_of, flow-reported}
 use Rattle.checker.proofs.flow.flow_of.Goals as goal

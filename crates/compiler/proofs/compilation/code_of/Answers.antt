@@ -1,6 +1,6 @@
 use Rattle.std.proofs.Common.{ap, ◌∙◌, subst}
-use Rattle.bytecode.specs.Form.{Fits}
-use Rattle.bytecode.specs.Format.{module_file}
+use Rattle.modules.specs.Form.{Fits}
+use Rattle.modules.specs.Format.{module_file}
 use Rattle.layout.specs.Offsets.{laid_out}
 use Rattle.resolved.specs.CoreOf.{program_of}
 use Rattle.compiler.proofs.Coding.{code_of_module}

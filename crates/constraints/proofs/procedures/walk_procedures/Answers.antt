@@ -1,11 +1,16 @@
 use Rattle.std.proofs.Common.{arith, ◌≡◌, ◌<◌, ◌≤◌, length, get_or, refl, subst}
 use Rattle.resolved.specs.declared.tables.Procedure.{Procedure}
+use Rattle.resolved.specs.CoreOf.{program_of}
+use Rattle.path_map.specs.Paths.{program_paths}
+use Rattle.path_map.proofs.Alike.{alike-exits}
+use Rattle.path_map.proofs.Pieces.{paths-found}
+use Rattle.constraints.specs.Ready.{entries_of}
 use Rattle.constraints.proofs.Bodies.{exceptions-numbered, next-ready, passed-added, passed-next, passed-none, passed-number, procedures-numbered}
 use Rattle.constraints.proofs.procedures.walk_procedures.Goals as goal
 
 pub loop-i-init : goal.loop-i-init
 loop-i-init c =
-    passed-none c.args.table.now.core.now c.args.table.now.written.items c.args.ends.now.entries.items _ _ c.requires.mapped refl refl c.new.ensures.items
+    passed-none c.args.table.now.core.now c.args.table.now.written.items (entries_of c.args.ends.now) _ _ (alike-exits c.args.ends.now (program_paths (program_of c.args.table.now.core.now)) (paths-found (program_of c.args.table.now.core.now) c.args.ends.now c.requires.mapped)) refl refl c.new.ensures.items
     (c.in_ok-vec.ensures.items_if_clones_equal (λ y e. e))
     (omega (arith, c.len.ensures, c.args.table.now.core.now.exceptions.ok.0))
 
@@ -13,7 +18,7 @@ pub loop-i-preserved : goal.loop-i-preserved
 loop-i-preserved c =
     let core = c.args.table.now.core.now in
     let table = c.args.table.now.written.items in
-    let entries = c.args.ends.now.entries.items in
+    let entries = (entries_of c.args.ends.now) in
     let i = c.loop-i.i in
     let procedure : Procedure = c.procedure-item.result in
     passed-next core table entries i procedure c.loop-i.progress c.add_procedure.new.progress
@@ -23,18 +28,18 @@ loop-i-preserved c =
 
 pub returns-clause-added : goal.returns-clause-added
 returns-clause-added c =
-    passed-added c.args.table.now.core.now c.args.table.now.written.items c.args.ends.now.entries.items c.loop-i.i c.loop-i.progress
+    passed-added c.args.table.now.core.now c.args.table.now.written.items (entries_of c.args.ends.now) c.loop-i.i c.loop-i.progress
     (subst (λ list. length list ≤ c.loop-i.i) c.deref-procedure-items.ensures.value c.loop-i-test.false) c.loop-i.invariant
 
 pub returns-clause-number : goal.returns-clause-number
 returns-clause-number c =
-    passed-number c.args.table.now.core.now c.args.table.now.written.items c.args.ends.now.entries.items c.loop-i.i c.loop-i.progress
+    passed-number c.args.table.now.core.now c.args.table.now.written.items (entries_of c.args.ends.now) c.loop-i.i c.loop-i.progress
     (subst (λ list. length list ≤ c.loop-i.i) c.deref-procedure-items.ensures.value c.loop-i-test.false) c.loop-i.invariant
 
 pub add_procedure-requires : goal.add_procedure-requires
 add_procedure-requires c =
     let core = c.args.table.now.core.now in
-    let entries = c.args.ends.now.entries.items in
+    let entries = (entries_of c.args.ends.now) in
     let i = c.loop-i.i in
     let procedure : Procedure = c.procedure-item.result in
     next-ready core c.args.table.now.written.items entries i procedure c.loop-i.progress

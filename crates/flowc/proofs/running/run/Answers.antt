@@ -1,5 +1,5 @@
 use Rattle.std.proofs.Common.{◌∙◌, ap, option_map}
-use Rattle.bytecode.specs.Contents.{ModuleContents}
+use Rattle.modules.specs.Contents.{ModuleContents}
 use Rattle.flowc.proofs.Cut.{appended_all, can_run, cut_off, ends_so, shows_run}
 use Rattle.flowc.proofs.Reporting.{observer_message, start_message, unwritten_message, unwritten_status}
 use Rattle.flowc.specs.Messages.{IsRefusedLine}

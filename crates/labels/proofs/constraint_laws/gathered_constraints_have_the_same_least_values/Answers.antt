@@ -5,7 +5,7 @@ use Rattle.labels.proofs.constraint_laws.gathered_constraints_have_the_same_leas
 
 -- reaching asks nothing of the order
 abbrev flat : {V : Type 0} → V → Lattice V
-flat v = record { lies_below = λ a b. true; join = λ a b. v; least = v }
+flat v = record { leq = λ a b. true; join = λ a b. v; least = v }
 
 flat-laws : {V : Type 0} (v : V) → LatticeLaws (flat v)
 flat-laws v = record {

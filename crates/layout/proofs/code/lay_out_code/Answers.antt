@@ -1,6 +1,6 @@
 use Rattle.std.proofs.Common.{◌∙◌}
 use Rattle.layout.specs.Offsets.{offset}
-use Rattle.bytecode.specs.Targets.{renamed_instruction}
+use Rattle.modules.specs.Targets.{renamed_instruction}
 use Rattle.layout.proofs.Tables.{instruction-by_table, made_more}
 use Rattle.layout.proofs.code.lay_out_code.Goals as goal
 

@@ -1,6 +1,6 @@
 use Rattle.std.proofs.Common.{◌≡◌, map, take}
 use Rattle.layout.specs.Offsets.{offset}
-use Rattle.bytecode.specs.Targets.{renamed_instruction}
+use Rattle.modules.specs.Targets.{renamed_instruction}
 use Rattle.layout.proofs.code.lay_out_code.Given as goal
 
 -- the instructions so far

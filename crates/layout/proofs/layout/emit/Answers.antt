@@ -1,9 +1,9 @@
 use Rattle.std.proofs.Common.{◌≡◌, ◌^◌, ◌<◌, List, All, map, sym, subst, rules}
 use Rattle.std.specs.String.{string_bytes}
-use Rattle.bytecode.specs.Contents.{ProcedureContents, ModuleContents}
-use Rattle.bytecode.specs.Code.{code_length}
-use Rattle.bytecode.specs.Form.{Fits}
-use Rattle.bytecode.specs.Format.{module_file}
+use Rattle.modules.specs.Contents.{ProcedureContents, ModuleContents}
+use Rattle.modules.specs.Code.{code_length}
+use Rattle.modules.specs.Form.{Fits}
+use Rattle.modules.specs.Format.{module_file}
 use Rattle.layout.specs.Graph.{HasPositions}
 use Rattle.layout.specs.Offsets.{laid_out}
 use Rattle.layout.specs.Starts.{HasStarts}

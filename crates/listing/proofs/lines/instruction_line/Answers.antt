@@ -3,7 +3,7 @@ use Rattle.std.specs.Fmt.{◌++?◌, format_spec, padded_integral, styled_digits
 use Rattle.std.specs.Option.{option_map}
 use Rattle.std.specs.Prelude.{codes}
 use Rattle.std.specs.String.{string_bytes}
-use Rattle.bytecode.specs.Opcodes.{instruction_text}
+use Rattle.modules.specs.Opcodes.{instruction_text}
 use Rattle.listing.proofs.Formatted.{formatted, instruction_words}
 use Rattle.listing.proofs.lines.instruction_line.Goals as goal
 

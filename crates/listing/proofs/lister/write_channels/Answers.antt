@@ -9,10 +9,12 @@ returns-in_err-write_all-clause-prefix g c =
     on_err c.from_residual-in_err-write_all.result _
     (cut _ _ _ _ _ _ _
     (lines_next (channel_line c.args.hierarchy.now) c.args.channels.now c.loop-channel.channel-index _ _ c.loop-channel-test.true (c.as_bytes.ensures.value ∙ c.in_ok-line.ensures ∙ ap (channel_line c.args.hierarchy.now) c.channel-item.is))
-    c.loop-channel.invariant c.in_err-write_all.ensures.prefix)
+    c.loop-channel.invariant.listed c.in_err-write_all.ensures.prefix)
 
 pub loop-channel-preserved : goal.loop-channel-preserved
-loop-channel-preserved g c =
-    went_on _ _ _ _ _ _ _
-    (lines_next (channel_line c.args.hierarchy.now) c.args.channels.now c.loop-channel.channel-index _ _ c.loop-channel-test.true (c.as_bytes.ensures.value ∙ c.in_ok-line.ensures ∙ ap (channel_line c.args.hierarchy.now) c.channel-item.is))
-    c.loop-channel.invariant c.in_ok-write_all.ensures.accepted
+loop-channel-preserved g c = record {
+  listed = went_on _ _ _ _ _ _ _
+      (lines_next (channel_line c.args.hierarchy.now) c.args.channels.now c.loop-channel.channel-index _ _ c.loop-channel-test.true (c.as_bytes.ensures.value ∙ c.in_ok-line.ensures ∙ ap (channel_line c.args.hierarchy.now) c.channel-item.is))
+      c.loop-channel.invariant.listed c.in_ok-write_all.ensures.accepted;
+  kept = c.in_ok-write_all.ensures.kept ∙ c.loop-channel.invariant.kept;
+}

@@ -8,13 +8,14 @@ returns-in_err-write_all-clause-prefix g c =
     on_err c.from_residual-in_err-write_all.result _
     (cut _ _ _ _ _ _ _
     (code_next c.args.code.now c.loop-instruction.instruction-index c.loop-instruction.offset _ _ _ c.loop-instruction-test.true (c.as_bytes.ensures.value ∙ c.in_ok-line.ensures) refl)
-    c.loop-instruction.invariant.0 c.in_err-write_all.ensures.prefix)
+    c.loop-instruction.invariant.listed c.in_err-write_all.ensures.prefix)
 
 pub loop-instruction-preserved : goal.loop-instruction-preserved
-loop-instruction-preserved g c = (
-  went_on _ _ _ _ _ _ _
+loop-instruction-preserved g c = record {
+  listed = went_on _ _ _ _ _ _ _
       (code_next c.args.code.now c.loop-instruction.instruction-index c.loop-instruction.offset _ _ _ c.loop-instruction-test.true (c.as_bytes.ensures.value ∙ c.in_ok-line.ensures) c.width-offset.ensures)
-      c.loop-instruction.invariant.0 c.in_ok-write_all.ensures.accepted,
-  code_left c.args.code.now c.loop-instruction.instruction-index c.loop-instruction.offset _ _ c.loop-instruction-test.true c.width-offset.ensures
-      c.loop-instruction.invariant.1,
-)
+      c.loop-instruction.invariant.listed c.in_ok-write_all.ensures.accepted;
+  left = code_left c.args.code.now c.loop-instruction.instruction-index c.loop-instruction.offset _ _ c.loop-instruction-test.true c.width-offset.ensures
+      c.loop-instruction.invariant.left;
+  kept = c.in_ok-write_all.ensures.kept ∙ c.loop-instruction.invariant.kept;
+}

@@ -9,10 +9,12 @@ returns-in_err-write_all-clause-prefix g c =
     on_err c.from_residual-in_err-write_all.result _
     (cut _ _ _ _ _ _ _
     (lines_next handler_line c.args.handlers.now c.loop-handler.handler-index _ _ c.loop-handler-test.true (c.as_bytes.ensures.value ∙ c.in_ok-line.ensures))
-    c.loop-handler.invariant c.in_err-write_all.ensures.prefix)
+    c.loop-handler.invariant.listed c.in_err-write_all.ensures.prefix)
 
 pub loop-handler-preserved : goal.loop-handler-preserved
-loop-handler-preserved g c =
-    went_on _ _ _ _ _ _ _
-    (lines_next handler_line c.args.handlers.now c.loop-handler.handler-index _ _ c.loop-handler-test.true (c.as_bytes.ensures.value ∙ c.in_ok-line.ensures))
-    c.loop-handler.invariant c.in_ok-write_all.ensures.accepted
+loop-handler-preserved g c = record {
+  listed = went_on _ _ _ _ _ _ _
+      (lines_next handler_line c.args.handlers.now c.loop-handler.handler-index _ _ c.loop-handler-test.true (c.as_bytes.ensures.value ∙ c.in_ok-line.ensures))
+      c.loop-handler.invariant.listed c.in_ok-write_all.ensures.accepted;
+  kept = c.in_ok-write_all.ensures.kept ∙ c.loop-handler.invariant.kept;
+}

@@ -1,7 +1,7 @@
 use Rattle.std.proofs.Common.{refl, sym}
 use Rattle.std.proofs.lemmas.Result.{on_err_weaker}
 use Rattle.channels.proofs.Views.{on_err}
-use Rattle.bytecode.proofs.Widths.{all_short}
+use Rattle.modules.proofs.Widths.{all_short}
 use Rattle.channels.proofs.Sinks.{cut_front}
 use Rattle.listing.proofs.Listed.{cut_second}
 use Rattle.listing.proofs.lister.write_listing.Goals as goal

@@ -4,7 +4,7 @@ use Rattle.std.proofs.lemmas.List.{take_all, length-map}
 use Rattle.std.proofs.lemmas.List.Filters.{dedup_is}
 use Rattle.principals.specs.ActsFor.{AllDifferent, AllBelow}
 use Rattle.labels.specs.Sets.{ascending_set}
-use Rattle.bytecode.specs.Format.{pair_cmp}
+use Rattle.modules.specs.Format.{pair_cmp}
 use Rattle.lowering.proofs.Lists.{copied_more}
 use Rattle.lowering.proofs.Hierarchies.{same_pair, pairs_made, pairs_below, hierarchy_made}
 use Rattle.lowering.proofs.interface.hierarchy_of.Goals as goal

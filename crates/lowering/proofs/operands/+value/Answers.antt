@@ -1,5 +1,5 @@
 use Rattle.std.proofs.Common.{rules, arith, ◌≡◌, ◌∙◌, ap, sym, length, ◌++◌, ◌<◌, [], ◌∷◌, ℤ}
-use Rattle.bytecode.specs.declared.instruction.Instruction.TheVariants.{Push}
+use Rattle.modules.specs.declared.instruction.Instruction.TheVariants.{Push}
 use Rattle.resolved.specs.TreeOf.{expression_of}
 use Rattle.lowering.specs.Expressions.{value_code}
 use Rattle.resolved.specs.declared.expression.Connective.TheVariants.{And, Or}

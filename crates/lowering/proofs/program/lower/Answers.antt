@@ -1,7 +1,7 @@
 use Rattle.std.proofs.Common.{map, ◌∙◌, ap, sym, subst}
 use Rattle.std.specs.Prelude.{All}
 use Rattle.std.specs.String.{string_bytes}
-use Rattle.bytecode.specs.Contents.{ModuleContents}
+use Rattle.modules.specs.Contents.{ModuleContents}
 use Rattle.layout.specs.Graph.{IsGraph}
 use Rattle.layout.specs.Runs.{graph_after_steps}
 use Rattle.resolved.specs.CoreOf.{program_of}

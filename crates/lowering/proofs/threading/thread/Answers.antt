@@ -1,4 +1,4 @@
-use Rattle.bytecode.specs.Targets.{renamed_instruction}
+use Rattle.modules.specs.Targets.{renamed_instruction}
 use Rattle.layout.proofs.Tables.{made_more}
 use Rattle.lowering.specs.Threaded.{final_place}
 use Rattle.lowering.proofs.Finals.{threaded-by}

@@ -1,5 +1,5 @@
 use Rattle.std.proofs.Common.{◌≡◌, map, take}
-use Rattle.bytecode.specs.Targets.{renamed_instruction}
+use Rattle.modules.specs.Targets.{renamed_instruction}
 use Rattle.lowering.specs.Threaded.{final_place}
 use Rattle.lowering.proofs.threading.thread.Given as goal
 

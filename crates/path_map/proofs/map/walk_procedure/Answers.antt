@@ -1,23 +1,22 @@
 use Rattle.common.specs.Answers.{IfRefused}
-use Rattle.std.proofs.Common.{ap, sym, ◌∙◌, subst, map, ◌++◌, not}
+use Rattle.std.proofs.Common.{ap, sym, ◌∙◌, subst, ◌++◌, not}
 use Rattle.resolved.specs.CoreOf.{program_of}
 use Rattle.resolved.specs.TreeOf.{block_of}
 use Rattle.resolved.specs.EndFaults.{procedure_faults}
 use Rattle.resolved.specs.ProgramOf.{procedure_entry}
 use Rattle.path_map.specs.FirstFault.{IsFirstEndFault}
-use Rattle.path_map.specs.Exits.{exits_of}
-use Rattle.path_map.specs.Paths.{block_paths}
+use Rattle.path_map.specs.Paths.{AreAlike, block_paths}
 use Rattle.path_map.proofs.Procedures.{walked, all-may-end, no-value-first, undeclared-first, no-faults}
 use Rattle.path_map.proofs.map.walk_procedure.Goals as goal
 
 pub returns-clause-found : goal.returns-clause-found
 returns-clause-found c =
+    subst (λ list. AreAlike c.walk_block.new.table (c.args.table.now ++ block_paths (program_of c.args.walk.now.core.now) (block_of list))) c.deref.ensures.value
     c.in_ok-exits.ensures.found.entries
-    ∙ ap (λ list. c.args.entries.now.items ++ map exits_of (block_paths (program_of c.args.walk.now.core.now) (block_of list))) c.deref.ensures.value
 
 pub returns-clause-accepted : goal.returns-clause-accepted
 returns-clause-accepted c =
-    let piece = walked (program_of c.args.walk.now.core.now) c.args.procedure.now c.deref.result.now c.args.entries.now.items c.walk_block.new.entries.items
+    let piece = walked (program_of c.args.walk.now.core.now) c.args.procedure.now c.deref.result.now c.args.table.now c.walk_block.new.table
     c.new-raised.result.words.items c.walk_block.new.raised.words.items c.in_ok-exits.exits c.deref.ensures.value c.new-raised.ensures c.in_ok-exits.ensures.found c.in_ok-exits.ensures.accepted in
     no-faults (program_of c.args.walk.now.core.now) (procedure_entry c.args.procedure.now) piece.clean
     (piece.value ∙ (sym c.lacks_value.ensures ∙ c.if-lacks_value.false))
@@ -26,7 +25,7 @@ returns-clause-accepted c =
 
 pub returns-then-lacks_value-clause-first_fault : goal.returns-then-lacks_value-clause-first_fault
 returns-then-lacks_value-clause-first_fault c =
-    let piece = walked (program_of c.args.walk.now.core.now) c.args.procedure.now c.deref.result.now c.args.entries.now.items c.walk_block.new.entries.items
+    let piece = walked (program_of c.args.walk.now.core.now) c.args.procedure.now c.deref.result.now c.args.table.now c.walk_block.new.table
     c.new-raised.result.words.items c.walk_block.new.raised.words.items c.in_ok-exits.exits c.deref.ensures.value c.new-raised.ensures c.in_ok-exits.ensures.found c.in_ok-exits.ensures.accepted in
     subst (λ fault. IfRefused (IsFirstEndFault (procedure_faults (program_of c.args.walk.now.core.now) (procedure_entry c.args.procedure.now))) fault) (sym c.refuse.ensures)
     (no-value-first (program_of c.args.walk.now.core.now) (procedure_entry c.args.procedure.now) piece.clean
@@ -34,7 +33,7 @@ returns-then-lacks_value-clause-first_fault c =
 
 pub returns-then-lets_out-clause-first_fault : goal.returns-then-lets_out-clause-first_fault
 returns-then-lets_out-clause-first_fault c =
-    let piece = walked (program_of c.args.walk.now.core.now) c.args.procedure.now c.deref.result.now c.args.entries.now.items c.walk_block.new.entries.items
+    let piece = walked (program_of c.args.walk.now.core.now) c.args.procedure.now c.deref.result.now c.args.table.now c.walk_block.new.table
     c.new-raised.result.words.items c.walk_block.new.raised.words.items c.in_ok-exits.exits c.deref.ensures.value c.new-raised.ensures c.in_ok-exits.ensures.found c.in_ok-exits.ensures.accepted in
     subst (λ fault. IfRefused (IsFirstEndFault (procedure_faults (program_of c.args.walk.now.core.now) (procedure_entry c.args.procedure.now))) fault) (sym c.refuse-then-lets_out.ensures)
     (undeclared-first (program_of c.args.walk.now.core.now) (procedure_entry c.args.procedure.now) piece.clean

@@ -4,7 +4,7 @@ use Rattle.principals.proofs.Closure.{Contains-first}
 use Rattle.solver.specs.Reach.{edge}
 use Rattle.solver.proofs.broken.earlier_of_edge.Goals as goal
 
-pub lies_below-requires-clause-to : goal.lies_below-requires-clause-to
-lies_below-requires-clause-to g c =
+pub leq-requires-clause-to : goal.leq-requires-clause-to
+leq-requires-clause-to g c =
     c.requires.inside c.args.edge.by c.in-Written.to
     (subst (λ x. Contains (c.args.edge ∷ []) x) (ap (edge c.args.edge.by) c.in-Written.is) (Contains-first c.args.edge []))

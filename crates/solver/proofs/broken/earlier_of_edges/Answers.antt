@@ -1,7 +1,7 @@
 use Rattle.std.proofs.Common.{length}
 use Rattle.solver.specs.Broken.{is_below}
 use Rattle.solver.specs.declared.edges.Edge.{Edge}
-use Rattle.solver.specs.declared.system.Atom.TheVariants.{Written}
+use Rattle.solver.specs.declared.constraints.Atom.TheVariants.{Written}
 use Rattle.solver.proofs.Breaking.{edges_step, one-right_inside}
 use Rattle.solver.proofs.broken.earlier_of_edges.Goals as goal
 

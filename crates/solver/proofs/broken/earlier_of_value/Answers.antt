@@ -2,7 +2,7 @@ use Rattle.std.proofs.Common.{ap, ◌∙◌, sym, subst, get_or, append-nil}
 use Rattle.std.specs.Prelude.{Contains}
 use Rattle.solver.specs.Broken.{candidates, earliest, is_below}
 use Rattle.solver.specs.Reach.{edge, nothing_found, row_of}
-use Rattle.solver.specs.declared.system.Atom.TheVariants.{Unknown, Written}
+use Rattle.solver.specs.declared.constraints.Atom.TheVariants.{Unknown, Written}
 use Rattle.solver.proofs.Rows.{row_at-slice}
 use Rattle.solver.proofs.Breaking.{found_step}
 use Rattle.solver.proofs.broken.earlier_of_value.Goals as goal

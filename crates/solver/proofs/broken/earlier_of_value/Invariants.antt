@@ -1,7 +1,7 @@
 use Rattle.std.proofs.Common.{◌≡◌, ◌++◌, take}
 use Rattle.solver.specs.Broken.{candidates, earliest, found_candidates, is_below}
 use Rattle.solver.specs.Reach.{row_of}
-use Rattle.solver.specs.declared.system.Atom.TheVariants.{Written}
+use Rattle.solver.specs.declared.constraints.Atom.TheVariants.{Written}
 use Rattle.solver.proofs.broken.earlier_of_value.Given as goal
 
 abbrev pub invariant-loop-k : goal.invariant-loop-k

@@ -1,6 +1,6 @@
 use Rattle.std.proofs.Common.{◌≡◌, refl, sym, ap, ◌∙◌, subst, ◌∷◌, ◌++◌, [], arith, get_or, ◌-◌, ◌≤◌}
 use Rattle.solver.specs.Reach.{LeadsOn, nothing_found}
-use Rattle.solver.specs.declared.system.Atom.TheVariants.{Written}
+use Rattle.solver.specs.declared.constraints.Atom.TheVariants.{Written}
 use Rattle.solver.proofs.Chains.{Walks, walks-start, walks-step, walks-end}
 use Rattle.solver.proofs.chain.chain_to.Goals as goal
 

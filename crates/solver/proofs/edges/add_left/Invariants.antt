@@ -1,6 +1,6 @@
 use Rattle.std.proofs.Common.{◌≡◌, ℕ, ◌++◌, length, take}
 use Rattle.solver.specs.Links.{edges_at, left_links, row_at}
-use Rattle.solver.specs.declared.system.Atom.TheVariants.{Unknown, Written}
+use Rattle.solver.specs.declared.constraints.Atom.TheVariants.{Unknown, Written}
 use Rattle.solver.proofs.edges.add_left.Given as goal
 
 abbrev pub invariant-loop-atom : goal.invariant-loop-atom

@@ -1,6 +1,6 @@
 use Rattle.std.proofs.Common.{◌≡◌, ℕ, length, take}
 use Rattle.solver.specs.Links.{edges_at, links_of, row_at}
-use Rattle.solver.specs.declared.system.Atom.TheVariants.{Unknown, Written}
+use Rattle.solver.specs.declared.constraints.Atom.TheVariants.{Unknown, Written}
 use Rattle.solver.proofs.edges.edges_of.Given as goal
 
 abbrev pub invariant-loop-i : goal.invariant-loop-i

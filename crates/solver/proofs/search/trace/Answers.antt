@@ -2,7 +2,7 @@ use Rattle.std.proofs.Common.{◌≡◌, sym, ap, ◌∙◌, subst, ◌<◌, len
 use Rattle.std.specs.Prelude.{Contains}
 use Rattle.std.proofs.lemmas.List.{length-replicate}
 use Rattle.solver.specs.Reach.{edge, nothing_found, row_of}
-use Rattle.solver.specs.declared.system.Atom.TheVariants.{Unknown, Written}
+use Rattle.solver.specs.declared.constraints.Atom.TheVariants.{Unknown, Written}
 use Rattle.solver.proofs.Rows.{row_at-slice}
 use Rattle.solver.proofs.Searching.{next-inside, next-row, searched-smaller, searched-start, searched-step, searched-trace}
 use Rattle.solver.proofs.search.trace.Goals as goal

@@ -1,7 +1,7 @@
 use Rattle.std.proofs.Common.{◌≡◌, ◌++◌, List, ℕ, take, drop, subst}
 use Rattle.std.proofs.lemmas.List.{take-append-drop}
 use Rattle.std.proofs.lemmas.Result.{IfOk-weaker}
-use Rattle.solver.specs.System.{AreAlike, row_join}
+use Rattle.solver.specs.Constraints.{AreAlike, row_join}
 use Rattle.solver.proofs.Values.{alike-both}
 use Rattle.solver.proofs.solution.+join_all.Goals as goal
 

@@ -1,7 +1,7 @@
 use Rattle.std.proofs.Common.{◌≡◌, ◌<◌, ◌∷◌, [], ◌++◌, All, ap, sym, ◌∙◌, append-nil, subst}
 use Rattle.std.proofs.lemmas.List.Elements.{All-push}
 use Rattle.solver.specs.Rows.{reached_by}
-use Rattle.solver.specs.System.{rows_with}
+use Rattle.solver.specs.Constraints.{rows_with}
 use Rattle.solver.proofs.Values.{rows_with-more, one_row}
 use Rattle.solver.proofs.solution.numbers_of.Goals.{then-reaches+in_ok-push, else-reaches}
 use Rattle.solver.proofs.solution.numbers_of.Goals as goal

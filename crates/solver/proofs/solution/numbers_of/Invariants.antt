@@ -1,6 +1,6 @@
 use Rattle.std.proofs.Common.{◌≡◌, ◌<◌, All}
 use Rattle.solver.specs.Rows.{reached_by}
-use Rattle.solver.specs.System.{rows_with}
+use Rattle.solver.specs.Constraints.{rows_with}
 use Rattle.solver.proofs.solution.numbers_of.Given as goal
 
 -- the numbers so far

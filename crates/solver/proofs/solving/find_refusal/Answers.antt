@@ -2,7 +2,7 @@ use Rattle.std.proofs.Common.{sym, ◌∙◌, subst, List}
 use Rattle.solver.specs.Broken.{is_below}
 use Rattle.solver.specs.Reach.{IsTrace}
 use Rattle.solver.specs.declared.search.Found.{Found}
-use Rattle.solver.specs.declared.system.Atom.TheVariants.{Written}
+use Rattle.solver.specs.declared.constraints.Atom.TheVariants.{Written}
 use Rattle.solver.proofs.Chains.{trail-falls}
 use Rattle.solver.proofs.Refusing.{break-chain, breaks-some, earliest-breaks}
 use Rattle.solver.proofs.Searching.{found-inside}

@@ -3,7 +3,7 @@ use Rattle.labels.specs.Constraints.{IsRefusedAt}
 use Rattle.solver.specs.Breaker.{BreaksAlong, IsBreakChain, IsFirstBreaker}
 use Rattle.solver.specs.Broken.{is_below, written_at}
 use Rattle.solver.specs.Rows.{reached_by}
-use Rattle.solver.specs.System.{IsSolution, constraints_of}
+use Rattle.solver.specs.Constraints.{IsSolution, constraints_of}
 use Rattle.solver.proofs.Solved.{are-edges, breaks-along, refused-by, rights-inside, solved-fits, solved-least, unknowns-inside}
 use Rattle.solver.proofs.Values.{length-reached_by}
 use Rattle.solver.proofs.solving.solve.Goals as goal

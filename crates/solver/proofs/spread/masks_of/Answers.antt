@@ -4,7 +4,7 @@ use Rattle.std.proofs.lemmas.List.{get_or_read, length_push, nil_from_length}
 use Rattle.std.proofs.lemmas.List.Elements.{Contains-append_right}
 use Rattle.principals.proofs.Closure.{Contains-first}
 use Rattle.solver.specs.Reach.{edge, row_of}
-use Rattle.solver.specs.declared.system.Atom.TheVariants.{Unknown, Written}
+use Rattle.solver.specs.declared.constraints.Atom.TheVariants.{Unknown, Written}
 use Rattle.solver.proofs.Rows.{row_at-slice}
 use Rattle.solver.proofs.Spreading.{Begun, Spreading, begun-kept, begun-more, spreading-begin, spreading-end, spreading-start, spreading-step, spreads-bit, spreads-room}
 use Rattle.solver.proofs.spread.masks_of.Goals as goal

@@ -1,6 +1,6 @@
 use Rattle.std.proofs.Common.{rules, ◌≡◌, ◌-◌, ◌+◌, ◌*◌, ◌<◌, min, length, drop, map, Some, arith, ap, sym, ◌∙◌}
-use Rattle.bytecode.specs.declared.value.Kind.TheVariants.{Int}
-use Rattle.bytecode.specs.declared.declaration.Slot.TheVariants.{Scalar}
+use Rattle.modules.specs.declared.value.Kind.TheVariants.{Int}
+use Rattle.modules.specs.declared.declaration.Slot.TheVariants.{Scalar}
 use Rattle.verifier.specs.Flow.{all_popped}
 use Rattle.verifier.specs.Operands.{full_blocks, list_of}
 use Rattle.verifier.proofs.Arguments.{pop_step, pop_fail, popped_inside, popped_left, reversed}

@@ -1,9 +1,9 @@
 use Rattle.std.proofs.Common.{arith, ap, sym, ◌∙◌, drop, ◌+◌, pos, slice_get}
-use Rattle.bytecode.specs.Code.{code_length}
-use Rattle.bytecode.specs.declared.instruction.Instruction.TheVariants.{Push}
+use Rattle.modules.specs.Code.{code_length}
+use Rattle.modules.specs.declared.instruction.Instruction.TheVariants.{Push}
 use Rattle.verifier.specs.Fixed.{instruction_refusals}
 use Rattle.verifier.proofs.FixedRefusals.{instructions_on, first_instruction}
-use Rattle.bytecode.proofs.Widths.{code_length_more}
+use Rattle.modules.proofs.Widths.{code_length_more}
 use Rattle.verifier.proofs.Offsets.{code_length_within}
 use Rattle.verifier.proofs.fixed.find_instruction_refusal.Goals as goal
 

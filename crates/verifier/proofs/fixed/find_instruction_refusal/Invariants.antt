@@ -1,5 +1,5 @@
 use Rattle.std.proofs.Common.{◌≡◌, take, drop}
-use Rattle.bytecode.specs.Code.{code_length}
+use Rattle.modules.specs.Code.{code_length}
 use Rattle.verifier.specs.Fixed.{instruction_refusals}
 use Rattle.verifier.proofs.fixed.find_instruction_refusal.Given as goal
 

@@ -1,13 +1,13 @@
-use Rattle.std.proofs.Common.{◌≡◌, ◌<◌, ◌^◌, [], Some, None, slice_get, length, arith, ap, sym, subst, ◌∙◌, ◌++◌, ◌∷◌, map, List, Option, ◌⊎◌, inl, inr}
+use Rattle.std.proofs.Common.{◌≡◌, ◌<◌, ◌^◌, [], ℕ, Some, None, slice_get, length, arith, ap, sym, subst, ◌∙◌, ◌++◌, ◌∷◌, map, List, Option, ◌⊎◌, inl, inr}
 use Rattle.std.specs.Prelude.{IfNone, IfSome}
-use Rattle.bytecode.specs.Contents.{ProcedureContents}
+use Rattle.modules.specs.Contents.{ProcedureContents}
 use Rattle.verifier.specs.Fixed.{fixed_refusals, procedure_refusals}
 use Rattle.verifier.specs.Verified.{AddsVerifiedCode, IsRefusalOf}
 use Rattle.verifier.specs.declared.fault.CodeRefusal.{CodeRefusal}
 use Rattle.verifier.proofs.Reported.{item_at, item_refusal, flow_more, depth_more, there_inside, all_flow, is_verified, reported_first, reported_flow}
 use Rattle.verifier.proofs.Bounds.{bounded}
 use Rattle.verifier.proofs.FixedRefusals.{boundaries, own_right, none_left, procedure_some, procedure_none}
-use Rattle.verifier.proofs.Positioned.{codes_more, all_codes, as_many, instructions_more}
+use Rattle.verifier.proofs.Positioned.{codes_more, all_codes, indexes_more, all_indexes, as_many, instructions_more}
 use Rattle.verifier.proofs.looking.look_for_defects.Goals as goal
 
 pub new-requires : goal.new-requires
@@ -62,6 +62,8 @@ loop-procedure-preserved c =
           let now_added = added e in
           codes_more procedures (map (λ code. code.instructions) l.codes.items) (map (λ code. code.instructions) c.look_for_flow_refusal.new.codes.items) l.procedure-index _ b.body.procedure.now c.loop-procedure-test.true
           (l.invariant.codes_are now_added.none_before) (ap (map (λ code. code.instructions)) now_added.added ∙ instructions_more l.codes.items now_added.last ∙ ap (λ i. map (λ code. code.instructions) l.codes.items ++ i ∷ []) now_added.code) (b.ensures.procedure ∙ c.procedure-item.is);
+      indexes_are = indexes_more procedures l.indexes.items c.push.new.self.items l.procedure-index _ b.body.procedure.now c.loop-procedure-test.true l.invariant.indexes_are
+          (c.in_ok-push.ensures.items ∙ ap (λ (i : List (Option ℕ)). l.indexes.items ++ i ∷ []) b.ensures.body.index) (b.ensures.procedure ∙ c.procedure-item.is);
       depths = λ e.
           let now_added = added e in
           let long = as_many l.codes.items procedures l.procedure-index (omega (arith, c.loop-procedure-test.true)) (l.invariant.codes_are now_added.none_before) in
@@ -85,6 +87,7 @@ returns-in-None-clause-accepted c =
     let none : fixed_refusals m ≡ [] = none_left m l.number l.procedure-index c.procedures-procedures.result.now are c.loop-procedure-test.false l.invariant.same in
     record {
       codes_are = all_codes m.procedures c.procedures-procedures.result.now (map (λ code. code.instructions) l.codes.items) l.procedure-index are c.loop-procedure-test.false (l.invariant.codes_are c.in-None.is);
+      indexes_are = all_indexes m.procedures c.procedures-procedures.result.now l.indexes.items l.procedure-index are c.loop-procedure-test.false l.invariant.indexes_are;
       depths = λ k p d there.
           l.invariant.depths c.in-None.is k p d (omega (arith, there_inside m.procedures k p there, c.loop-procedure-test.false, ap length are)) (ap (λ (all : List ProcedureContents). slice_get all k) are ∙ there);
       verified = is_verified m bounds (all_flow m none (λ k p below there.

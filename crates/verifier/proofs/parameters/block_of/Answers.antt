@@ -1,6 +1,6 @@
 use Rattle.std.proofs.Common.{◌≡◌, ◌+◌, ◌-◌, ◌*◌, ℕ, arith, ap, sym, ◌∙◌}
-use Rattle.bytecode.specs.declared.value.Kind.TheVariants.{Int}
-use Rattle.bytecode.specs.declared.declaration.Slot.TheVariants.{Scalar}
+use Rattle.modules.specs.declared.value.Kind.TheVariants.{Int}
+use Rattle.modules.specs.declared.declaration.Slot.TheVariants.{Scalar}
 use Rattle.verifier.specs.Operands.{bit, packed}
 use Rattle.verifier.proofs.Arguments.{packed_step, reversed}
 use Rattle.verifier.proofs.Packing.{packed_small}

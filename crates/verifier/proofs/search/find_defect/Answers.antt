@@ -1,5 +1,5 @@
 use Rattle.std.proofs.Common.{◌≡◌, suc, ◌-◌, length, set, replicate, Some, None, arith, ap, ◌∙◌}
-use Rattle.bytecode.specs.Code.{code_length}
+use Rattle.modules.specs.Code.{code_length}
 use Rattle.verifier.proofs.Depth.{is_greatest}
 use Rattle.verifier.proofs.Indices.{length-indices}
 use Rattle.verifier.proofs.Reaching.{empty_falls, started, start_left, waiting_start}

@@ -1,6 +1,6 @@
 use Rattle.std.proofs.Common.{get_or}
 use Rattle.std.proofs.lemmas.List.{get_or_default}
-use Rattle.solver.specs.declared.system.Atom.TheVariants as stored
+use Rattle.solver.specs.declared.constraints.Atom.TheVariants as stored
 use Rattle.constraints.specs.declared.rows.ThrownLabel.{ThrownLabel}
 use Rattle.std.proofs.Common.{refl}
 use Rattle.gathering.specs.Walk.{inner_atom}

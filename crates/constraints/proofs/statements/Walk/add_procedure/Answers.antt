@@ -4,6 +4,7 @@ use Rattle.resolved.specs.Ends.{block_ends}
 use Rattle.resolved.specs.Labelled.{here}
 use Rattle.path_map.specs.Exits.{exits_of}
 use Rattle.path_map.specs.Paths.{rest_paths}
+use Rattle.constraints.specs.Ready.{entries_of}
 use Rattle.constraints.specs.LeftSides.{scope_of}
 use Rattle.constraints.proofs.Bodies.{body-ready, procedure-passed, throws-inside}
 use Rattle.constraints.proofs.statements.Walk.add_procedure.Goals as goal
@@ -14,7 +15,7 @@ returns c = λ is left goes within.
     let core = walk.table.now.core.now in
     let program = program_of core in
     let body = (here (scope_of core walk.procedure)).body in
-    procedure-passed core walk.table.now.written.items walk.map.now.entries.items walk.procedure c.args.barrier c.in_ok-level.level c.in_ok-first.first c.len.result
+    procedure-passed core walk.table.now.written.items (entries_of walk.map.now) walk.procedure c.args.barrier c.in_ok-level.level c.in_ok-first.first c.len.result
     c.args.procedure.now c.deref.result.now c.deref-2.result.now c.in_ok-begin.begin c.end_takers-takers.result c.is_single_of_procedure-only.result left c.args.progress.now _ c.walk_block.new.progress c.add_end_demands.new.progress
     is goes within c.in_ok-level.ensures.sum c.in_ok-first.ensures.sum (c.len.ensures ∙ c.args.procedure.now.throws.ok.0) c.deref.ensures.value c.deref-2.ensures.value
     (c.is_single_of_procedure-only.ensures (block_ends program body) (c.exits_at.ensures (exits_of (block_ends program body)) (map exits_of (rest_paths program body) ++ left) goes))
@@ -24,13 +25,13 @@ returns c = λ is left goes within.
 pub take_declared-requires : goal.take_declared-requires
 take_declared-requires c =
     let walk = c.args.self.now in
-    throws-inside walk.table.now.core.now walk.map.now.entries.items walk.procedure c.args.barrier c.args.procedure.now c.deref.result.now c.args.progress.now
+    throws-inside walk.table.now.core.now (entries_of walk.map.now) walk.procedure c.args.barrier c.args.procedure.now c.deref.result.now c.args.progress.now
     c.requires c.deref.ensures.value
 
 pub walk_block-requires : goal.walk_block-requires
 walk_block-requires c =
     let walk = c.args.self.now in
-    body-ready walk.table.now.core.now walk.map.now.entries.items walk.procedure c.args.barrier c.in_ok-level.level c.in_ok-first.first
+    body-ready walk.table.now.core.now (entries_of walk.map.now) walk.procedure c.args.barrier c.in_ok-level.level c.in_ok-first.first
     c.args.procedure.now c.deref.result.now c.deref-2.result.now c.end_takers-takers.result c.is_single_of_procedure-only.result c.args.progress.now _
     c.requires c.in_ok-level.ensures.sum c.deref.ensures.value c.deref-2.ensures.value c.end_takers-takers.ensures refl
     c.in_ok-take_declared.ensures.wide c.in_ok-take_declared.ensures.taken

@@ -1,5 +1,6 @@
 use Rattle.std.proofs.Common.{refl, sym, ◌∙◌}
 use Rattle.common.proofs.Cases.{same_heads}
+use Rattle.constraints.specs.Ready.{entries_of}
 use Rattle.constraints.proofs.Begun.{begun}
 use Rattle.constraints.proofs.statements.Walk.begin.Goals as goal
 
@@ -8,6 +9,6 @@ returns-clause-exits c = λ first left before. same_heads c.next_exits-exits.res
 
 pub returns-clause-added : goal.returns-clause-added
 returns-clause-added c = λ ends.
-    begun c.args.self.now.table.now.core.now c.args.self.now.table.now.written.items c.args.self.now.map.now.entries.items
+    begun c.args.self.now.table.now.core.now c.args.self.now.table.now.written.items (entries_of c.args.self.now.map.now)
     c.args.pc c.args.takers c.next_exits-exits.result c.deref.result.now ends c.args.progress.now c.next_exits-exits.new.progress _
     c.next_exits-exits.ensures.found c.next_exits-exits.ensures.others c.deref.ensures.value refl refl refl (λ kept. c.in_ok-add_single.ensures ends kept)

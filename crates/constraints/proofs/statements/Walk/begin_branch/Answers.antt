@@ -4,6 +4,7 @@ use Rattle.resolved.specs.Labelled.{value_label}
 use Rattle.resolved.specs.TreeOf.{expression_of}
 use Rattle.gathering.specs.Names.{named_atoms}
 use Rattle.gathering.specs.Walk.{inner_constraint, raise_atoms, raised_flows}
+use Rattle.constraints.specs.Ready.{entries_of}
 use Rattle.constraints.specs.LeftSides.{scope_of}
 use Rattle.constraints.specs.Takers.{takers_of}
 use Rattle.constraints.specs.Walked.{branch_constraints}
@@ -19,7 +20,7 @@ returns-clause-added c =
     let e = expression_of c.args.condition.now in
     let number = c.in_ok-number.number in
     let thrown = c.deref.result.now in
-    made-walked c.args.self.now.table.now.core.now c.args.self.now.table.now.written.items c.args.self.now.map.now.entries.items
+    made-walked c.args.self.now.table.now.core.now c.args.self.now.table.now.written.items (entries_of c.args.self.now.map.now)
     c.args.pc c.args.takers thrown 1 number (λ t n named. branch_constraints scope named (takers_of c.args.takers t) n e) c.args.progress.now c.make.new.self _
     c.in_ok-number.ensures.made c.in_ok-number.ensures.first c.deref.ensures.value refl refl refl
     (λ named stands. added-then core table (inner_constraint (named ∷ named_atoms (value_label scope e)) number)

@@ -1,5 +1,6 @@
 use Rattle.std.proofs.Common.{refl, ap, ◌∙◌, ◌+◌}
 use Rattle.resolved.specs.TreeOf.{expression_of}
+use Rattle.constraints.specs.Ready.{entries_of}
 use Rattle.constraints.specs.LeftSides.{scope_of}
 use Rattle.constraints.specs.Takers.{takers_of}
 use Rattle.constraints.specs.Walks.{loop_head_constraints}
@@ -13,6 +14,6 @@ pub returns-clause-added : goal.returns-clause-added
 returns-clause-added c =
     let scope = scope_of c.args.self.now.table.now.core.now c.args.self.now.procedure in
     let e = expression_of c.args.condition.now in
-    made-walked c.args.self.now.table.now.core.now c.args.self.now.table.now.written.items c.args.self.now.map.now.entries.items
+    made-walked c.args.self.now.table.now.core.now c.args.self.now.table.now.written.items (entries_of c.args.self.now.map.now)
     c.args.pc c.args.takers c.deref.result.now 2 c.in_ok-inner.inner (λ t n named. loop_head_constraints scope named (takers_of c.args.takers t) n c.args.at c.args.number e) c.args.progress.now c.make.new.self _
     c.in_ok-inner.ensures.made c.in_ok-inner.ensures.first c.deref.ensures.value refl refl refl c.in_ok-add_loop_head.ensures

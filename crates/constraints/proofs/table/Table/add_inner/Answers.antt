@@ -3,7 +3,7 @@ use Rattle.std.specs.Prelude.{None}
 use Rattle.resolved.specs.CoreOf.{program_of}
 use Rattle.gathering.specs.Names.{NamedConstraint, numbered_atom, real_unknowns}
 use Rattle.gathering.specs.Walk.{inner_atom}
-use Rattle.solver.specs.declared.system.Atom.TheVariants as stored
+use Rattle.solver.specs.declared.constraints.Atom.TheVariants as stored
 use Rattle.constraints.specs.Added.{Stored, wanted_constraint}
 use Rattle.constraints.specs.LeftSides.{Unknown, wanted}
 use Rattle.constraints.proofs.Added.{added-one, stands-made}

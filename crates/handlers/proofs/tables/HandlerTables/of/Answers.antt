@@ -1,7 +1,7 @@
 use Rattle.std.proofs.Common.{◌≡◌, List, map, take, ap, ◌∙◌}
 use Rattle.std.proofs.lemmas.List.{take_all}
-use Rattle.bytecode.specs.Contents.{ProcedureContents}
-use Rattle.bytecode.specs.Machine.{handler_for}
+use Rattle.modules.specs.Contents.{ProcedureContents}
+use Rattle.modules.specs.Machine.{handler_for}
 use Rattle.handlers.proofs.Numbers.{tables_find}
 use Rattle.handlers.proofs.tables.HandlerTables.of.Goals as goal
 

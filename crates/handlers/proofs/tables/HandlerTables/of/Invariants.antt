@@ -1,5 +1,5 @@
 use Rattle.std.proofs.Common.{◌≡◌, map, take}
-use Rattle.bytecode.specs.Machine.{handler_for}
+use Rattle.modules.specs.Machine.{handler_for}
 use Rattle.handlers.specs.Targets.{target_in}
 use Rattle.handlers.proofs.tables.HandlerTables.of.Given as goal
 

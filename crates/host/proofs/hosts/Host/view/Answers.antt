@@ -2,8 +2,8 @@ use Rattle.std.proofs.Common.{◌≡◌, ◌<◌, ◌==◌, List, length, refl, 
 use Rattle.std.specs.Prelude.{position}
 use Rattle.std.proofs.lemmas.Result.{err_from_is_err_and}
 use Rattle.principals.specs.ActsFor.{PrincipalHierarchy}
-use Rattle.bytecode.specs.Contents.{ModuleContents}
-use Rattle.bytecode.specs.Isolated.{module_view}
+use Rattle.modules.specs.Contents.{ModuleContents}
+use Rattle.modules.specs.Isolated.{module_view}
 use Rattle.host.specs.Meaning.{IsOpen}
 use Rattle.host.specs.Values.{HostRuns, SessionRun, contents_of, host_of}
 use Rattle.host.proofs.Sessions.{is_not_open, is_open}

@@ -4,7 +4,7 @@ use Rattle.std.proofs.lemmas.List.Elements.{Contains-get_or}
 use Rattle.principals.proofs.Closure.{none_in_nil}
 use Rattle.solver.specs.Reach.{AllMarked, edge, same}
 use Rattle.solver.specs.declared.edges.Edge.{Edge}
-use Rattle.solver.specs.declared.system.Atom.TheVariants.{Unknown, Written}
+use Rattle.solver.specs.declared.constraints.Atom.TheVariants.{Unknown, Written}
 use Rattle.solver.proofs.Searching.{all_marked-step, grows-length, grows-marked, grows-through, one-inside}
 use Rattle.solver.proofs.search.Search.follow.Goals as goal
 

@@ -5,7 +5,7 @@ use Rattle.principals.proofs.Closure.{none_in_nil}
 use Rattle.solver.specs.Reach.{edge}
 use Rattle.solver.specs.Spread.{AllJoined, same}
 use Rattle.solver.specs.declared.edges.Edge.{Edge}
-use Rattle.solver.specs.declared.system.Atom.TheVariants.{Unknown, Written}
+use Rattle.solver.specs.declared.constraints.Atom.TheVariants.{Unknown, Written}
 use Rattle.solver.proofs.Searching.{one-inside}
 use Rattle.solver.proofs.Spreading.{all_joined-step, spreads-bit, spreads-length, spreads-through}
 use Rattle.solver.proofs.spread.Spread.join_all.Goals as goal

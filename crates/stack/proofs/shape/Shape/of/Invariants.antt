@@ -1,4 +1,4 @@
-use Rattle.std.proofs.Common.{◌≡◌, ◌<◌, ◌^◌, map, take}
+use Rattle.std.proofs.Common.{◌≡◌, map, take}
 use Rattle.stack.specs.Slab.{cells_in, total, spans_of}
 use Rattle.stack.proofs.shape.Shape.of.Given as goal
 
@@ -7,5 +7,4 @@ abbrev pub invariant-loop-slot : goal.invariant-loop-slot
 invariant-loop-slot l = record {
   spans_are : l.spans.items ≡ spans_of 0 (map cells_in (take l.slot-index l.slots));
   start_is : l.start ≡ total (map cells_in (take l.slot-index l.slots));
-  small : l.start < 2 ^ 64;
 }

@@ -1,5 +1,5 @@
 use Rattle.std.proofs.Common.{◌≡◌, ◌*◌, ◌<◌, List, Some, drop, length, map}
-use Rattle.bytecode.specs.declared.value.Kind.{Kind}
+use Rattle.modules.specs.declared.value.Kind.{Kind}
 use Rattle.verifier.specs.Flow.{all_popped}
 use Rattle.verifier.specs.Operands.{full_blocks, list_of}
 use Rattle.verifier.proofs.operands.Operands.pop_blocks.Given as goal

@@ -1,6 +1,6 @@
 use Rattle.std.proofs.Common.{rules, ◌∙◌, min, length, ap, subst}
-use Rattle.bytecode.specs.declared.value.Kind.TheVariants.{Int}
-use Rattle.bytecode.specs.declared.declaration.Slot.TheVariants.{Scalar}
+use Rattle.modules.specs.declared.value.Kind.TheVariants.{Int}
+use Rattle.modules.specs.declared.declaration.Slot.TheVariants.{Scalar}
 use Rattle.verifier.proofs.Arguments.{IsPacking, reversed, packing_start, packing_more}
 use Rattle.verifier.proofs.parameters.Parameters.of.Goals as goal
 

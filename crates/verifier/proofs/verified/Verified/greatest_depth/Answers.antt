@@ -1,5 +1,5 @@
 use Rattle.std.proofs.Common.{ℕ, get_or, slice_get, sym, ap, subst, ◌∙◌}
-use Rattle.bytecode.specs.Contents.{ModuleContents}
+use Rattle.modules.specs.Contents.{ModuleContents}
 use Rattle.verifier.specs.Depth.{IsGreatestDepth}
 use Rattle.verifier.specs.Positions.{VerifiedCode}
 use Rattle.verifier.proofs.verified.Verified.greatest_depth.Goals as goal

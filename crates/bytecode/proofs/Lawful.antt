@@ -1,0 +1,226 @@
+-- The module file is coherent: its two laws hold.
+use Rattle.std.proofs.Common.{◌≡◌, ℕ, zero, suc, ◌+◌, ◌^◌, ◌<◌, Bool, true, false, cond, ltb, eqb, List, [], ◌∷◌, length, Option, Some, None, refl, sym, ap, subst, ◌∙◌, arith, inl, inr, ◌⊎◌, lit<}
+use Rattle.std.specs.Int.{w32, cast_signed, cast_unsigned, from_be_bytes, to_be_bytes}
+use Rattle.std.specs.List.{find, AllByRecursion}
+use Rattle.std.specs.Option.{option_map}
+use Rattle.std.proofs.lemmas.Bool.{ltb-true, eqb-true}
+use Rattle.std.proofs.lemmas.Int.{of_z-to_z}
+use Rattle.std.proofs.lemmas.Nat.{be_bytes_4}
+use Rattle.modules.specs.declared.instruction.Instruction.{Instruction}
+use Rattle.modules.specs.declared.instruction.Instruction.TheVariants.{PushBoolean}
+use Rattle.modules.specs.declared.value.Kind.{Kind}
+use Rattle.modules.specs.declared.value.Kind.TheVariants as kind
+use Rattle.modules.specs.declared.declaration.Slot.TheVariants as slot
+use Rattle.modules.specs.declared.declaration.Global.TheVariants as global
+use Rattle.modules.specs.declared.fault.FormatDefect.TheVariants.{BadValue}
+use Rattle.modules.specs.Contents.{ProcedureContents}
+use Rattle.modules.specs.Code.{width_of}
+use Rattle.modules.specs.Form.{Form, Number, Checked, Fits}
+use Rattle.modules.specs.declared.opcode.Operand.{Operand}
+use Rattle.modules.specs.declared.opcode.Operand.TheVariants.{Absent, Int, Boolean, Number as Numbered}
+use Rattle.modules.specs.Opcodes.{row_of, opcode_of, operand_of, operand_width, numbered, plain, with_opcode, instruction_of, examples, width_after, instructions}
+use Rattle.modules.specs.Format.{name_after, number_below, principals, pair_after, hierarchy, exceptions, direction_of, direction_byte, direction, reader_after, policy_after, label, channel_after, channels, kind_of, kind_byte, variable_kind, of_scalar, first_value, global_of, global_fields, global_after, globals, slot_fields, slot_after, slots, returned_of, returned_byte, returned, handler, handlers, procedure, procedures, main, declared, program, contents, module_file}
+use Rattle.bytecode.proofs.Steps.{IsBytes}
+use Rattle.bytecode.proofs.Coherent.{IsLawful, Coherent}
+
+-- ---- instructions
+
+chosen : {X : Type 0} (b : Bool) (y x : X) (other : Option X) → cond b (Some y) other ≡ Some x → ((b ≡ true) × (y ≡ x)) ⊎ (other ≡ Some x)
+chosen true y x other e = inl (refl, cc)
+chosen false y x other e = inr e
+
+-- what was found passes the test, and has what all have
+found : {X : Type 0} (p : X → Bool) (P : X → Type 0) (xs : List X) (x : X) → AllByRecursion P xs → find p xs ≡ Some x → (p x ≡ true) × P x
+found p P [] x all e = absurd cc
+found {X} p P (y ∷ ys) x all e =
+    elim (chosen (p y) y x (find p ys) e) [
+      | inl here ↦ subst (λ (z : X). (p z ≡ true) × P z) here.1 (here.0, all.0)
+      | inr later ↦ found p P ys x all.1 later
+    ]
+
+-- an instruction has the opcode and the operand
+abbrev Has : ℕ → List ℕ → Instruction → Type 0
+Has byte operand x = (opcode_of x ≡ byte) × (operand_of x ≡ operand)
+
+with_operand : (byte : ℕ) (operand : List ℕ) (all : List Instruction) (x : Instruction) → AllByRecursion (λ y. operand_of y ≡ operand) all → with_opcode byte all ≡ Some x → Has byte operand x
+with_operand byte operand all x have e =
+    let f = found (λ y. eqb (opcode_of y) byte) (λ y. operand_of y ≡ operand) all x have e in
+    (eqb-true _ _ f.0, f.1)
+
+flagged_has : (byte b : ℕ) (x : Instruction) (zero_is one_is : Bool) → eqb b 0 ≡ zero_is → eqb b 1 ≡ one_is
+    → with_opcode byte (cond zero_is (PushBoolean false ∷ []) (cond one_is (PushBoolean true ∷ []) [])) ≡ Some x → Has byte (b ∷ []) x
+flagged_has byte b x true one_is z o e = with_operand byte (b ∷ []) (PushBoolean false ∷ []) x (ap (λ (n : ℕ). n ∷ []) (sym (eqb-true _ _ z)), tt) e
+flagged_has byte b x false true z o e = with_operand byte (b ∷ []) (PushBoolean true ∷ []) x (ap (λ (n : ℕ). n ∷ []) (sym (eqb-true _ _ o)), tt) e
+flagged_has byte b x false false z o e = absurd cc
+
+four_has : (byte : ℕ) (operand : List ℕ) (x : Instruction) → length operand ≡ 4 → IsBytes operand → with_opcode byte (numbered (from_be_bytes w32 operand)) ≡ Some x → Has byte operand x
+four_has byte operand x len fits e =
+    let n = from_be_bytes w32 operand in
+    let small : n < 2 ^ 32 = omega (arith, fits.below 0, fits.below 1, fits.below 2, fits.below 3) in
+    let here : to_be_bytes w32 n ≡ operand = be_bytes_4 operand n len fits.below refl in
+    let int : to_be_bytes w32 (cast_unsigned w32 (cast_signed w32 n)) ≡ operand = ap (to_be_bytes w32) (of_z-to_z w32 n small) ∙ here in
+    with_operand byte operand (numbered n) x (int, (here, (here, (here, (here, (here, (here, (here, (here, (here, (here, (here, (here, (here, (here, (here, tt)))))))))))))))) e
+
+spelled_by : (byte : ℕ) (operand : List ℕ) (x : Instruction) → IsBytes operand → (length operand ≡ 0) ⊎ ((length operand ≡ 1) ⊎ (length operand ≡ 4)) → instruction_of byte operand ≡ Some x → Has byte operand x
+spelled_by byte [] x fits size e = with_operand byte [] plain x (refl, (refl, (refl, (refl, (refl, (refl, (refl, (refl, (refl, (refl, (refl, (refl, (refl, (refl, (refl, (refl, (refl, (refl, tt)))))))))))))))))) e
+spelled_by byte (b ∷ []) x fits size e = flagged_has byte b x (eqb b 0) (eqb b 1) refl refl e
+spelled_by byte (a ∷ b ∷ []) x fits size e = absurd (elim size [ inl h ↦ omega arith | inr more ↦ elim more [ inl h ↦ omega arith | inr h ↦ omega arith ] ])
+spelled_by byte (a ∷ b ∷ c ∷ []) x fits size e = absurd (elim size [ inl h ↦ omega arith | inr more ↦ elim more [ inl h ↦ omega arith | inr h ↦ omega arith ] ])
+spelled_by byte (a ∷ b ∷ c ∷ d ∷ []) x fits size e = four_has byte (a ∷ b ∷ c ∷ d ∷ []) x refl fits e
+spelled_by byte (a ∷ b ∷ c ∷ d ∷ f ∷ rest) x fits size e = absurd (elim size [ inl h ↦ omega arith | inr more ↦ elim more [ inl h ↦ omega arith | inr h ↦ omega arith ] ])
+
+-- and it is as wide as they are
+abbrev IsWide : ℕ → Instruction → Type 0
+IsWide width x = width_of x ≡ width
+
+with_width : (byte width : ℕ) (all : List Instruction) (x : Instruction) → AllByRecursion (IsWide width) all → with_opcode byte all ≡ Some x → width_of x ≡ width
+with_width byte width all x have e = (found (λ y. eqb (opcode_of y) byte) (IsWide width) all x have e).1
+
+flagged_width : (byte : ℕ) (x : Instruction) (zero_is one_is : Bool) → with_opcode byte (cond zero_is (PushBoolean false ∷ []) (cond one_is (PushBoolean true ∷ []) [])) ≡ Some x → width_of x ≡ 2
+flagged_width byte x true one_is e = with_width byte 2 (PushBoolean false ∷ []) x (refl, tt) e
+flagged_width byte x false true e = with_width byte 2 (PushBoolean true ∷ []) x (refl, tt) e
+flagged_width byte x false false e = absurd cc
+
+pub width_by : (byte : ℕ) (operand : List ℕ) (x : Instruction) → (length operand ≡ 0) ⊎ ((length operand ≡ 1) ⊎ (length operand ≡ 4)) → instruction_of byte operand ≡ Some x → width_of x ≡ 1 + length operand
+width_by byte [] x size e = with_width byte 1 plain x (refl, (refl, (refl, (refl, (refl, (refl, (refl, (refl, (refl, (refl, (refl, (refl, (refl, (refl, (refl, (refl, (refl, (refl, tt)))))))))))))))))) e
+width_by byte (b ∷ []) x size e = flagged_width byte x (eqb b 0) (eqb b 1) e
+width_by byte (a ∷ b ∷ []) x size e = absurd (elim size [ inl h ↦ omega arith | inr more ↦ elim more [ inl h ↦ omega arith | inr h ↦ omega arith ] ])
+width_by byte (a ∷ b ∷ c ∷ []) x size e = absurd (elim size [ inl h ↦ omega arith | inr more ↦ elim more [ inl h ↦ omega arith | inr h ↦ omega arith ] ])
+width_by byte (a ∷ b ∷ c ∷ d ∷ []) x size e = with_width byte 5 (numbered (from_be_bytes w32 (a ∷ b ∷ c ∷ d ∷ []))) x (refl, (refl, (refl, (refl, (refl, (refl, (refl, (refl, (refl, (refl, (refl, (refl, (refl, (refl, (refl, (refl, tt)))))))))))))))) e
+width_by byte (a ∷ b ∷ c ∷ d ∷ f ∷ rest) x size e = absurd (elim size [ inl h ↦ omega arith | inr more ↦ elim more [ inl h ↦ omega arith | inr h ↦ omega arith ] ])
+
+three_widths : (operand : Operand) (n : ℕ) → operand_width operand ≡ n → (n ≡ 0) ⊎ ((n ≡ 1) ⊎ (n ≡ 4))
+three_widths Absent n e = inl (sym e)
+three_widths (Boolean b) n e = inr (inl (sym e))
+three_widths (Int z) n e = inr (inr (sym e))
+three_widths (Numbered k) n e = inr (inr (sym e))
+
+width_found : (example : Option Instruction) (n : ℕ) → option_map (λ x. operand_width (row_of x).operand) example ≡ Some n → (n ≡ 0) ⊎ ((n ≡ 1) ⊎ (n ≡ 4))
+width_found None n e = absurd cc
+width_found (Some x) n e = three_widths (row_of x).operand n cc
+
+pub one_width : (byte n : ℕ) → width_after byte ≡ Some n → (n ≡ 0) ⊎ ((n ≡ 1) ⊎ (n ≡ 4))
+one_width byte n e = width_found (with_opcode byte examples) n e
+
+pub instructions-lawful : IsLawful instructions
+unfolding instructions
+instructions-lawful = record {
+  opcode = λ byte operand x fits width e. (spelled_by byte operand x fits (one_width byte (length operand) width) e).0;
+  operand = λ byte operand x fits width e. (spelled_by byte operand x fits (one_width byte (length operand) width) e).1;
+}
+
+-- ---- the module file
+
+byte_back : (n : ℕ) → ltb n 2 ≡ true → (n ≡ 0) ⊎ (n ≡ 1)
+byte_back zero e = inl refl
+byte_back (suc zero) e = inr refl
+byte_back (suc (suc n)) e = absurd (omega (arith, ltb-true _ _ e))
+
+direction-back : (n : ℕ) → ltb n 2 ≡ true → direction_byte (direction_of n) ≡ n
+direction-back n e = elim (byte_back n e) [ inl h ↦ rw h refl | inr h ↦ rw h refl ]
+
+kind-back : (n : ℕ) → ltb n 2 ≡ true → kind_byte (kind_of n) ≡ n
+kind-back n e = elim (byte_back n e) [ inl h ↦ rw h refl | inr h ↦ rw h refl ]
+
+pub name_after-coherent : (taken : List ℕ → Bool) (before : List (List ℕ)) → Coherent (name_after taken before)
+unfolding name_after
+name_after-coherent taken before = tt
+
+pub number_below-coherent : (count : ℕ) → Coherent (number_below count)
+unfolding number_below
+number_below-coherent count = tt
+
+pub principals-coherent : Coherent principals
+unfolding principals
+principals-coherent = name_after-coherent _
+
+pub pair_after-coherent : (count : ℕ) (before : List (ℕ × ℕ)) → Coherent (pair_after count before)
+unfolding pair_after
+pair_after-coherent count before = (number_below-coherent count, λ _. number_below-coherent count)
+
+pub hierarchy-coherent : Coherent hierarchy
+unfolding hierarchy
+hierarchy-coherent = ((principals-coherent, λ names before. pair_after-coherent (length names) before), λ fields fits. refl)
+
+pub exceptions-coherent : Coherent exceptions
+unfolding exceptions
+exceptions-coherent = name_after-coherent _
+
+pub label-coherent : (count : ℕ) → Coherent (label count)
+unfolding label policy_after reader_after
+label-coherent count = λ before. ((number_below-coherent count, λ owner readers. number_below-coherent count), λ fields fits. refl)
+
+pub channels-coherent : (count : ℕ) (declared : List (List ℕ)) → Coherent (channels count declared)
+unfolding channels channel_after direction
+channels-coherent count declared = λ before. (((tt, λ byte fits. direction-back byte fits.1), λ _. (name_after-coherent _ _, λ _. label-coherent count)), λ fields fits. refl)
+
+of_scalar-coherent : (b : Bool) (form : Form ℕ) → Coherent form → Coherent (of_scalar b form)
+of_scalar-coherent true form h = h
+of_scalar-coherent false form h = tt
+
+first_value-coherent : (kind : Kind) (size : ℕ) → Coherent (first_value kind size)
+first_value-coherent kind.Int size = of_scalar-coherent (eqb size 0) _ tt
+first_value-coherent kind.Boolean size = of_scalar-coherent (eqb size 0) _ tt
+
+abbrev global_fields_are : Kind → ℕ → ℕ → Kind × (ℕ × ℕ)
+global_fields_are kind size first = (kind, (size, first))
+
+int_back : (size first : ℕ) (b : Bool) → eqb size 0 ≡ b → Fits (of_scalar b Number) first → global_fields (cond b (global.Int (cast_signed w32 first)) (global.Array kind.Int size)) ≡ (kind.Int, (size, first))
+int_back size first true h fits =
+    let made = λ (s f : ℕ). global_fields_are kind.Int s f in
+    ap (made 0) (of_z-to_z w32 first fits) ∙ ap (λ (s : ℕ). made s first) (sym (eqb-true size 0 h))
+int_back size first false h fits = ap (global_fields_are kind.Int size) (sym fits)
+
+boolean-back : (n : ℕ) → ltb n 2 ≡ true → cond (eqb n 1) 1 0 ≡ n
+boolean-back n e = elim (byte_back n e) [ inl h ↦ rw h refl | inr h ↦ rw h refl ]
+
+boolean_back : (size first : ℕ) (b : Bool) → eqb size 0 ≡ b → Fits (of_scalar b (Checked BadValue (λ n. ltb n 2) Number)) first → global_fields (cond b (global.Boolean (eqb first 1)) (global.Array kind.Boolean size)) ≡ (kind.Boolean, (size, first))
+boolean_back size first true h fits =
+    let made = λ (s f : ℕ). global_fields_are kind.Boolean s f in
+    ap (made 0) (boolean-back first fits.1) ∙ ap (λ (s : ℕ). made s first) (sym (eqb-true size 0 h))
+boolean_back size first false h fits = ap (global_fields_are kind.Boolean size) (sym fits)
+
+global-back : (kind : Kind) (size first : ℕ) → Fits (first_value kind size) first → global_fields (global_of (kind, (size, first))) ≡ (kind, (size, first))
+global-back kind.Int size first fits = int_back size first (eqb size 0) refl fits
+global-back kind.Boolean size first fits = boolean_back size first (eqb size 0) refl fits
+
+pub globals-coherent : Coherent globals
+unfolding globals global_after variable_kind
+globals-coherent = λ before. (((tt, λ byte fits. kind-back byte fits.1), λ kind. (tt, λ size. first_value-coherent kind size)), λ fields fits. global-back fields.0 fields.1.0 fields.1.1 fits.1.1)
+
+abbrev slot_fields_are : Kind → ℕ → Kind × ℕ
+slot_fields_are kind size = (kind, size)
+
+slot-back : (kind : Kind) (size : ℕ) (b : Bool) → eqb size 0 ≡ b → slot_fields (cond b (slot.Scalar kind) (slot.Array kind size)) ≡ (kind, size)
+slot-back kind size true h = ap (slot_fields_are kind) (sym (eqb-true size 0 h))
+slot-back kind size false h = refl
+
+pub slots-coherent : (count : ℕ) → Coherent (slots count)
+unfolding slots slot_after variable_kind
+slots-coherent count = λ before. (((tt, λ byte fits. kind-back byte fits.1), λ kind. tt), λ fields fits. slot-back fields.0 fields.1 (eqb fields.1 0) refl)
+
+returned-back : (n : ℕ) → ltb n 3 ≡ true → returned_byte (returned_of n) ≡ n
+returned-back zero below = refl
+returned-back (suc zero) below = refl
+returned-back (suc (suc zero)) below = refl
+returned-back (suc (suc (suc n))) below = absurd (omega (arith, ltb-true _ _ below))
+
+pub procedures-coherent : Coherent procedures
+unfolding procedures procedure returned handlers handler
+procedures-coherent = λ before. (((tt, λ byte fits. returned-back byte fits.1), λ _. (tt, λ count. (slots-coherent count, λ _. (instructions-lawful, λ _ before. ((tt, λ _. (tt, λ _. (tt, λ _. tt))), λ fields fits. refl))))), λ fields fits. refl)
+
+main-coherent : (all : List ProcedureContents) → Coherent (main all)
+unfolding main
+main-coherent all = tt
+
+pub declared-coherent : (count : ℕ) → Coherent (declared count)
+unfolding declared
+declared-coherent count = (exceptions-coherent, channels-coherent count)
+
+pub program-coherent : Coherent program
+unfolding program
+program-coherent = (globals-coherent, λ _. (procedures-coherent, main-coherent))
+
+pub module_file-coherent : Coherent module_file
+unfolding module_file contents
+module_file-coherent = (lit< tt, (lit< tt, ((hierarchy-coherent, λ h. (declared-coherent (length h.names), λ _. program-coherent)), λ fields fits. refl)))

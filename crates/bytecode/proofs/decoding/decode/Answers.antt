@@ -1,0 +1,30 @@
+use Rattle.std.proofs.Common.{Err, arith, sym, ◌∙◌, ◌≡◌}
+use Rattle.modules.specs.Form.{read_all}
+use Rattle.modules.specs.Format.{module_file}
+use Rattle.bytecode.specs.Reading.{contents_of}
+use Rattle.bytecode.proofs.Both.{module_again, module_taken}
+use Rattle.bytecode.proofs.Inside.{stop_inside}
+use Rattle.bytecode.proofs.Steps.{same_value}
+use Rattle.bytecode.proofs.decoding.decode.Goals as goal
+
+pub module_of-requires : goal.module_of-requires
+module_of-requires c =
+    (module_taken c.args.bytes.now (contents_of c.in-Ok.fields) (record { below = λ i. omega (arith, c.type_inv.bytes i) }) c.in-Ok.ensures).0
+
+pub returns-in-Ok-clause-accepted : goal.returns-in-Ok-clause-accepted
+returns-in-Ok-clause-accepted c =
+    rw c.module_of.ensures (module_taken c.args.bytes.now (contents_of c.in-Ok.fields) (record { below = λ i. omega (arith, c.type_inv.bytes i) }) c.in-Ok.ensures)
+
+pub returns-in-Ok-clause-complete : goal.returns-in-Ok-clause-complete
+returns-in-Ok-clause-complete c = λ m spells.
+    c.module_of.ensures ∙ same_value (contents_of c.in-Ok.fields) m (sym c.in-Ok.ensures ∙ module_again c.args.bytes.now m spells)
+
+pub returns-in-Err-Refused-clause-complete : goal.returns-in-Err-Refused-clause-complete
+returns-in-Err-Refused-clause-complete c = λ m spells.
+    let stopped : read_all module_file c.args.bytes.now ≡ Err c.in-Err-Refused.stop = rw c.in-Err-Refused.field-0-is at c.in-Err-Refused.ensures in
+    absurd (cc (stopped, module_again c.args.bytes.now m spells))
+
+pub overflow_sub-offset : goal.overflow_sub-offset
+overflow_sub-offset c =
+    let stopped : read_all module_file c.args.bytes.now ≡ Err c.in-Err-Refused.stop = rw c.in-Err-Refused.field-0-is at c.in-Err-Refused.ensures in
+    omega (arith, stop_inside module_file c.args.bytes.now c.in-Err-Refused.stop stopped)

@@ -1,5 +1,0 @@
-use Rattle.bytecode.proofs.Spelling.{is_spelled}
-use Rattle.bytecode.proofs.laws.instructions_are_spelled.Goals as goal
-
-pub returns : goal.returns
-returns c = is_spelled

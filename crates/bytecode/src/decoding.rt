@@ -1,0 +1,169 @@
+//! Reading of modules.
+
+ghost use Rattle.modules.specs.Contents.{ModuleContents};
+ghost use Rattle.common.specs.Answers.{Answers, IfRefused};
+ghost use Rattle.bytecode.specs.Decoded.{first_refusal};
+ghost use Rattle.modules.specs.Form.{Fits, read, read_all, Spells};
+ghost use Rattle.modules.specs.Format.{contents, main, module_file, program};
+ghost use Rattle.bytecode.specs.Reading.{contents_of, Decodes};
+ghost use Rattle.std.specs.Prelude.{IfErr, IfOk, Some, ◌≡◌};
+
+use crate::channels::read_declared;
+use crate::fault::{FormatFault, FormatRefusal};
+use crate::globals::read_globals;
+use crate::hierarchy::read_hierarchy;
+use crate::procedures::read_procedures;
+use crate::reading::{ReadFault, read_number, refuse};
+use common::OrNoMemory;
+use modules::FormatDefect;
+use modules::channel::Channel;
+use modules::declaration::Global as Variable;
+use modules::module::Module;
+use modules::procedure::Procedure;
+use principals::Hierarchy;
+use std::alloc::Global;
+
+/// The first four bytes of a module, `FLOB`, as a number.
+pub(crate) const MAGIC: u32 = 0x464c_4f42;
+
+/// The version of the format.
+pub(crate) const VERSION: u32 = 1;
+
+/// The fields of a module that was read.
+#[derive(Drop)]
+pub(crate) struct Fields {
+    hierarchy: Hierarchy,
+    exceptions: Vec<String>,
+    channels: Vec<Channel>,
+    program: Program,
+}
+
+/// What runs of a module that was read.
+#[derive(Drop)]
+pub(crate) struct Program {
+    globals: Vec<Variable>,
+    procedures: Vec<Procedure>,
+    main: u32,
+}
+
+/// The number of a procedure without parameters that returns no value.
+#[tactic(auto, unfolding(modules::specs::Format::main))]
+fn read_main<'a>(procedures: &[Procedure], bytes: &'a [u8]) -> Result<(u32, &'a [u8]), ReadFault>
+    ensures { Decodes (λ x. (x.0, x.1.now)) result (read (main procedures.now) bytes.now) }
+{
+    let (number, rest) = read_number(bytes)?;
+    match procedures.get(number as usize) {
+        Some(procedure) if procedure.parameters() == 0 && procedure.returned().is_none() => Ok((
+            number, rest,
+        )),
+        _ => Err(refuse(FormatDefect::BadValue, bytes)),
+    }
+}
+
+/// The globals, the procedures, and the number of the one where a run starts.
+#[tactic(auto, unfolding(modules::specs::Format::program))]
+fn read_program(alloc: Global, bytes: &[u8]) -> Result<(Program, &[u8]), ReadFault>
+    ensures { Decodes (λ x. ((x.0.globals.items, (x.0.procedures.items, x.0.main)), x.1.now)) result
+        (read program bytes.now) }
+{
+    let (globals, rest) = read_globals(alloc, bytes)?;
+    let (procedures, rest) = read_procedures(alloc, rest)?;
+    let (main, rest) = read_main(&procedures, rest)?;
+    let program = Program {
+        globals,
+        procedures,
+        main,
+    };
+    Ok((program, rest))
+}
+
+/// The fields of a module behind magic and version.
+#[tactic(auto, unfolding(modules::specs::Format::contents))]
+fn read_contents(alloc: Global, bytes: &[u8]) -> Result<(Fields, &[u8]), ReadFault>
+    ensures { Decodes (λ x. (contents_of x.0, x.1.now)) result (read contents bytes.now) }
+{
+    let (hierarchy, rest) = read_hierarchy(alloc, bytes)?;
+    let (exceptions, channels, rest) = read_declared(alloc, &hierarchy, rest)?;
+    let (program, rest) = read_program(alloc, rest)?;
+    let fields = Fields {
+        hierarchy,
+        exceptions,
+        channels,
+        program,
+    };
+    Ok((fields, rest))
+}
+
+/// The fields of a module behind magic and version, which are tested.
+#[tactic(auto, unfolding(modules::specs::Format::module_file))]
+fn read_file(alloc: Global, bytes: &[u8]) -> Result<(Fields, &[u8]), ReadFault>
+    ensures { Decodes (λ x. (contents_of x.0, x.1.now)) result (read module_file bytes.now) }
+{
+    let (magic, rest) = read_number(bytes)?;
+    if magic != MAGIC {
+        return Err(refuse(FormatDefect::Magic, bytes));
+    }
+    let (version, after) = read_number(rest)?;
+    if version != VERSION {
+        return Err(refuse(FormatDefect::Version, rest));
+    }
+    read_contents(alloc, after)
+}
+
+/// The fields of a module that all of the bytes are.
+fn read_all_of_file(alloc: Global, bytes: &[u8]) -> Result<Fields, ReadFault>
+    ensures { Decodes contents_of result (read_all module_file bytes.now) }
+{
+    let (fields, rest) = read_file(alloc, bytes)?;
+    if !rest.is_empty() {
+        return Err(refuse(FormatDefect::Trailing, rest));
+    }
+    Ok(fields)
+}
+
+/// The module of fields that have a spelling.
+fn module_of(fields: Fields) -> Module
+    requires { Fits module_file (contents_of fields) }
+    ensures { result ≡ contents_of fields }
+{
+    let Fields {
+        hierarchy,
+        exceptions,
+        channels,
+        program,
+    } = fields;
+    let Program {
+        globals,
+        procedures,
+        main,
+    } = program;
+    Module::new(hierarchy, exceptions, channels, globals, procedures, main)
+}
+
+/// The module that the bytes spell.
+///
+/// A refusal is the first one in reading order, field by field from the left, with the offset of the field's first byte,
+/// within code that of the offending byte, and for bytes that end too early their length. Nothing is reserved by a count
+/// or a length that the bytes claim: each list grows by what was read.
+pub fn decode(alloc: Global, bytes: &[u8]) -> Result<Module, FormatFault>
+    // What is read is spelled so, each byte of it.
+    ensures accepted { IfOk result (λ m. Spells module_file m bytes.now) }
+    // What is spelled so is read, unless memory runs out.
+    ensures complete { (m : ModuleContents) → Spells module_file m bytes.now →
+        Answers (λ found. found ≡ m) (λ _. ⊥) result }
+    // A refusal is the first one, at its offset.
+    ensures first_fault { IfErr result (IfRefused
+        (λ refusal. first_refusal bytes.now ≡ Some refusal)) }
+{
+    match read_all_of_file(alloc, bytes) {
+        Ok(fields) => Ok(module_of(fields)),
+        Err(OrNoMemory::NoMemory) => Err(OrNoMemory::NoMemory),
+        Err(OrNoMemory::Refused(stop)) => {
+            let offset = bytes.len() - stop.left;
+            Err(OrNoMemory::Refused(FormatRefusal {
+                defect: stop.defect,
+                offset,
+            }))
+        }
+    }
+}

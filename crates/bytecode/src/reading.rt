@@ -1,0 +1,108 @@
+//! Reading of fields, each at the front of the bytes that are left.
+
+ghost use Rattle.modules.specs.Form.{byte_at, bytes_at, each_at, number_at, Read, stop_at};
+ghost use Rattle.common.specs.declared.fault.OrNoMemory.TheVariants.{Refused};
+ghost use Rattle.bytecode.specs.Reading.{Decodes};
+ghost use Rattle.std.specs.Prelude.{[], IfOk, List, ℕ, ◌++◌, ◌∷◌, ◌≡◌};
+
+use byteorder::{BigEndian, ByteOrder};
+use common::OrNoMemory;
+use modules::fault::{FormatDefect, ReadRefusal};
+use std::alloc::Global;
+
+/// Why a field was not read.
+pub(crate) type ReadFault = OrNoMemory<ReadRefusal>;
+
+/// The refusal of the field that `bytes` begin with.
+pub(crate) fn refuse(defect: FormatDefect, bytes: &[u8]) -> ReadFault
+    ensures { result ≡ Refused (stop_at defect bytes.now) }
+{
+    OrNoMemory::Refused(ReadRefusal {
+        defect,
+        left: bytes.len(),
+    })
+}
+
+/// The end of the bytes inside a field or before it.
+pub(crate) const SHORT: ReadRefusal = ReadRefusal {
+    defect: FormatDefect::Short,
+    left: 0,
+};
+
+/// One byte.
+pub(crate) fn read_byte(bytes: &[u8]) -> Result<(u8, &[u8]), ReadFault>
+    ensures { Decodes (λ x. (x.0, x.1.now)) result (byte_at bytes.now) }
+{
+    match bytes {
+        [] => Err(OrNoMemory::Refused(SHORT)),
+        [first, rest @ ..] => Ok((*first, rest)),
+    }
+}
+
+/// A number in four bytes.
+pub(crate) fn read_number(bytes: &[u8]) -> Result<(u32, &[u8]), ReadFault>
+    ensures { Decodes (λ x. (x.0, x.1.now)) result (number_at bytes.now) }
+{
+    if bytes.len() < 4 {
+        return Err(OrNoMemory::Refused(SHORT));
+    }
+    let (front, rest) = bytes.split_at(4);
+    Ok((BigEndian::read_u32(front), rest))
+}
+
+/// So many bytes.
+pub(crate) fn read_text(count: usize, bytes: &[u8]) -> Result<(&[u8], &[u8]), ReadFault>
+    ensures { Decodes (λ x. (x.0.now, x.1.now)) result (bytes_at count bytes.now) }
+{
+    if bytes.len() < count {
+        return Err(OrNoMemory::Refused(SHORT));
+    }
+    Ok(bytes.split_at(count))
+}
+
+/// A field of a list, which is read after those before it. The state is what the list up to there comes to.
+pub(crate) trait Element {
+    type Item;
+
+    type State;
+
+    ghost reads: { Self → List Self.Item → List ℕ → Read Self.Item };
+
+    ghost holds: { Self → Self.State → List Self.Item → Type 0 };
+
+    fn read<'a>(
+        &self,
+        alloc: Global,
+        state: &mut Self::State,
+        before: &[Self::Item],
+        bytes: &'a [u8],
+    ) -> Result<(Self::Item, &'a [u8]), ReadFault>
+        requires { holds self.now state.old before.now }
+        ensures gives { Decodes (λ x. (x.0, x.1.now)) result (reads self.now before.now bytes.now) }
+        ensures holds { IfOk result (λ x. holds self.now state.new (before.now ++ x.0 ∷ [])) };
+}
+
+/// So many fields, one after the other. Nothing is reserved by the count.
+pub(crate) fn read_each<'a, E: Element>(
+    alloc: Global,
+    element: &E,
+    mut state: E::State,
+    count: u32,
+    bytes: &'a [u8],
+) -> Result<(Vec<E::Item>, &'a [u8]), ReadFault>
+where
+    E::Item: Drop,
+    E::State: Drop,
+    requires { E.holds element.now state [] }
+    ensures { Decodes (λ x. (x.0.items, x.1.now)) result (each_at (E.reads element.now) count []
+        bytes.now) }
+{
+    let mut items = Vec::new(alloc);
+    let mut rest = bytes;
+    for _ in 0..count {
+        let (item, after) = element.read(alloc, &mut state, &items, rest)?;
+        items.push(item)?;
+        rest = after;
+    }
+    Ok((items, rest))
+}

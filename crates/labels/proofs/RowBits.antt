@@ -1,0 +1,165 @@
+-- The truth values of a row are the bits of its words: what the operations on words mean for them.
+use Rattle.std.proofs.Common.{◌≡◌, refl, sym, ap, subst, ◌∙◌, ℕ, zero, suc, ◌<◌, ◌≤◌, ◌+◌, ◌/◌, ◌^◌, length, set, List, Bool, true, false, arith, nat_eq, ◌||◌, ◌≢◌, ⊎_elim, not, replicate}
+use Rattle.std.specs.Prelude.{IsTrue, ◌==◌, ◌↔◌, Option, Some, None}
+use Rattle.std.proofs.lemmas.Bool.{eqb-true, eqb-false, cases_lt}
+use Rattle.std.proofs.lemmas.List.{ext_get_or, length-set, get_or-set_other}
+use Rattle.std.proofs.lemmas.Grind.{get_or-set_at}
+use Rattle.std.proofs.lemmas.Simd.{length-zip2}
+use Rattle.labels.specs.Row.{FirstBeyond, Includes, has, union}
+use Rattle.labels.specs.Words.{AreJoined, FirstNew, GrowBetween, SomeGrow, bits_of, has_bit, word}
+use Rattle.labels.proofs.WordBits.{bit-beyond, includes-kept, joined-bit, kept-has}
+
+pub length-bits : (words : List ℕ) (i n : ℕ) → length (bits_of words i n) ≡ n
+length-bits words i zero = refl
+length-bits words i (suc n) = omega (arith, length-bits words (suc i) n)
+
+bits-from : (words : List ℕ) (i n k : ℕ) → k < n → has (bits_of words i n) k ≡ has_bit words (i + k)
+bits-from words i zero k h = absurd (omega (arith, h))
+bits-from words i (suc n) zero h = ap (has_bit words) (omega arith)
+bits-from words i (suc n) (suc k) h = bits-from words (suc i) n k (omega (arith, h)) ∙ ap (has_bit words) (omega arith)
+
+bits-beyond : (words : List ℕ) (i n k : ℕ) → n ≤ k → has (bits_of words i n) k ≡ false
+bits-beyond words i zero k h = refl
+bits-beyond words i (suc n) zero h = absurd (omega (arith, h))
+bits-beyond words i (suc n) (suc k) h = bits-beyond words (suc i) n k (omega (arith, h))
+
+pub bits-at : (words : List ℕ) (n k : ℕ) → k < n → has (bits_of words 0 n) k ≡ has_bit words k
+bits-at words n k h = bits-from words 0 n k h ∙ ap (has_bit words) (omega arith)
+
+-- where no bit is set behind the last number, the values are all the bits
+pub bits-all : (words : List ℕ) (n : ℕ) → ((k : ℕ) → n ≤ k → has_bit words k ≡ false) → (k : ℕ) → has (bits_of words 0 n) k ≡ has_bit words k
+bits-all words n clear k = ⊎_elim (λ (lt : k < n). bits-at words n k lt) (λ (ge : n ≤ k). bits-beyond words 0 n k ge ∙ sym (clear k ge)) (cases_lt k n)
+
+pub bits-same : (a b : List ℕ) (i n : ℕ) → ((k : ℕ) → has_bit a k ≡ has_bit b k) → bits_of a i n ≡ bits_of b i n
+bits-same a b i zero each = refl
+bits-same a b i (suc n) each = rw (each i, bits-same a b (suc i) n each) refl
+
+pub bits-none : (words : List ℕ) (i n : ℕ) → ((k : ℕ) → has_bit words k ≡ false) → bits_of words i n ≡ replicate n false
+bits-none words i zero each = refl
+bits-none words i (suc n) each = rw (each i, bits-none words (suc i) n each) refl
+
+pub bits-union : (old others new : List ℕ) (i n : ℕ) → ((k : ℕ) → has_bit new k ≡ (has_bit old k || has_bit others k)) →
+    bits_of new i n ≡ union (bits_of old i n) (bits_of others i n)
+bits-union old others new i zero each = refl
+bits-union old others new i (suc n) each = rw (each i, bits-union old others new (suc i) n each) refl
+
+pub bits-set : (old new : List ℕ) (n i : ℕ) → i < n → ((k : ℕ) → has_bit new k ≡ (k == i || has_bit old k)) →
+    bits_of new 0 n ≡ set (bits_of old 0 n) i true
+bits-set old new n i h each =
+    ext_get_or false (bits_of new 0 n) (set (bits_of old 0 n) i true) (length-bits new 0 n ∙ sym (length-set (bits_of old 0 n) i true ∙ length-bits old 0 n))
+    (λ k lt. bits-at new n k (omega (arith, lt, length-bits new 0 n)) ∙ (each k ∙ at k (omega (arith, lt, length-bits new 0 n)) (nat_eq k i) refl))
+  where
+    at : (k : ℕ) → k < n → (t : Bool) → nat_eq k i ≡ t → (k == i || has_bit old k) ≡ has (set (bits_of old 0 n) i true) k
+    at k lt true e =
+        let is : k ≡ i = eqb-true k i e in
+        rw e (sym (get_or-set_at (bits_of old 0 n) i k true false is (omega (arith, h, length-bits old 0 n))))
+    at k lt false e =
+        rw e (sym (get_or-set_other (bits_of old 0 n) i k true false (eqb-false k i e) ∙ bits-at old n k lt))
+
+pub length-union : (a b : List Bool) → length a ≡ length b → length (union a b) ≡ length a
+length-union a b e = length-zip2 (λ x y. x || y) a b e
+
+-- what words that are joined mean
+module _ (n : ℕ) (old others new : List ℕ) (grew : Bool) (count : length others ≡ length old) (small : (j : ℕ) → word others j < 2 ^ 64)
+    (clear : (k : ℕ) → n ≤ k → has_bit others k ≡ false) (joined : AreJoined old others new 0 (length old) grew) where
+  pub joined-bits : (k : ℕ) → has_bit new k ≡ (has_bit old k || has_bit others k)
+  joined-bits k = ⊎_elim
+      (λ (lt : k / 64 < length old). joined-bit old others new k (joined.joined (k / 64) (omega arith) lt))
+      (λ (ge : length old ≤ k / 64). rw (bit-beyond new k (omega (arith, ge, joined.count)), bit-beyond old k ge, bit-beyond others k (omega (arith, ge, count))) refl)
+      (cases_lt (k / 64) (length old))
+
+  pub joined-values : bits_of new 0 n ≡ union (bits_of old 0 n) (bits_of others 0 n)
+  joined-values = bits-union old others new 0 n joined-bits
+
+  -- where the values stay, all bits of the others were set
+  had : bits_of new 0 n ≡ bits_of old 0 n → (k : ℕ) → IsTrue (has_bit others k) → IsTrue (has_bit old k)
+  had same k there = ⊎_elim
+      (λ (lt : k < n). subst IsTrue (sym (bits-at new n k lt) ∙ (ap (λ xs. has xs k) same ∙ bits-at old n k lt)) (both k there))
+      (λ (ge : n ≤ k). absurd (let no : false ≡ true = sym (clear k ge) ∙ there in cc))
+      (cases_lt k n)
+    where
+      or-true : (b : Bool) → (b || true) ≡ true
+      or-true true = refl
+      or-true false = refl
+
+      both : (k : ℕ) → IsTrue (has_bit others k) → IsTrue (has_bit new k)
+      both k there = joined-bits k ∙ (ap (λ b. has_bit old k || b) there ∙ or-true (has_bit old k))
+
+  stays : grew ≡ false → bits_of new 0 n ≡ bits_of old 0 n
+  stays e = bits-same new old 0 n (λ k. joined-bits k ∙ kept k (has_bit others k) refl)
+    where
+      inside : (k : ℕ) → IsTrue (has_bit others k) → k / 64 < length old
+      inside k there = ⊎_elim (λ (lt : k / 64 < length old). lt)
+          (λ (ge : length old ≤ k / 64). absurd (let no : false ≡ true = sym (bit-beyond others k (omega (arith, ge, count))) ∙ there in cc))
+          (cases_lt (k / 64) (length old))
+
+      none : GrowBetween old others 0 (length old) false
+      none = subst (GrowBetween old others 0 (length old)) e joined.grow
+
+      or-false : (b : Bool) → (b || false) ≡ b
+      or-false true = refl
+      or-false false = refl
+
+      kept : (k : ℕ) (t : Bool) → has_bit others k ≡ t → (has_bit old k || has_bit others k) ≡ has_bit old k
+      kept k true e =
+          let is : IsTrue (has_bit old k) = kept-has old others k (none (k / 64) (omega arith) (inside k e)) e in
+          rw is refl
+      kept k false e = rw e (or-false (has_bit old k))
+
+  pub joined-grew : IsTrue grew ↔ (bits_of new 0 n ≢ bits_of old 0 n)
+  joined-grew = (to grew refl, from grew refl)
+    where
+      to : (g : Bool) → grew ≡ g → IsTrue grew → bits_of new 0 n ≢ bits_of old 0 n
+      to true e is = λ same.
+          let some : SomeGrow old others 0 (length old) = subst (GrowBetween old others 0 (length old)) e joined.grow in
+          some.grows (includes-kept old others some.at (small some.at) (had same))
+      to false e is = absurd (let no : false ≡ true = sym e ∙ is in cc)
+
+      from : (g : Bool) → grew ≡ g → bits_of new 0 n ≢ bits_of old 0 n → IsTrue grew
+      from true e differs = e
+      from false e differs = absurd (differs (stays e))
+
+-- what comparing words means
+module _ (n : ℕ) (words others : List ℕ) (covers : Bool) (count : length others ≡ length words) (small : (j : ℕ) → word others j < 2 ^ 64)
+    (clear : (k : ℕ) → n ≤ k → has_bit words k ≡ false) (clear' : (k : ℕ) → n ≤ k → has_bit others k ≡ false)
+    (grow : GrowBetween words others 0 (length words) (not covers)) where
+  pub covers-values : IsTrue covers ↔ Includes (bits_of words 0 n) (bits_of others 0 n)
+  covers-values = (to covers refl, from covers refl)
+    where
+      to : (t : Bool) → covers ≡ t → IsTrue covers → Includes (bits_of words 0 n) (bits_of others 0 n)
+      to false e is = absurd (let no : false ≡ true = sym e ∙ is in cc)
+      to true e is = λ k there.
+          let none : GrowBetween words others 0 (length words) false = subst (λ t. GrowBetween words others 0 (length words) (not t)) e grow in
+          let bit : IsTrue (has_bit others k) = subst IsTrue (bits-all others n clear' k) there in
+          subst IsTrue (sym (bits-all words n clear k)) (⊎_elim
+          (λ (lt : k / 64 < length words). kept-has words others k (none (k / 64) (omega arith) lt) bit)
+          (λ (ge : length words ≤ k / 64). absurd (let no : false ≡ true = sym (bit-beyond others k (omega (arith, ge, count))) ∙ bit in cc))
+          (cases_lt (k / 64) (length words)))
+
+      from : (t : Bool) → covers ≡ t → Includes (bits_of words 0 n) (bits_of others 0 n) → IsTrue covers
+      from true e includes = e
+      from false e includes =
+          let some : SomeGrow words others 0 (length words) = subst (λ t. GrowBetween words others 0 (length words) (not t)) e grow in
+          absurd (some.grows (includes-kept words others some.at (small some.at) (λ k there.
+          subst IsTrue (bits-all words n clear k) (includes k (subst IsTrue (sym (bits-all others n clear' k)) there)))))
+
+-- the least number that others lack
+pub first-beyond : (n : ℕ) (words others : List ℕ) (from : ℕ) (found : Option ℕ) → ((k : ℕ) → n ≤ k → has_bit words k ≡ false) →
+    ((k : ℕ) → n ≤ k → has_bit others k ≡ false) → FirstNew words others from n found → FirstBeyond (bits_of words 0 n) (bits_of others 0 n) from found
+first-beyond n words others from None clear clear' new = λ k ge lt there.
+    subst IsTrue (sym (bits-all others n clear' k)) (new k ge (omega (arith, lt, length-bits words 0 n)) (subst IsTrue (bits-all words n clear k) there))
+first-beyond n words others from (Some i) clear clear' new = record {
+  from_on = new.from_on;
+  inside = omega (arith, new.inside, length-bits words 0 n);
+  there = subst IsTrue (sym (bits-all words n clear i)) new.there;
+  missing = bits-all others n clear' i ∙ new.missing;
+  before = λ k ge lt there. subst IsTrue (sym (bits-all others n clear' k)) (new.before k ge lt (subst IsTrue (bits-all words n clear k) there));
+}
+
+-- two rows whose values are as many have the same bound
+pub bounds-same : (a b : List ℕ) (n m : ℕ) (xs ys : List Bool) → bits_of a 0 n ≡ xs → bits_of b 0 m ≡ ys → length xs ≡ length ys → m ≡ n
+bounds-same a b n m xs ys e e' same =
+    sym (length-bits b 0 m) ∙ (ap length e' ∙ (sym same ∙ (ap length (sym e) ∙ length-bits a 0 n)))
+
+pub below-bound : (a : List ℕ) (n i : ℕ) (xs : List Bool) → bits_of a 0 n ≡ xs → i < length xs → i < n
+below-bound a n i xs e h = subst (λ k. i < k) (ap length (sym e) ∙ length-bits a 0 n) h

@@ -1,0 +1,81 @@
+//! Sets of numbers below a bound, a bit for each number.
+ghost use Rattle.labels.specs.Row.{FirstBeyond, Includes, has, union};
+ghost use Rattle.std.specs.Prelude.{IfOk, IsTrue, false, length, replicate, set, true, ◌<◌, ◌↔◌, ◌≡◌, ◌≢◌};
+
+use crate::words::{covers_words, first_new, has_bit, join_words};
+use std::alloc::{AllocError, Global};
+use std::marker::Model;
+
+/// A set of numbers below `n`. A contract sees it as `n` truth values: of each number whether it is in the set.
+#[derive(Debug, Drop)]
+pub struct Row {
+    n: usize,
+    words: Vec<u64>,
+}
+
+impl Model for Row {
+    ghost use Rattle.std.specs.Prelude.{Bool, List};
+
+    ghost Value = { List Bool };
+
+    ghost use Rattle.labels.specs.Words.{IsStoredRow, bits_of};
+
+    ghost view = { λ row. bits_of row.words.items 0 row.n };
+
+    ghost invariant = { IsStoredRow };
+}
+
+impl Row {
+    /// The empty set of numbers below this.
+    ///
+    /// # Errors
+    ///
+    /// Memory ran out.
+    pub fn new(alloc: Global, n: usize) -> Result<Row, AllocError>
+        ensures { IfOk result (λ row. row ≡ replicate n false) }
+    {
+        let words = vec![in alloc; 0u64; n / 64 + 1]?;
+        Ok(Row { n, words })
+    }
+
+    /// Whether a number is in the set. Precondition: it is below the bound.
+    pub fn has(&self, i: usize) -> bool
+        requires { i < length self.now }
+        ensures { result ≡ has self.now i }
+    {
+        has_bit(self.words.as_slice(), i)
+    }
+
+    /// Adds a number. Precondition: it is below the bound.
+    pub fn set(&mut self, i: usize)
+        requires { i < length self.old }
+        ensures { self.new ≡ set self.old i true }
+    {
+        self.words[i / 64] |= 1u64 << (i % 64);
+    }
+
+    /// The set becomes the union with the other one. The answer is whether it grew. Precondition: both have the same bound.
+    pub fn join_from(&mut self, other: &Row) -> bool
+        requires { length self.old ≡ length other.now }
+        ensures union { self.new ≡ union self.old other.now }
+        ensures grew { IsTrue result ↔ (self.new ≢ self.old) }
+    {
+        join_words(self.words.as_mut_slice(), other.words.as_slice())
+    }
+
+    /// Whether the set includes the other one. Precondition: both have the same bound.
+    pub fn covers(&self, other: &Row) -> bool
+        requires { length self.now ≡ length other.now }
+        ensures { IsTrue result ↔ Includes self.now other.now }
+    {
+        covers_words(self.words.as_slice(), other.words.as_slice())
+    }
+
+    /// The least number, from one on, that is in the set and not in the other one. Precondition: both have the same bound.
+    pub fn first_beyond(&self, other: &Row, from: usize) -> Option<usize>
+        requires { length self.now ≡ length other.now }
+        ensures { FirstBeyond self.now other.now from result }
+    {
+        first_new(self.words.as_slice(), other.words.as_slice(), from, self.n)
+    }
+}

@@ -1,7 +1,0 @@
-use Rattle.std.proofs.Common.{ap}
-use Rattle.module_file.specs.Decoded.{refusal_of}
-use Rattle.module_file.proofs.Both.{module_again}
-use Rattle.module_file.proofs.laws.spellings_are_not_refused.Goals as goal
-
-pub returns : goal.returns
-returns c = λ m bytes h. ap (refusal_of bytes) (module_again bytes m h)

@@ -1,7 +1,0 @@
-use Rattle.std.proofs.Common.{false}
-use Rattle.std.specs.BTreeSet.{contains_text}
-use Rattle.module_file.proofs.NewNames.{none_taken, same_taken}
-use Rattle.module_file.proofs.names.read_first_names.Goals as goal
-
-pub returns : goal.returns
-returns c = rw (same_taken (contains_text c.new-taken.result) (λ _. false) (none_taken c.new-taken.result c.new-taken.ensures.empty) c.args.count c.args.bytes.now) at c.read_names.ensures.gives

@@ -1,4 +1,0 @@
-pub mod Reading
-pub mod Decoded
-pub mod Writing
-pub mod Laws

@@ -1,0 +1,4 @@
+pub mod Spelling
+mod Operands
+pub mod Widths
+pub mod Executing

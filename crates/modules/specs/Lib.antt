@@ -1,0 +1,14 @@
+pub use Rattle.principals.specs.ActsFor
+pub use Rattle.labels.specs.Canonical
+pub use Rattle.labels.specs.Label
+pub use Rattle.lexer.specs.Words
+pub mod Contents
+pub mod Defects
+pub mod Form
+pub mod Values
+pub mod Opcodes
+pub mod Code
+pub mod Format
+pub mod Machine
+pub mod Isolated
+pub mod Targets

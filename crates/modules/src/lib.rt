@@ -1,0 +1,23 @@
+//! The modules of the virtual machine: what a module is, the table of instructions, and the form
+//! of the file that spells it.
+#![tactic(auto)]
+
+pub mod channel;
+pub mod code;
+pub mod declaration;
+pub mod fault;
+pub mod instruction;
+pub mod laws;
+pub mod module;
+pub mod opcode;
+pub mod procedure;
+pub mod value;
+
+pub use channel::Channel;
+pub use code::code_length;
+pub use declaration::{Global, Handler, Slot};
+pub use fault::FormatDefect;
+pub use instruction::{Arithmetic, Comparison, Instruction};
+pub use module::Module;
+pub use procedure::Procedure;
+pub use value::{Cell, Kind};

@@ -1,0 +1,239 @@
+ghost use Rattle.modules.specs.Opcodes.{arithmetic_opcode, comparison_opcode, flagged, instruction_of, numbered, plain, row_of, width_after, with_opcode};
+ghost use Rattle.std.specs.Prelude.{IfSome, length, ◌<◌, ◌≡◌, ◌≤◌};
+
+use crate::instruction::{Arithmetic, Comparison, Instruction};
+use byteorder::{BigEndian, ByteOrder};
+
+/// What stands behind an opcode: nothing, an int, a boolean, or the number of what the instruction names.
+#[derive(Clone, Copy, Debug, PartialEq, Eq)]
+pub enum Operand {
+    Absent,
+    Int(i32),
+    Boolean(bool),
+    Number(u32),
+}
+
+/// A row of the table of opcodes: the byte that spells an instruction, the name that it is listed by, and its operand.
+#[derive(Clone, Copy, Debug)]
+pub struct Row {
+    pub byte: u8,
+    pub name: &'static str,
+    pub operand: Operand,
+}
+
+fn plain_row(byte: u8, name: &'static str) -> Row
+    ensures byte { result.byte ≡ byte }
+    ensures name { result.name.now ≡ name.now }
+    ensures operand { result.operand ≡ Operand.Absent }
+{
+    Row {
+        byte,
+        name,
+        operand: Operand::Absent,
+    }
+}
+
+fn numbered_row(byte: u8, name: &'static str, number: u32) -> Row
+    ensures byte { result.byte ≡ byte }
+    ensures name { result.name.now ≡ name.now }
+    ensures operand { result.operand ≡ Operand.Number number }
+{
+    Row {
+        byte,
+        name,
+        operand: Operand::Number(number),
+    }
+}
+
+/// The row of an instruction.
+pub fn row_of(instruction: Instruction) -> Row
+    ensures byte { result.byte ≡ (row_of instruction).byte }
+    ensures name { result.name.now ≡ (row_of instruction).name }
+    ensures operand { result.operand ≡ (row_of instruction).operand }
+{
+    match instruction {
+        Instruction::Push(number) => Row {
+            byte: 0x01,
+            name: "PUSH",
+            operand: Operand::Int(number),
+        },
+        Instruction::PushBoolean(flag) => Row {
+            byte: 0x02,
+            name: "PUSHB",
+            operand: Operand::Boolean(flag),
+        },
+        Instruction::Pop => plain_row(0x03, "POP"),
+        Instruction::Load(slot) => numbered_row(0x04, "LOAD", slot),
+        Instruction::Store(slot) => numbered_row(0x05, "STORE", slot),
+        Instruction::LoadGlobal(slot) => numbered_row(0x06, "GLOAD", slot),
+        Instruction::StoreGlobal(slot) => numbered_row(0x07, "GSTORE", slot),
+        Instruction::LoadElement(slot) => numbered_row(0x08, "ALOAD", slot),
+        Instruction::StoreElement(slot) => numbered_row(0x09, "ASTORE", slot),
+        Instruction::LoadGlobalElement(slot) => numbered_row(0x0a, "GALOAD", slot),
+        Instruction::StoreGlobalElement(slot) => numbered_row(0x0b, "GASTORE", slot),
+        Instruction::Clear(slot) => numbered_row(0x0c, "CLEAR", slot),
+        Instruction::Compute(operator) => arithmetic_row(operator),
+        Instruction::Negate => plain_row(0x15, "NEG"),
+        Instruction::Not => plain_row(0x16, "NOT"),
+        Instruction::Compare(comparison) => comparison_row(comparison),
+        Instruction::SameBoolean => plain_row(0x1d, "BEQ"),
+        Instruction::OtherBoolean => plain_row(0x1e, "BNE"),
+        Instruction::Jump(target) => numbered_row(0x20, "JUMP", target),
+        Instruction::JumpIfFalse(target) => numbered_row(0x21, "JFALSE", target),
+        Instruction::Call(procedure) => numbered_row(0x22, "CALL", procedure),
+        Instruction::Return => plain_row(0x23, "RET"),
+        Instruction::ReturnValue => plain_row(0x24, "RETV"),
+        Instruction::Receive(channel) => numbered_row(0x25, "RECV", channel),
+        Instruction::Send(channel) => numbered_row(0x26, "SEND", channel),
+        Instruction::Throw(exception) => numbered_row(0x27, "THROW", exception),
+    }
+}
+
+fn arithmetic_row(operator: Arithmetic) -> Row
+    ensures byte { result.byte ≡ (arithmetic_opcode operator).0 }
+    ensures name { result.name.now ≡ (arithmetic_opcode operator).1 }
+    ensures operand { result.operand ≡ Operand.Absent }
+{
+    match operator {
+        Arithmetic::Add => plain_row(0x10, "ADD"),
+        Arithmetic::Subtract => plain_row(0x11, "SUB"),
+        Arithmetic::Multiply => plain_row(0x12, "MUL"),
+        Arithmetic::Divide => plain_row(0x13, "DIV"),
+        Arithmetic::Remainder => plain_row(0x14, "REM"),
+    }
+}
+
+fn comparison_row(comparison: Comparison) -> Row
+    ensures byte { result.byte ≡ (comparison_opcode comparison).0 }
+    ensures name { result.name.now ≡ (comparison_opcode comparison).1 }
+    ensures operand { result.operand ≡ Operand.Absent }
+{
+    match comparison {
+        Comparison::Less => plain_row(0x17, "LT"),
+        Comparison::AtMost => plain_row(0x18, "LE"),
+        Comparison::Greater => plain_row(0x19, "GT"),
+        Comparison::AtLeast => plain_row(0x1a, "GE"),
+        Comparison::Equal => plain_row(0x1b, "EQ"),
+        Comparison::NotEqual => plain_row(0x1c, "NE"),
+    }
+}
+
+/// The instruction with an opcode that is followed by a number.
+fn numbered_instruction(opcode: u8, number: u32) -> Option<Instruction>
+    ensures { result ≡ with_opcode opcode (numbered number) }
+{
+    match opcode {
+        0x01 => Some(Instruction::Push(number.cast_signed())),
+        0x04 => Some(Instruction::Load(number)),
+        0x05 => Some(Instruction::Store(number)),
+        0x06 => Some(Instruction::LoadGlobal(number)),
+        0x07 => Some(Instruction::StoreGlobal(number)),
+        0x08 => Some(Instruction::LoadElement(number)),
+        0x09 => Some(Instruction::StoreElement(number)),
+        0x0a => Some(Instruction::LoadGlobalElement(number)),
+        0x0b => Some(Instruction::StoreGlobalElement(number)),
+        0x0c => Some(Instruction::Clear(number)),
+        0x20 => Some(Instruction::Jump(number)),
+        0x21 => Some(Instruction::JumpIfFalse(number)),
+        0x22 => Some(Instruction::Call(number)),
+        0x25 => Some(Instruction::Receive(number)),
+        0x26 => Some(Instruction::Send(number)),
+        0x27 => Some(Instruction::Throw(number)),
+        _ => None,
+    }
+}
+
+/// The instruction with an opcode that has no operand.
+fn plain_instruction(opcode: u8) -> Option<Instruction>
+    ensures { result ≡ with_opcode opcode plain }
+{
+    match opcode {
+        0x03 => Some(Instruction::Pop),
+        0x10 => Some(Instruction::Compute(Arithmetic::Add)),
+        0x11 => Some(Instruction::Compute(Arithmetic::Subtract)),
+        0x12 => Some(Instruction::Compute(Arithmetic::Multiply)),
+        0x13 => Some(Instruction::Compute(Arithmetic::Divide)),
+        0x14 => Some(Instruction::Compute(Arithmetic::Remainder)),
+        0x15 => Some(Instruction::Negate),
+        0x16 => Some(Instruction::Not),
+        0x17 => Some(Instruction::Compare(Comparison::Less)),
+        0x18 => Some(Instruction::Compare(Comparison::AtMost)),
+        0x19 => Some(Instruction::Compare(Comparison::Greater)),
+        0x1a => Some(Instruction::Compare(Comparison::AtLeast)),
+        0x1b => Some(Instruction::Compare(Comparison::Equal)),
+        0x1c => Some(Instruction::Compare(Comparison::NotEqual)),
+        0x1d => Some(Instruction::SameBoolean),
+        0x1e => Some(Instruction::OtherBoolean),
+        0x23 => Some(Instruction::Return),
+        0x24 => Some(Instruction::ReturnValue),
+        _ => None,
+    }
+}
+
+/// The instruction with an opcode that is followed by the byte of a boolean.
+fn flagged_instruction(opcode: u8, flag: u8) -> Option<Instruction>
+    ensures { result ≡ with_opcode opcode (flagged flag) }
+{
+    match (opcode, flag) {
+        (0x02, 0) => Some(Instruction::PushBoolean(false)),
+        (0x02, 1) => Some(Instruction::PushBoolean(true)),
+        _ => None,
+    }
+}
+
+/// The instruction that an opcode and its operand spell, if any.
+pub fn instruction_of(opcode: u8, operand: &[u8]) -> Option<Instruction>
+    requires { 1 < length operand.now → 4 ≤ length operand.now }
+    ensures { result ≡ instruction_of opcode operand.now }
+{
+    match operand {
+        [] => plain_instruction(opcode),
+        [flag] => flagged_instruction(opcode, *flag),
+        _ => numbered_instruction(opcode, BigEndian::read_u32(operand)),
+    }
+}
+
+/// How many bytes of operand follow an opcode, or none where there is no such opcode.
+pub fn width_after(opcode: u8) -> Option<usize>
+    ensures width { result ≡ width_after opcode }
+    ensures wide { IfSome result (λ width. 1 < width → 4 ≤ width) }
+{
+    match opcode {
+        0x02 => Some(1),
+        0x03
+        | 0x10
+        | 0x11
+        | 0x12
+        | 0x13
+        | 0x14
+        | 0x15
+        | 0x16
+        | 0x17
+        | 0x18
+        | 0x19
+        | 0x1a
+        | 0x1b
+        | 0x1c
+        | 0x1d
+        | 0x1e
+        | 0x23
+        | 0x24 => Some(0),
+        0x01
+        | 0x04
+        | 0x05
+        | 0x06
+        | 0x07
+        | 0x08
+        | 0x09
+        | 0x0a
+        | 0x0b
+        | 0x0c
+        | 0x20
+        | 0x21
+        | 0x22
+        | 0x25
+        | 0x26
+        | 0x27 => Some(4),
+        _ => None,
+    }
+}

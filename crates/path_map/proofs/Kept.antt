@@ -1,0 +1,271 @@
+-- What is kept of the ends of statements and blocks, and what they are in it.
+use Rattle.std.proofs.Common.{◌≡◌, ◌≢◌, refl, sym, ap, ◌∙◌, subst, ℕ, zero, suc, ◌*◌, ◌<◌, ◌≤◌, List, [], ◌∷◌, ◌++◌, Bool, true, false, ◌&&◌, ◌||◌, map, filter, set, length, get_or, arith, ltb}
+use Rattle.std.specs.Prelude.{◌==◌, slice_index_or}
+use Rattle.std.proofs.lemmas.Bool.{eqb-true, eqb-false, ne_eqb, ltb-true, ltb-false}
+use Rattle.std.proofs.Math.Bool.{or-false, and-true, and-false}
+use Rattle.std.proofs.lemmas.List.{length-append}
+use Rattle.resolved.specs.declared.statement.Exit.{Exit}
+use Rattle.resolved.specs.declared.statement.Exit.TheVariants.{Normal, Return, Break, Continue, Throw}
+use Rattle.resolved.specs.Ends.{same_exit, has_end, thrown_ends}
+use Rattle.path_map.specs.declared.exits.Raised.{Raised}
+use Rattle.path_map.specs.declared.exits.Raised.TheVariants.{Nothing, One, Several}
+use Rattle.path_map.specs.declared.exits.Exits.{Exits}
+use Rattle.path_map.specs.declared.set.ExceptionSet.{ExceptionSet}
+use Rattle.path_map.specs.declared.table.Entry.{Entry}
+use Rattle.path_map.specs.Exits.{exits_of, raised_by, thrown_in}
+use Rattle.path_map.specs.Entries.{below, listed, row_at, exceptions_at, end_if, entry_ends, IsKept, AreKept, RowsGrow, IsRowFor, IsRowOf, HasExits, IsPut}
+use Rattle.path_map.specs.Joins.{only_raised}
+use Rattle.path_map.specs.Sets.{row_has, is_one_of, throws, IsSummaryOf}
+use Rattle.path_map.proofs.Rows.{past-row}
+use Rattle.path_map.proofs.Summary.{none-thrown, summary-is, throws-in, throws-thrown}
+
+-- the exceptions of a row
+listed-before : (p : ℕ → Bool) (n e : ℕ) → n ≤ e → is_one_of (filter p (below n)) e ≡ false
+listed-before p zero e far = refl
+listed-before p (suc n) e far =
+    let rest : is_one_of (filter p (below n)) e ≡ false = listed-before p n e (omega arith) in
+    let differs : (e == n) ≡ false = ne_eqb e n (λ same. absurd (omega arith)) in
+    go (p n) refl rest differs
+  where
+    go : (b : Bool) → p n ≡ b → is_one_of (filter p (below n)) e ≡ false → (e == n) ≡ false → is_one_of (filter p (n ∷ below n)) e ≡ false
+    go false f rest differs = rw f rest
+    go true f rest differs = rw (f, differs) rest
+
+listed-at : (p : ℕ → Bool) (n e : ℕ) → e < n → is_one_of (filter p (below n)) e ≡ p e
+listed-at p zero e near = absurd (omega arith)
+listed-at p (suc n) e near = go (e == n) refl (p n) refl (λ less. listed-at p n e less)
+  where
+    go : (same : Bool) → (e == n) ≡ same → (b : Bool) → p n ≡ b → (e < n → is_one_of (filter p (below n)) e ≡ p e) → is_one_of (filter p (n ∷ below n)) e ≡ p e
+    go true f true g rest = rw (g, f) (sym (ap p (eqb-true e n f) ∙ g))
+    go true f false g rest = rw g (listed-before p n e (omega (arith, eqb-true e n f)) ∙ sym (ap p (eqb-true e n f) ∙ g))
+    go false f true g rest =
+        let less : e < n = let differs : e ≢ n = eqb-false e n f in omega arith in
+        rw (g, f) (rest less)
+    go false f false g rest =
+        let less : e < n = let differs : e ≢ n = eqb-false e n f in omega arith in
+        rw g (rest less)
+
+pub listed-has : (words : List ℕ) (e : ℕ) → is_one_of (listed words) e ≡ row_has words e
+listed-has words e = go (ltb e (64 * length words)) refl
+  where
+    go : (b : Bool) → ltb e (64 * length words) ≡ b → is_one_of (listed words) e ≡ row_has words e
+    go true f = listed-at (row_has words) (64 * length words) e (ltb-true e (64 * length words) f)
+    go false f =
+        let far : 64 * length words ≤ e = ltb-false e (64 * length words) f in
+        listed-before (row_has words) (64 * length words) e far ∙ sym (past-row words e (omega arith))
+
+-- the ends of an entry
+if-has : (test : Bool) (x : Exit) (rest : List Exit) (exit : Exit)
+    → has_end (end_if test x ++ rest) exit ≡ ((test && same_exit exit x) || has_end rest exit)
+if-has true x rest exit = refl
+if-has false x rest exit = refl
+
+module _ (rows : List ExceptionSet) (entry : Entry) where
+  raised : List ℕ
+  raised = exceptions_at rows entry.row entry.exits.raised
+
+  each : (exit : Exit) → has_end (entry_ends rows entry) exit
+      ≡ ((entry.exits.normal && same_exit exit Normal) || ((entry.exits.returns && same_exit exit Return)
+      || ((entry.exits.breaks && same_exit exit Break) || ((entry.exits.continues && same_exit exit Continue) || has_end (thrown_ends raised) exit))))
+  unfolding raised
+  each exit =
+      if-has entry.exits.normal Normal (end_if entry.exits.returns Return ++ (end_if entry.exits.breaks Break ++ (end_if entry.exits.continues Continue ++ thrown_ends raised))) exit
+      ∙ ap (λ b. (entry.exits.normal && same_exit exit Normal) || b)
+      (if-has entry.exits.returns Return (end_if entry.exits.breaks Break ++ (end_if entry.exits.continues Continue ++ thrown_ends raised)) exit
+      ∙ ap (λ b. (entry.exits.returns && same_exit exit Return) || b)
+      (if-has entry.exits.breaks Break (end_if entry.exits.continues Continue ++ thrown_ends raised) exit
+      ∙ ap (λ b. (entry.exits.breaks && same_exit exit Break) || b)
+      (if-has entry.exits.continues Continue (thrown_ends raised) exit)))
+
+  sure : (n r b c x : Bool) → x ≡ false → ((n && true) || ((r && false) || ((b && false) || ((c && false) || x)))) ≡ n
+  sure n r b c x none = rw (and-true n, and-false r, and-false b, and-false c, none) (or-false n)
+
+  second : (n r b c x : Bool) → x ≡ false → ((n && false) || ((r && true) || ((b && false) || ((c && false) || x)))) ≡ r
+  second n r b c x none = rw (and-false n, and-true r, and-false b, and-false c, none) (or-false r)
+
+  third : (n r b c x : Bool) → x ≡ false → ((n && false) || ((r && false) || ((b && true) || ((c && false) || x)))) ≡ b
+  third n r b c x none = rw (and-false n, and-false r, and-true b, and-false c, none) (or-false b)
+
+  fourth : (n r b c x : Bool) → x ≡ false → ((n && false) || ((r && false) || ((b && false) || ((c && true) || x)))) ≡ c
+  fourth n r b c x none = rw (and-false n, and-false r, and-false b, and-true c, none) (or-false c)
+
+  last : (n r b c x : Bool) → ((n && false) || ((r && false) || ((b && false) || ((c && false) || x)))) ≡ x
+  last n r b c x = rw (and-false n, and-false r, and-false b, and-false c) refl
+
+  pub entry-normal : has_end (entry_ends rows entry) Normal ≡ entry.exits.normal
+  entry-normal =
+      each Normal ∙ sure entry.exits.normal entry.exits.returns entry.exits.breaks entry.exits.continues (has_end (thrown_ends raised) Normal)
+      (none-thrown Normal (λ _. refl) raised)
+
+  pub entry-returns : has_end (entry_ends rows entry) Return ≡ entry.exits.returns
+  entry-returns =
+      each Return ∙ second entry.exits.normal entry.exits.returns entry.exits.breaks entry.exits.continues (has_end (thrown_ends raised) Return)
+      (none-thrown Return (λ _. refl) raised)
+
+  pub entry-breaks : has_end (entry_ends rows entry) Break ≡ entry.exits.breaks
+  entry-breaks =
+      each Break ∙ third entry.exits.normal entry.exits.returns entry.exits.breaks entry.exits.continues (has_end (thrown_ends raised) Break)
+      (none-thrown Break (λ _. refl) raised)
+
+  pub entry-continues : has_end (entry_ends rows entry) Continue ≡ entry.exits.continues
+  entry-continues =
+      each Continue ∙ fourth entry.exits.normal entry.exits.returns entry.exits.breaks entry.exits.continues (has_end (thrown_ends raised) Continue)
+      (none-thrown Continue (λ _. refl) raised)
+
+  pub entry-raised : (e : ℕ) → throws (entry_ends rows entry) e ≡ is_one_of (exceptions_at rows entry.row entry.exits.raised) e
+  unfolding raised
+  entry-raised e =
+      each (Throw e) ∙ (last entry.exits.normal entry.exits.returns entry.exits.breaks entry.exits.continues (has_end (thrown_ends raised) (Throw e))
+      ∙ throws-thrown raised e)
+
+-- more rows
+exceptions-same : (old new : List ExceptionSet) (row : ℕ) (raised : Raised) → row_at new row ≡ row_at old row
+    → exceptions_at new row raised ≡ exceptions_at old row raised
+exceptions-same old new row Nothing same = refl
+exceptions-same old new row (One e) same = refl
+exceptions-same old new row Several same = ap listed same
+
+module _ (old new : List ExceptionSet) (grown : RowsGrow old new) where
+  ends-same : (entry : Entry) → IsKept old entry → entry_ends new entry ≡ entry_ends old entry
+  ends-same entry kept =
+      ap (λ es. end_if entry.exits.normal Normal ++ (end_if entry.exits.returns Return ++ (end_if entry.exits.breaks Break
+      ++ (end_if entry.exits.continues Continue ++ thrown_ends es))))
+      (exceptions-same old new entry.row entry.exits.raised (grown.same entry.row kept.there))
+
+  one-grown : (entry : Entry) → IsKept old entry → IsKept new entry
+  one-grown entry kept = record {
+    there = omega (arith, kept.there, grown.more);
+    summary = kept.summary ∙ ap exits_of (sym (ends-same entry kept));
+  }
+
+  pub view-grown : (entries : List Entry) → AreKept old entries → map (entry_ends new) entries ≡ map (entry_ends old) entries
+  view-grown [] kept = refl
+  view-grown (entry ∷ entries) kept = rw (ends-same entry kept.0, view-grown entries kept.1) refl
+
+  pub kept-grown : (entries : List Entry) → AreKept old entries → AreKept new entries
+  kept-grown [] kept = tt
+  kept-grown (entry ∷ entries) kept = (one-grown entry kept.0, kept-grown entries kept.1)
+
+pub rows-same : (rows : List ExceptionSet) → RowsGrow rows rows
+rows-same rows = record { more = omega arith; same = λ row there. refl }
+
+row-append : (rows : List ExceptionSet) (set : ExceptionSet) (row : ℕ) → row < length rows → row_at (rows ++ set ∷ []) row ≡ row_at rows row
+row-append [] set row there = absurd (omega arith)
+row-append (x ∷ rows) set zero there = refl
+row-append (x ∷ rows) set (suc row) there = row-append rows set row (omega arith)
+
+row-last : (rows : List ExceptionSet) (set : ExceptionSet) → row_at (rows ++ set ∷ []) (length rows) ≡ set.words.items
+row-last [] set = refl
+row-last (x ∷ rows) set = row-last rows set
+
+pub pushed-grow : (rows : List ExceptionSet) (set : ExceptionSet) → RowsGrow rows (rows ++ set ∷ [])
+pushed-grow rows set = record {
+  more = omega (arith, length-append rows (set ∷ []));
+  same = λ row there. row-append rows set row there;
+}
+
+pub pushed-row : (rows : List ExceptionSet) (set : ExceptionSet) → IsRowOf set.words.items (rows ++ set ∷ []) (length rows)
+pushed-row rows set = record {
+  there = omega (arith, length-append rows (set ∷ []));
+  same = λ e. ap (λ words. row_has words e) (row-last rows set);
+}
+
+pub row-is : (rows : List ExceptionSet) (row : ℕ) (set none : ExceptionSet) → row < length rows → set ≡ get_or rows row none → row_at rows row ≡ set.words.items
+row-is [] row set none there is = absurd (omega arith)
+row-is (x ∷ rows) zero set none there is = ap (λ (s : ExceptionSet). s.words.items) (sym is)
+row-is (x ∷ rows) (suc row) set none there is = row-is rows row set none (omega arith) is
+
+-- more entries
+pub kept-append : (rows : List ExceptionSet) (entries : List Entry) (entry : Entry) → AreKept rows entries → IsKept rows entry → AreKept rows (entries ++ entry ∷ [])
+kept-append rows [] entry kept one = (one, tt)
+kept-append rows (x ∷ entries) entry kept one = (kept.0, kept-append rows entries entry kept.1 one)
+
+kept-set : (rows : List ExceptionSet) (entries : List Entry) (at : ℕ) (entry : Entry) → AreKept rows entries → IsKept rows entry → AreKept rows (set entries at entry)
+kept-set rows [] at entry kept one = tt
+kept-set rows (x ∷ entries) zero entry kept one = (one, kept.1)
+kept-set rows (x ∷ entries) (suc at) entry kept one = (kept.0, kept-set rows entries at entry kept.1 one)
+
+view-set : (rows : List ExceptionSet) (entries : List Entry) (at : ℕ) (entry : Entry)
+    → map (entry_ends rows) (set entries at entry) ≡ set (map (entry_ends rows) entries) at (entry_ends rows entry)
+view-set rows [] at entry = refl
+view-set rows (x ∷ entries) zero entry = refl
+view-set rows (x ∷ entries) (suc at) entry = ap (λ xs. entry_ends rows x ∷ xs) (view-set rows entries at entry)
+
+pub exits-at : (rows : List ExceptionSet) (entries : List Entry) (number : ℕ) (none : Entry) → AreKept rows entries → number < length entries
+    → (get_or entries number none).exits ≡ exits_of (slice_index_or (map (entry_ends rows) entries) number [])
+exits-at rows [] number none kept there = absurd (omega arith)
+exits-at rows (x ∷ entries) zero none kept there = kept.0.summary
+exits-at rows (x ∷ entries) (suc number) none kept there = exits-at rows entries number none kept.1 (omega arith)
+
+-- an entry that is written
+one-exception : (set : ℕ → Bool) (x e : ℕ) → IsSummaryOf set (One x) → ((e == x) || false) ≡ set e
+one-exception set x e only = go (e == x) refl (set e) refl
+  where
+    go : (same : Bool) → (e == x) ≡ same → (has : Bool) → set e ≡ has → ((e == x) || false) ≡ set e
+    go true f has g = rw f (sym (ap set (eqb-true e x f) ∙ only.has))
+    go false f false g = rw (f, g) refl
+    go false f true g = absurd (eqb-false e x f (only.only e g))
+
+module _ (rows : List ExceptionSet) (exits : Exits) (words : List ℕ) (row : ℕ) (raised : Raised) (there : row < length rows) (sum : IsSummaryOf (row_has words) raised)
+    (of : raised ≡ Several → (e : ℕ) → row_has (row_at rows row) e ≡ row_has words e) where
+  written : Entry
+  written = record { exits = record exits { raised = raised }; row = row }
+
+  members : (r : Raised) → raised ≡ r → (e : ℕ) → is_one_of (exceptions_at rows row r) e ≡ row_has words e
+  members Nothing is e = sym ((subst (IsSummaryOf (row_has words)) is sum) e)
+  members (One x) is e = one-exception (row_has words) x e (subst (IsSummaryOf (row_has words)) is sum)
+  members Several is e = listed-has (row_at rows row) e ∙ of is e
+
+  pub written-has : HasExits exits words (entry_ends rows (record { exits = record exits { raised = raised }; row = row }))
+  unfolding written
+  written-has = record {
+    normal = entry-normal rows written;
+    returns = entry-returns rows written;
+    breaks = entry-breaks rows written;
+    continues = entry-continues rows written;
+    raised = λ e. entry-raised rows written e ∙ members raised refl e;
+  }
+
+  pub written-kept : IsKept rows (record { exits = record exits { raised = raised }; row = row })
+  unfolding written
+  written-kept =
+      let ends : List Exit = entry_ends rows written in
+      let is : raised ≡ raised_by (thrown_in ends) =
+      summary-is (thrown_in ends) (row_has words) (λ e. throws-in ends e ∙ written-has.raised e) raised sum in
+      record {
+        there = there;
+        summary =
+            rw (written-has.normal, written-has.returns, written-has.breaks, written-has.continues, sym is) refl;
+      }
+
+module _ (old new : List ExceptionSet) (entries : List Entry) (at : ℕ) (exits given : Exits) (words : List ℕ) (row : ℕ) (raised : Raised)
+    (grown : RowsGrow old new) (kept : AreKept old entries) (of : IsRowFor words raised new row) (sum : IsSummaryOf (row_has words) raised)
+    (is : given ≡ record exits { raised = raised }) where
+  pub put-is : IsPut at exits words (map (entry_ends old) entries) (map (entry_ends new) (set entries at (record { exits = given; row = row })))
+  put-is =
+      let entry : Entry = record { exits = record exits { raised = raised }; row = row } in
+      subst (λ (x : Exits). IsPut at exits words (map (entry_ends old) entries) (map (entry_ends new) (set entries at (record { exits = x; row = row })))) (sym is)
+      (record {
+        ends = entry_ends new entry;
+        has = written-has new exits words row raised of.there sum of.same;
+        written =
+            view-set new entries at entry
+            ∙ ap (λ xs. set xs at (entry_ends new entry)) (view-grown old new grown entries kept);
+      })
+
+  pub put-kept : AreKept new (set entries at (record { exits = given; row = row }))
+  put-kept =
+      subst (λ (x : Exits). AreKept new (set entries at (record { exits = x; row = row }))) (sym is)
+      (kept-set new entries at (record { exits = record exits { raised = raised }; row = row }) (kept-grown old new grown entries kept)
+      (written-kept new exits words row raised of.there sum of.same))
+
+-- an entry for which room is made
+pub room-kept : (rows : List ExceptionSet) (given : Exits) → given ≡ only_raised Nothing → 0 < length rows → IsKept rows (record { exits = given; row = 0 })
+room-kept rows given is some = rw is (record { there = some; summary = refl })
+
+-- a row that is there already, and one that is new
+pub row-for : (rows : List ExceptionSet) (words : List ℕ) (summary : Raised) (row : ℕ) → IsRowOf words rows row → IsRowFor words summary rows row
+row-for rows words summary row of = record { there = of.there; same = λ several. of.same }
+
+pub no-row : (rows : List ExceptionSet) (words : List ℕ) (summary : Raised) → 0 < length rows → (summary ≡ Several → ⊥) → IsRowFor words summary rows 0
+no-row rows words summary some none = record { there = some; same = λ several. absurd (none several) }

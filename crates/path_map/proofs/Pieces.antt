@@ -1,0 +1,107 @@
+-- The ends of the statements and blocks of a program, each by its number.
+use Rattle.std.proofs.Common.{◌≡◌, refl, sym, ap, ◌∙◌, subst, ℕ, zero, suc, List, [], ◌∷◌, ◌++◌, map, length, flat_map}
+use Rattle.std.specs.Prelude.{Some, slice_get, slice_index_or}
+use Rattle.std.proofs.lemmas.List.{map-append}
+use Rattle.resolved.specs.declared.statement.Exit.{Exit}
+use Rattle.resolved.specs.Tree.{Statement, Assign, Clear, Store, Receive, Send, Call, If, While, Leave, ReturnWith, Try, Nested, Block, Empty, Then, Handlers, NoMore, Catch}
+use Rattle.resolved.specs.Program.{Program, ProcedureEntry}
+use Rattle.resolved.specs.Ends.{statement_ends}
+use Rattle.path_map.specs.EndsOf.{SameEnds, AreEndsOf, piece_ends}
+use Rattle.path_map.specs.Paths.{AreAlike, inner_paths, rest_paths, handlers_paths, block_paths, program_paths}
+use Rattle.path_map.specs.Pieces.{Piece, OfStatement, OfBlock, pieces_in_statement, pieces_in_block, pieces_in_handlers, program_pieces}
+
+module _ (program : Program) where
+  abbrev ends_of : List Piece → List (List Exit)
+  ends_of pieces = map (piece_ends program) pieces
+
+  both-parts : (xs ys : List Piece) (ps qs : List (List Exit)) → ends_of xs ≡ ps → ends_of ys ≡ qs → ends_of (xs ++ ys) ≡ ps ++ qs
+  both-parts xs ys ps qs first second = map-append (piece_ends program) xs ys ∙ (ap (λ zs. zs ++ ends_of ys) first ∙ ap (λ zs. ps ++ zs) second)
+
+  one-more : (piece : Piece) (xs : List Piece) (ps : List (List Exit)) → ends_of xs ≡ ps → ends_of (piece ∷ xs) ≡ piece_ends program piece ∷ ps
+  one-more piece xs ps rest = ap (λ zs. piece_ends program piece ∷ zs) rest
+
+  mutual
+    in-statement : (statement : Statement) → ends_of (pieces_in_statement statement) ≡ inner_paths program statement
+    in-statement (Assign at x e) = refl
+    in-statement (Clear at slot) = refl
+    in-statement (Store at array length index e) = refl
+    in-statement (Receive at channel target) = refl
+    in-statement (Send at channel e) = refl
+    in-statement (Call at procedure arguments target) = refl
+    in-statement (If at e yes_block no_block) =
+        both-parts (OfBlock yes_block ∷ pieces_in_block yes_block) (OfBlock no_block ∷ pieces_in_block no_block)
+        (block_paths program yes_block) (block_paths program no_block)
+        (one-more (OfBlock yes_block) (pieces_in_block yes_block) (rest_paths program yes_block) (in-block yes_block))
+        (one-more (OfBlock no_block) (pieces_in_block no_block) (rest_paths program no_block) (in-block no_block))
+    in-statement (While at loop e body) = one-more (OfBlock body) (pieces_in_block body) (rest_paths program body) (in-block body)
+    in-statement (Leave at exit) = refl
+    in-statement (ReturnWith at value) = refl
+    in-statement (Try at block handlers) =
+        both-parts (OfBlock block ∷ pieces_in_block block) (pieces_in_handlers handlers)
+        (block_paths program block) (handlers_paths program handlers)
+        (one-more (OfBlock block) (pieces_in_block block) (rest_paths program block) (in-block block)) (in-handlers handlers)
+    in-statement (Nested at block) = one-more (OfBlock block) (pieces_in_block block) (rest_paths program block) (in-block block)
+
+    in-block : (block : Block) → ends_of (pieces_in_block block) ≡ rest_paths program block
+    in-block Empty = refl
+    in-block (Then statement rest) =
+        both-parts (OfStatement statement ∷ pieces_in_statement statement) (pieces_in_block rest)
+        (statement_ends program statement ∷ inner_paths program statement) (rest_paths program rest)
+        (one-more (OfStatement statement) (pieces_in_statement statement) (inner_paths program statement) (in-statement statement)) (in-block rest)
+
+    in-handlers : (handlers : Handlers) → ends_of (pieces_in_handlers handlers) ≡ handlers_paths program handlers
+    in-handlers NoMore = refl
+    in-handlers (Catch at handled body rest) =
+        both-parts (OfBlock body ∷ pieces_in_block body) (pieces_in_handlers rest) (block_paths program body) (handlers_paths program rest)
+        (one-more (OfBlock body) (pieces_in_block body) (rest_paths program body) (in-block body)) (in-handlers rest)
+
+  in-procedures : (procedures : List ProcedureEntry)
+      → ends_of (flat_map (λ (procedure : ProcedureEntry). OfBlock procedure.body ∷ pieces_in_block procedure.body) procedures)
+      ≡ flat_map (λ (procedure : ProcedureEntry). block_paths program procedure.body) procedures
+  in-procedures [] = refl
+  in-procedures (procedure ∷ rest) =
+      both-parts (OfBlock procedure.body ∷ pieces_in_block procedure.body)
+      (flat_map (λ (other : ProcedureEntry). OfBlock other.body ∷ pieces_in_block other.body) rest)
+      (block_paths program procedure.body) (flat_map (λ (other : ProcedureEntry). block_paths program other.body) rest)
+      (one-more (OfBlock procedure.body) (pieces_in_block procedure.body) (rest_paths program procedure.body) (in-block procedure.body))
+      (in-procedures rest)
+
+  pub pieces-paths : map (piece_ends program) (program_pieces program) ≡ program_paths program
+  pieces-paths = in-procedures program.procedures
+
+  -- from all in one list to each by its number, and back
+  as-many : (found : List (List Exit)) (pieces : List Piece) → AreAlike found (map (piece_ends program) pieces) → length found ≡ length pieces
+  as-many [] [] alike = refl
+  as-many [] (piece ∷ pieces) alike = absurd alike
+  as-many (x ∷ found) [] alike = absurd alike
+  as-many (x ∷ found) (piece ∷ pieces) alike = ap suc (as-many found pieces alike.1)
+
+  each-same : (found : List (List Exit)) (pieces : List Piece) → AreAlike found (map (piece_ends program) pieces)
+      → (number : ℕ) (piece : Piece) → slice_get pieces number ≡ Some piece → SameEnds (slice_index_or found number []) (piece_ends program piece)
+  each-same found [] alike number piece is = absurd (cc)
+  each-same [] (other ∷ pieces) alike number piece is = absurd alike
+  each-same (x ∷ found) (other ∷ pieces) alike zero piece is =
+      let same : other ≡ piece = cc in subst (λ p. SameEnds x (piece_ends program p)) same alike.0
+  each-same (x ∷ found) (other ∷ pieces) alike (suc number) piece is = each-same found pieces alike.1 number piece is
+
+  all-alike : (found : List (List Exit)) (pieces : List Piece) → length found ≡ length pieces
+      → ((number : ℕ) (piece : Piece) → slice_get pieces number ≡ Some piece → SameEnds (slice_index_or found number []) (piece_ends program piece))
+      → AreAlike found (map (piece_ends program) pieces)
+  all-alike [] [] many each = tt
+  all-alike [] (piece ∷ pieces) many each = absurd (cc)
+  all-alike (x ∷ found) [] many each = absurd (cc)
+  all-alike (x ∷ found) (piece ∷ pieces) many each =
+      (each 0 piece refl, all-alike found pieces (cc) (λ number other is. each (suc number) other is))
+
+  pub ends-found : (found : List (List Exit)) → AreAlike found (program_paths program) → AreEndsOf program found
+  ends-found found alike =
+      let pieces : AreAlike found (map (piece_ends program) (program_pieces program)) =
+      subst (λ paths. AreAlike found paths) (sym pieces-paths) alike in
+      record {
+        as_many = as-many found (program_pieces program) pieces;
+        each = each-same found (program_pieces program) pieces;
+      }
+
+  pub paths-found : (found : List (List Exit)) → AreEndsOf program found → AreAlike found (program_paths program)
+  paths-found found ends =
+      subst (λ paths. AreAlike found paths) pieces-paths (all-alike found (program_pieces program) ends.as_many ends.each)

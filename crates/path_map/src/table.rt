@@ -1,0 +1,182 @@
+//! The possible ends of the statements and blocks of a program, as they are kept.
+ghost use Rattle.path_map.specs.Entries.{IsPut, IsRowFor, IsRowOf, RowsGrow};
+ghost use Rattle.path_map.specs.Exits.{exits_of};
+ghost use Rattle.std.specs.Prelude.{IfOk, OnOk, IsTrue, [], length, slice_index_or, ◌++◌, ◌<◌, ◌∷◌, ◌≡◌};
+
+use crate::exits::{Exits, Raised};
+use crate::raises::Raises;
+use crate::set::ExceptionSet;
+use std::alloc::{AllocError, Global};
+use std::marker::Model;
+
+// What is kept of a statement or block: a summary of its ends, and the number of the row of its exceptions, where they are several.
+#[derive(Clone, Copy)]
+struct Entry {
+    exits: Exits,
+    row: usize,
+}
+
+/// The possible ends of each statement and block of a program, by their numbers: a block comes before its statements, and a statement
+/// before the blocks in it.
+///
+/// Statements and blocks with the same exceptions share a row of them where they are one in the other, or calls of one procedure.
+#[derive(Drop)]
+pub struct Ends {
+    entries: Vec<Entry>,
+    // The first row is empty, and stands for those that are not several.
+    rows: Vec<ExceptionSet>,
+    // The last rows of calls, four for each procedure.
+    calls: Vec<usize>,
+}
+
+impl Model for Ends {
+    ghost use Rattle.path_map.specs.Entries.{AreKept, entry_ends};
+    ghost use Rattle.resolved.specs.declared.statement.Exit.{Exit};
+    ghost use Rattle.std.specs.Prelude.{List, length, map, ◌<◌};
+
+    ghost Value = { List (List Exit) };
+
+    ghost view = { λ ends. map (entry_ends ends.rows.items) ends.entries.items };
+
+    ghost invariant = { λ ends. (0 < length ends.rows.items)
+        × AreKept ends.rows.items ends.entries.items };
+}
+
+impl Ends {
+    pub(crate) fn new(alloc: Global, procedures: usize) -> Result<Ends, AllocError>
+        ensures { IfOk result (λ ends. ends ≡ []) }
+    {
+        let mut rows = Vec::new(alloc);
+        rows.push(ExceptionSet::new(alloc))?;
+        let mut calls = Vec::new(alloc);
+        for _ in 0..procedures {
+            for _ in 0..4 {
+                calls.push(0)?;
+            }
+        }
+        Ok(Ends {
+            entries: Vec::new(alloc),
+            rows,
+            calls,
+        })
+    }
+
+    // Makes room for an entry, and gives its number.
+    pub(crate) fn reserve(&mut self) -> Result<usize, AllocError>
+        ensures number { IfOk result (λ at. at ≡ length self.old) }
+        ensures room { OnOk result (self.new ≡ self.old ++ [] ∷ []) }
+    {
+        let at = self.entries.len();
+        self.entries.push(Entry {
+            exits: Exits::raise_only(Raised::Nothing),
+            row: 0,
+        })?;
+        Ok(at)
+    }
+
+    // Writes an entry: ends with these exceptions, which are also those of a call, if it is one.
+    pub(crate) fn put(
+        &mut self,
+        at: usize,
+        exits: Exits,
+        raised: ExceptionSet,
+        call: Option<(u32, Raises)>,
+    ) -> Result<(), AllocError>
+        requires { at < length self.old }
+        ensures { OnOk result (IsPut at exits raised.words.items self.old self.new) }
+    {
+        let summary = raised.summary();
+        let like = likely(self.calls.as_slice(), call, self.rows.len());
+        let row = row_of(&mut self.rows, raised, summary, like)?;
+        remember(&mut self.calls, call, row);
+        self.entries[at] = Entry {
+            exits: exits.with(summary),
+            row,
+        };
+        Ok(())
+    }
+
+    /// How many statements and blocks there are.
+    pub fn len(&self) -> usize
+        ensures { result ≡ length self.now }
+    {
+        self.entries.len()
+    }
+
+    /// The summary of the ends of a statement or block.
+    pub fn exits(&self, number: usize) -> Exits
+        requires { number < length self.now }
+        ensures { result ≡ exits_of (slice_index_or self.now number []) }
+    {
+        self.entries[number].exits
+    }
+}
+
+// The number of a row for a set with this summary: of one of its exceptions, if they are several.
+fn row_of(
+    rows: &mut Vec<ExceptionSet>,
+    set: ExceptionSet,
+    summary: Raised,
+    like: usize,
+) -> Result<usize, AllocError>
+    requires { 0 < length rows.old.items }
+    ensures row { IfOk result (IsRowFor set.words.items summary rows.new.items) }
+    ensures grown { RowsGrow rows.old.items rows.new.items }
+{
+    match summary {
+        Raised::Nothing => Ok(0),
+        Raised::One(_) => Ok(0),
+        Raised::Several => keep(rows, set, like),
+    }
+}
+
+// Keeps a set as a row, and gives its number. It stands for another set with the same exceptions, if that row is like it.
+fn keep(rows: &mut Vec<ExceptionSet>, set: ExceptionSet, like: usize) -> Result<usize, AllocError>
+    ensures kept { IfOk result (IsRowOf set.words.items rows.new.items) }
+    ensures grown { RowsGrow rows.old.items rows.new.items }
+{
+    if is_like(rows, like, &set) {
+        return Ok(like);
+    }
+    let number = rows.len();
+    rows.push(set)?;
+    Ok(number)
+}
+
+// Whether a row has the exceptions of a set.
+fn is_like(rows: &[ExceptionSet], number: usize, set: &ExceptionSet) -> bool
+    ensures { IsTrue result → IsRowOf set.now.words.items rows.now number }
+{
+    match rows.get(number) {
+        None => false,
+        Some(row) => row.is_same(set),
+    }
+}
+
+// The number of the row that is likely to have the exceptions of a statement or block: that of the last such call, or the last of so
+// many rows.
+fn likely(calls: &[usize], call: Option<(u32, Raises)>, rows: usize) -> usize {
+    match call {
+        None => rows.saturating_sub(1),
+        Some((callee, raised)) => match calls.get(place_of(callee, raised)) {
+            None => 0,
+            Some(row) => *row,
+        },
+    }
+}
+
+// Remembers the row of a call.
+fn remember(calls: &mut [usize], call: Option<(u32, Raises)>, row: usize) {
+    if let Some((callee, raised)) = call {
+        if let Some(place) = calls.get_mut(place_of(callee, raised)) {
+            *place = row;
+        }
+    }
+}
+
+// The place of the last row of a call of a procedure, with arguments that can raise these exceptions.
+fn place_of(callee: u32, raised: Raises) -> usize {
+    let arith = if raised.arith { 2 } else { 0 };
+    let bounds = if raised.bounds { 1 } else { 0 };
+    callee as usize * 4 + arith + bounds
+}

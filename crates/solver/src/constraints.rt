@@ -1,0 +1,31 @@
+//! Constraints with unknowns, as they are stored.
+
+/// A part of a left side, or a right side: a written element of the lattice, by its number in the table of written elements, or an
+/// unknown, by its number.
+#[derive(Clone, Copy, Debug, PartialEq, Eq, Drop)]
+pub enum Atom {
+    Written(u32),
+    Unknown(u32),
+}
+
+/// A constraint: the join of what is on the left lies below what is on the right.
+#[derive(Debug, Drop)]
+pub struct Constraint<T> {
+    /// The byte where it stands.
+    pub at: usize,
+    /// The number of the rule that asks for it.
+    pub rule: u8,
+    pub left: Vec<Atom>,
+    /// What the right side is, for messages.
+    pub target: T,
+    pub right: Atom,
+}
+
+/// Constraints over the elements of a lattice: the table of the written elements, how many unknowns there are, and the constraints
+/// in their order.
+#[derive(Debug, Drop)]
+pub struct Constraints<E, T> {
+    pub written: Vec<E>,
+    pub unknowns: u32,
+    pub constraints: Vec<Constraint<T>>,
+}

@@ -1,0 +1,513 @@
+-- The statements, procedures and programs that are found read as they are written.
+use Rattle.std.proofs.Common.{◌≡◌, refl, sym, ◌∙◌, ap, subst, ℕ, List, [], ◌∷◌, ◌++◌, map, length, append-nil, append_assoc}
+use Rattle.std.specs.Prelude.{IfOk, Option, Some, None, not, codes, is_none}
+use Rattle.std.proofs.lemmas.List.{length-map, map_push}
+use Rattle.std.proofs.lemmas.Result.{IfOk-weaker}
+use Rattle.principals.specs.ActsFor.{PrincipalHierarchy}
+use Rattle.syntax.specs.Tree.{NameTree, LabelTree, ExpressionTree, CallTree, RightTree, SizeTree, StatementTree, DeclareTree, DeclareArrayTree, AssignTree, AssignElementTree, CallTree', ReceiveTree, SendTree, IfTree, IfElseTree, WhileTree, BreakTree, ContinueTree, ThrowTree, ReturnTree, TryTree, NestedTree, BlockTree, BlockOf, StatementTrees, NoStatement, StatementThen, CatchTrees, NoCatch, CatchThen, ParameterTree, ThrownTree, ProcedureTree, ItemTree, ChannelItem, ExceptionItem, GlobalItem, ProcedureItem, ProgramTree, expression_at}
+use Rattle.resolved.specs.declared.expression.Base.{Base}
+use Rattle.resolved.specs.declared.expression.Base.TheVariants.{Int, Boolean}
+use Rattle.resolved.specs.declared.expression.Variable.TheVariants.{Global, Local}
+use Rattle.resolved.specs.Program.{Program, ChannelEntry, GlobalEntry, SlotEntry, ThrownEntry, ProcedureEntry}
+use Rattle.resolved.specs.Tree.{Statement, Clear, ReturnWith, Block, Handlers}
+use Rattle.resolved.specs.WellFormed.{same_base}
+use Rattle.types.specs.declared.scope.Meaning.{Meaning}
+use Rattle.types.specs.declared.scope.Meaning.TheVariants.{Input, Output, Exception, Procedure, Scalar, Array}
+use Rattle.types.specs.Finding.{Finding, give, require, along}
+use Rattle.types.specs.Environment.{Environment, ScalarUse, ArrayUse, declaring, fresh_finding, scalar_finding, array_finding, input_finding, output_finding, exception_finding}
+use Rattle.types.specs.Labels.{label_finding, optional_label_finding}
+use Rattle.types.specs.Expressions.{Typed, base_of, expression_finding, typed_finding}
+use Rattle.types.specs.Laws.{channel_names, global_names, MeaningHasName}
+use Rattle.types.specs.Statements.{Setting, Point, with_local, CallUse, call_finding, assigned_finding, scalar_slot, array_slot, declare_finding, size_finding, declare_array_finding, assign_finding, store_finding, call_statement_finding, receive_finding, send_finding, throw_finding, returned_finding, return_finding, staying, in_loop, behind_block, statement_finding, block_finding, statements_finding, catches_finding}
+use Rattle.types.specs.Resolution.{TopLevel, result_finding, result_base_of, next_parameter, parameters_finding, is_thrown, next_thrown, throws_finding, procedure_entry_finding, channel_finding, global_finding, Tables, next_item, no_tables, items_finding, top_finding, main_finding, global_cells_finding, frames_finding, program_with, resolution}
+use Rattle.types.specs.ReadBack.{NameScope, top_scope, with_declared, leaving_block, innermost, IsChannel, IsException, IsProcedure, IsVariable, ReadsExpression, ReadsArguments, ReadsRight, ReadsStatement, ReadDeclare, ReadDeclareArray, ReadAssign, ReadStore, ReadCall, ReadReceive, ReadSend, ReadIf, ReadIfElse, ReadWhile, ReadBreak, ReadContinue, ReadThrow, ReadReturn, ReadReturnValue, ReadTry, ReadNested, ReadsBlock, ReadBlock, ReadsStatements, ReadNoStatement, ReadStatement, ReadsCatches, ReadNoCatch, ReadCatch, ReadsThrows, ReadNoThrown, ReadThrown, with_parameters, slot_declaration, ReadsProcedure, ReadsItems, ReadNoItem, ReadChannel, ReadException, ReadGlobal, ReadProcedure}
+use Rattle.types.proofs.ItemNames.{channel_name, global_name, channel_named, global_named}
+use Rattle.types.proofs.NamedMeanings.{finds_itself}
+use Rattle.types.proofs.Passing.{then_finds, if_finds, any_finds, finds_for_all}
+use Rattle.types.proofs.ReadExpressions.{Agrees, IsMeaning, same_scope, agrees_declaring, scalar_reads, array_reads, input_reads, output_reads, exception_reads, expression_reads, typed_reads, call_reads, right_reads}
+
+-- the names of entries, with one more
+name_pushed : {X : Type 0} (name : X → List ℕ) (entries : List X) (entry : X) (text : List ℕ) (more : List (List ℕ)) → name entry ≡ text
+    → map name (entries ++ entry ∷ []) ++ more ≡ map name entries ++ text ∷ more
+name_pushed name entries entry text more named =
+    ap (λ one. one ++ more) (map_push name entries entry) ∙ (λ i. (map name entries ++ named i ∷ []) ++ more)
+    ∙ append_assoc (map name entries) (text ∷ []) more
+
+module _ (program : Program) where
+  -- ---- points
+
+  -- what is in scope at a point is what is declared, and the slots are all that is declared so far
+  record Matches (scope : NameScope) (point : Point) : Type 0 where
+    pub agrees : Agrees program scope point.names
+    pub declared : map slot_declaration point.slots ≡ scope.declared
+
+  -- what was found together with the point behind it reads as what is written, from this scope on
+  record Reading (A : Type 0) (Reads : A → NameScope → Type 0) (done : Point × A) : Type 0 where
+    pub after : NameScope
+    pub reads : Reads done.1 after
+    pub matches : Matches after done.0
+
+  abbrev StatementRead : NameScope → StatementTree → Point × Statement → Type 0
+  StatementRead scope written done = Reading Statement (ReadsStatement program scope written) done
+
+  abbrev BlockRead : NameScope → BlockTree → Point × Block → Type 0
+  BlockRead scope written done = Reading Block (ReadsBlock program scope written) done
+
+  abbrev StatementsRead : NameScope → StatementTrees → Point × Block → Type 0
+  StatementsRead scope written done = Reading Block (ReadsStatements program scope written) done
+
+  abbrev CatchesRead : NameScope → CatchTrees → Point × Handlers → Type 0
+  CatchesRead scope written done = Reading Handlers (ReadsCatches program scope written) done
+
+  next_number : (scope : NameScope) (point : Point) → Matches scope point → length point.slots ≡ length scope.declared
+  next_number scope point matches = sym (length-map point.slots slot_declaration) ∙ ap length matches.declared
+
+  -- behind the declaration of a local
+  local_matches : (scope : NameScope) (point : Point) (name : NameTree) (slot : SlotEntry) (meaning : Meaning) → Matches scope point
+      → slot.name ≡ name.text
+      → ((other : NameTree) → innermost (with_declared scope name slot.at).visible other.text ≡ Some (length point.slots)
+      → IsMeaning program (with_declared scope name slot.at) other meaning)
+      → Matches (with_declared scope name slot.at) (with_local point slot meaning)
+  local_matches scope point name slot meaning matches named new = record {
+    agrees =
+        subst (λ one. Agrees program (with_declared scope name slot.at) (declaring one meaning point.names)) (sym named)
+        (agrees_declaring program scope name slot.at meaning point.names
+        (λ other is. new other (is ∙ ap (λ n. Some n) (sym (next_number scope point matches)))) matches.agrees);
+    declared =
+        map_push slot_declaration point.slots slot
+        ∙ (λ i. matches.declared i ++ record { name = named i; at = slot.at } ∷ []);
+  }
+
+  leaving_matches : (scope inside : NameScope) (point after : Point) → Matches scope point → Matches inside after
+      → Matches (leaving_block scope inside) (behind_block point after)
+  leaving_matches scope inside point after before matches = record {
+    agrees = same_scope program scope (leaving_block scope inside) point.names refl before.agrees;
+    declared = matches.declared;
+  }
+
+  -- ---- statements that declare nothing
+
+  staying_reads : (scope : NameScope) (point : Point) (written : StatementTree) (looked : Finding Statement) → Matches scope point
+      → IfOk looked (λ s. ReadsStatement program scope written s scope) → IfOk (staying point looked) (StatementRead scope written)
+  staying_reads scope point written looked matches h =
+      then_finds looked _ (λ s. ReadsStatement program scope written s scope) _ h
+      (λ s reads. record { after = scope; reads = reads; matches = matches })
+
+  module _ (scope : NameScope) (names : Environment) (agrees : Agrees program scope names) where
+    abbrev Stays : StatementTree → Statement → Type 0
+    Stays written s = ReadsStatement program scope written s scope
+
+    assign_reads : (setting : Setting) (name : NameTree) (right : RightTree) → IfOk (assign_finding setting.signatures names name right) (Stays (AssignTree name right))
+    unfolding assign_finding
+    assign_reads setting name right =
+        then_finds (scalar_finding (names name.text) name.at) _ (λ (x : ScalarUse). IsVariable program scope name x.variable) _
+        (scalar_reads program scope names agrees name) (λ x is.
+        IfOk-weaker (assigned_finding setting.signatures names name.at x.variable x.base right) (ReadsRight program scope name.at x.variable right)
+        (Stays (AssignTree name right)) (λ s reads. ReadAssign is reads)
+        (right_reads program scope names agrees setting.signatures name.at x.variable x.base right))
+
+    store_reads : (array : NameTree) (index value : ExpressionTree) → IfOk (store_finding names array index value) (Stays (AssignElementTree array index value))
+    unfolding store_finding
+    store_reads array index value =
+        then_finds (array_finding (names array.text) array.at) _ (λ (a : ArrayUse). IsVariable program scope array a.variable) _
+        (array_reads program scope names agrees array) (λ a is.
+        then_finds (typed_finding names Int index) _ (ReadsExpression program scope index) _ (typed_reads program scope names agrees Int index) (λ i index_reads.
+        then_finds (typed_finding names a.base value) _ (ReadsExpression program scope value) _ (typed_reads program scope names agrees a.base value)
+        (λ e reads. ReadStore is index_reads reads)))
+
+    call_statement_reads : (setting : Setting) (call : CallTree) → IfOk (call_statement_finding setting.signatures names call) (Stays (CallTree' call))
+    unfolding call_statement_finding
+    call_statement_reads setting call =
+        then_finds (call_finding setting.signatures names call) _
+        (λ (made : CallUse). IsProcedure program scope call.procedure made.procedure × ReadsArguments program scope call.arguments made.arguments) _
+        (call_reads program scope names agrees setting.signatures call) (λ made parts. ReadCall parts.0 parts.1)
+
+    receive_reads : (at : ℕ) (channel : NameTree) → IfOk (receive_finding names at channel) (Stays (ReceiveTree at channel))
+    unfolding receive_finding
+    receive_reads at channel =
+        then_finds (input_finding (names channel.text) channel.at) _ (IsChannel program scope channel) _ (input_reads program scope names agrees channel)
+        (λ number is. ReadReceive is)
+
+    send_reads : (at : ℕ) (channel : NameTree) (value : ExpressionTree) → IfOk (send_finding names at channel value) (Stays (SendTree at channel value))
+    unfolding send_finding
+    send_reads at channel value =
+        then_finds (output_finding (names channel.text) channel.at) _ (IsChannel program scope channel) _ (output_reads program scope names agrees channel) (λ number is.
+        then_finds (typed_finding names Int value) _ (ReadsExpression program scope value) _ (typed_reads program scope names agrees Int value)
+        (λ e reads. ReadSend is reads))
+
+    throw_reads : (at : ℕ) (exception : NameTree) → IfOk (throw_finding names at exception) (Stays (ThrowTree at exception))
+    unfolding throw_finding
+    throw_reads at exception =
+        then_finds (exception_finding (names exception.text) exception.at) _ (IsException program scope exception) _
+        (exception_reads program scope names agrees exception) (λ number is. ReadThrow is)
+
+    returned_reads : (result : Option Base) (at value_at : ℕ) (value : ExpressionTree) (found : Typed) → ReadsExpression program scope value found.expression
+        → IfOk (returned_finding result at value_at found) (Stays (ReturnTree at (Some value)))
+    returned_reads None at value_at value found reads = tt
+    returned_reads (Some base) at value_at value found reads =
+        if_finds (same_base found.base base) (ReturnWith at (Some found.expression)) _ value_at _ (λ is. ReadReturnValue reads)
+
+    return_reads : (result : Option Base) (at : ℕ) (value : Option ExpressionTree) → IfOk (return_finding result names at value) (Stays (ReturnTree at value))
+    unfolding return_finding
+    return_reads result at None = if_finds (is_none result) (ReturnWith at None) _ at _ (λ none. ReadReturn)
+    return_reads result at (Some value) =
+        then_finds (expression_finding names value) _ (λ (found : Typed). ReadsExpression program scope value found.expression) _
+        (expression_reads program scope names agrees value) (λ found reads. returned_reads result at (expression_at value) value found reads)
+
+  -- ---- declarations
+
+  declare_reads : (setting : Setting) (scope : NameScope) (point : Point) (at : ℕ) (base : _) (label : Option LabelTree) (name : NameTree) (right : RightTree)
+      → Matches scope point
+      → IfOk (declare_finding setting point at (base_of base) label name right) (StatementRead scope (DeclareTree at base label name right))
+  unfolding declare_finding
+  declare_reads setting scope point at base label name right matches =
+      let target = Local (length point.slots) in
+      then_finds (optional_label_finding setting.hierarchy label) _ (λ one. Unit {0}) _ (any_finds (optional_label_finding setting.hierarchy label)) (λ written nothing.
+      then_finds (fresh_finding (point.names name.text) name.at) _ (λ one. Unit {0}) _ (any_finds (fresh_finding (point.names name.text) name.at)) (λ one nothing.
+      then_finds (assigned_finding setting.signatures point.names at target (base_of base) right) _ (ReadsRight program scope at target right) _
+      (right_reads program scope point.names matches.agrees setting.signatures at target (base_of base) right) (λ s reads. record {
+        after = with_declared scope name at;
+        reads = ReadDeclare (subst (λ n. ReadsRight program scope at (Local n) right s) (next_number scope point matches) reads);
+        matches =
+            local_matches scope point name (scalar_slot at (base_of base) written name.text) (Scalar target (base_of base)) matches refl (λ other is. is);
+      })))
+
+  declare_array_reads : (setting : Setting) (scope : NameScope) (point : Point) (at : ℕ) (base : _) (label : Option LabelTree) (name : NameTree) (size : SizeTree)
+      → Matches scope point
+      → IfOk (declare_array_finding setting point at (base_of base) label name size) (StatementRead scope (DeclareArrayTree at base label name size))
+  unfolding declare_array_finding
+  declare_array_reads setting scope point at base label name size matches =
+      let target = Local (length point.slots) in
+      then_finds (optional_label_finding setting.hierarchy label) _ (λ one. Unit {0}) _ (any_finds (optional_label_finding setting.hierarchy label)) (λ written nothing.
+      then_finds (fresh_finding (point.names name.text) name.at) _ (λ one. Unit {0}) _ (any_finds (fresh_finding (point.names name.text) name.at)) (λ one nothing.
+      then_finds (size_finding size) _ (λ one. Unit {0}) _ (any_finds (size_finding size)) (λ length_of nothing. record {
+        after = with_declared scope name at;
+        reads =
+            subst (λ n. ReadsStatement program scope (DeclareArrayTree at base label name size) (Clear at n) (with_declared scope name at))
+            (sym (next_number scope point matches)) ReadDeclareArray;
+        matches =
+            local_matches scope point name (array_slot at (base_of base) written name.text length_of) (Array target (base_of base) length_of) matches refl
+            (λ other is. is);
+      })))
+
+  -- ---- statements, blocks and handlers
+
+  module _ (setting : Setting) where
+    mutual
+      unfolding statement_finding block_finding statements_finding catches_finding
+
+      statement_reads : (scope : NameScope) (point : Point) (written : StatementTree) → Matches scope point
+          → IfOk (statement_finding setting point written) (StatementRead scope written)
+      statement_reads scope point (DeclareTree at base label name right) matches = declare_reads setting scope point at base label name right matches
+      statement_reads scope point (DeclareArrayTree at base label name size) matches = declare_array_reads setting scope point at base label name size matches
+      statement_reads scope point (AssignTree name right) matches =
+          staying_reads scope point (AssignTree name right) (assign_finding setting.signatures point.names name right) matches
+          (assign_reads scope point.names matches.agrees setting name right)
+      statement_reads scope point (AssignElementTree array index value) matches =
+          staying_reads scope point (AssignElementTree array index value) (store_finding point.names array index value) matches
+          (store_reads scope point.names matches.agrees array index value)
+      statement_reads scope point (CallTree' call) matches =
+          staying_reads scope point (CallTree' call) (call_statement_finding setting.signatures point.names call) matches
+          (call_statement_reads scope point.names matches.agrees setting call)
+      statement_reads scope point (ReceiveTree at channel) matches =
+          staying_reads scope point (ReceiveTree at channel) (receive_finding point.names at channel) matches
+          (receive_reads scope point.names matches.agrees at channel)
+      statement_reads scope point (SendTree at channel value) matches =
+          staying_reads scope point (SendTree at channel value) (send_finding point.names at channel value) matches
+          (send_reads scope point.names matches.agrees at channel value)
+      statement_reads scope point (IfTree at condition body) matches =
+          then_finds (typed_finding point.names Boolean condition) _ (ReadsExpression program scope condition) _
+          (typed_reads program scope point.names matches.agrees Boolean condition) (λ e reads.
+          then_finds (block_finding setting point body) _ (BlockRead scope body) _ (block_reads scope point body matches) (λ done read. record {
+            after = read.after;
+            reads = ReadIf reads read.reads;
+            matches = read.matches;
+          }))
+      statement_reads scope point (IfElseTree at condition body otherwise) matches =
+          then_finds (typed_finding point.names Boolean condition) _ (ReadsExpression program scope condition) _
+          (typed_reads program scope point.names matches.agrees Boolean condition) (λ e reads.
+          then_finds (block_finding setting point body) _ (BlockRead scope body) _ (block_reads scope point body matches) (λ done read.
+          then_finds (block_finding setting done.0 otherwise) _ (BlockRead read.after otherwise) _ (block_reads read.after done.0 otherwise read.matches)
+          (λ other read_other. record {
+            after = read_other.after;
+            reads = ReadIfElse reads read.reads read_other.reads;
+            matches = read_other.matches;
+          })))
+      statement_reads scope point (WhileTree at condition body) matches =
+          then_finds (typed_finding point.names Boolean condition) _ (ReadsExpression program scope condition) _
+          (typed_reads program scope point.names matches.agrees Boolean condition) (λ e reads.
+          then_finds (block_finding setting (in_loop point) body) _ (BlockRead scope body) _
+          (block_reads scope (in_loop point) body (record { agrees = matches.agrees; declared = matches.declared })) (λ done read. record {
+            after = read.after;
+            reads = ReadWhile reads read.reads;
+            matches = read.matches;
+          }))
+      statement_reads scope point (BreakTree at) matches = record { after = scope; reads = ReadBreak; matches = matches }
+      statement_reads scope point (ContinueTree at) matches = record { after = scope; reads = ReadContinue; matches = matches }
+      statement_reads scope point (ThrowTree at exception) matches =
+          staying_reads scope point (ThrowTree at exception) (throw_finding point.names at exception) matches
+          (throw_reads scope point.names matches.agrees at exception)
+      statement_reads scope point (ReturnTree at value) matches =
+          staying_reads scope point (ReturnTree at value) (return_finding setting.result point.names at value) matches
+          (return_reads scope point.names matches.agrees setting.result at value)
+      statement_reads scope point (TryTree at body catches) matches =
+          then_finds (block_finding setting point body) _ (BlockRead scope body) _ (block_reads scope point body matches) (λ done read.
+          then_finds (catches_finding setting done.0 catches) _ (CatchesRead read.after catches) _ (catches_read read.after done.0 catches read.matches)
+          (λ handled read_handlers. record {
+            after = read_handlers.after;
+            reads = ReadTry read.reads read_handlers.reads;
+            matches = read_handlers.matches;
+          }))
+      statement_reads scope point (NestedTree (BlockOf at statements)) matches =
+          then_finds (block_finding setting point (BlockOf at statements)) _ (BlockRead scope (BlockOf at statements)) _
+          (block_reads scope point (BlockOf at statements) matches) (λ done read. record {
+            after = read.after;
+            reads = ReadNested read.reads;
+            matches = read.matches;
+          })
+
+      block_reads : (scope : NameScope) (point : Point) (written : BlockTree) → Matches scope point
+          → IfOk (block_finding setting point written) (BlockRead scope written)
+      block_reads scope point (BlockOf at statements) matches =
+          then_finds (statements_finding setting point statements) _ (StatementsRead scope statements) _ (statements_read scope point statements matches)
+          (λ done read. record {
+            after = leaving_block scope read.after;
+            reads = ReadBlock read.reads;
+            matches = leaving_matches scope read.after point done.0 matches read.matches;
+          })
+
+      statements_read : (scope : NameScope) (point : Point) (written : StatementTrees) → Matches scope point
+          → IfOk (statements_finding setting point written) (StatementsRead scope written)
+      statements_read scope point NoStatement matches = record { after = scope; reads = ReadNoStatement; matches = matches }
+      statements_read scope point (StatementThen statement rest) matches =
+          then_finds (statement_finding setting point statement) _ (StatementRead scope statement) _ (statement_reads scope point statement matches) (λ first read.
+          then_finds (statements_finding setting first.0 rest) _ (StatementsRead read.after rest) _ (statements_read read.after first.0 rest read.matches)
+          (λ others read_others. record {
+            after = read_others.after;
+            reads = ReadStatement read.reads read_others.reads;
+            matches = read_others.matches;
+          }))
+
+      catches_read : (scope : NameScope) (point : Point) (written : CatchTrees) → Matches scope point
+          → IfOk (catches_finding setting point written) (CatchesRead scope written)
+      catches_read scope point NoCatch matches = record { after = scope; reads = ReadNoCatch; matches = matches }
+      catches_read scope point (CatchThen at exception body rest) matches =
+          then_finds (exception_finding (point.names exception.text) exception.at) _ (IsException program scope exception) _
+          (exception_reads program scope point.names matches.agrees exception) (λ number is.
+          then_finds (block_finding setting point body) _ (BlockRead scope body) _ (block_reads scope point body matches) (λ done read.
+          then_finds (catches_finding setting done.0 rest) _ (CatchesRead read.after rest) _ (catches_read read.after done.0 rest read.matches)
+          (λ others read_others. record {
+            after = read_others.after;
+            reads = ReadCatch is read.reads read_others.reads;
+            matches = read_others.matches;
+          })))
+
+  -- ---- procedures
+
+  parameters_read : (h : PrincipalHierarchy) (scope : NameScope) (point : Point) (parameters : List ParameterTree) → Matches scope point
+      → IfOk (along (next_parameter h) point parameters) (Matches (with_parameters scope parameters))
+  parameters_read h scope point [] matches = matches
+  parameters_read h scope point (parameter ∷ parameters) matches =
+      let inside = with_declared scope parameter.name parameter.at in
+      then_finds (next_parameter h point parameter) (λ next. along (next_parameter h) next parameters) (Matches inside) _
+      (then_finds (label_finding h parameter.label) _ (λ one. Unit {0}) _ (any_finds (label_finding h parameter.label)) (λ label nothing.
+      then_finds (fresh_finding (point.names parameter.name.text) parameter.name.at) _ (λ one. Unit {0}) _
+      (any_finds (fresh_finding (point.names parameter.name.text) parameter.name.at)) (λ one nothing.
+      local_matches scope point parameter.name (scalar_slot parameter.at (base_of parameter.base) (Some label) parameter.name.text)
+      (Scalar (Local (length point.slots)) (base_of parameter.base)) matches refl (λ other is. is))))
+      (λ next matches_next. parameters_read h (with_declared scope parameter.name parameter.at) next parameters matches_next)
+
+  -- behind those that were found before
+  record ThrowsRead (before : List ThrownEntry) (written : List ThrownTree) (found : List ThrownEntry) : Type 0 where
+    pub more : List ThrownEntry
+    pub found_is : found ≡ before ++ more
+    pub reads : ReadsThrows program written more
+
+  throws_read : (h : PrincipalHierarchy) (names : Environment) → Agrees program top_scope names → (before : List ThrownEntry) (written : List ThrownTree)
+      → IfOk (along (next_thrown h names) before written) (ThrowsRead before written)
+  throws_read h names agrees before [] = record { more = []; found_is = sym (append-nil before); reads = ReadNoThrown }
+  throws_read h names agrees before (thrown ∷ written) =
+      then_finds (next_thrown h names before thrown) (λ next. along (next_thrown h names) next written)
+      (λ next. (entry : ThrownEntry) × (next ≡ before ++ entry ∷ []) × IsException program top_scope thrown.name entry.exception) _
+      (then_finds (exception_finding (names thrown.name.text) thrown.name.at) _ (IsException program top_scope thrown.name) _
+      (exception_reads program top_scope names agrees thrown.name) (λ exception is.
+      then_finds (require (not (is_thrown before exception)) _ thrown.name.at) _ (λ one. Unit {0}) _
+      (any_finds (require (not (is_thrown before exception)) _ thrown.name.at)) (λ one nothing.
+      then_finds (label_finding h thrown.label) _ (λ one. Unit {0}) _ (any_finds (label_finding h thrown.label))
+      (λ label nothing. (record { exception = exception; label = label }, refl, is)))))
+      (λ next parts.
+      let (entry, same, first) = parts in
+      IfOk-weaker (along (next_thrown h names) next written) (ThrowsRead next written) (ThrowsRead before (thrown ∷ written))
+      (λ found rest. record {
+        more = entry ∷ rest.more;
+        found_is = rest.found_is ∙ ap (λ one. one ++ rest.more) same ∙ append_assoc before (entry ∷ []) rest.more;
+        reads = ReadThrown first rest.reads;
+      })
+      (throws_read h names agrees next written))
+
+  procedure_read : (h : PrincipalHierarchy) (top : TopLevel) (written : ProcedureTree) → Agrees program top_scope top.names
+      → IfOk (procedure_entry_finding h top written) (ReadsProcedure program written)
+  unfolding procedure_entry_finding parameters_finding throws_finding
+  procedure_read h top written agrees =
+      let setting : Setting = record { hierarchy = h; signatures = top.signatures; result = result_base_of written.result } in
+      let first : Point = record { names = top.names; slots = []; loops = 0 } in
+      then_finds (result_finding h written.result) _ (λ one. Unit {0}) _ (any_finds (result_finding h written.result)) (λ result nothing.
+      then_finds (optional_label_finding h written.begin) _ (λ one. Unit {0}) _ (any_finds (optional_label_finding h written.begin)) (λ begin nothing.
+      then_finds (along (next_parameter h) first written.parameters) _ (Matches (with_parameters top_scope written.parameters)) _
+      (parameters_read h top_scope first written.parameters (record { agrees = agrees; declared = refl })) (λ point matches.
+      then_finds (optional_label_finding h written.end) _ (λ one. Unit {0}) _ (any_finds (optional_label_finding h written.end)) (λ end nothing.
+      then_finds (along (next_thrown h top.names) [] written.throws) _ (ThrowsRead [] written.throws) _
+      (throws_read h top.names agrees [] written.throws) (λ throws thrown.
+      then_finds (block_finding setting point written.body) _ (BlockRead (with_parameters top_scope written.parameters) written.body) _
+      (block_reads setting (with_parameters top_scope written.parameters) point written.body matches) (λ done read. record {
+        place = refl;
+        name = refl;
+        throws = subst (ReadsThrows program written.throws) (sym thrown.found_is) thrown.reads;
+        parameters = refl;
+        after = read.after;
+        body = read.reads;
+        slots = read.matches.declared;
+      }))))))
+
+  -- ---- items
+
+  -- behind the items that were found before
+  record ItemsRead (before : Tables) (items : List ItemTree) (tables : Tables) : Type 0 where
+    pub channels : List (List ℕ)
+    pub exceptions : List (List ℕ)
+    pub globals : List (List ℕ)
+    pub procedures : List ProcedureEntry
+    pub channels_are : map channel_name tables.channels ≡ map channel_name before.channels ++ channels
+    pub exceptions_are : tables.exceptions ≡ before.exceptions ++ exceptions
+    pub globals_are : map global_name tables.globals ≡ map global_name before.globals ++ globals
+    pub procedures_are : tables.procedures ≡ before.procedures ++ procedures
+    pub reads : ReadsItems program items channels exceptions globals procedures
+
+  module _ (h : PrincipalHierarchy) (top : TopLevel) (agrees : Agrees program top_scope top.names) where
+    -- what is found behind the next item is found behind those before it, with that item
+    abbrev Step : Tables → ItemTree → List ItemTree → Tables → Type 0
+    Step before item items next = (tables : Tables) → ItemsRead next items tables → ItemsRead before (item ∷ items) tables
+
+    step : (before : Tables) (item : ItemTree) (items : List ItemTree) → IfOk (next_item h top before item) (Step before item items)
+    unfolding next_item
+    step before (ChannelItem channel) items =
+        then_finds (channel_finding h channel) _ (λ (entry : ChannelEntry). entry.name ≡ channel.name.text) _ (channel_named h channel)
+        (λ entry named tables rest. record {
+          channels = channel.name.text ∷ rest.channels;
+          exceptions = rest.exceptions;
+          globals = rest.globals;
+          procedures = rest.procedures;
+          channels_are = rest.channels_are ∙ name_pushed channel_name before.channels entry channel.name.text rest.channels named;
+          exceptions_are = rest.exceptions_are;
+          globals_are = rest.globals_are;
+          procedures_are = rest.procedures_are;
+          reads = ReadChannel rest.reads;
+        })
+    step before (ExceptionItem at name) items = λ tables rest. record {
+      channels = rest.channels;
+      exceptions = name.text ∷ rest.exceptions;
+      globals = rest.globals;
+      procedures = rest.procedures;
+      channels_are = rest.channels_are;
+      exceptions_are = rest.exceptions_are ∙ append_assoc before.exceptions (name.text ∷ []) rest.exceptions;
+      globals_are = rest.globals_are;
+      procedures_are = rest.procedures_are;
+      reads = ReadException rest.reads;
+    }
+    step before (GlobalItem global) items =
+        then_finds (global_finding h global) _ (λ (entry : GlobalEntry). entry.name ≡ global.name.text) _ (global_named h global)
+        (λ entry named tables rest. record {
+          channels = rest.channels;
+          exceptions = rest.exceptions;
+          globals = global.name.text ∷ rest.globals;
+          procedures = rest.procedures;
+          channels_are = rest.channels_are;
+          exceptions_are = rest.exceptions_are;
+          globals_are = rest.globals_are ∙ name_pushed global_name before.globals entry global.name.text rest.globals named;
+          procedures_are = rest.procedures_are;
+          reads = ReadGlobal rest.reads;
+        })
+    step before (ProcedureItem written) items =
+        then_finds (procedure_entry_finding h top written) _ (ReadsProcedure program written) _ (procedure_read h top written agrees)
+        (λ entry reads tables rest. record {
+          channels = rest.channels;
+          exceptions = rest.exceptions;
+          globals = rest.globals;
+          procedures = entry ∷ rest.procedures;
+          channels_are = rest.channels_are;
+          exceptions_are = rest.exceptions_are;
+          globals_are = rest.globals_are;
+          procedures_are = rest.procedures_are ∙ append_assoc before.procedures (entry ∷ []) rest.procedures;
+          reads = ReadProcedure reads rest.reads;
+        })
+
+    items_read : (before : Tables) (items : List ItemTree) → IfOk (along (next_item h top) before items) (ItemsRead before items)
+    items_read before [] = record {
+      channels = [];
+      exceptions = [];
+      globals = [];
+      procedures = [];
+      channels_are = sym (append-nil (map channel_name before.channels));
+      exceptions_are = sym (append-nil before.exceptions);
+      globals_are = sym (append-nil (map global_name before.globals));
+      procedures_are = sym (append-nil before.procedures);
+      reads = ReadNoItem;
+    }
+    items_read before (item ∷ items) =
+        then_finds (next_item h top before item) (λ next. along (next_item h top) next items) (Step before item items) _ (step before item items)
+        (λ next pass.
+        IfOk-weaker (along (next_item h top) next items) (ItemsRead next items) (ItemsRead before (item ∷ items)) pass (items_read next items))
+
+  -- what the names of the items mean outside of all bodies
+  pub top_agrees : (names : Environment) → ((name : List ℕ) (meaning : Meaning) → names name ≡ Some meaning → MeaningHasName program meaning name)
+      → Agrees program top_scope names
+  top_agrees names named name meaning e = go meaning (named name.text meaning e)
+    where
+      go : (meaning : Meaning) → MeaningHasName program meaning name.text → IsMeaning program top_scope name meaning
+      go (Input n) is = (refl, is)
+      go (Output n) is = (refl, is)
+      go (Exception n) is = (refl, is)
+      go (Procedure n) is = (refl, is)
+      go (Scalar (Global n) base) is = (refl, is)
+      go (Scalar (Local n) base) is = absurd is
+      go (Array (Global n) base size) is = (refl, is)
+      go (Array (Local n) base size) is = absurd is
+
+-- ---- the whole
+
+-- a program in which the names of the items mean what they do
+record World (top : TopLevel) : Type 0 where
+  pub program : Program
+  pub agrees : Agrees program top_scope top.names
+
+abbrev pub TopAgrees : List ItemTree → Program → Type 0
+TopAgrees items program = (top : TopLevel) → top_finding items ≡ give top → Agrees program top_scope top.names
+
+abbrev pub ReadsProgram : List ItemTree → Program → Type 0
+ReadsProgram items program =
+    ReadsItems program items (channel_names program) program.exceptions (global_names program) program.procedures
+
+pub program_read : (h : PrincipalHierarchy) (written : ProgramTree)
+    → IfOk (resolution h written) (λ program. TopAgrees written.items program → ReadsProgram written.items program)
+unfolding resolution items_finding
+program_read h written =
+    then_finds (top_finding written.items) _ (λ top. top_finding written.items ≡ give top) _ (finds_itself (top_finding written.items)) (λ top top_is.
+    then_finds (along (next_item h top) no_tables written.items) _
+    (λ tables. (world : World top) → ItemsRead world.program no_tables written.items tables) _
+    (finds_for_all (along (next_item h top) no_tables written.items) (λ (world : World top) tables. ItemsRead world.program no_tables written.items tables)
+    (λ world. items_read world.program h top world.agrees no_tables written.items)) (λ tables read.
+    then_finds (main_finding (top.names (codes "main")) tables.procedures) _ (λ one. Unit {0}) _
+    (any_finds (main_finding (top.names (codes "main")) tables.procedures)) (λ main nothing.
+    then_finds (global_cells_finding written.items) _ (λ one. Unit {0}) _ (any_finds (global_cells_finding written.items)) (λ cells nothing.
+    then_finds (frames_finding tables.procedures) _ (λ one. Unit {0}) _ (any_finds (frames_finding tables.procedures)) (λ done nothing agrees.
+    tables_read h tables main written.items (read (record { program = program_with h tables main; agrees = agrees top top_is })))))))
+  where
+    tables_read : (h : PrincipalHierarchy) (tables : Tables) (main : ℕ) (items : List ItemTree)
+        → ItemsRead (program_with h tables main) no_tables items tables → ReadsProgram items (program_with h tables main)
+    tables_read h tables main items found =
+        subst (λ one. ReadsItems (program_with h tables main) items one tables.exceptions (map global_name tables.globals) tables.procedures)
+        (sym found.channels_are)
+        (subst (λ one. ReadsItems (program_with h tables main) items found.channels one (map global_name tables.globals) tables.procedures)
+        (sym found.exceptions_are)
+        (subst (λ one. ReadsItems (program_with h tables main) items found.channels found.exceptions one tables.procedures) (sym found.globals_are)
+        (subst (ReadsItems (program_with h tables main) items found.channels found.exceptions found.globals) (sym found.procedures_are) found.reads)))

@@ -1,0 +1,280 @@
+-- Names that mean what is declared, and the expressions and calls in which they are used: what is found reads as it is written.
+use Rattle.std.proofs.Common.{◌≡◌, refl, sym, ◌∙◌, ap, subst, ℕ, List, [], ◌∷◌, ◌++◌, length, Bool, true, false, cond, append-nil, append_assoc}
+use Rattle.std.specs.Prelude.{IfOk, Option, Some, None, ◌==◌, bytes_eq, slice_index_or}
+use Rattle.std.proofs.lemmas.Result.{IfOk-weaker}
+use Rattle.syntax.specs.declared.tree.UnaryOperator.{UnaryOperator}
+use Rattle.syntax.specs.declared.tree.UnaryOperator.TheVariants as unary
+use Rattle.syntax.specs.declared.tree.BinaryOperator.{BinaryOperator}
+use Rattle.syntax.specs.declared.tree.BinaryOperator.TheVariants as binary
+use Rattle.syntax.specs.Tree.{NameTree, ExpressionTree, IntegerTree, TruthTree, VariableTree, ElementTree, UnaryTree, BinaryTree, CallTree, RightTree, ReceivedTree, CalledTree, ValueTree, expression_at}
+use Rattle.resolved.specs.declared.expression.Base.{Base}
+use Rattle.resolved.specs.declared.expression.Base.TheVariants.{Int, Boolean}
+use Rattle.resolved.specs.declared.expression.Variable.{Variable}
+use Rattle.resolved.specs.declared.expression.Variable.TheVariants.{Global, Local}
+use Rattle.resolved.specs.declared.expression.Operator.TheVariants as operators
+use Rattle.resolved.specs.declared.expression.Connective.TheVariants as connectives
+use Rattle.resolved.specs.Program.{Program}
+use Rattle.resolved.specs.Tree.{Expression, Call}
+use Rattle.resolved.specs.WellFormed.{same_base, prefix_base}
+use Rattle.types.specs.declared.scope.Meaning.{Meaning}
+use Rattle.types.specs.declared.scope.Meaning.TheVariants.{Input, Output, Exception, Procedure, Scalar, Array}
+use Rattle.types.specs.Finding.{Finding, require, along}
+use Rattle.types.specs.Environment.{Environment, ScalarUse, ArrayUse, declaring, scalar_finding, array_finding, input_finding, output_finding, exception_finding, procedure_finding}
+use Rattle.types.specs.Expressions.{prefix_of, use_of, Typed, of_base, wanting, operands_base, combined, expression_finding, typed_finding}
+use Rattle.types.specs.Statements.{Signature, signature_at, next_argument, arguments_finding, CallUse, applied_finding, call_finding, gives_base, assigned_finding}
+use Rattle.types.specs.ReadBack.{NameScope, with_declared, innermost, IsChannel, IsException, IsProcedure, IsVariable, written_prefix, ReadsExpression, ReadInteger, ReadTruth, ReadVariable, ReadElement, ReadUnary, ReadBinary, ReadShort, ReadsArguments, ReadNoArgument, ReadArgument, ReadsRight, ReadReceived, ReadCalled, ReadValue}
+use Rattle.types.proofs.Passing.{then_finds, if_finds, any_finds}
+
+prefix_written : (operator : UnaryOperator) → written_prefix (prefix_of operator) ≡ operator
+prefix_written unary.Negate = refl
+prefix_written unary.Not = refl
+
+of_base_finds : (base : Base) (at : ℕ) (found : Typed) (P : Expression → Type 0) → P found.expression → IfOk (of_base base at found) P
+unfolding of_base
+of_base_finds base at found P h = if_finds (same_base found.base base) found.expression _ at P (λ same. h)
+
+module _ (program : Program) where
+  -- ---- what names mean
+
+  abbrev pub IsMeaning : NameScope → NameTree → Meaning → Type 0
+  IsMeaning scope name (Input n) = IsChannel program scope name n
+  IsMeaning scope name (Output n) = IsChannel program scope name n
+  IsMeaning scope name (Exception n) = IsException program scope name n
+  IsMeaning scope name (Procedure n) = IsProcedure program scope name n
+  IsMeaning scope name (Scalar x base) = IsVariable program scope name x
+  IsMeaning scope name (Array x base size) = IsVariable program scope name x
+
+  -- each name in scope means what is declared
+  abbrev pub Agrees : NameScope → Environment → Type 0
+  Agrees scope names = (name : NameTree) (meaning : Meaning) → names name.text ≡ Some meaning → IsMeaning scope name meaning
+
+  -- a scope in which the innermost one of a name is the same
+  same_meaning : (before after : NameScope) (name : NameTree) (meaning : Meaning)
+      → innermost after.visible name.text ≡ innermost before.visible name.text → IsMeaning before name meaning → IsMeaning after name meaning
+  same_meaning before after name (Input n) same is = (same ∙ is.0, is.1)
+  same_meaning before after name (Output n) same is = (same ∙ is.0, is.1)
+  same_meaning before after name (Exception n) same is = (same ∙ is.0, is.1)
+  same_meaning before after name (Procedure n) same is = (same ∙ is.0, is.1)
+  same_meaning before after name (Scalar (Global n) base) same is = (same ∙ is.0, is.1)
+  same_meaning before after name (Scalar (Local n) base) same is = same ∙ is
+  same_meaning before after name (Array (Global n) base size) same is = (same ∙ is.0, is.1)
+  same_meaning before after name (Array (Local n) base size) same is = same ∙ is
+
+  pub same_scope : (before after : NameScope) (names : Environment) → after.visible ≡ before.visible → Agrees before names → Agrees after names
+  same_scope before after names same agrees name meaning e =
+      same_meaning before after name meaning (ap (λ visible. innermost visible name.text) same) (agrees name meaning e)
+
+  -- behind the declaration of a local
+  pub agrees_declaring : (scope : NameScope) (name : NameTree) (at : ℕ) (meaning : Meaning) (names : Environment)
+      → ((other : NameTree) → innermost (with_declared scope name at).visible other.text ≡ Some (length scope.declared)
+      → IsMeaning (with_declared scope name at) other meaning)
+      → Agrees scope names → Agrees (with_declared scope name at) (declaring name.text meaning names)
+  agrees_declaring scope name at meaning names new agrees other found e = go (bytes_eq name.text other.text) refl e
+    where
+      go : (b : Bool) → bytes_eq name.text other.text ≡ b → ◌≡◌ {A = Option Meaning} (cond b (Some meaning) (names other.text)) (Some found)
+          → IsMeaning (with_declared scope name at) other found
+      go true is e =
+          let same : meaning ≡ found = cc in
+          subst (IsMeaning (with_declared scope name at) other) same
+          (new other (ap (λ b. cond b (Some (length scope.declared)) (innermost scope.visible other.text)) is))
+      go false is e =
+          same_meaning scope (with_declared scope name at) other found
+          (ap (λ b. cond b (Some (length scope.declared)) (innermost scope.visible other.text)) is) (agrees other found e)
+
+  module _ (scope : NameScope) (names : Environment) (agrees : Agrees scope names) where
+    -- ---- uses
+
+    pub scalar_reads : (name : NameTree) → IfOk (scalar_finding (names name.text) name.at) (λ (x : ScalarUse). IsVariable program scope name x.variable)
+    unfolding scalar_finding
+    scalar_reads name = go (names name.text) (agrees name)
+      where
+        go : (found : Option Meaning) → ((meaning : Meaning) → found ≡ Some meaning → IsMeaning scope name meaning)
+            → IfOk (scalar_finding found name.at) (λ (x : ScalarUse). IsVariable program scope name x.variable)
+        go None h = tt
+        go (Some (Scalar x base)) h = h (Scalar x base) refl
+        go (Some (Array x base size)) h = tt
+        go (Some (Input channel)) h = tt
+        go (Some (Output channel)) h = tt
+        go (Some (Exception number)) h = tt
+        go (Some (Procedure number)) h = tt
+
+    pub array_reads : (name : NameTree) → IfOk (array_finding (names name.text) name.at) (λ (a : ArrayUse). IsVariable program scope name a.variable)
+    unfolding array_finding
+    array_reads name = go (names name.text) (agrees name)
+      where
+        go : (found : Option Meaning) → ((meaning : Meaning) → found ≡ Some meaning → IsMeaning scope name meaning)
+            → IfOk (array_finding found name.at) (λ (a : ArrayUse). IsVariable program scope name a.variable)
+        go None h = tt
+        go (Some (Array x base size)) h = h (Array x base size) refl
+        go (Some (Scalar x base)) h = tt
+        go (Some (Input channel)) h = tt
+        go (Some (Output channel)) h = tt
+        go (Some (Exception number)) h = tt
+        go (Some (Procedure number)) h = tt
+
+    pub input_reads : (name : NameTree) → IfOk (input_finding (names name.text) name.at) (IsChannel program scope name)
+    unfolding input_finding
+    input_reads name = go (names name.text) (agrees name)
+      where
+        go : (found : Option Meaning) → ((meaning : Meaning) → found ≡ Some meaning → IsMeaning scope name meaning)
+            → IfOk (input_finding found name.at) (IsChannel program scope name)
+        go None h = tt
+        go (Some (Input channel)) h = h (Input channel) refl
+        go (Some (Output channel)) h = tt
+        go (Some (Exception number)) h = tt
+        go (Some (Procedure number)) h = tt
+        go (Some (Scalar x base)) h = tt
+        go (Some (Array x base size)) h = tt
+
+    pub output_reads : (name : NameTree) → IfOk (output_finding (names name.text) name.at) (IsChannel program scope name)
+    unfolding output_finding
+    output_reads name = go (names name.text) (agrees name)
+      where
+        go : (found : Option Meaning) → ((meaning : Meaning) → found ≡ Some meaning → IsMeaning scope name meaning)
+            → IfOk (output_finding found name.at) (IsChannel program scope name)
+        go None h = tt
+        go (Some (Output channel)) h = h (Output channel) refl
+        go (Some (Input channel)) h = tt
+        go (Some (Exception number)) h = tt
+        go (Some (Procedure number)) h = tt
+        go (Some (Scalar x base)) h = tt
+        go (Some (Array x base size)) h = tt
+
+    pub exception_reads : (name : NameTree) → IfOk (exception_finding (names name.text) name.at) (IsException program scope name)
+    unfolding exception_finding
+    exception_reads name = go (names name.text) (agrees name)
+      where
+        go : (found : Option Meaning) → ((meaning : Meaning) → found ≡ Some meaning → IsMeaning scope name meaning)
+            → IfOk (exception_finding found name.at) (IsException program scope name)
+        go None h = tt
+        go (Some (Exception number)) h = h (Exception number) refl
+        go (Some (Input channel)) h = tt
+        go (Some (Output channel)) h = tt
+        go (Some (Procedure number)) h = tt
+        go (Some (Scalar x base)) h = tt
+        go (Some (Array x base size)) h = tt
+
+    procedure_reads : (name : NameTree) → IfOk (procedure_finding (names name.text) name.at) (IsProcedure program scope name)
+    unfolding procedure_finding
+    procedure_reads name = go (names name.text) (agrees name)
+      where
+        go : (found : Option Meaning) → ((meaning : Meaning) → found ≡ Some meaning → IsMeaning scope name meaning)
+            → IfOk (procedure_finding found name.at) (IsProcedure program scope name)
+        go None h = tt
+        go (Some (Procedure number)) h = h (Procedure number) refl
+        go (Some (Input channel)) h = tt
+        go (Some (Output channel)) h = tt
+        go (Some (Exception number)) h = tt
+        go (Some (Scalar x base)) h = tt
+        go (Some (Array x base size)) h = tt
+
+    -- ---- expressions
+
+    abbrev pub Reads : ExpressionTree → Expression → Type 0
+    Reads tree e = ReadsExpression program scope tree e
+
+    combined_reads : (at : ℕ) (operator : BinaryOperator) (base : Base) (left right : ExpressionTree) (d e : Expression) → Reads left d → Reads right e
+        → Reads (BinaryTree at operator left right) (combined (use_of operator) base d e)
+    combined_reads at binary.Multiply base left right d e p q = ReadBinary {made = operators.Multiply} refl p q
+    combined_reads at binary.Divide base left right d e p q = ReadBinary {made = operators.Divide} refl p q
+    combined_reads at binary.Remainder base left right d e p q = ReadBinary {made = operators.Remainder} refl p q
+    combined_reads at binary.Add base left right d e p q = ReadBinary {made = operators.Add} refl p q
+    combined_reads at binary.Subtract base left right d e p q = ReadBinary {made = operators.Subtract} refl p q
+    combined_reads at binary.LessThan base left right d e p q = ReadBinary {made = operators.LessThan} refl p q
+    combined_reads at binary.AtMost base left right d e p q = ReadBinary {made = operators.AtMost} refl p q
+    combined_reads at binary.GreaterThan base left right d e p q = ReadBinary {made = operators.GreaterThan} refl p q
+    combined_reads at binary.AtLeast base left right d e p q = ReadBinary {made = operators.AtLeast} refl p q
+    combined_reads at binary.EqualTo Int left right d e p q = ReadBinary {made = operators.Equal} refl p q
+    combined_reads at binary.EqualTo Boolean left right d e p q = ReadBinary {made = operators.Same} refl p q
+    combined_reads at binary.NotEqualTo Int left right d e p q = ReadBinary {made = operators.Unequal} refl p q
+    combined_reads at binary.NotEqualTo Boolean left right d e p q = ReadBinary {made = operators.Different} refl p q
+    combined_reads at binary.And base left right d e p q = ReadShort {made = connectives.And} refl p q
+    combined_reads at binary.Or base left right d e p q = ReadShort {made = connectives.Or} refl p q
+
+    wanting_reads : (base : Base) (at : ℕ) (looked : Finding Typed) (tree : ExpressionTree) → IfOk looked (λ (found : Typed). Reads tree found.expression)
+        → IfOk (wanting base at looked) (Reads tree)
+    wanting_reads base at looked tree h =
+        then_finds looked (of_base base at) (λ (found : Typed). Reads tree found.expression) (Reads tree) h
+        (λ found reads. of_base_finds base at found (Reads tree) reads)
+
+    pub expression_reads : (tree : ExpressionTree) → IfOk (expression_finding names tree) (λ (found : Typed). Reads tree found.expression)
+    unfolding expression_finding
+    expression_reads (IntegerTree at value) = ReadInteger
+    expression_reads (TruthTree at value) = ReadTruth
+    expression_reads (VariableTree name) =
+        then_finds (scalar_finding (names name.text) name.at) _ (λ (x : ScalarUse). IsVariable program scope name x.variable) _ (scalar_reads name)
+        (λ x is. ReadVariable is)
+    expression_reads (ElementTree array index) =
+        then_finds (array_finding (names array.text) array.at) _ (λ (a : ArrayUse). IsVariable program scope array a.variable) _ (array_reads array) (λ a is.
+        then_finds (wanting Int (expression_at index) (expression_finding names index)) _ (Reads index) _
+        (wanting_reads Int (expression_at index) (expression_finding names index) index (expression_reads index)) (λ i reads. ReadElement is reads))
+    expression_reads (UnaryTree at operator operand) =
+        let base = prefix_base (prefix_of operator) in
+        then_finds (wanting base (expression_at operand) (expression_finding names operand)) _ (Reads operand) _
+        (wanting_reads base (expression_at operand) (expression_finding names operand) operand (expression_reads operand))
+        (λ e reads. ReadUnary (prefix_written operator) reads)
+    expression_reads (BinaryTree at operator left right) =
+        then_finds (expression_finding names left) _ (λ (found : Typed). Reads left found.expression) _ (expression_reads left) (λ l left_reads.
+        let base = operands_base (use_of operator) l.base in
+        then_finds (of_base base (expression_at left) l) _ (Reads left) _ (of_base_finds base (expression_at left) l (Reads left) left_reads) (λ d d_reads.
+        then_finds (expression_finding names right) _ (λ (found : Typed). Reads right found.expression) _ (expression_reads right) (λ r right_reads.
+        then_finds (of_base base (expression_at right) r) _ (Reads right) _ (of_base_finds base (expression_at right) r (Reads right) right_reads)
+        (λ e e_reads. combined_reads at operator l.base left right d e d_reads e_reads))))
+
+    pub typed_reads : (base : Base) (tree : ExpressionTree) → IfOk (typed_finding names base tree) (Reads tree)
+    unfolding typed_finding
+    typed_reads base tree = wanting_reads base (expression_at tree) (expression_finding names tree) tree (expression_reads tree)
+
+    -- ---- calls and right sides
+
+    -- behind those that were found before
+    record ArgumentsRead (before : List Expression) (arguments : List ExpressionTree) (found : List Expression) : Type 0 where
+      pub more : List Expression
+      pub found_is : found ≡ before ++ more
+      pub reads : ReadsArguments program scope arguments more
+
+    arguments_read : (parameters : List Base) (before : List Expression) (arguments : List ExpressionTree)
+        → IfOk (along (next_argument names parameters) before arguments) (ArgumentsRead before arguments)
+    arguments_read parameters before [] = record { more = []; found_is = sym (append-nil before); reads = ReadNoArgument }
+    arguments_read parameters before (argument ∷ arguments) =
+        let wanted = slice_index_or parameters (length before) Int in
+        then_finds (next_argument names parameters before argument) (λ next. along (next_argument names parameters) next arguments)
+        (λ next. (e : Expression) × (next ≡ before ++ e ∷ []) × Reads argument e) _
+        (then_finds (typed_finding names wanted argument) _ (Reads argument) _ (typed_reads wanted argument) (λ e reads. (e, refl, reads)))
+        (λ next parts.
+        let (e, same, first) = parts in
+        IfOk-weaker (along (next_argument names parameters) next arguments) (ArgumentsRead next arguments) (ArgumentsRead before (argument ∷ arguments))
+        (λ found rest. record {
+          more = e ∷ rest.more;
+          found_is = rest.found_is ∙ ap (λ one. one ++ rest.more) same ∙ append_assoc before (e ∷ []) rest.more;
+          reads = ReadArgument first rest.reads;
+        })
+        (arguments_read parameters next arguments))
+
+    pub call_reads : (signatures : List Signature) (call : CallTree)
+        → IfOk (call_finding signatures names call)
+        (λ (made : CallUse). IsProcedure program scope call.procedure made.procedure × ReadsArguments program scope call.arguments made.arguments)
+    unfolding call_finding applied_finding arguments_finding
+    call_reads signatures call =
+        then_finds (procedure_finding (names call.procedure.text) call.procedure.at) _ (IsProcedure program scope call.procedure) _
+        (procedure_reads call.procedure) (λ number is.
+        let signature = signature_at signatures number in
+        then_finds (require (length signature.parameters == length call.arguments) _ call.procedure.at) _ (λ one. Unit {0}) _
+        (any_finds (require (length signature.parameters == length call.arguments) _ call.procedure.at)) (λ one nothing.
+        then_finds (along (next_argument names signature.parameters) [] call.arguments) _ (ArgumentsRead [] call.arguments) _
+        (arguments_read signature.parameters [] call.arguments)
+        (λ arguments read. (is, subst (ReadsArguments program scope call.arguments) (sym read.found_is) read.reads))))
+
+    pub right_reads : (signatures : List Signature) (at : ℕ) (x : Variable) (base : Base) (right : RightTree)
+        → IfOk (assigned_finding signatures names at x base right) (ReadsRight program scope at x right)
+    unfolding assigned_finding
+    right_reads signatures at x base (ReceivedTree receive_at channel) =
+        then_finds (require (same_base Int base) _ receive_at) _ (λ one. Unit {0}) _ (any_finds (require (same_base Int base) _ receive_at)) (λ one nothing.
+        then_finds (input_finding (names channel.text) channel.at) _ (IsChannel program scope channel) _ (input_reads channel) (λ number is. ReadReceived is))
+    right_reads signatures at x base (CalledTree call) =
+        then_finds (call_finding signatures names call) _
+        (λ (made : CallUse). IsProcedure program scope call.procedure made.procedure × ReadsArguments program scope call.arguments made.arguments) _
+        (call_reads signatures call) (λ made parts.
+        if_finds (gives_base base made.result) (Call at made.procedure made.arguments (Some x)) _ call.procedure.at _ (λ given. ReadCalled parts.0 parts.1))
+    right_reads signatures at x base (ValueTree value) =
+        then_finds (typed_finding names base value) _ (Reads value) _ (typed_reads base value) (λ e reads. ReadValue reads)

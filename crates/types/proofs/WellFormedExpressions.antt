@@ -1,0 +1,279 @@
+-- Names that stand for entries of a program and of a procedure, and the expressions in which they are used: each that is found has
+-- its base type there.
+use Rattle.std.proofs.Common.{◌≡◌, refl, sym, subst, ℕ, ◌+◌, ◌≤◌, List, map, Bool, true, false, cond, arith}
+use Rattle.std.specs.Prelude.{IfOk, Option, Some, None, ◌==◌, slice_get, bytes_eq}
+use Rattle.std.proofs.lemmas.Bool.{le-leb, eq-eqb, and_from}
+use Rattle.syntax.specs.declared.tree.BinaryOperator.{BinaryOperator}
+use Rattle.syntax.specs.declared.tree.BinaryOperator.TheVariants as binary
+use Rattle.syntax.specs.Nodes.{expression_nodes as written_nodes}
+use Rattle.syntax.specs.Tree.{NameTree, ExpressionTree, IntegerTree, TruthTree, VariableTree, ElementTree, UnaryTree, BinaryTree, expression_at}
+use Rattle.syntax.specs.Written.{IsInteger, IsWrittenExpression}
+use Rattle.resolved.specs.declared.expression.Base.{Base}
+use Rattle.resolved.specs.declared.expression.Base.TheVariants.{Int, Boolean}
+use Rattle.common.specs.declared.direction.Direction.TheVariants as directions
+use Rattle.resolved.specs.Program.{Program, ProcedureEntry, SlotEntry, ResultEntry}
+use Rattle.resolved.specs.Tree.{Expression}
+use Rattle.resolved.specs.WellFormed.{same_base, prefix_base, VariableType, variable_type, scalar_by, array_by, has_base, channel_is, is_exception, parameters_of, expression_nodes}
+use Rattle.resolved.proofs.Sound.Values.{same_base_is, same_base_itself}
+use Rattle.types.specs.declared.scope.Meaning.{Meaning}
+use Rattle.types.specs.declared.scope.Meaning.TheVariants.{Input, Output, Exception, Procedure, Scalar, Array}
+use Rattle.types.specs.Finding.{Finding}
+use Rattle.types.specs.Environment.{Environment, ScalarUse, ArrayUse, declaring, scalar_finding, array_finding, input_finding, output_finding, exception_finding, procedure_finding}
+use Rattle.types.specs.Expressions.{prefix_of, use_of, Typed, of_base, wanting, operands_base, value_base, combined, expression_finding, typed_finding}
+use Rattle.types.specs.Statements.{Signature, signature_at}
+use Rattle.types.proofs.Passing.{then_finds, if_finds}
+use Rattle.common.specs.declared.limits.TheConstants.{MAX_INTEGER}
+
+-- ---- what names stand for
+
+-- the type of a procedure's value, if it gives one
+abbrev pub given_base : Option ResultEntry → Option Base
+given_base None = None
+given_base (Some entry) = Some entry.base
+
+abbrev pub slot_base : SlotEntry → Base
+slot_base slot = slot.base
+
+-- a procedure has this signature
+pub record Signed (callee : ProcedureEntry) (signature : Signature) : Type 0 where
+  pub parameters : map slot_base (parameters_of callee) ≡ signature.parameters
+  pub value : given_base callee.result ≡ signature.result
+
+abbrev pub scalar_type : Base → Option VariableType
+scalar_type base = Some (record { base = base; size = None })
+
+abbrev pub array_type : Base → ℕ → Option VariableType
+array_type base size = Some (record { base = base; size = Some size })
+
+module _ (program : Program) (procedure : ProcedureEntry) (signatures : List Signature) where
+  -- an entry is there under the number, and is what the meaning says
+  abbrev pub Stands : Meaning → Type 0
+  Stands (Input channel) = channel_is (slice_get program.channels channel) directions.Input ≡ true
+  Stands (Output channel) = channel_is (slice_get program.channels channel) directions.Output ≡ true
+  Stands (Exception number) = is_exception program number ≡ true
+  Stands (Procedure number) =
+      (callee : ProcedureEntry) × (slice_get program.procedures number ≡ Some callee) × Signed callee (signature_at signatures number)
+  Stands (Scalar x base) = variable_type program procedure x ≡ scalar_type base
+  Stands (Array x base size) = variable_type program procedure x ≡ array_type base size
+
+  -- each name in scope stands for an entry
+  abbrev pub Means : Environment → Type 0
+  Means names = (name : List ℕ) (meaning : Meaning) → names name ≡ Some meaning → Stands meaning
+
+  pub means_declaring : (name : List ℕ) (meaning : Meaning) (names : Environment) → Stands meaning → Means names → Means (declaring name meaning names)
+  means_declaring name meaning names stands means other found e = go (bytes_eq name other) e
+    where
+      go : (b : Bool) → ◌≡◌ {A = Option Meaning} (cond b (Some meaning) (names other)) (Some found) → Stands found
+      go true e =
+          let same : meaning ≡ found = cc in
+          subst Stands same stands
+      go false e = means other found e
+
+  -- ---- uses
+
+  pub scalar_found : (names : Environment) (name : NameTree)
+      → IfOk (scalar_finding (names name.text) name.at) (λ (x : ScalarUse). Means names → variable_type program procedure x.variable ≡ scalar_type x.base)
+  unfolding scalar_finding
+  scalar_found names name = go (names name.text) refl
+    where
+      go : (found : Option Meaning) → names name.text ≡ found
+          → IfOk (scalar_finding found name.at) (λ (x : ScalarUse). Means names → variable_type program procedure x.variable ≡ scalar_type x.base)
+      go None e = tt
+      go (Some (Scalar x base)) e = λ means. means name.text (Scalar x base) e
+      go (Some (Array x base size)) e = tt
+      go (Some (Input channel)) e = tt
+      go (Some (Output channel)) e = tt
+      go (Some (Exception number)) e = tt
+      go (Some (Procedure number)) e = tt
+
+  pub array_found : (names : Environment) (name : NameTree)
+      → IfOk (array_finding (names name.text) name.at) (λ (a : ArrayUse). Means names → variable_type program procedure a.variable ≡ array_type a.base a.size)
+  unfolding array_finding
+  array_found names name = go (names name.text) refl
+    where
+      go : (found : Option Meaning) → names name.text ≡ found
+          → IfOk (array_finding found name.at) (λ (a : ArrayUse). Means names → variable_type program procedure a.variable ≡ array_type a.base a.size)
+      go None e = tt
+      go (Some (Array x base size)) e = λ means. means name.text (Array x base size) e
+      go (Some (Scalar x base)) e = tt
+      go (Some (Input channel)) e = tt
+      go (Some (Output channel)) e = tt
+      go (Some (Exception number)) e = tt
+      go (Some (Procedure number)) e = tt
+
+  pub input_found : (names : Environment) (name : NameTree)
+      → IfOk (input_finding (names name.text) name.at) (λ channel. Means names → Stands (Input channel))
+  unfolding input_finding
+  input_found names name = go (names name.text) refl
+    where
+      go : (found : Option Meaning) → names name.text ≡ found → IfOk (input_finding found name.at) (λ channel. Means names → Stands (Input channel))
+      go None e = tt
+      go (Some (Input channel)) e = λ means. means name.text (Input channel) e
+      go (Some (Output channel)) e = tt
+      go (Some (Exception number)) e = tt
+      go (Some (Procedure number)) e = tt
+      go (Some (Scalar x base)) e = tt
+      go (Some (Array x base size)) e = tt
+
+  pub output_found : (names : Environment) (name : NameTree)
+      → IfOk (output_finding (names name.text) name.at) (λ channel. Means names → Stands (Output channel))
+  unfolding output_finding
+  output_found names name = go (names name.text) refl
+    where
+      go : (found : Option Meaning) → names name.text ≡ found → IfOk (output_finding found name.at) (λ channel. Means names → Stands (Output channel))
+      go None e = tt
+      go (Some (Output channel)) e = λ means. means name.text (Output channel) e
+      go (Some (Input channel)) e = tt
+      go (Some (Exception number)) e = tt
+      go (Some (Procedure number)) e = tt
+      go (Some (Scalar x base)) e = tt
+      go (Some (Array x base size)) e = tt
+
+  pub exception_found : (names : Environment) (name : NameTree)
+      → IfOk (exception_finding (names name.text) name.at) (λ number. Means names → Stands (Exception number))
+  unfolding exception_finding
+  exception_found names name = go (names name.text) refl
+    where
+      go : (found : Option Meaning) → names name.text ≡ found → IfOk (exception_finding found name.at) (λ number. Means names → Stands (Exception number))
+      go None e = tt
+      go (Some (Exception number)) e = λ means. means name.text (Exception number) e
+      go (Some (Input channel)) e = tt
+      go (Some (Output channel)) e = tt
+      go (Some (Procedure number)) e = tt
+      go (Some (Scalar x base)) e = tt
+      go (Some (Array x base size)) e = tt
+
+  pub procedure_found : (names : Environment) (name : NameTree)
+      → IfOk (procedure_finding (names name.text) name.at) (λ number. Means names → Stands (Procedure number))
+  unfolding procedure_finding
+  procedure_found names name = go (names name.text) refl
+    where
+      go : (found : Option Meaning) → names name.text ≡ found → IfOk (procedure_finding found name.at) (λ number. Means names → Stands (Procedure number))
+      go None e = tt
+      go (Some (Procedure number)) e = λ means. means name.text (Procedure number) e
+      go (Some (Input channel)) e = tt
+      go (Some (Output channel)) e = tt
+      go (Some (Exception number)) e = tt
+      go (Some (Scalar x base)) e = tt
+      go (Some (Array x base size)) e = tt
+
+  -- ---- expressions
+
+  -- an expression of a base type that has no more nodes than the written one
+  pub record IsWellFormedTyped (names : Environment) (base : Base) (written : ℕ) (e : Expression) : Type 0 where
+    pub fits : Means names → has_base program procedure base e ≡ true
+    pub few : expression_nodes e ≤ written
+
+  abbrev pub IsWellFormedExpression : Environment → ℕ → Typed → Type 0
+  IsWellFormedExpression names written found = IsWellFormedTyped names found.base written found.expression
+
+  of_base_keeps : (names : Environment) (base : Base) (at written : ℕ) (found : Typed) → IsWellFormedExpression names written found
+      → IfOk (of_base base at found) (IsWellFormedTyped names base written)
+  unfolding of_base
+  of_base_keeps names base at written found kept =
+      if_finds (same_base found.base base) found.expression _ at (IsWellFormedTyped names base written) (λ same. record {
+        fits = λ means. subst (λ one. has_base program procedure one found.expression ≡ true) (same_base_is found.base base same) (kept.fits means);
+        few = kept.few;
+      })
+
+  wanting_keeps : (names : Environment) (base : Base) (at written : ℕ) (looked : Finding Typed) → IfOk looked (IsWellFormedExpression names written)
+      → IfOk (wanting base at looked) (IsWellFormedTyped names base written)
+  wanting_keeps names base at written looked h =
+      then_finds looked (of_base base at) (IsWellFormedExpression names written) (IsWellFormedTyped names base written) h
+      (λ found kept. of_base_keeps names base at written found kept)
+
+  scalar_read : (found : Option VariableType) (base : Base) → found ≡ scalar_type base → scalar_by found (same_base base) ≡ true
+  scalar_read found base e = subst (λ one. scalar_by one (same_base base) ≡ true) (sym e) (same_base_itself base)
+
+  element_read : (found : Option VariableType) (base : Base) (size : ℕ) → found ≡ array_type base size → array_by found size (same_base base) ≡ true
+  element_read found base size e =
+      subst (λ one. array_by one size (same_base base) ≡ true) (sym e)
+      (and_from (size == size) (same_base base base) (eq-eqb size size refl) (same_base_itself base))
+
+  combined_fits : (operator : BinaryOperator) (base : Base) (d e : Expression)
+      → has_base program procedure (operands_base (use_of operator) base) d ≡ true
+      → has_base program procedure (operands_base (use_of operator) base) e ≡ true
+      → has_base program procedure (value_base (use_of operator)) (combined (use_of operator) base d e) ≡ true
+  combined_fits binary.Multiply base d e = and_from (has_base program procedure Int d) (has_base program procedure Int e)
+  combined_fits binary.Divide base d e = and_from (has_base program procedure Int d) (has_base program procedure Int e)
+  combined_fits binary.Remainder base d e = and_from (has_base program procedure Int d) (has_base program procedure Int e)
+  combined_fits binary.Add base d e = and_from (has_base program procedure Int d) (has_base program procedure Int e)
+  combined_fits binary.Subtract base d e = and_from (has_base program procedure Int d) (has_base program procedure Int e)
+  combined_fits binary.LessThan base d e = and_from (has_base program procedure Int d) (has_base program procedure Int e)
+  combined_fits binary.AtMost base d e = and_from (has_base program procedure Int d) (has_base program procedure Int e)
+  combined_fits binary.GreaterThan base d e = and_from (has_base program procedure Int d) (has_base program procedure Int e)
+  combined_fits binary.AtLeast base d e = and_from (has_base program procedure Int d) (has_base program procedure Int e)
+  combined_fits binary.EqualTo Int d e = and_from (has_base program procedure Int d) (has_base program procedure Int e)
+  combined_fits binary.EqualTo Boolean d e = and_from (has_base program procedure Boolean d) (has_base program procedure Boolean e)
+  combined_fits binary.NotEqualTo Int d e = and_from (has_base program procedure Int d) (has_base program procedure Int e)
+  combined_fits binary.NotEqualTo Boolean d e = and_from (has_base program procedure Boolean d) (has_base program procedure Boolean e)
+  combined_fits binary.And base d e = and_from (has_base program procedure Boolean d) (has_base program procedure Boolean e)
+  combined_fits binary.Or base d e = and_from (has_base program procedure Boolean d) (has_base program procedure Boolean e)
+
+  combined_nodes : (operator : BinaryOperator) (base : Base) (d e : Expression)
+      → expression_nodes (combined (use_of operator) base d e) ≡ 1 + expression_nodes d + expression_nodes e
+  combined_nodes binary.Multiply base d e = refl
+  combined_nodes binary.Divide base d e = refl
+  combined_nodes binary.Remainder base d e = refl
+  combined_nodes binary.Add base d e = refl
+  combined_nodes binary.Subtract base d e = refl
+  combined_nodes binary.LessThan base d e = refl
+  combined_nodes binary.AtMost base d e = refl
+  combined_nodes binary.GreaterThan base d e = refl
+  combined_nodes binary.AtLeast base d e = refl
+  combined_nodes binary.EqualTo base d e = refl
+  combined_nodes binary.NotEqualTo base d e = refl
+  combined_nodes binary.And base d e = refl
+  combined_nodes binary.Or base d e = refl
+
+  module _ (fits : ℕ → Type 0) (word : List ℕ → Type 0) (names : Environment) where
+    pub expression_keeps : (tree : ExpressionTree) → IsWrittenExpression fits word IsInteger tree
+        → IfOk (expression_finding names tree) (IsWellFormedExpression names (written_nodes tree))
+    unfolding expression_finding
+    expression_keeps (IntegerTree at value) written =
+        record { fits = λ means. le-leb value MAX_INTEGER written.1; few = omega arith }
+    expression_keeps (TruthTree at value) written = record { fits = λ means. refl; few = omega arith }
+    expression_keeps (VariableTree name) written =
+        then_finds (scalar_finding (names name.text) name.at) _
+        (λ (x : ScalarUse). Means names → variable_type program procedure x.variable ≡ scalar_type x.base) _
+        (scalar_found names name) (λ x stands. record {
+          fits = λ means. scalar_read (variable_type program procedure x.variable) x.base (stands means);
+          few = omega arith;
+        })
+    expression_keeps (ElementTree array index) written =
+        then_finds (array_finding (names array.text) array.at) _
+        (λ (a : ArrayUse). Means names → variable_type program procedure a.variable ≡ array_type a.base a.size) _
+        (array_found names array) (λ a stands.
+        then_finds (wanting Int (expression_at index) (expression_finding names index)) _ (IsWellFormedTyped names Int (written_nodes index)) _
+        (wanting_keeps names Int (expression_at index) (written_nodes index) (expression_finding names index) (expression_keeps index written.1))
+        (λ i kept. record {
+          fits =
+              λ means. and_from (array_by (variable_type program procedure a.variable) a.size (same_base a.base)) (has_base program procedure Int i)
+              (element_read (variable_type program procedure a.variable) a.base a.size (stands means)) (kept.fits means);
+          few = omega (arith, kept.few);
+        }))
+    expression_keeps (UnaryTree at operator operand) written =
+        let base = prefix_base (prefix_of operator) in
+        then_finds (wanting base (expression_at operand) (expression_finding names operand)) _ (IsWellFormedTyped names base (written_nodes operand)) _
+        (wanting_keeps names base (expression_at operand) (written_nodes operand) (expression_finding names operand) (expression_keeps operand written.1))
+        (λ e kept. record {
+          fits = λ means. and_from (same_base base base) (has_base program procedure base e) (same_base_itself base) (kept.fits means);
+          few = omega (arith, kept.few);
+        })
+    expression_keeps (BinaryTree at operator left right) written =
+        then_finds (expression_finding names left) _ (IsWellFormedExpression names (written_nodes left)) _ (expression_keeps left written.1) (λ l left_kept.
+        let base = operands_base (use_of operator) l.base in
+        then_finds (of_base base (expression_at left) l) _ (IsWellFormedTyped names base (written_nodes left)) _
+        (of_base_keeps names base (expression_at left) (written_nodes left) l left_kept) (λ d d_kept.
+        then_finds (expression_finding names right) _ (IsWellFormedExpression names (written_nodes right)) _ (expression_keeps right written.2) (λ r right_kept.
+        then_finds (of_base base (expression_at right) r) _ (IsWellFormedTyped names base (written_nodes right)) _
+        (of_base_keeps names base (expression_at right) (written_nodes right) r right_kept) (λ e e_kept. record {
+          fits = λ means. combined_fits operator l.base d e (d_kept.fits means) (e_kept.fits means);
+          few = omega (arith, combined_nodes operator l.base d e, d_kept.few, e_kept.few);
+        }))))
+
+    pub typed_keeps : (base : Base) (tree : ExpressionTree) → IsWrittenExpression fits word IsInteger tree
+        → IfOk (typed_finding names base tree) (IsWellFormedTyped names base (written_nodes tree))
+    unfolding typed_finding
+    typed_keeps base tree written =
+        wanting_keeps names base (expression_at tree) (written_nodes tree) (expression_finding names tree) (expression_keeps tree written)

@@ -1,0 +1,163 @@
+-- The labels that are found: they are of principals that are there, and no longer than the written ones.
+use Rattle.std.proofs.Common.{◌≡◌, refl, ◌∙◌, Ok, ℕ, suc, ◌+◌, ◌≤◌, List, [], ◌∷◌, ◌++◌, length, Bool, true, false, arith}
+use Rattle.std.specs.Prelude.{IfOk, Option, Some, None, cond, filter, sum_by, nat_lt, not, bytes_eq, ◌==◌}
+use Rattle.std.specs.List.{list_all}
+use Rattle.std.specs.declared.cmp.Ordering.{Ordering}
+use Rattle.std.specs.declared.cmp.Ordering.TheVariants.{Less, Equal, Greater}
+use Rattle.std.specs.Ordering.{nat_cmp}
+use Rattle.std.proofs.lemmas.Bool.{lt-ltb, and_from, and_parts}
+use Rattle.std.proofs.lemmas.List.Folds.{list_all-append}
+use Rattle.std.proofs.lemmas.List.Quantifiers.{position-Some}
+use Rattle.std.proofs.lemmas.List.Sums.{sum_by-cons, sum_by_push}
+use Rattle.std.proofs.lemmas.Result.{IfOk-weaker}
+use Rattle.common.proofs.Cases.{filtered_length}
+use Rattle.principals.specs.ActsFor.{PrincipalHierarchy, number_of}
+use Rattle.labels.specs.Label.{ReaderPolicy, Label}
+use Rattle.labels.specs.Sets.{by_order, with_element, ascending_set}
+use Rattle.labels.specs.Canonical.{policy_cmp, readers_beside, joined}
+use Rattle.syntax.specs.Tree.{NameTree, PolicyTree, LabelTree}
+use Rattle.syntax.specs.Nodes.{policy_nodes, label_nodes as written_nodes}
+use Rattle.resolved.specs.Program.{ThrownEntry}
+use Rattle.resolved.specs.WellFormed.{policy_fits, label_fits, written_fits, label_nodes}
+use Rattle.types.specs.Finding.{Finding, along, put_last}
+use Rattle.types.specs.Labels.{principal_found, principal_finding, readers_finding, policy_finding, policies_finding, label_finding, optional_label_finding}
+use Rattle.types.specs.Resolution.{joined_all}
+use Rattle.types.proofs.Passing.{then_finds}
+
+-- ---- ascending sets
+
+with_element_all : {X : Type 0} (test : X → Bool) (cmp : X → X → Ordering) (x : X) (ys : List X) → test x ≡ true → list_all test ys ≡ true
+    → list_all test (with_element cmp x ys) ≡ true
+with_element_all test cmp x [] here rest = and_from (test x) true here refl
+with_element_all test cmp x (y ∷ ys) here rest =
+    let parts = and_parts (test y) (list_all test ys) rest in
+    go (with_element_all test cmp x ys here parts.1) (cmp x y)
+  where
+    go : list_all test (with_element cmp x ys) ≡ true → (order : Ordering)
+        → list_all test (by_order order (x ∷ y ∷ ys) (y ∷ ys) (y ∷ with_element cmp x ys)) ≡ true
+    go deeper Less = and_from (test x) (list_all test (y ∷ ys)) here rest
+    go deeper Equal = rest
+    go deeper Greater = and_from (test y) (list_all test (with_element cmp x ys)) (and_parts (test y) (list_all test ys) rest).0 deeper
+
+set_all : {X : Type 0} (test : X → Bool) (cmp : X → X → Ordering) (xs : List X) → list_all test xs ≡ true
+    → list_all test (ascending_set cmp xs) ≡ true
+set_all test cmp [] passed = refl
+set_all test cmp (x ∷ xs) passed =
+    let parts = and_parts (test x) (list_all test xs) passed in
+    with_element_all test cmp x (ascending_set cmp xs) parts.0 (set_all test cmp xs parts.1)
+
+filter_all : {X : Type 0} (test keep : X → Bool) (xs : List X) → list_all test xs ≡ true → list_all test (filter keep xs) ≡ true
+filter_all test keep [] passed = refl
+filter_all {X = X} test keep (x ∷ xs) passed =
+    let parts = and_parts (test x) (list_all test xs) passed in
+    go (keep x) (filter_all test keep xs parts.1) parts.0
+  where
+    go : (kept : Bool) → list_all test (filter keep xs) ≡ true → test x ≡ true
+        → list_all test (cond {A = List X} kept (x ∷ filter keep xs) (filter keep xs)) ≡ true
+    go true rest here = and_from (test x) (list_all test (filter keep xs)) here rest
+    go false rest here = rest
+
+with_element_sum : {X : Type 0} (weight : X → ℕ) (cmp : X → X → Ordering) (x : X) (ys : List X)
+    → sum_by weight (with_element cmp x ys) ≤ weight x + sum_by weight ys
+with_element_sum weight cmp x [] = omega (arith, sum_by-cons weight x [])
+with_element_sum weight cmp x (y ∷ ys) = go (with_element_sum weight cmp x ys) (cmp x y)
+  where
+    go : sum_by weight (with_element cmp x ys) ≤ weight x + sum_by weight ys → (order : Ordering)
+        → sum_by weight (by_order order (x ∷ y ∷ ys) (y ∷ ys) (y ∷ with_element cmp x ys)) ≤ weight x + sum_by weight (y ∷ ys)
+    go deeper Less = omega (arith, sum_by-cons weight x (y ∷ ys))
+    go deeper Equal = omega arith
+    go deeper Greater = omega (arith, sum_by-cons weight y ys, sum_by-cons weight y (with_element cmp x ys))
+
+set_sum : {X : Type 0} (weight : X → ℕ) (cmp : X → X → Ordering) (xs : List X) → sum_by weight (ascending_set cmp xs) ≤ sum_by weight xs
+set_sum weight cmp [] = omega arith
+set_sum weight cmp (x ∷ xs) =
+    omega (arith, with_element_sum weight cmp x (ascending_set cmp xs), set_sum weight cmp xs, sum_by-cons weight x xs)
+
+-- ---- what is found of each element
+
+pub all_pushed : {X : Type 0} (test : X → Bool) (xs : List X) (x : X) → list_all test xs ≡ true → test x ≡ true → list_all test (xs ++ x ∷ []) ≡ true
+all_pushed test xs x e f = list_all-append test xs (x ∷ []) ∙ and_from (list_all test xs) (list_all test (x ∷ [])) e (and_from (test x) true f refl)
+
+each_passes : {X A : Type 0} (look : X → Finding A) (test : A → Bool) (weight : A → ℕ) (written : X → ℕ)
+    → ((x : X) → IfOk (look x) (λ a. (test a ≡ true) × (weight a ≤ written x))) → (found : List A) (xs : List X) → list_all test found ≡ true
+    → IfOk (along (put_last look) found xs) (λ made. (list_all test made ≡ true) × (sum_by weight made ≤ sum_by weight found + sum_by written xs))
+each_passes look test weight written h found [] passed = (passed, omega arith)
+each_passes look test weight written h found (x ∷ xs) passed =
+    then_finds (put_last look found x) (λ next. along (put_last look) next xs)
+    (λ next. (list_all test next ≡ true) × (sum_by weight next ≤ sum_by weight found + written x)) _
+    (then_finds (look x) (λ made. Ok (found ++ made ∷ [])) (λ a. (test a ≡ true) × (weight a ≤ written x)) _ (h x)
+    (λ a parts. (all_pushed test found a passed parts.0, omega (arith, sum_by_push weight found a, parts.1))))
+    (λ next parts. IfOk-weaker (along (put_last look) next xs)
+    (λ made. (list_all test made ≡ true) × (sum_by weight made ≤ sum_by weight next + sum_by written xs))
+    (λ made. (list_all test made ≡ true) × (sum_by weight made ≤ sum_by weight found + sum_by written (x ∷ xs)))
+    (λ made both_parts. (both_parts.0, omega (arith, both_parts.1, parts.1, sum_by-cons written x xs)))
+    (each_passes look test weight written h next xs parts.0))
+
+abbrev one_of : {X : Type 0} → X → ℕ
+one_of x = 1
+
+ones : {X : Type 0} (xs : List X) → sum_by one_of xs ≡ length xs
+ones [] = refl
+ones (x ∷ xs) = omega (arith, sum_by-cons one_of x xs, ones xs)
+
+-- ---- labels
+
+module _ (h : PrincipalHierarchy) where
+  abbrev is_there : ℕ → Bool
+  is_there principal = nat_lt principal (length h.names)
+
+  principal_there : (name : NameTree) → IfOk (principal_finding h name) (λ number. (is_there number ≡ true) × (1 ≤ 1))
+  unfolding principal_finding
+  principal_there name = go (number_of h name.text) refl
+    where
+      go : (found : Option ℕ) → number_of h name.text ≡ found → IfOk (principal_found found name.at) (λ number. (is_there number ≡ true) × (1 ≤ 1))
+      go None e = tt
+      go (Some number) e = (lt-ltb number (length h.names) (position-Some (bytes_eq name.text) h.names number [] e).0, omega arith)
+
+  abbrev policy_weight : ReaderPolicy → ℕ
+  policy_weight policy = 1 + length policy.readers
+
+  policy_there : (policy : PolicyTree) → IfOk (policy_finding h policy) (λ found. (policy_fits h found ≡ true) × (policy_weight found ≤ policy_nodes policy))
+  unfolding policy_finding readers_finding
+  policy_there policy =
+      then_finds (principal_finding h policy.owner) _ (λ number. (is_there number ≡ true) × (1 ≤ 1)) _ (principal_there policy.owner) (λ owner owner_there.
+      then_finds (along (put_last (principal_finding h)) [] policy.readers) _
+      (λ readers. (list_all is_there readers ≡ true) × (sum_by one_of readers ≤ 0 + sum_by one_of policy.readers)) _
+      (each_passes (principal_finding h) is_there one_of one_of principal_there [] policy.readers refl) (λ readers readers_there. (
+        and_from (is_there owner) (list_all is_there (readers_beside owner readers)) owner_there.0
+            (filter_all is_there (λ reader. not (reader == owner)) (ascending_set nat_cmp readers) (set_all is_there nat_cmp readers readers_there.0)),
+        omega (
+          arith,
+          filtered_length (λ reader. not (reader == owner)) (ascending_set nat_cmp readers),
+          set_sum one_of nat_cmp readers,
+          ones (ascending_set nat_cmp readers),
+          ones readers,
+          ones policy.readers,
+          readers_there.1,
+        ),
+      )))
+
+  pub label_there : (label : LabelTree) → IfOk (label_finding h label) (λ found. (label_fits h found ≡ true) × (1 + label_nodes found ≤ written_nodes label))
+  unfolding label_finding policies_finding
+  label_there label =
+      then_finds (along (put_last (policy_finding h)) [] label.policies) _
+      (λ policies. (list_all (policy_fits h) policies ≡ true) × (sum_by policy_weight policies ≤ 0 + sum_by policy_nodes label.policies)) _
+      (each_passes (policy_finding h) (policy_fits h) policy_weight policy_nodes policy_there [] label.policies refl)
+      (λ policies there. (set_all (policy_fits h) policy_cmp policies there.0, omega (arith, set_sum policy_weight policy_cmp policies, there.1)))
+
+  pub optional_label_there : (label : Option LabelTree) → IfOk (optional_label_finding h label) (λ found. written_fits h found ≡ true)
+  unfolding optional_label_finding
+  optional_label_there None = refl
+  optional_label_there (Some label) =
+      then_finds (label_finding h label) _ (λ found. (label_fits h found ≡ true) × (1 + label_nodes found ≤ written_nodes label)) _ (label_there label)
+      (λ found there. there.0)
+
+  pub joined_all_there : (label : Label) (throws : List ThrownEntry) → label_fits h label ≡ true
+      → list_all (λ (thrown : ThrownEntry). label_fits h thrown.label) throws ≡ true → label_fits h (joined_all label throws) ≡ true
+  joined_all_there label [] e f = e
+  joined_all_there label (thrown ∷ rest) e f =
+      let parts = and_parts (label_fits h thrown.label) (list_all (λ (other : ThrownEntry). label_fits h other.label) rest) f in
+      joined_all_there (joined label thrown.label) rest
+      (set_all (policy_fits h) policy_cmp (label ++ thrown.label)
+      (list_all-append (policy_fits h) label thrown.label ∙ and_from (list_all (policy_fits h) label) (list_all (policy_fits h) thrown.label) e parts.0))
+      parts.1

@@ -1,0 +1,597 @@
+-- The program that a tree stands for is well formed.
+use Rattle.std.proofs.Common.{◌≡◌, refl, sym, ◌∙◌, subst, ap, ℕ, zero, suc, ◌+◌, ◌<◌, ◌≤◌, List, [], ◌∷◌, ◌++◌, map, length, Bool, true, false, cond, IsTrue, arith}
+use Rattle.std.specs.Prelude.{All, IfOk, Option, Some, None, option_map, ◌==◌, ◌&&◌, ◌||◌, is_none, slice_get, slice_index_or, bytes_eq, codes, nat_le, nat_lt, sum_by}
+use Rattle.std.specs.List.{list_all}
+use Rattle.std.proofs.lemmas.Bool.{le-leb, leb-true, lt-ltb, and_from, and_parts}
+use Rattle.std.proofs.lemmas.List.{length-append, length-map, map_push}
+use Rattle.std.proofs.lemmas.List.Elements.{All-head, All-tail}
+use Rattle.std.proofs.lemmas.List.Sums.{sum_by-cons, sum_by_push}
+use Rattle.std.proofs.lemmas.Option.{slice_get-map}
+use Rattle.std.proofs.lemmas.Result.{IfOk-weaker}
+use Rattle.principals.specs.ActsFor.{PrincipalHierarchy, IsHierarchy}
+use Rattle.common.specs.declared.direction.Direction.{Direction}
+use Rattle.common.specs.declared.direction.Direction.TheVariants as directions
+use Rattle.syntax.specs.Nodes as tree
+use Rattle.syntax.specs.Tree.{ConstantTree, IntegerConstant, TruthConstant, GlobalValueTree, ScalarTree, ArrayTree, GlobalTree, ChannelTree, ItemTree, ChannelItem, ExceptionItem, GlobalItem, ProcedureItem, ProgramTree}
+use Rattle.syntax.specs.Written.{IsInteger, IsWritten, IsWrittenItem}
+use Rattle.resolved.specs.declared.expression.Base.{Base}
+use Rattle.resolved.specs.declared.expression.Base.TheVariants.{Int, Boolean}
+use Rattle.resolved.specs.declared.expression.Variable.TheVariants.{Global, Local}
+use Rattle.resolved.specs.Program.{Program, ChannelEntry, GlobalEntry, ProcedureEntry}
+use Rattle.resolved.specs.Value.{base_of as base_of_value, zero_value}
+use Rattle.resolved.specs.WellFormed.{same_base, VariableType, global_type, parameters_of, same_direction, channel_is, label_fits, is_zero_value, first_fits, main_fits, cell_count, node_limit, size_fits, label_nodes, procedure_nodes, program_nodes, procedure_fits, well_formed}
+use Rattle.resolved.proofs.WellFormedParts.{program_from_parts}
+use Rattle.types.specs.declared.scope.Meaning.{Meaning}
+use Rattle.types.specs.declared.scope.Meaning.TheVariants.{Input, Output, Exception, Procedure, Scalar, Array}
+use Rattle.types.specs.Finding.{along, give_if}
+use Rattle.types.specs.Environment.{Environment, declaring, fresh_finding}
+use Rattle.types.specs.Labels.{label_finding}
+use Rattle.types.specs.Expressions.{base_of}
+use Rattle.types.specs.Statements.{Signature, signature_at, size_finding}
+use Rattle.types.specs.Resolution.{TopLevel, nothing_declared, built_in, item_name, channel_meaning, global_meaning, item_meaning, signature_of, counted, next_name, top_finding, channel_finding, constant_value, constant_base, constant_at, FirstValue, first_finding, global_finding, Tables, next_item, no_tables, items_finding, procedure_entry_finding, main_entry_finding, main_finding, global_cells, next_global_cells, global_cells_finding, frame_cells, next_frame, frames_finding, program_with, resolution}
+use Rattle.types.proofs.Passing.{then_finds, if_finds, require_finds, any_finds}
+use Rattle.types.proofs.WellFormedExpressions.{given_base, slot_base, Signed, Stands}
+use Rattle.types.proofs.WellFormedLabels.{label_there, all_pushed}
+use Rattle.types.proofs.WellFormedProcedures.{World, IsWellFormedProcedure, procedure_keeps}
+use Rattle.common.proofs.Cases.{there_at}
+use Rattle.common.specs.declared.limits.TheConstants.{MAX_ELEMENTS, MAX_CELLS, MAX_PRINCIPALS}
+
+-- ---- lists
+
+pub last_is : {X : Type 0} (xs : List X) (x : X) → slice_get (xs ++ x ∷ []) (length xs) ≡ Some x
+last_is [] x = refl
+last_is (y ∷ xs) x = last_is xs x
+
+pub still_is : {X : Type 0} (xs ys : List X) (n : ℕ) (x : X) → slice_get xs n ≡ Some x → slice_get (xs ++ ys) n ≡ Some x
+still_is [] ys n x e = absurd (cc)
+still_is (y ∷ xs) ys zero x e = e
+still_is (y ∷ xs) ys (suc n) x e = still_is xs ys n x e
+
+index_mapped : {X Y : Type 0} (f : X → Y) (xs : List X) (n : ℕ) (x : X) (d : Y) → slice_get xs n ≡ Some x → slice_index_or (map f xs) n d ≡ f x
+index_mapped f [] n x d e = absurd (cc)
+index_mapped f (y ∷ xs) zero x d e =
+    let same : y ≡ x = cc in
+    ap f same
+index_mapped f (y ∷ xs) (suc n) x d e = index_mapped f xs n x d e
+
+-- each of a list
+abbrev Each : {X : Type 0} → (X → Type 0) → List X → Type 0
+Each P [] = Unit {0}
+Each P (x ∷ xs) = P x × Each P xs
+
+each_pushed : {X : Type 0} (P : X → Type 0) (xs : List X) (x : X) → Each P xs → P x → Each P (xs ++ x ∷ [])
+each_pushed P [] x all one = (one, tt)
+each_pushed P (y ∷ xs) x all one = (all.0, each_pushed P xs x all.1 one)
+
+-- ---- what the items of a program are
+
+abbrev signature_from : ProcedureEntry → Signature
+signature_from entry = record { parameters = map slot_base (parameters_of entry); result = given_base entry.result }
+
+abbrev way_of : ChannelEntry → Direction
+way_of entry = entry.direction
+
+abbrev variable_of : GlobalEntry → VariableType
+variable_of entry = record { base = entry.base; size = entry.size }
+
+abbrev size_of : GlobalValueTree → Option ℕ
+size_of (ScalarTree constant) = None
+size_of (ArrayTree size) = Some size.size
+
+abbrev declared_variable : GlobalTree → VariableType
+declared_variable global = record { base = base_of global.base; size = size_of global.value }
+
+-- the channels, how many exceptions there are, the globals and the procedures
+record Shape : Type 0 where
+  pub directions : List Direction
+  pub exceptions : ℕ
+  pub variables : List VariableType
+  pub signatures : List Signature
+
+abbrev shape_with : Shape → ItemTree → Shape
+shape_with shape (ChannelItem channel) = record shape { directions = shape.directions ++ channel.direction ∷ [] }
+shape_with shape (ExceptionItem at name) = record shape { exceptions = shape.exceptions + 1 }
+shape_with shape (GlobalItem global) = record shape { variables = shape.variables ++ declared_variable global ∷ [] }
+shape_with shape (ProcedureItem procedure) = record shape { signatures = shape.signatures ++ signature_of procedure ∷ [] }
+
+abbrev shape_all : Shape → List ItemTree → Shape
+shape_all shape [] = shape
+shape_all shape (item ∷ items) = shape_all (shape_with shape item) items
+
+abbrev no_items : Shape
+no_items = record { directions = []; exceptions = 3; variables = []; signatures = [] }
+
+abbrev StandsIn : Shape → Meaning → Type 0
+StandsIn shape (Input channel) = slice_get shape.directions channel ≡ Some directions.Input
+StandsIn shape (Output channel) = slice_get shape.directions channel ≡ Some directions.Output
+StandsIn shape (Exception number) = number < shape.exceptions
+StandsIn shape (Procedure number) = number < length shape.signatures
+StandsIn shape (Scalar (Global n) base) = slice_get shape.variables n ≡ Some (record { base = base; size = None })
+StandsIn shape (Scalar (Local n) base) = ⊥
+StandsIn shape (Array (Global n) base size) = slice_get shape.variables n ≡ Some (record { base = base; size = Some size })
+StandsIn shape (Array (Local n) base size) = ⊥
+
+abbrev MeansIn : Shape → Environment → Type 0
+MeansIn shape names = (name : List ℕ) (meaning : Meaning) → names name ≡ Some meaning → StandsIn shape meaning
+
+means_in_declaring : (shape : Shape) (name : List ℕ) (meaning : Meaning) (names : Environment) → StandsIn shape meaning → MeansIn shape names
+    → MeansIn shape (declaring name meaning names)
+means_in_declaring shape name meaning names stands means other found e = go (bytes_eq name other) e
+  where
+    go : (b : Bool) → ◌≡◌ {A = Option Meaning} (cond b (Some meaning) (names other)) (Some found) → StandsIn shape found
+    go true e =
+        let same : meaning ≡ found = cc in
+        subst (StandsIn shape) same stands
+    go false e = means other found e
+
+stands_further : (shape : Shape) (item : ItemTree) (meaning : Meaning) → StandsIn shape meaning → StandsIn (shape_with shape item) meaning
+stands_further shape (ChannelItem channel) (Input n) e = still_is shape.directions (channel.direction ∷ []) n directions.Input e
+stands_further shape (ChannelItem channel) (Output n) e = still_is shape.directions (channel.direction ∷ []) n directions.Output e
+stands_further shape (ChannelItem channel) (Exception n) e = e
+stands_further shape (ChannelItem channel) (Procedure n) e = e
+stands_further shape (ChannelItem channel) (Scalar (Global n) base) e = e
+stands_further shape (ChannelItem channel) (Scalar (Local n) base) e = e
+stands_further shape (ChannelItem channel) (Array (Global n) base size) e = e
+stands_further shape (ChannelItem channel) (Array (Local n) base size) e = e
+stands_further shape (ExceptionItem at name) (Input n) e = e
+stands_further shape (ExceptionItem at name) (Output n) e = e
+stands_further shape (ExceptionItem at name) (Exception n) e = omega (arith, e)
+stands_further shape (ExceptionItem at name) (Procedure n) e = e
+stands_further shape (ExceptionItem at name) (Scalar (Global n) base) e = e
+stands_further shape (ExceptionItem at name) (Scalar (Local n) base) e = e
+stands_further shape (ExceptionItem at name) (Array (Global n) base size) e = e
+stands_further shape (ExceptionItem at name) (Array (Local n) base size) e = e
+stands_further shape (GlobalItem global) (Input n) e = e
+stands_further shape (GlobalItem global) (Output n) e = e
+stands_further shape (GlobalItem global) (Exception n) e = e
+stands_further shape (GlobalItem global) (Procedure n) e = e
+stands_further shape (GlobalItem global) (Scalar (Global n) base) e =
+    still_is shape.variables (declared_variable global ∷ []) n (record { base = base; size = None }) e
+stands_further shape (GlobalItem global) (Scalar (Local n) base) e = e
+stands_further shape (GlobalItem global) (Array (Global n) base size) e =
+    still_is shape.variables (declared_variable global ∷ []) n (record { base = base; size = Some size }) e
+stands_further shape (GlobalItem global) (Array (Local n) base size) e = e
+stands_further shape (ProcedureItem procedure) (Input n) e = e
+stands_further shape (ProcedureItem procedure) (Output n) e = e
+stands_further shape (ProcedureItem procedure) (Exception n) e = e
+stands_further shape (ProcedureItem procedure) (Procedure n) e =
+    omega (arith, e, length-append shape.signatures (signature_of procedure ∷ []))
+stands_further shape (ProcedureItem procedure) (Scalar (Global n) base) e = e
+stands_further shape (ProcedureItem procedure) (Scalar (Local n) base) e = e
+stands_further shape (ProcedureItem procedure) (Array (Global n) base size) e = e
+stands_further shape (ProcedureItem procedure) (Array (Local n) base size) e = e
+
+-- ---- the names of the items
+
+record IsWellFormedTop (shape : Shape) (top : TopLevel) : Type 0 where
+  pub channels : top.channels ≡ length shape.directions
+  pub exceptions : top.exceptions ≡ shape.exceptions
+  pub globals : top.globals ≡ length shape.variables
+  pub signatures : top.signatures ≡ shape.signatures
+  pub names : MeansIn shape top.names
+
+new_stands : (shape : Shape) (top : TopLevel) (item : ItemTree) → IsWellFormedTop shape top → StandsIn (shape_with shape item) (item_meaning top item)
+new_stands shape top (ChannelItem channel) kept = go channel.direction
+  where
+    go : (direction : Direction) → StandsIn (record shape { directions = shape.directions ++ direction ∷ [] }) (channel_meaning direction top.channels)
+    go directions.Input =
+        subst (λ n. slice_get (shape.directions ++ directions.Input ∷ []) n ≡ Some directions.Input) (sym kept.channels) (last_is shape.directions directions.Input)
+    go directions.Output =
+        subst (λ n. slice_get (shape.directions ++ directions.Output ∷ []) n ≡ Some directions.Output) (sym kept.channels) (last_is shape.directions directions.Output)
+new_stands shape top (ExceptionItem at name) kept = omega (arith, kept.exceptions)
+new_stands shape top (GlobalItem global) kept = go global.value
+  where
+    base : Base
+    base = base_of global.base
+
+    go : (value : GlobalValueTree) → StandsIn (record shape { variables = shape.variables ++ record { base = base_of global.base; size = size_of value } ∷ [] }) (global_meaning (base_of global.base) top.globals value)
+    go (ScalarTree constant) =
+        let type : VariableType = record { base = base_of global.base; size = None } in
+        subst (λ n. slice_get (shape.variables ++ type ∷ []) n ≡ Some type) (sym kept.globals) (last_is shape.variables type)
+    go (ArrayTree size) =
+        let type : VariableType = record { base = base_of global.base; size = Some size.size } in
+        subst (λ n. slice_get (shape.variables ++ type ∷ []) n ≡ Some type) (sym kept.globals) (last_is shape.variables type)
+new_stands shape top (ProcedureItem procedure) kept =
+    let long : length top.signatures ≡ length shape.signatures = ap length kept.signatures in
+    omega (arith, long, length-append shape.signatures (signature_of procedure ∷ []))
+
+counted_kept : (shape : Shape) (top : TopLevel) (item : ItemTree) (names : Environment) → IsWellFormedTop shape top → MeansIn (shape_with shape item) names
+    → IsWellFormedTop (shape_with shape item) (record (counted top item) { names = names })
+counted_kept shape top (ChannelItem channel) names kept means = record {
+  channels = omega (arith, kept.channels, length-append shape.directions (channel.direction ∷ []));
+  exceptions = kept.exceptions;
+  globals = kept.globals;
+  signatures = kept.signatures;
+  names = means;
+}
+counted_kept shape top (ExceptionItem at name) names kept means = record {
+  channels = kept.channels;
+  exceptions = omega (arith, kept.exceptions);
+  globals = kept.globals;
+  signatures = kept.signatures;
+  names = means;
+}
+counted_kept shape top (GlobalItem global) names kept means = record {
+  channels = kept.channels;
+  exceptions = kept.exceptions;
+  globals = omega (arith, kept.globals, length-append shape.variables (declared_variable global ∷ []));
+  signatures = kept.signatures;
+  names = means;
+}
+counted_kept shape top (ProcedureItem procedure) names kept means = record {
+  channels = kept.channels;
+  exceptions = kept.exceptions;
+  globals = kept.globals;
+  signatures = ap (λ one. one ++ signature_of procedure ∷ []) kept.signatures;
+  names = means;
+}
+
+name_kept : (shape : Shape) (top : TopLevel) (item : ItemTree) → IsWellFormedTop shape top → IfOk (next_name top item) (IsWellFormedTop (shape_with shape item))
+unfolding next_name
+name_kept shape top item kept =
+    then_finds (fresh_finding (top.names (item_name item).text) (item_name item).at) _ (λ one. Unit {0}) _
+    (any_finds (fresh_finding (top.names (item_name item).text) (item_name item).at)) (λ one nothing.
+    counted_kept shape top item (declaring (item_name item).text (item_meaning top item) top.names) kept
+    (means_in_declaring (shape_with shape item) (item_name item).text (item_meaning top item) top.names (new_stands shape top item kept)
+    (λ name meaning e. stands_further shape item meaning (kept.names name meaning e))))
+
+names_kept : (shape : Shape) (top : TopLevel) (items : List ItemTree) → IsWellFormedTop shape top → IfOk (along next_name top items) (IsWellFormedTop (shape_all shape items))
+names_kept shape top [] kept = kept
+names_kept shape top (item ∷ items) kept =
+    then_finds (next_name top item) (λ next. along next_name next items) (IsWellFormedTop (shape_with shape item)) _ (name_kept shape top item kept)
+    (λ next kept_next. names_kept (shape_with shape item) next items kept_next)
+
+built_in_kept : IsWellFormedTop no_items built_in
+built_in_kept = record {
+  channels = refl;
+  exceptions = refl;
+  globals = refl;
+  signatures = refl;
+  names =
+      means_in_declaring no_items (codes "End") (Exception 2)
+      (declaring (codes "Bounds") (Exception 1) (declaring (codes "Arith") (Exception 0) nothing_declared)) (omega arith)
+      (means_in_declaring no_items (codes "Bounds") (Exception 1) (declaring (codes "Arith") (Exception 0) nothing_declared) (omega arith)
+      (means_in_declaring no_items (codes "Arith") (Exception 0) nothing_declared (omega arith) (λ name meaning e. absurd (cc))));
+}
+
+-- ---- channels and globals
+
+channel_there : (h : PrincipalHierarchy) (channel : ChannelTree)
+    → IfOk (channel_finding h channel) (λ (entry : ChannelEntry). (label_fits h entry.label ≡ true) × (entry.direction ≡ channel.direction) × (1 + label_nodes entry.label ≤ tree.label_nodes channel.label))
+unfolding channel_finding
+channel_there h channel =
+    then_finds (label_finding h channel.label) _ (λ found. (label_fits h found ≡ true) × (1 + label_nodes found ≤ tree.label_nodes channel.label)) _
+    (label_there h channel.label) (λ label there. (there.0, refl, there.1))
+
+-- the first value is of the type, and that of an array is zero
+abbrev IsWellFormedFirst : Base → GlobalValueTree → FirstValue → Type 0
+IsWellFormedFirst base value found =
+    (size_fits found.size ≡ true)
+    × ((same_base (base_of_value found.first) base && (is_none found.size || is_zero_value found.first)) ≡ true) × (found.size ≡ size_of value)
+
+constant_of_base : (constant : ConstantTree) (base : Base) → same_base (constant_base constant) base ≡ true → same_base (base_of_value (constant_value constant)) base ≡ true
+constant_of_base (IntegerConstant at negative value) base e = e
+constant_of_base (TruthConstant at value) base e = e
+
+zero_fits : (base : Base) → (same_base (base_of_value (zero_value base)) base && is_zero_value (zero_value base)) ≡ true
+zero_fits Int = refl
+zero_fits Boolean = refl
+
+first_there : (base : Base) (value : GlobalValueTree) → IfOk (first_finding base value) (IsWellFormedFirst base value)
+unfolding first_finding size_finding
+first_there base (ScalarTree constant) =
+    if_finds (same_base (constant_base constant) base) (record { size = None; first = constant_value constant }) _ (constant_at constant)
+    (IsWellFormedFirst base (ScalarTree constant)) (λ same.
+    (refl, and_from (same_base (base_of_value (constant_value constant)) base) true (constant_of_base constant base same) refl, refl))
+first_there base (ArrayTree size) =
+    then_finds (size_finding size) _ (λ long. (size_fits (Some long) ≡ true) × (long ≡ size.size)) _
+    (if_finds (nat_lt 0 size.size && nat_le size.size MAX_ELEMENTS) size.size _ size.at (λ long. (size_fits (Some long) ≡ true) × (long ≡ size.size)) (λ fit. (fit, refl)))
+    (λ long there. (there.0, zero_fits base, ap some_size there.1))
+  where
+    some_size : ℕ → Option ℕ
+    some_size n = Some n
+
+abbrev global_fits : PrincipalHierarchy → GlobalEntry → Bool
+global_fits h entry = size_fits entry.size && label_fits h entry.label && first_fits entry
+
+global_there : (h : PrincipalHierarchy) (global : GlobalTree)
+    → IfOk (global_finding h global) (λ (entry : GlobalEntry). (global_fits h entry ≡ true) × (variable_of entry ≡ declared_variable global))
+unfolding global_finding
+global_there h global =
+    let base = base_of global.base in
+    then_finds (label_finding h global.label) _ (λ found. (label_fits h found ≡ true) × (1 + label_nodes found ≤ tree.label_nodes global.label)) _
+    (label_there h global.label) (λ label there.
+    then_finds (first_finding base global.value) _ (IsWellFormedFirst base global.value) _ (first_there base global.value) (λ value kept. (
+      and_from (size_fits value.size && label_fits h label) (same_base (base_of_value value.first) base && (is_none value.size || is_zero_value value.first))
+          (and_from (size_fits value.size) (label_fits h label) kept.0 there.0) kept.1,
+      (λ i. record { base = base; size = kept.2 i }),
+    )))
+
+-- ---- the tables
+
+abbrev channel_fits : PrincipalHierarchy → ChannelEntry → Bool
+channel_fits h entry = label_fits h entry.label
+
+abbrev channel_nodes : ChannelEntry → ℕ
+channel_nodes entry = 1 + label_nodes entry.label
+
+abbrev frame_fits : ProcedureEntry → Bool
+frame_fits entry = nat_le (frame_cells entry.slots) MAX_CELLS
+
+-- a procedure that fits each program of the hierarchy, if its frame has few enough cells
+abbrev ProcedureFits : PrincipalHierarchy → TopLevel → ProcedureEntry → Type 0
+ProcedureFits h top entry = (world : World h top) → frame_fits entry ≡ true → procedure_fits world.program entry ≡ true
+
+-- as many channels as the nodes of all their labels at most, and no label with more
+few_channels : (channels : List ChannelEntry) → length channels ≤ sum_by channel_nodes channels
+few_channels [] = omega arith
+few_channels (entry ∷ channels) = omega (arith, few_channels channels, sum_by-cons channel_nodes entry channels)
+
+labels_small : (limit : ℕ) (channels : List ChannelEntry) → sum_by channel_nodes channels ≤ limit
+    → list_all (λ (entry : ChannelEntry). nat_le (label_nodes entry.label) limit) channels ≡ true
+labels_small limit [] few = refl
+labels_small limit (entry ∷ channels) few =
+    and_from (nat_le (label_nodes entry.label) limit) _ (le-leb (label_nodes entry.label) limit (omega (arith, few, sum_by-cons channel_nodes entry channels)))
+    (labels_small limit channels (omega (arith, few, sum_by-cons channel_nodes entry channels)))
+
+-- what is counted of the tables: their entries, and the nodes of the channels' labels, which the text has too
+abbrev table_nodes : Tables → ℕ
+table_nodes tables =
+    sum_by channel_nodes tables.channels + length tables.exceptions + length tables.globals + sum_by procedure_nodes tables.procedures
+
+record AreWellFormedTables (h : PrincipalHierarchy) (top : TopLevel) (shape : Shape) (nodes : ℕ) (tables : Tables) : Type 0 where
+  pub directions : map way_of tables.channels ≡ shape.directions
+  pub exceptions : 3 + length tables.exceptions ≡ shape.exceptions
+  pub variables : map variable_of tables.globals ≡ shape.variables
+  pub signatures : map signature_from tables.procedures ≡ shape.signatures
+  pub channels_fit : list_all (channel_fits h) tables.channels ≡ true
+  pub globals_fit : list_all (global_fits h) tables.globals ≡ true
+  pub procedures_fit : Each (ProcedureFits h top) tables.procedures
+  pub few : table_nodes tables ≤ nodes
+
+signed_is : (entry : ProcedureEntry) (signature : Signature) → Signed entry signature → signature_from entry ≡ signature
+signed_is entry signature signed = λ i. record { parameters = signed.parameters i; result = signed.value i }
+
+module _ (placed : ℕ → Type 0) (word : List ℕ → Type 0) (h : PrincipalHierarchy) (top : TopLevel) where
+  item_kept : (shape : Shape) (nodes : ℕ) (tables : Tables) (item : ItemTree) → IsWrittenItem placed word IsInteger item → AreWellFormedTables h top shape nodes tables
+      → IfOk (next_item h top tables item) (AreWellFormedTables h top (shape_with shape item) (nodes + tree.item_nodes item))
+  unfolding next_item
+  item_kept shape nodes tables (ChannelItem channel) is kept =
+      then_finds (channel_finding h channel) _
+      (λ (entry : ChannelEntry). (label_fits h entry.label ≡ true) × (entry.direction ≡ channel.direction) × (1 + label_nodes entry.label ≤ tree.label_nodes channel.label)) _
+      (channel_there h channel) (λ entry there. record {
+        directions = map_push way_of tables.channels entry ∙ (λ i. kept.directions i ++ there.1 i ∷ []);
+        exceptions = kept.exceptions;
+        variables = kept.variables;
+        signatures = kept.signatures;
+        channels_fit = all_pushed (channel_fits h) tables.channels entry kept.channels_fit there.0;
+        globals_fit = kept.globals_fit;
+        procedures_fit = kept.procedures_fit;
+        few = omega (arith, kept.few, sum_by_push channel_nodes tables.channels entry, there.2);
+      })
+  item_kept shape nodes tables (ExceptionItem at name) is kept = record {
+    directions = kept.directions;
+    exceptions = omega (arith, kept.exceptions, length-append tables.exceptions (name.text ∷ []));
+    variables = kept.variables;
+    signatures = kept.signatures;
+    channels_fit = kept.channels_fit;
+    globals_fit = kept.globals_fit;
+    procedures_fit = kept.procedures_fit;
+    few = omega (arith, kept.few, length-append tables.exceptions (name.text ∷ []));
+  }
+  item_kept shape nodes tables (GlobalItem global) is kept =
+      then_finds (global_finding h global) _ (λ (entry : GlobalEntry). (global_fits h entry ≡ true) × (variable_of entry ≡ declared_variable global)) _
+      (global_there h global) (λ entry there. record {
+        directions = kept.directions;
+        exceptions = kept.exceptions;
+        variables = map_push variable_of tables.globals entry ∙ (λ i. kept.variables i ++ there.1 i ∷ []);
+        signatures = kept.signatures;
+        channels_fit = kept.channels_fit;
+        globals_fit = all_pushed (global_fits h) tables.globals entry kept.globals_fit there.0;
+        procedures_fit = kept.procedures_fit;
+        few = omega (arith, kept.few, length-append tables.globals (entry ∷ []));
+      })
+  item_kept shape nodes tables (ProcedureItem procedure) is kept =
+      then_finds (procedure_entry_finding h top procedure) _ (IsWellFormedProcedure h top procedure) _ (procedure_keeps placed word h top procedure is)
+      (λ entry there. record {
+        directions = kept.directions;
+        exceptions = kept.exceptions;
+        variables = kept.variables;
+        signatures =
+            map_push signature_from tables.procedures entry
+            ∙ (λ i. kept.signatures i ++ signed_is entry (signature_of procedure) there.signed i ∷ []);
+        channels_fit = kept.channels_fit;
+        globals_fit = kept.globals_fit;
+        procedures_fit = each_pushed (ProcedureFits h top) tables.procedures entry kept.procedures_fit there.fits;
+        few = omega (arith, kept.few, sum_by_push procedure_nodes tables.procedures entry, there.few);
+      })
+
+  items_kept : (shape : Shape) (before nodes : ℕ) (tables : Tables) (items : List ItemTree) → nodes ≡ before + sum_by tree.item_nodes items
+      → All (IsWrittenItem placed word IsInteger) items → AreWellFormedTables h top shape before tables
+      → IfOk (along (next_item h top) tables items) (AreWellFormedTables h top (shape_all shape items) nodes)
+  items_kept shape before nodes tables [] e all kept = record {
+    directions = kept.directions;
+    exceptions = kept.exceptions;
+    variables = kept.variables;
+    signatures = kept.signatures;
+    channels_fit = kept.channels_fit;
+    globals_fit = kept.globals_fit;
+    procedures_fit = kept.procedures_fit;
+    few = omega (arith, e, kept.few);
+  }
+  items_kept shape before nodes tables (item ∷ items) e all kept =
+      then_finds (next_item h top tables item) (λ next. along (next_item h top) next items)
+      (AreWellFormedTables h top (shape_with shape item) (before + tree.item_nodes item)) _
+      (item_kept shape before tables item (All-head (IsWrittenItem placed word IsInteger) item items all) kept) (λ next kept_next.
+      items_kept (shape_with shape item) (before + tree.item_nodes item) nodes next items (omega (arith, e, sum_by-cons tree.item_nodes item items))
+      (All-tail (IsWrittenItem placed word IsInteger) item items all) kept_next)
+
+-- ---- cells
+
+abbrev variable_cells : VariableType → ℕ
+variable_cells type = cell_count type.size
+
+abbrev entry_cells : GlobalEntry → ℕ
+entry_cells entry = cell_count entry.size
+
+cells_of_value : (value : GlobalValueTree) → global_cells value ≡ cell_count (size_of value)
+cells_of_value (ScalarTree constant) = refl
+cells_of_value (ArrayTree size) = refl
+
+mapped_cells : (globals : List GlobalEntry) → sum_by entry_cells globals ≡ sum_by variable_cells (map variable_of globals)
+mapped_cells [] = refl
+mapped_cells (entry ∷ globals) =
+    omega (arith, mapped_cells globals, sum_by-cons entry_cells entry globals, sum_by-cons variable_cells (variable_of entry) (map variable_of globals))
+
+cells_kept : (shape : Shape) (cells : ℕ) (items : List ItemTree) → cells ≡ sum_by variable_cells shape.variables → cells ≤ MAX_CELLS
+    → IfOk (along next_global_cells cells items) (λ all. (all ≡ sum_by variable_cells (shape_all shape items).variables) × (all ≤ MAX_CELLS))
+cells_kept shape cells [] e few = (e, few)
+cells_kept shape cells (ChannelItem channel ∷ items) e few = cells_kept (shape_with shape (ChannelItem channel)) cells items e few
+cells_kept shape cells (ExceptionItem at name ∷ items) e few = cells_kept (shape_with shape (ExceptionItem at name)) cells items e few
+cells_kept shape cells (ProcedureItem procedure ∷ items) e few = cells_kept (shape_with shape (ProcedureItem procedure)) cells items e few
+cells_kept shape cells (GlobalItem global ∷ items) e few =
+    let next = cells + global_cells global.value in
+    then_finds (give_if (nat_le next MAX_CELLS) next _ global.name.at) (λ more. along next_global_cells more items)
+    (λ more. (more ≡ sum_by variable_cells (shape_with shape (GlobalItem global)).variables) × (more ≤ MAX_CELLS)) _
+    (if_finds (nat_le next MAX_CELLS) next _ global.name.at
+    (λ more. (more ≡ sum_by variable_cells (shape_with shape (GlobalItem global)).variables) × (more ≤ MAX_CELLS))
+    (λ within. (omega (arith, e, cells_of_value global.value, sum_by_push variable_cells shape.variables (declared_variable global)), leb-true next MAX_CELLS within)))
+    (λ more parts. cells_kept (shape_with shape (GlobalItem global)) more items parts.0 parts.1)
+
+frames_kept : (one : Unit {0}) (procedures : List ProcedureEntry) → IfOk (along next_frame one procedures) (λ done. list_all frame_fits procedures ≡ true)
+frames_kept one [] = refl
+frames_kept one (procedure ∷ procedures) =
+    then_finds (next_frame one procedure) (λ next. along next_frame next procedures) (λ next. frame_fits procedure ≡ true) _
+    (require_finds (frame_fits procedure) _ procedure.at) (λ next fit.
+    IfOk-weaker (along next_frame next procedures) (λ done. list_all frame_fits procedures ≡ true) (λ done. list_all frame_fits (procedure ∷ procedures) ≡ true)
+    (λ done rest. and_from (frame_fits procedure) (list_all frame_fits procedures) fit rest) (frames_kept next procedures))
+
+all_fit : (h : PrincipalHierarchy) (top : TopLevel) (world : World h top) (procedures : List ProcedureEntry) → Each (ProcedureFits h top) procedures
+    → list_all frame_fits procedures ≡ true → list_all (procedure_fits world.program) procedures ≡ true
+all_fit h top world [] each frames = refl
+all_fit h top world (procedure ∷ procedures) each frames =
+    let parts = and_parts (frame_fits procedure) (list_all frame_fits procedures) frames in
+    and_from (procedure_fits world.program procedure) (list_all (procedure_fits world.program) procedures) (each.0 world parts.0)
+    (all_fit h top world procedures each.1 parts.1)
+
+-- ---- main
+
+main_found : (found : Option Meaning) (procedures : List ProcedureEntry) → IfOk (main_finding found procedures) (λ main. main_fits (slice_get procedures main) ≡ true)
+unfolding main_finding
+main_found None procedures = tt
+main_found (Some (Procedure number)) procedures = go (slice_get procedures number) refl
+  where
+    go : (entry : Option ProcedureEntry) → slice_get procedures number ≡ entry
+        → IfOk (main_entry_finding number entry) (λ main. main_fits (slice_get procedures main) ≡ true)
+    go None e = tt
+    go (Some procedure) e =
+        if_finds (procedure.parameters == 0 && is_none procedure.result) number _ procedure.at (λ main. main_fits (slice_get procedures main) ≡ true)
+        (λ plain. subst (λ one. main_fits one ≡ true) (sym e) plain)
+main_found (Some (Input n)) procedures = tt
+main_found (Some (Output n)) procedures = tt
+main_found (Some (Exception n)) procedures = tt
+main_found (Some (Scalar variable base)) procedures = tt
+main_found (Some (Array variable base size)) procedures = tt
+
+-- ---- what the names of the items mean in the program
+
+way_there : (found : Option ChannelEntry) (way : Direction) → option_map way_of found ≡ Some way → channel_is found way ≡ true
+way_there None way e = absurd (cc)
+way_there (Some entry) way e =
+    let same : entry.direction ≡ way = cc in
+    subst (λ one. same_direction one way ≡ true) (sym same) (itself way)
+  where
+    itself : (way : Direction) → same_direction way way ≡ true
+    itself directions.Input = refl
+    itself directions.Output = refl
+
+type_there : (found : Option GlobalEntry) → global_type found ≡ option_map variable_of found
+type_there None = refl
+type_there (Some entry) = refl
+
+module _ (h : PrincipalHierarchy) (top : TopLevel) (shape : Shape) (nodes : ℕ) (tables : Tables) (main : ℕ) (top_kept : IsWellFormedTop shape top) (kept : AreWellFormedTables h top shape nodes tables) where
+  abbrev program : Program
+  program = program_with h tables main
+
+  way_at : (n : ℕ) (way : Direction) → slice_get shape.directions n ≡ Some way → channel_is (slice_get tables.channels n) way ≡ true
+  way_at n way e =
+      way_there (slice_get tables.channels n) way
+      (sym (slice_get-map way_of tables.channels n) ∙ ap (λ one. slice_get one n) kept.directions ∙ e)
+
+  type_at : (n : ℕ) (type : VariableType) → slice_get shape.variables n ≡ Some type → global_type (slice_get tables.globals n) ≡ Some type
+  type_at n type e =
+      type_there (slice_get tables.globals n) ∙ sym (slice_get-map variable_of tables.globals n) ∙ ap (λ one. slice_get one n) kept.variables ∙ e
+
+  stands_there : (procedure : ProcedureEntry) (meaning : Meaning) → StandsIn shape meaning → Stands program procedure top.signatures meaning
+  stands_there procedure (Input n) e = way_at n directions.Input e
+  stands_there procedure (Output n) e = way_at n directions.Output e
+  stands_there procedure (Exception n) e = lt-ltb n (3 + length tables.exceptions) (omega (arith, e, kept.exceptions))
+  stands_there procedure (Procedure n) e =
+      let long : length (map signature_from tables.procedures) ≡ length shape.signatures = ap length kept.signatures in
+      let (callee, found) = there_at tables.procedures n (omega (arith, e, long, length-map tables.procedures signature_from)) in
+      let none : Signature = record { parameters = []; result = None } in
+      let same : signature_at top.signatures n ≡ signature_from callee =
+      ap (λ one. slice_index_or one n none) (top_kept.signatures ∙ sym kept.signatures) ∙ index_mapped signature_from tables.procedures n callee none found in (
+        callee,
+        found,
+        record {
+          parameters = sym (ap (λ (one : Signature). one.parameters) same);
+          value = sym (ap (λ (one : Signature). one.result) same);
+        },
+      )
+  stands_there procedure (Scalar (Global n) base) e = type_at n (record { base = base; size = None }) e
+  stands_there procedure (Scalar (Local n) base) e = absurd e
+  stands_there procedure (Array (Global n) base size) e = type_at n (record { base = base; size = Some size }) e
+  stands_there procedure (Array (Local n) base size) e = absurd e
+
+  world : World h top
+  world = record {
+    program = program;
+    hierarchy = refl;
+    means = λ procedure name meaning e. stands_there procedure meaning (top_kept.names name meaning e);
+  }
+
+  program_fits : IsHierarchy h → main_fits (slice_get tables.procedures main) ≡ true
+      → (cells : ℕ) → cells ≡ sum_by variable_cells shape.variables → cells ≤ MAX_CELLS → list_all frame_fits tables.procedures ≡ true → nodes ≤ node_limit
+      → IsTrue (well_formed program)
+  unfolding world
+  program_fits hierarchy main_is cells cells_are few_cells frames few_nodes =
+      let same : sum_by variable_cells (map variable_of tables.globals) ≡ sum_by variable_cells shape.variables = ap (sum_by variable_cells) kept.variables in
+      program_from_parts program (record {
+        principals_fit = le-leb (length h.names) MAX_PRINCIPALS hierarchy.few;
+        channels_fit = kept.channels_fit;
+        globals_are =
+            and_from (list_all (global_fits h) tables.globals) (nat_le (sum_by entry_cells tables.globals) MAX_CELLS) kept.globals_fit
+            (le-leb (sum_by entry_cells tables.globals) MAX_CELLS (omega (arith, mapped_cells tables.globals, same, cells_are, few_cells)));
+        procedures_fit = all_fit h top world tables.procedures kept.procedures_fit frames;
+        main_is = main_is;
+        nodes_fit = le-leb (program_nodes program) node_limit (omega (arith, kept.few, few_nodes, few_channels tables.channels));
+        labels_fit = labels_small node_limit tables.channels (omega (arith, kept.few, few_nodes));
+      })
+
+-- ---- the whole
+
+pub resolution_keeps : (placed : ℕ → Type 0) (word : List ℕ → Type 0) (h : PrincipalHierarchy) (written : ProgramTree) → IsHierarchy h → IsWritten placed word IsInteger written
+    → tree.program_nodes written ≤ 1048577 → IfOk (resolution h written) (λ found. IsTrue (well_formed found))
+unfolding resolution top_finding items_finding global_cells_finding frames_finding
+resolution_keeps placed word h written hierarchy is few =
+    let shape = shape_all no_items written.items in
+    let nodes = sum_by tree.item_nodes written.items in
+    then_finds (along next_name built_in written.items) _ (IsWellFormedTop shape) _ (names_kept no_items built_in written.items built_in_kept) (λ top top_kept.
+    then_finds (along (next_item h top) no_tables written.items) _ (AreWellFormedTables h top shape nodes) _
+    (items_kept placed word h top no_items 0 nodes no_tables written.items (omega arith) is (record {
+      directions = refl;
+      exceptions = refl;
+      variables = refl;
+      signatures = refl;
+      channels_fit = refl;
+      globals_fit = refl;
+      procedures_fit = tt;
+      few = omega arith;
+    })) (λ tables kept.
+    then_finds (main_finding (top.names (codes "main")) tables.procedures) _ (λ main. main_fits (slice_get tables.procedures main) ≡ true) _
+    (main_found (top.names (codes "main")) tables.procedures) (λ main main_is.
+    then_finds (along next_global_cells 0 written.items) _ (λ all. (all ≡ sum_by variable_cells shape.variables) × (all ≤ MAX_CELLS)) _
+    (cells_kept no_items 0 written.items refl (omega arith)) (λ cells cells_are.
+    then_finds (along next_frame tt tables.procedures) _ (λ done. list_all frame_fits tables.procedures ≡ true) _ (frames_kept tt tables.procedures)
+    (λ done frames. program_fits h top shape nodes tables main top_kept kept hierarchy main_is cells cells_are.0 cells_are.1 frames (omega (arith, few)))))))

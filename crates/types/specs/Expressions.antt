@@ -1,0 +1,110 @@
+-- The resolved expression that a written one stands for, and the type of its values. Operands are looked at before their operator,
+-- from the left, and each is tested against the wanted type at once; one of another type is refused at its first token (401).
+-- Source: our own, the usual rules of simple types.
+use Rattle.std.specs.Prelude.{ℕ}
+use Rattle.syntax.specs.declared.tree.BaseType.{BaseType}
+use Rattle.syntax.specs.declared.tree.BaseType.TheVariants as base_types
+use Rattle.syntax.specs.declared.tree.UnaryOperator.{UnaryOperator}
+use Rattle.syntax.specs.declared.tree.UnaryOperator.TheVariants as unary
+use Rattle.syntax.specs.declared.tree.BinaryOperator.{BinaryOperator}
+use Rattle.syntax.specs.declared.tree.BinaryOperator.TheVariants as binary
+use Rattle.syntax.specs.Tree.{ExpressionTree, IntegerTree, TruthTree, VariableTree, ElementTree, UnaryTree, BinaryTree, expression_at}
+use Rattle.resolved.specs.declared.expression.Base.{Base}
+use Rattle.resolved.specs.declared.expression.Base.TheVariants.{Int, Boolean}
+use Rattle.resolved.specs.declared.expression.Prefix.{Prefix}
+use Rattle.resolved.specs.declared.expression.Prefix.TheVariants as prefixes
+use Rattle.resolved.specs.declared.expression.Operator.TheVariants as operators
+use Rattle.resolved.specs.declared.expression.Connective.TheVariants as connectives
+use Rattle.resolved.specs.Tree.{Expression, Integer, Logical, Read, Element, Unary, Binary, Short}
+use Rattle.resolved.specs.WellFormed.{same_base, prefix_base, result_base}
+use Rattle.types.specs.declared.fault.TypeDefect.TheVariants as refusals
+use Rattle.types.specs.declared.operator.OperatorUse.{OperatorUse}
+use Rattle.types.specs.declared.operator.OperatorUse.TheVariants.{OfNumbers, OfEither, OfTruths}
+use Rattle.types.specs.Finding.{Finding, give, and_then, give_if, ◌>>=◌}
+use Rattle.types.specs.Environment.{Environment, scalar_finding, array_finding}
+
+abbrev pub base_of : BaseType → Base
+base_of base_types.Int = Int
+base_of base_types.Boolean = Boolean
+
+abbrev pub prefix_of : UnaryOperator → Prefix
+prefix_of unary.Negate = prefixes.Negate
+prefix_of unary.Not = prefixes.Not
+
+-- what an operator is made to: one of two numbers, one of two values of either type, by that type, or one of two truth values that
+-- may leave its right operand alone
+abbrev pub use_of : BinaryOperator → OperatorUse
+use_of binary.Multiply = OfNumbers operators.Multiply
+use_of binary.Divide = OfNumbers operators.Divide
+use_of binary.Remainder = OfNumbers operators.Remainder
+use_of binary.Add = OfNumbers operators.Add
+use_of binary.Subtract = OfNumbers operators.Subtract
+use_of binary.LessThan = OfNumbers operators.LessThan
+use_of binary.AtMost = OfNumbers operators.AtMost
+use_of binary.GreaterThan = OfNumbers operators.GreaterThan
+use_of binary.AtLeast = OfNumbers operators.AtLeast
+use_of binary.EqualTo = OfEither operators.Equal operators.Same
+use_of binary.NotEqualTo = OfEither operators.Unequal operators.Different
+use_of binary.And = OfTruths connectives.And
+use_of binary.Or = OfTruths connectives.Or
+
+-- the first for numbers, the second for truth values
+abbrev pub by_base : {A : Type 0} → Base → A → A → A
+by_base Int number truth = number
+by_base Boolean number truth = truth
+
+-- an expression with the type of its values
+pub record Typed : Type 0 where
+  pub expression : Expression
+  pub base : Base
+
+abbrev pub typed : Expression → Base → Finding Typed
+typed expression base = give (record { expression = expression; base = base })
+
+-- an expression whose values have to have a type
+unfoldable pub of_base : Base → (at : ℕ) → Typed → Finding Expression
+of_base base at found = give_if (same_base found.base base) found.expression refusals.WrongType at
+
+abbrev pub wanting : Base → (at : ℕ) → Finding Typed → Finding Expression
+wanting base at looked = and_then looked (of_base base at)
+
+-- the type that the operands of an operator have to have, by that of the left one, and the type of its value
+abbrev pub operands_base : OperatorUse → (left : Base) → Base
+operands_base (OfNumbers operator) left = Int
+operands_base (OfEither of_numbers of_truths) left = left
+operands_base (OfTruths connective) left = Boolean
+
+abbrev pub value_base : OperatorUse → Base
+value_base (OfNumbers operator) = result_base operator
+value_base (OfEither of_numbers of_truths) = Boolean
+value_base (OfTruths connective) = Boolean
+
+-- the operator on its operands, which have this type
+abbrev pub combined : OperatorUse → Base → (left right : Expression) → Expression
+combined (OfNumbers operator) base d e = Binary operator d e
+combined (OfEither of_numbers of_truths) base d e = Binary (by_base base of_numbers of_truths) d e
+combined (OfTruths connective) base d e = Short connective d e
+
+unfoldable pub expression_finding : Environment → ExpressionTree → Finding Typed
+expression_finding names (IntegerTree at value) = typed (Integer value) Int
+expression_finding names (TruthTree at value) = typed (Logical value) Boolean
+expression_finding names (VariableTree name) = do
+  x ← scalar_finding (names name.text) name.at
+  typed (Read x.variable) x.base
+expression_finding names (ElementTree array index) = do
+  a ← array_finding (names array.text) array.at
+  i ← wanting Int (expression_at index) (expression_finding names index)
+  typed (Element a.variable a.size i) a.base
+expression_finding names (UnaryTree at operator operand) = do
+  e ← wanting (prefix_base (prefix_of operator)) (expression_at operand) (expression_finding names operand)
+  typed (Unary (prefix_of operator) e) (prefix_base (prefix_of operator))
+expression_finding names (BinaryTree at operator left right) = do
+  l ← expression_finding names left
+  d ← of_base (operands_base (use_of operator) l.base) (expression_at left) l
+  r ← expression_finding names right
+  e ← of_base (operands_base (use_of operator) l.base) (expression_at right) r
+  typed (combined (use_of operator) l.base d e) (value_base (use_of operator))
+
+-- an expression at a place that wants a type
+unfoldable pub typed_finding : Environment → Base → ExpressionTree → Finding Expression
+typed_finding names base tree = wanting base (expression_at tree) (expression_finding names tree)

@@ -1,0 +1,48 @@
+-- What looking at a part of a program comes to: something that was found, or the first fault.
+-- Source: our own, the results of a computation that may fail, in the usual sense.
+use Rattle.std.specs.Prelude.{◌≡◌, ℕ, List, [], ◌∷◌, ◌++◌, Bool, true, false, Result, Ok, Err, if◌then◌else◌}
+use Rattle.types.specs.declared.fault.TypeDefect.{TypeDefect}
+use Rattle.types.specs.declared.fault.TypeRefusal.{TypeRefusal}
+
+abbrev pub Finding : Type 0 → Type 0
+Finding A = Result A TypeRefusal
+
+abbrev pub give : {A : Type 0} → A → Finding A
+give x = Ok x
+
+abbrev pub refuse : {A : Type 0} → TypeDefect → (at : ℕ) → Finding A
+refuse defect at = Err (record { defect = defect; at = at })
+
+-- the refusal is what looking comes to
+abbrev pub IsRefusalOf : {A : Type 0} → Finding A → TypeRefusal → Type 0
+IsRefusalOf finding refusal = finding ≡ Err refusal
+
+-- the first, and then the second with what the first found
+abbrev pub and_then : {A B : Type 0} → Finding A → (A → Finding B) → Finding B
+and_then (Ok x) next = next x
+and_then (Err fault) next = Err fault
+
+infixl 10 ◌>>=◌
+abbrev pub ◌>>=◌ : {A B : Type 0} → Finding A → (A → Finding B) → Finding B
+(first >>= next) = and_then first next
+
+-- a thing where a test holds, else a refusal
+abbrev pub give_if : {A : Type 0} → Bool → A → TypeDefect → (at : ℕ) → Finding A
+give_if test x defect at = if test then give x else refuse defect at
+
+-- nothing but that a test holds
+abbrev pub require : Bool → TypeDefect → (at : ℕ) → Finding (Unit {0})
+require true defect at = give tt
+require false defect at = refuse defect at
+
+-- from state to state along a list
+abbrev pub along : {S X : Type 0} → (S → X → Finding S) → S → List X → Finding S
+along step s [] = Ok s
+along step s (x ∷ xs) = and_then (step s x) (λ next. along step next xs)
+
+-- what is found of each element, in their order
+abbrev pub put_last : {X A : Type 0} → (X → Finding A) → List A → X → Finding (List A)
+put_last look found x = and_then (look x) (λ made. Ok (found ++ made ∷ []))
+
+abbrev pub of_each : {X A : Type 0} → (X → Finding A) → List X → Finding (List A)
+of_each look xs = along (put_last look) [] xs

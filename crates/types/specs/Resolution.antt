@@ -1,0 +1,309 @@
+-- The resolved program that a syntax tree stands for under a hierarchy, or the first fault: first the names of the items, then the
+-- items, each from left to right with its body, then `main` (304), and last the cells of the globals and of each procedure (704).
+-- Source: our own; what is left out of the labels of a procedure as in JFlow (Myers 1999).
+use Rattle.std.specs.Prelude.{ℕ, ◌+◌, List, [], ◌∷◌, ◌++◌, map, length, sum_by, Bool, false, not, ◌==◌, ◌&&◌, nat_le, if◌then◌else◌, codes, is_none, Option, Some, None, unwrap_or, slice_get, pos, neg_ℤ}
+use Rattle.common.specs.declared.exceptions.TheConstants.{ARITH, ARITH_NAME, BOUNDS, BOUNDS_NAME, END, END_NAME, BUILT_IN}
+use Rattle.std.specs.List.{list_any}
+use Rattle.principals.specs.ActsFor.{PrincipalHierarchy}
+use Rattle.labels.specs.Label.{Label}
+use Rattle.labels.specs.Canonical.{joined}
+use Rattle.common.specs.declared.direction.Direction.{Direction}
+use Rattle.common.specs.declared.direction.Direction.TheVariants as directions
+use Rattle.syntax.specs.Tree.{NameTree, ConstantTree, IntegerConstant, TruthConstant, GlobalValueTree, ScalarTree, ArrayTree, GlobalTree, ChannelTree, WrittenResultTree, NothingTree, ResultTree, ParameterTree, ThrownTree, ProcedureTree, ItemTree, ChannelItem, ExceptionItem, GlobalItem, ProcedureItem, ProgramTree}
+use Rattle.resolved.specs.declared.expression.Base.{Base}
+use Rattle.resolved.specs.declared.expression.Base.TheVariants.{Int, Boolean}
+use Rattle.resolved.specs.declared.expression.Value.{Value}
+use Rattle.resolved.specs.declared.expression.Value.TheVariants.{Number, Truth}
+use Rattle.resolved.specs.declared.expression.Variable.TheVariants.{Global, Local}
+use Rattle.resolved.specs.Program.{Program, ChannelEntry, GlobalEntry, SlotEntry, ResultEntry, ThrownEntry, ProcedureEntry}
+use Rattle.resolved.specs.Value.{zero_value}
+use Rattle.resolved.specs.WellFormed.{same_base, cell_count}
+use Rattle.types.specs.declared.fault.TypeDefect.TheVariants as refusals
+use Rattle.types.specs.declared.scope.Meaning.{Meaning}
+use Rattle.types.specs.declared.scope.Meaning.TheVariants as meanings
+use Rattle.types.specs.Finding.{Finding, give, refuse, give_if, require, along, ◌>>=◌}
+use Rattle.types.specs.Environment.{Environment, declaring, fresh_finding, exception_finding}
+use Rattle.types.specs.Labels.{label_finding, optional_label_finding}
+use Rattle.types.specs.Expressions.{base_of}
+use Rattle.types.specs.Statements.{Signature, Point, with_local, scalar_slot, size_finding, block_finding}
+use Rattle.common.specs.declared.limits.TheConstants.{MAX_CELLS}
+
+-- ---- the names of the items
+
+-- what the names of items stand for, how many there are of each kind, and the signatures of the procedures
+pub record TopLevel : Type 0 where
+  pub names : Environment
+  pub channels : ℕ
+  pub exceptions : ℕ
+  pub globals : ℕ
+  pub signatures : List Signature
+
+abbrev pub nothing_declared : Environment
+nothing_declared name = None
+
+abbrev pub built_in : TopLevel
+built_in = record {
+  names = declaring END_NAME.now (meanings.Exception END)
+      (declaring BOUNDS_NAME.now (meanings.Exception BOUNDS)
+      (declaring ARITH_NAME.now (meanings.Exception ARITH) nothing_declared));
+  channels = 0;
+  exceptions = BUILT_IN;
+  globals = 0;
+  signatures = [];
+}
+
+abbrev pub item_name : ItemTree → NameTree
+item_name (ChannelItem channel) = channel.name
+item_name (ExceptionItem at name) = name
+item_name (GlobalItem global) = global.name
+item_name (ProcedureItem procedure) = procedure.name
+
+abbrev pub channel_meaning : Direction → (number : ℕ) → Meaning
+channel_meaning directions.Input number = meanings.Input number
+channel_meaning directions.Output number = meanings.Output number
+
+abbrev pub global_meaning : Base → (number : ℕ) → GlobalValueTree → Meaning
+global_meaning base number (ScalarTree constant) = meanings.Scalar (Global number) base
+global_meaning base number (ArrayTree size) = meanings.Array (Global number) base size.size
+
+abbrev pub result_base_of : WrittenResultTree → Option Base
+result_base_of NothingTree = None
+result_base_of (ResultTree base label) = Some (base_of base)
+
+abbrev pub signature_of : ProcedureTree → Signature
+signature_of procedure = record {
+  parameters = map (λ (parameter : ParameterTree). base_of parameter.base) procedure.parameters;
+  result = result_base_of procedure.result;
+}
+
+-- what the name of the next item stands for
+abbrev pub item_meaning : TopLevel → ItemTree → Meaning
+item_meaning top (ChannelItem channel) = channel_meaning channel.direction top.channels
+item_meaning top (ExceptionItem at name) = meanings.Exception top.exceptions
+item_meaning top (GlobalItem global) = global_meaning (base_of global.base) top.globals global.value
+item_meaning top (ProcedureItem procedure) = meanings.Procedure (length top.signatures)
+
+-- one more item of each kind
+abbrev pub counted : TopLevel → ItemTree → TopLevel
+counted top (ChannelItem channel) = record top { channels = top.channels + 1 }
+counted top (ExceptionItem at name) = record top { exceptions = top.exceptions + 1 }
+counted top (GlobalItem global) = record top { globals = top.globals + 1 }
+counted top (ProcedureItem procedure) = record top { signatures = top.signatures ++ signature_of procedure ∷ [] }
+
+-- the top level with the next item
+abbrev pub with_item : TopLevel → ItemTree → TopLevel
+with_item top item = record (counted top item) { names = declaring (item_name item).text (item_meaning top item) top.names }
+
+unfoldable pub next_name : TopLevel → ItemTree → Finding TopLevel
+next_name top item = do
+  _ ← fresh_finding (top.names (item_name item).text) (item_name item).at
+  give (with_item top item)
+
+unfoldable pub top_finding : List ItemTree → Finding TopLevel
+top_finding items = along next_name built_in items
+
+-- ---- channels and globals
+
+unfoldable pub channel_finding : PrincipalHierarchy → ChannelTree → Finding ChannelEntry
+channel_finding h channel = do
+  label ← label_finding h channel.label
+  give (record { direction = channel.direction; name = channel.name.text; label = label })
+
+abbrev pub constant_value : ConstantTree → Value
+constant_value (IntegerConstant at negative value) = Number (if negative then neg_ℤ (pos value) else pos value)
+constant_value (TruthConstant at value) = Truth value
+
+abbrev pub constant_base : ConstantTree → Base
+constant_base (IntegerConstant at negative value) = Int
+constant_base (TruthConstant at value) = Boolean
+
+abbrev pub constant_at : ConstantTree → ℕ
+constant_at (IntegerConstant at negative value) = at
+constant_at (TruthConstant at value) = at
+
+-- the length of a global that is an array, and what its cells hold at first
+pub record FirstValue : Type 0 where
+  pub size : Option ℕ
+  pub first : Value
+
+unfoldable pub first_finding : Base → GlobalValueTree → Finding FirstValue
+first_finding base (ScalarTree constant) =
+    give_if (same_base (constant_base constant) base) (record { size = None; first = constant_value constant })
+    refusals.WrongType (constant_at constant)
+first_finding base (ArrayTree size) = do
+  size_of ← size_finding size
+  give (record { size = Some size_of; first = zero_value base })
+
+unfoldable pub global_finding : PrincipalHierarchy → GlobalTree → Finding GlobalEntry
+global_finding h global = do
+  label ← label_finding h global.label
+  value ← first_finding (base_of global.base) global.value
+  give (record {
+    name = global.name.text;
+    base = base_of global.base;
+    size = value.size;
+    label = label;
+    first = value.first;
+  })
+
+-- ---- procedures
+
+abbrev pub result_entry : Base → Label → Option ResultEntry
+result_entry base label = Some (record { base = base; label = label })
+
+unfoldable pub result_finding : PrincipalHierarchy → WrittenResultTree → Finding (Option ResultEntry)
+result_finding h NothingTree = give None
+result_finding h (ResultTree base label) = do
+  written ← label_finding h label
+  give (result_entry (base_of base) written)
+
+-- a parameter, which takes the next slot and is in scope in the body
+abbrev pub with_parameter : Point → ParameterTree → Label → Point
+with_parameter point parameter label =
+    with_local point (scalar_slot parameter.at (base_of parameter.base) (Some label) parameter.name.text)
+    (meanings.Scalar (Local (length point.slots)) (base_of parameter.base))
+
+abbrev pub next_parameter : PrincipalHierarchy → Point → ParameterTree → Finding Point
+next_parameter h point parameter = do
+  label ← label_finding h parameter.label
+  _ ← fresh_finding (point.names parameter.name.text) parameter.name.at
+  give (with_parameter point parameter label)
+
+unfoldable pub parameters_finding : PrincipalHierarchy → Environment → List ParameterTree → Finding Point
+parameters_finding h names parameters = along (next_parameter h) (record { names = names; slots = []; loops = 0 }) parameters
+
+-- an exception that a procedure may let out, which is none of those that it names before (302)
+abbrev pub is_thrown : List ThrownEntry → ℕ → Bool
+is_thrown throws exception = list_any (λ (thrown : ThrownEntry). thrown.exception == exception) throws
+
+abbrev pub next_thrown : PrincipalHierarchy → Environment → List ThrownEntry → ThrownTree → Finding (List ThrownEntry)
+next_thrown h names throws thrown = do
+  exception ← exception_finding (names thrown.name.text) thrown.name.at
+  _ ← require (not (is_thrown throws exception)) refusals.DeclaredTwice thrown.name.at
+  label ← label_finding h thrown.label
+  give (throws ++ record { exception = exception; label = label } ∷ [])
+
+unfoldable pub throws_finding : PrincipalHierarchy → Environment → List ThrownTree → Finding (List ThrownEntry)
+throws_finding h names throws = along (next_thrown h names) [] throws
+
+-- a label joined by those of exceptions
+abbrev pub joined_all : Label → List ThrownEntry → Label
+joined_all label [] = label
+joined_all label (thrown ∷ rest) = joined_all (joined label thrown.label) rest
+
+-- a begin label that is left out is the least one; an end label that is left out is the join of the begin label and of those of the
+-- exceptions
+abbrev pub begin_label_of : Option Label → Label
+begin_label_of written = unwrap_or written []
+
+abbrev pub end_label_of : Option Label → Label → List ThrownEntry → Label
+end_label_of written begin throws = unwrap_or written (joined_all begin throws)
+
+unfoldable pub procedure_entry_finding : PrincipalHierarchy → TopLevel → ProcedureTree → Finding ProcedureEntry
+procedure_entry_finding h top procedure = do
+  result ← result_finding h procedure.result
+  begin ← optional_label_finding h procedure.begin
+  point ← parameters_finding h top.names procedure.parameters
+  end ← optional_label_finding h procedure.end
+  throws ← throws_finding h top.names procedure.throws
+  inner ← block_finding (record { hierarchy = h; signatures = top.signatures; result = result_base_of procedure.result }) point procedure.body
+  give (record {
+    at = procedure.name.at;
+    name = procedure.name.text;
+    result = result;
+    begin_label = begin_label_of begin;
+    end_label = end_label_of end (begin_label_of begin) throws;
+    throws = throws;
+    parameters = length procedure.parameters;
+    slots = inner.0.slots;
+    loops = inner.0.loops;
+    body = inner.1;
+  })
+
+-- ---- programs
+
+-- the tables of a program
+pub record Tables : Type 0 where
+  pub channels : List ChannelEntry
+  pub exceptions : List (List ℕ)
+  pub globals : List GlobalEntry
+  pub procedures : List ProcedureEntry
+
+unfoldable pub next_item : PrincipalHierarchy → TopLevel → Tables → ItemTree → Finding Tables
+next_item h top tables (ChannelItem channel) = do
+  entry ← channel_finding h channel
+  give (record tables { channels = tables.channels ++ entry ∷ [] })
+next_item h top tables (ExceptionItem at name) = give (record tables { exceptions = tables.exceptions ++ name.text ∷ [] })
+next_item h top tables (GlobalItem global) = do
+  entry ← global_finding h global
+  give (record tables { globals = tables.globals ++ entry ∷ [] })
+next_item h top tables (ProcedureItem procedure) = do
+  entry ← procedure_entry_finding h top procedure
+  give (record tables { procedures = tables.procedures ++ entry ∷ [] })
+
+abbrev pub no_tables : Tables
+no_tables = record { channels = []; exceptions = []; globals = []; procedures = [] }
+
+unfoldable pub items_finding : PrincipalHierarchy → TopLevel → List ItemTree → Finding Tables
+items_finding h top items = along (next_item h top) no_tables items
+
+-- `main` is a procedure without parameters and a value; where it is none, the refusal stands at the begin of the text
+abbrev pub main_entry_finding : (number : ℕ) → Option ProcedureEntry → Finding ℕ
+main_entry_finding number None = refuse refusals.NoProperMain 0
+main_entry_finding number (Some procedure) =
+    give_if (procedure.parameters == 0 && is_none procedure.result) number refusals.NoProperMain procedure.at
+
+unfoldable pub main_finding : Option Meaning → List ProcedureEntry → Finding ℕ
+main_finding None procedures = refuse refusals.NoProperMain 0
+main_finding (Some (meanings.Procedure number)) procedures = main_entry_finding number (slice_get procedures number)
+main_finding (Some (meanings.Input channel)) procedures = refuse refusals.NoProperMain 0
+main_finding (Some (meanings.Output channel)) procedures = refuse refusals.NoProperMain 0
+main_finding (Some (meanings.Exception number)) procedures = refuse refusals.NoProperMain 0
+main_finding (Some (meanings.Scalar variable base)) procedures = refuse refusals.NoProperMain 0
+main_finding (Some (meanings.Array variable base size)) procedures = refuse refusals.NoProperMain 0
+
+-- the cells of the globals so far, with those of the next item
+abbrev pub global_cells : GlobalValueTree → ℕ
+global_cells (ScalarTree constant) = 1
+global_cells (ArrayTree size) = size.size
+
+abbrev pub next_global_cells : (cells : ℕ) → ItemTree → Finding ℕ
+next_global_cells cells (GlobalItem global) =
+    give_if (nat_le (cells + global_cells global.value) MAX_CELLS) (cells + global_cells global.value)
+    refusals.TooManyCells global.name.at
+next_global_cells cells (ChannelItem channel) = give cells
+next_global_cells cells (ExceptionItem at name) = give cells
+next_global_cells cells (ProcedureItem procedure) = give cells
+
+unfoldable pub global_cells_finding : List ItemTree → Finding ℕ
+global_cells_finding items = along next_global_cells 0 items
+
+-- the cells of a frame
+abbrev pub frame_cells : List SlotEntry → ℕ
+frame_cells slots = sum_by (λ (slot : SlotEntry). cell_count slot.size) slots
+
+abbrev pub next_frame : Unit {0} → ProcedureEntry → Finding (Unit {0})
+next_frame _ procedure = require (nat_le (frame_cells procedure.slots) MAX_CELLS) refusals.TooManyCells procedure.at
+
+unfoldable pub frames_finding : List ProcedureEntry → Finding (Unit {0})
+frames_finding procedures = along next_frame tt procedures
+
+abbrev pub program_with : PrincipalHierarchy → Tables → (main : ℕ) → Program
+program_with h tables main = record {
+  hierarchy = h;
+  channels = tables.channels;
+  exceptions = tables.exceptions;
+  globals = tables.globals;
+  procedures = tables.procedures;
+  main = main;
+}
+
+-- the resolved program, or the first fault
+unfoldable pub resolution : PrincipalHierarchy → ProgramTree → Finding Program
+resolution h program = do
+  top ← top_finding program.items
+  tables ← items_finding h top program.items
+  main ← main_finding (top.names (codes "main")) tables.procedures
+  _ ← global_cells_finding program.items
+  _ ← frames_finding tables.procedures
+  give (program_with h tables main)

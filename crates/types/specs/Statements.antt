@@ -1,0 +1,254 @@
+-- The resolved statements that the written ones of a body stand for. Names are tested where they stand, from the left: 301, 302 and 403
+-- of names, 303 in labels, 401 of types, 402 where a call has too many or too few arguments, 703 where an array has a size that is
+-- none.
+-- Source: our own, block structure in the usual sense: a local's scope runs from the end of its declaration to the end of its block.
+use Rattle.std.specs.Prelude.{ℕ, ◌+◌, List, [], ◌∷◌, ◌++◌, length, Bool, false, ◌==◌, ◌&&◌, nat_lt, nat_le, is_none, Option, Some, None, slice_index_or, Ok}
+use Rattle.principals.specs.ActsFor.{PrincipalHierarchy}
+use Rattle.labels.specs.Label.{Label}
+use Rattle.syntax.specs.Tree.{NameTree, LabelTree, ExpressionTree, CallTree, RightTree, ReceivedTree, CalledTree, ValueTree, SizeTree, StatementTree, DeclareTree, DeclareArrayTree, AssignTree, AssignElementTree, CallTree', ReceiveTree, SendTree, IfTree, IfElseTree, WhileTree, BreakTree, ContinueTree, ThrowTree, ReturnTree, TryTree, NestedTree, BlockTree, BlockOf, StatementTrees, NoStatement, StatementThen, CatchTrees, NoCatch, CatchThen, expression_at}
+use Rattle.resolved.specs.declared.expression.Base.{Base}
+use Rattle.resolved.specs.declared.expression.Base.TheVariants.{Int, Boolean}
+use Rattle.resolved.specs.declared.expression.Variable.{Variable}
+use Rattle.resolved.specs.declared.expression.Variable.TheVariants.{Local}
+use Rattle.resolved.specs.declared.statement.Exit.TheVariants as exits
+use Rattle.resolved.specs.Tree.{Expression, Statement, Assign, Clear, Store, Receive, Send, Call, If, While, Leave, ReturnWith, Try, Nested, Block, Empty, Then, Handlers, NoMore, Catch}
+use Rattle.resolved.specs.Program.{SlotEntry}
+use Rattle.resolved.specs.WellFormed.{same_base}
+use Rattle.types.specs.declared.fault.TypeDefect.TheVariants as refusals
+use Rattle.types.specs.declared.scope.Meaning.{Meaning}
+use Rattle.types.specs.declared.scope.Meaning.TheVariants.{Scalar, Array}
+use Rattle.types.specs.Finding.{Finding, give, refuse, give_if, require, and_then, along, ◌>>=◌}
+use Rattle.types.specs.Environment.{Environment, declaring, fresh_finding, scalar_finding, array_finding, input_finding, output_finding, exception_finding, procedure_finding}
+use Rattle.types.specs.Labels.{optional_label_finding}
+use Rattle.types.specs.Expressions.{Typed, base_of, expression_finding, typed_finding}
+use Rattle.common.specs.declared.limits.TheConstants.{MAX_ELEMENTS}
+
+-- what a call has to know of a procedure: the types of its parameters, and the type of its value, if it gives one
+pub record Signature : Type 0 where
+  pub parameters : List Base
+  pub result : Option Base
+
+-- what does not change within a body: the hierarchy, the signatures of the procedures by their numbers, and the type of the value that
+-- is to be returned, if one is
+pub record Setting : Type 0 where
+  pub hierarchy : PrincipalHierarchy
+  pub signatures : List Signature
+  pub result : Option Base
+
+-- a point of a body: what is in scope, the slots that parameters and locals have taken so far, and how many loops have begun
+pub record Point : Type 0 where
+  pub names : Environment
+  pub slots : List SlotEntry
+  pub loops : ℕ
+
+-- the point behind the declaration of a local, which takes the next slot
+abbrev pub with_local : Point → SlotEntry → Meaning → Point
+with_local point slot meaning = record {
+  names = declaring slot.name meaning point.names;
+  slots = point.slots ++ slot ∷ [];
+  loops = point.loops;
+}
+
+-- ---- calls and right sides
+
+abbrev pub signature_at : List Signature → ℕ → Signature
+signature_at signatures procedure = slice_index_or signatures procedure (record { parameters = []; result = None })
+
+-- the next argument, at a place that wants the type of its parameter
+abbrev pub next_argument : Environment → List Base → List Expression → ExpressionTree → Finding (List Expression)
+next_argument names parameters found argument = do
+  e ← typed_finding names (slice_index_or parameters (length found) Int) argument
+  give (found ++ e ∷ [])
+
+unfoldable pub arguments_finding : Environment → List Base → List ExpressionTree → Finding (List Expression)
+arguments_finding names parameters arguments = along (next_argument names parameters) [] arguments
+
+-- a call: its procedure, the arguments, and the type of its value, if it gives one
+pub record CallUse : Type 0 where
+  pub procedure : ℕ
+  pub arguments : List Expression
+  pub result : Option Base
+
+abbrev pub called : ℕ → Signature → List Expression → CallUse
+called procedure signature arguments = record { procedure = procedure; arguments = arguments; result = signature.result }
+
+-- the count of the arguments is tested before they are looked at
+unfoldable pub applied_finding : Environment → (procedure : ℕ) → Signature → CallTree → Finding CallUse
+applied_finding names procedure signature call = do
+  _ ← require (length signature.parameters == length call.arguments) refusals.WrongArgumentCount call.procedure.at
+  arguments ← arguments_finding names signature.parameters call.arguments
+  give (called procedure signature arguments)
+
+unfoldable pub call_finding : List Signature → Environment → CallTree → Finding CallUse
+call_finding signatures names call = do
+  procedure ← procedure_finding (names call.procedure.text) call.procedure.at
+  applied_finding names procedure (signature_at signatures procedure) call
+
+-- a value of a type, where a call gives one
+abbrev pub gives_base : Base → Option Base → Bool
+gives_base base None = false
+gives_base base (Some given) = same_base given base
+
+-- what is assigned to a variable of a type, by a statement that begins at a byte. A number is received, so `receive` is refused where
+-- the variable holds another type; the value of a call is tested behind its arguments, at the procedure's name
+unfoldable pub assigned_finding : List Signature → Environment → (at : ℕ) → Variable → Base → RightTree → Finding Statement
+assigned_finding signatures names at target base (ReceivedTree receive_at channel) = do
+  _ ← require (same_base Int base) refusals.WrongType receive_at
+  number ← input_finding (names channel.text) channel.at
+  give (Receive at number (Some target))
+assigned_finding signatures names at target base (CalledTree call) = do
+  made ← call_finding signatures names call
+  give_if (gives_base base made.result) (Call at made.procedure made.arguments (Some target)) refusals.WrongType call.procedure.at
+assigned_finding signatures names at target base (ValueTree value) = do
+  e ← typed_finding names base value
+  give (Assign at target e)
+
+-- ---- declarations
+
+abbrev pub scalar_slot : (at : ℕ) → Base → Option Label → List ℕ → SlotEntry
+scalar_slot at base label name = record { base = base; size = None; written = label; at = at; name = name }
+
+abbrev pub array_slot : (at : ℕ) → Base → Option Label → List ℕ → (size : ℕ) → SlotEntry
+array_slot at base label name size = record { base = base; size = Some size; written = label; at = at; name = name }
+
+-- the name of a local is tested before its right side, where the local is not in scope yet
+unfoldable pub declare_finding : Setting → Point → (at : ℕ) → Base → Option LabelTree → NameTree → RightTree → Finding (Point × Statement)
+declare_finding setting point at base label name value = do
+  written ← optional_label_finding setting.hierarchy label
+  _ ← fresh_finding (point.names name.text) name.at
+  statement ← assigned_finding setting.signatures point.names at (Local (length point.slots)) base value
+  give (with_local point (scalar_slot at base written name.text) (Scalar (Local (length point.slots)) base), statement)
+
+-- the size of an array: 1 to 65536
+unfoldable pub size_finding : SizeTree → Finding ℕ
+size_finding size = give_if (nat_lt 0 size.size && nat_le size.size MAX_ELEMENTS) size.size refusals.ArraySize size.at
+
+unfoldable pub declare_array_finding : Setting → Point → (at : ℕ) → Base → Option LabelTree → NameTree → SizeTree → Finding (Point × Statement)
+declare_array_finding setting point at base label name size = do
+  written ← optional_label_finding setting.hierarchy label
+  _ ← fresh_finding (point.names name.text) name.at
+  length_of ← size_finding size
+  give (
+    with_local point (array_slot at base written name.text length_of) (Array (Local (length point.slots)) base length_of),
+    Clear at (length point.slots),
+  )
+
+-- ---- other statements
+
+unfoldable pub assign_finding : List Signature → Environment → NameTree → RightTree → Finding Statement
+assign_finding signatures names target value = do
+  x ← scalar_finding (names target.text) target.at
+  assigned_finding signatures names target.at x.variable x.base value
+
+unfoldable pub store_finding : Environment → NameTree → (index value : ExpressionTree) → Finding Statement
+store_finding names array index value = do
+  a ← array_finding (names array.text) array.at
+  i ← typed_finding names Int index
+  e ← typed_finding names a.base value
+  give (Store array.at a.variable a.size i e)
+
+unfoldable pub call_statement_finding : List Signature → Environment → CallTree → Finding Statement
+call_statement_finding signatures names call = do
+  made ← call_finding signatures names call
+  give (Call call.procedure.at made.procedure made.arguments None)
+
+unfoldable pub receive_finding : Environment → (at : ℕ) → NameTree → Finding Statement
+receive_finding names at channel = do
+  number ← input_finding (names channel.text) channel.at
+  give (Receive at number None)
+
+unfoldable pub send_finding : Environment → (at : ℕ) → NameTree → ExpressionTree → Finding Statement
+send_finding names at channel value = do
+  number ← output_finding (names channel.text) channel.at
+  e ← typed_finding names Int value
+  give (Send at number e)
+
+unfoldable pub throw_finding : Environment → (at : ℕ) → NameTree → Finding Statement
+throw_finding names at exception = do
+  number ← exception_finding (names exception.text) exception.at
+  give (Leave at (exits.Throw number))
+
+-- a value is looked at before it is refused in a procedure that gives none
+abbrev pub returned_finding : Option Base → (at value_at : ℕ) → Typed → Finding Statement
+returned_finding None at value_at found = refuse refusals.WrongType value_at
+returned_finding (Some base) at value_at found =
+    give_if (same_base found.base base) (ReturnWith at (Some found.expression)) refusals.WrongType value_at
+
+unfoldable pub return_finding : Option Base → Environment → (at : ℕ) → Option ExpressionTree → Finding Statement
+return_finding result names at None = give_if (is_none result) (ReturnWith at None) refusals.WrongType at
+return_finding result names at (Some value) =
+    and_then (expression_finding names value) (returned_finding result at (expression_at value))
+
+-- ---- statements, blocks and handlers
+
+-- a statement that declares nothing
+abbrev pub staying : Point → Finding Statement → Finding (Point × Statement)
+staying point looked = and_then looked (λ statement. Ok (point, statement))
+
+-- the next loop of a procedure has begun
+abbrev pub in_loop : Point → Point
+in_loop point = record point { loops = point.loops + 1 }
+
+-- behind a block what was in scope before it is in scope again; its slots stay taken
+abbrev pub behind_block : Point → Point → Point
+behind_block before inside = record { names = before.names; slots = inside.slots; loops = inside.loops }
+
+unfoldable mutual
+  pub statement_finding : Setting → Point → StatementTree → Finding (Point × Statement)
+  statement_finding setting point (DeclareTree at base label name value) =
+      declare_finding setting point at (base_of base) label name value
+  statement_finding setting point (DeclareArrayTree at base label name size) =
+      declare_array_finding setting point at (base_of base) label name size
+  statement_finding setting point (AssignTree target value) =
+      staying point (assign_finding setting.signatures point.names target value)
+  statement_finding setting point (AssignElementTree array index value) =
+      staying point (store_finding point.names array index value)
+  statement_finding setting point (CallTree' call) =
+      staying point (call_statement_finding setting.signatures point.names call)
+  statement_finding setting point (ReceiveTree at channel) = staying point (receive_finding point.names at channel)
+  statement_finding setting point (SendTree at channel value) = staying point (send_finding point.names at channel value)
+  statement_finding setting point (IfTree at condition body) = do
+    e ← typed_finding point.names Boolean condition
+    inner ← block_finding setting point body
+    give (inner.0, If at e inner.1 Empty)
+  statement_finding setting point (IfElseTree at condition body otherwise) = do
+    e ← typed_finding point.names Boolean condition
+    inner ← block_finding setting point body
+    other ← block_finding setting inner.0 otherwise
+    give (other.0, If at e inner.1 other.1)
+  statement_finding setting point (WhileTree at condition body) = do
+    e ← typed_finding point.names Boolean condition
+    inner ← block_finding setting (in_loop point) body
+    give (inner.0, While at point.loops e inner.1)
+  statement_finding setting point (BreakTree at) = give (point, Leave at exits.Break)
+  statement_finding setting point (ContinueTree at) = give (point, Leave at exits.Continue)
+  statement_finding setting point (ThrowTree at exception) = staying point (throw_finding point.names at exception)
+  statement_finding setting point (ReturnTree at value) =
+      staying point (return_finding setting.result point.names at value)
+  statement_finding setting point (TryTree at body catches) = do
+    inner ← block_finding setting point body
+    handled ← catches_finding setting inner.0 catches
+    give (handled.0, Try at inner.1 handled.1)
+  statement_finding setting point (NestedTree (BlockOf at statements)) = do
+    inner ← block_finding setting point (BlockOf at statements)
+    give (inner.0, Nested at inner.1)
+
+  pub block_finding : Setting → Point → BlockTree → Finding (Point × Block)
+  block_finding setting point (BlockOf at statements) = do
+    inner ← statements_finding setting point statements
+    give (behind_block point inner.0, inner.1)
+
+  pub statements_finding : Setting → Point → StatementTrees → Finding (Point × Block)
+  statements_finding setting point NoStatement = give (point, Empty)
+  statements_finding setting point (StatementThen statement rest) = do
+    first ← statement_finding setting point statement
+    others ← statements_finding setting first.0 rest
+    give (others.0, Then first.1 others.1)
+
+  pub catches_finding : Setting → Point → CatchTrees → Finding (Point × Handlers)
+  catches_finding setting point NoCatch = give (point, NoMore)
+  catches_finding setting point (CatchThen at exception body rest) = do
+    number ← exception_finding (point.names exception.text) exception.at
+    inner ← block_finding setting point body
+    others ← catches_finding setting inner.0 rest
+    give (others.0, Catch exception.at number inner.1 others.1)

@@ -1,0 +1,139 @@
+-- Private: what the private functions work with, as the definitions see it, and what each of them gives: what is found, or the first
+-- fault.
+-- Source: our own.
+use Rattle.std.specs.Prelude.{◌≡◌, ℕ, ◌+◌, List, length, map, take, drop, bytes_eq, if◌then◌else◌, Option, Some, None, Result, Ok, String, Vec}
+use Rattle.std.specs.declared.alloc.Global.{Global}
+use Rattle.std.specs.BTreeMap.{BTreeMap, get_by_text}
+use Rattle.std.specs.List.{list_any}
+use Rattle.std.specs.String.{string_bytes}
+use Rattle.resolved.specs.declared.expression.Expression.{Expression as CodeExpression}
+use Rattle.resolved.specs.declared.statement.Statement.{Statement as CodeStatement}
+use Rattle.resolved.specs.declared.statement.Handler.{Handler as CodeHandler}
+use Rattle.resolved.specs.declared.tables.Thrown.{Thrown}
+use Rattle.resolved.specs.declared.expression.Value.{Value}
+use Rattle.resolved.specs.Tree.{Expression, Block, Handlers}
+use Rattle.resolved.specs.Program.{ThrownEntry}
+use Rattle.resolved.specs.ProgramOf.{channel_entry, global_entry, slot_entry, thrown_entry, procedure_entry}
+use Rattle.resolved.specs.TreeOf.{expression_of, block_of, handlers_of}
+use Rattle.types.specs.declared.body.Body.{Body}
+use Rattle.types.specs.declared.expression.TypedExpression.{TypedExpression}
+use Rattle.common.specs.Answers.{Answers}
+use Rattle.common.specs.declared.fault.OrNoMemory.{OrNoMemory}
+use Rattle.types.specs.declared.fault.TypeRefusal.{TypeRefusal}
+use Rattle.types.specs.declared.program.ItemTables.{ItemTables}
+use Rattle.types.specs.declared.scope.Meaning.{Meaning}
+use Rattle.types.specs.declared.scope.FoundArray.{FoundArray}
+use Rattle.types.specs.declared.scope.FoundScalar.{FoundScalar}
+use Rattle.types.specs.declared.statement.UsedCall.{UsedCall}
+use Rattle.types.specs.declared.top.CodeSignature.{CodeSignature}
+use Rattle.types.specs.declared.top.TopNames.{TopNames}
+use Rattle.types.specs.Finding.{Finding, IsRefusalOf}
+use Rattle.types.specs.Environment.{Environment, ScalarUse, ArrayUse}
+use Rattle.types.specs.Expressions.{Typed}
+use Rattle.types.specs.Statements.{Signature, Setting, Point, CallUse}
+use Rattle.types.specs.Resolution.{TopLevel, Tables, FirstValue}
+
+-- what a function gave is what is found: a value or a refusal, unless memory ran out
+abbrev pub Resolves : {X A : Type 0} → (X → A) → Result X (OrNoMemory TypeRefusal) → Finding A → Type 0
+Resolves view result finding = Answers (λ x. finding ≡ Ok (view x)) (IsRefusalOf finding) result
+
+abbrev pub itself : {A : Type 0} → A → A
+itself x = x
+
+-- ---- names
+
+-- what a table of names says of a name
+abbrev pub found_in : BTreeMap (String Global) Meaning → Environment
+found_in table name = get_by_text table name
+
+abbrev pub texts_of : List (String Global) → List (List ℕ)
+texts_of names = map string_bytes names
+
+-- the same where some names stand for nothing
+abbrev pub without : List (List ℕ) → Environment → Environment
+without removed names other = if list_any (λ name. bytes_eq name other) removed then None else names other
+
+-- the names of one table, and behind them those of another
+abbrev pub or_else : {A : Type 0} → Option A → Option A → Option A
+or_else (Some x) other = Some x
+or_else None other = other
+
+abbrev pub scalar_use : FoundScalar → ScalarUse
+scalar_use scalar = record { variable = scalar.variable; base = scalar.base }
+
+abbrev pub array_use : FoundArray → ArrayUse
+array_use array = record { variable = array.variable; base = array.base; size = array.size }
+
+-- ---- bodies
+
+abbrev pub signature_view : CodeSignature → Signature
+signature_view signature = record { parameters = signature.parameters.items; result = signature.result }
+
+abbrev pub names_of : Body → Environment
+names_of body name = or_else (found_in body.locals name) (found_in body.top.now.names name)
+
+abbrev pub signatures_of : Body → List Signature
+signatures_of body = map signature_view body.top.now.signatures.items
+
+abbrev pub setting_of : Body → Setting
+setting_of body = record { hierarchy = body.hierarchy.now; signatures = signatures_of body; result = body.result }
+
+abbrev pub point_of : Body → Point
+point_of body = record { names = names_of body; slots = map slot_entry body.slots.items; loops = body.loops }
+
+-- a later point of the same body: what was declared there is declared still and stands first, and the table of locals says what it
+-- said there, but for the names that were declared since
+pub record IsLater (before after : Body) : Type 0 where
+  pub hierarchy : after.hierarchy.now ≡ before.hierarchy.now
+  pub top : after.top.now ≡ before.top.now
+  pub result : after.result ≡ before.result
+  pub declared : take (length before.declared.items) after.declared.items ≡ before.declared.items
+  pub locals : (name : List ℕ) → found_in before.locals name ≡ without (texts_of (drop (length before.declared.items) after.declared.items)) (found_in after.locals) name
+
+-- what is found together with the point behind it
+abbrev pub at_point : {X A : Type 0} → Body → (X → A) → X → Point × A
+at_point body view x = (point_of body, view x)
+
+abbrev pub typed_view : TypedExpression → Typed
+typed_view found = record { expression = expression_of found.expression; base = found.base }
+
+abbrev pub expressions_of : Vec CodeExpression Global → List Expression
+expressions_of expressions = map expression_of expressions.items
+
+abbrev pub call_use : UsedCall → CallUse
+call_use call = record { procedure = call.procedure; arguments = expressions_of call.arguments; result = call.result }
+
+abbrev pub block_view : Vec CodeStatement Global → Block
+block_view statements = block_of statements.items
+
+abbrev pub handlers_view : Vec CodeHandler Global → Handlers
+handlers_view handlers = handlers_of handlers.items
+
+abbrev pub throws_view : Vec Thrown Global → List ThrownEntry
+throws_view throws = map thrown_entry throws.items
+
+-- ---- programs
+
+abbrev pub top_view : TopNames → TopLevel
+top_view top = record {
+  names = found_in top.names;
+  channels = top.channels;
+  exceptions = top.exceptions;
+  globals = top.globals;
+  signatures = map signature_view top.signatures.items;
+}
+
+abbrev pub tables_view : ItemTables → Tables
+tables_view tables = record {
+  channels = map channel_entry tables.channels.items;
+  exceptions = map string_bytes tables.exceptions.items;
+  globals = map global_entry tables.globals.items;
+  procedures = map procedure_entry tables.procedures.items;
+}
+
+-- how many slots have been taken and loops begun: never more than there are nodes, so that their numbers have 32 bits
+abbrev pub taken : Body → ℕ
+taken body = length body.slots.items + body.loops
+
+abbrev pub first_view : Option ℕ × Value → FirstValue
+first_view found = record { size = found.0; first = found.1 }

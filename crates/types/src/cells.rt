@@ -1,0 +1,99 @@
+//! How many cells the globals have, and each frame.
+
+ghost use Rattle.common.specs.declared.limits.TheConstants.{MAX_CELLS};
+ghost use Rattle.types.specs.Finding.{require};
+ghost use Rattle.types.specs.Resolution.{frame_cells, frames_finding, global_cells, global_cells_finding, next_global_cells};
+ghost use Rattle.types.specs.Views.{Resolves, itself};
+ghost use Rattle.resolved.specs.ProgramOf.{procedure_entry, slot_entry};
+ghost use Rattle.resolved.specs.WellFormed.{cell_count};
+ghost use Rattle.std.specs.Prelude.{IfOk, map, nat_le, ◌≡◌, ◌≤◌};
+ghost use Rattle.syntax.specs.Tree.{global_value_tree, item_tree};
+
+use crate::fault::{TypeDefect, TypeFault, TypeRefusal};
+use common::OrNoMemory;
+use common::limits::MAX_CELLS;
+use resolved::tables::{Procedure, Slot};
+use syntax::{GlobalValue, Item};
+
+fn cells_of_global(value: &GlobalValue) -> u32
+    ensures { result ≡ global_cells (global_value_tree value.now) }
+{
+    match value {
+        GlobalValue::Scalar(_) => 1,
+        GlobalValue::Array(size) => size.size,
+    }
+}
+
+/// The cells of the globals so far, with those of the next item.
+fn add_global(cells: u32, item: &Item) -> Result<u32, TypeFault>
+    requires { cells ≤ MAX_CELLS }
+    ensures made { Resolves itself result (next_global_cells cells (item_tree item.now)) }
+    ensures few { IfOk result (λ all. all ≤ MAX_CELLS) }
+{
+    match item {
+        Item::Channel(_) | Item::Exception { .. } | Item::Procedure(_) => Ok(cells),
+        Item::Global(global) => {
+            let more = cells_of_global(&global.value);
+            if more <= MAX_CELLS - cells {
+                Ok(cells + more)
+            } else {
+                Err(OrNoMemory::Refused(TypeRefusal {
+                    defect: TypeDefect::TooManyCells,
+                    at: global.name.at,
+                }))
+            }
+        }
+    }
+}
+
+/// How many cells the globals of these items have, which are refused where they are too many.
+#[tactic(auto, unfolding(crate::specs::Resolution::global_cells_finding))]
+pub fn count_global_cells(items: &[Item]) -> Result<u32, TypeFault>
+    ensures { Resolves itself result (global_cells_finding (map item_tree items.now)) }
+{
+    let mut cells = 0;
+    for item in items {
+        cells = add_global(cells, item)?;
+    }
+    Ok(cells)
+}
+
+fn cells_of_slot(size: Option<u32>) -> u32
+    ensures { result ≡ cell_count size }
+{
+    match size {
+        None => 1,
+        Some(length) => length,
+    }
+}
+
+/// Whether a frame of these slots has few enough cells.
+fn fits(slots: &[Slot]) -> bool
+    ensures { result ≡ nat_le (frame_cells (map slot_entry slots.now)) MAX_CELLS }
+{
+    let mut cells = 0;
+    for slot in slots {
+        let more = cells_of_slot(slot.size);
+        if more > MAX_CELLS - cells {
+            return false;
+        }
+        cells += more;
+    }
+    true
+}
+
+/// Refuses the first procedure whose frame has too many cells.
+#[tactic(auto, unfolding(crate::specs::Resolution::frames_finding))]
+pub fn limit_frames(procedures: &[Procedure]) -> Result<(), TypeFault>
+    ensures { Resolves (λ _. tt) result (frames_finding (map procedure_entry procedures.now)) }
+{
+    for procedure in procedures {
+        if !fits(procedure.slots.as_slice()) {
+            return Err(OrNoMemory::Refused(TypeRefusal {
+                defect: TypeDefect::TooManyCells,
+                at: procedure.at,
+            }));
+        }
+    }
+    Ok(())
+}

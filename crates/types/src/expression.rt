@@ -1,0 +1,177 @@
+//! Expressions and the types of their values.
+
+ghost use Rattle.types.specs.Expressions.{expression_finding, of_base, typed_finding};
+ghost use Rattle.types.specs.Views.{Resolves, names_of, typed_view};
+ghost use Rattle.resolved.specs.TreeOf.{expression_of};
+ghost use Rattle.std.specs.Prelude.{ℕ, ◌≡◌};
+ghost use Rattle.syntax.specs.Tree.{BinaryTree, ElementTree, UnaryTree, expression_tree, name_tree};
+
+use crate::body::Body;
+use crate::fault::{TypeDefect, TypeFault, TypeRefusal};
+use crate::operator::{
+    base_of_prefix, combine, is_same, operands_base, prefix_of, use_of, value_base,
+};
+use crate::scope::{require_array, require_scalar};
+use common::OrNoMemory;
+use resolved::expression::{Base, Expression};
+use syntax::{BinaryOperator, Name, UnaryOperator};
+
+/// An expression with the type of its values.
+#[derive(Drop)]
+pub struct TypedExpression {
+    pub expression: Expression,
+    pub base: Base,
+}
+
+impl TypedExpression {
+    fn new(expression: Expression, base: Base) -> TypedExpression
+        ensures { typed_view result ≡
+            record { expression = expression_of expression; base = base } }
+    {
+        TypedExpression { expression, base }
+    }
+
+    /// Requires that the values of the expression have a type, and gives the expression.
+    ///
+    /// # Errors
+    ///
+    /// 401 where they have another one.
+    #[tactic(auto, unfolding(crate::specs::Expressions::of_base))]
+    pub fn require_base(self, base: Base, at: usize) -> Result<Expression, TypeFault>
+        ensures { Resolves expression_of result (of_base base at (typed_view self)) }
+    {
+        if is_same(self.base, base) {
+            Ok(self.expression)
+        } else {
+            Err(OrNoMemory::Refused(TypeRefusal {
+                defect: TypeDefect::WrongType,
+                at,
+            }))
+        }
+    }
+}
+
+impl<'a> Body<'a> {
+    /// Resolves an expression, and finds the type of its values. Operands are resolved from the left.
+    ///
+    /// # Errors
+    ///
+    /// The first fault in it: 301 where a name stands for nothing, 403 where it stands for something else than its place wants,
+    /// 401 where an operand or an index has another type than its operator or place wants; or out of memory.
+    #[cycle(expression)]
+    #[tactic(auto, unfolding(crate::specs::Expressions::expression_finding))]
+    pub fn resolve_expression(
+        &self,
+        written: &syntax::Expression,
+    ) -> Result<TypedExpression, TypeFault>
+        ensures { Resolves typed_view result
+            (expression_finding (names_of self.now) (expression_tree written.now)) }
+    {
+        match written {
+            syntax::Expression::Integer { value, .. } => {
+                Ok(TypedExpression::new(Expression::Integer(*value), Base::Int))
+            }
+            syntax::Expression::Truth { value, .. } => {
+                Ok(TypedExpression::new(Expression::Logical(*value), Base::Boolean))
+            }
+            syntax::Expression::Variable(name) => {
+                let found = require_scalar(self.look_up(name), name.at)?;
+                Ok(TypedExpression::new(Expression::Read(found.variable), found.base))
+            }
+            syntax::Expression::Element { array, index } => self.resolve_element(array, index),
+            syntax::Expression::Unary {
+                operator,
+                operand,
+                ..
+            } => self.resolve_unary(*operator, operand),
+            syntax::Expression::Binary {
+                operator,
+                left,
+                right,
+                ..
+            } => self.resolve_binary(*operator, left, right),
+        }
+    }
+
+    /// An element of an array.
+    #[cycle(expression)]
+    #[tactic(auto, unfolding(crate::specs::Expressions::expression_finding))]
+    fn resolve_element(
+        &self,
+        name: &Name,
+        index: &syntax::Expression,
+    ) -> Result<TypedExpression, TypeFault>
+        ensures { Resolves typed_view result (expression_finding (names_of self.now)
+            (ElementTree (name_tree name.now) (expression_tree index.now))) }
+    {
+        let found = require_array(self.look_up(name), name.at)?;
+        let index = self
+            .resolve_expression(index)?
+            .require_base(Base::Int, index.at())?;
+        let index = Box::new(self.alloc, index)?;
+        let element = Expression::Element(found.variable, found.size, index);
+        Ok(TypedExpression::new(element, found.base))
+    }
+
+    /// An operator before its operand.
+    #[cycle(expression)]
+    #[tactic(auto, unfolding(crate::specs::Expressions::expression_finding))]
+    fn resolve_unary(
+        &self,
+        operator: UnaryOperator,
+        operand: &syntax::Expression,
+    ) -> Result<TypedExpression, TypeFault>
+        ensures { (at : ℕ) → Resolves typed_view result (expression_finding (names_of self.now)
+            (UnaryTree at operator (expression_tree operand.now))) }
+    {
+        let prefix = prefix_of(operator);
+        let base = base_of_prefix(prefix);
+        let operand = self
+            .resolve_expression(operand)?
+            .require_base(base, operand.at())?;
+        let operand = Box::new(self.alloc, operand)?;
+        Ok(TypedExpression::new(Expression::Unary(prefix, operand), base))
+    }
+
+    /// An operator between its operands.
+    #[cycle(expression)]
+    #[tactic(auto, unfolding(crate::specs::Expressions::expression_finding))]
+    fn resolve_binary(
+        &self,
+        operator: BinaryOperator,
+        left: &syntax::Expression,
+        right: &syntax::Expression,
+    ) -> Result<TypedExpression, TypeFault>
+        ensures { (at : ℕ) → Resolves typed_view result (expression_finding (names_of self.now)
+            (BinaryTree at operator (expression_tree left.now) (expression_tree right.now))) }
+    {
+        let used = use_of(operator);
+        let found = self.resolve_expression(left)?;
+        let base = operands_base(used, found.base);
+        let given = found.base;
+        let left = found.require_base(base, left.at())?;
+        let right = self
+            .resolve_expression(right)?
+            .require_base(base, right.at())?;
+        let made = combine(self.alloc, used, given, left, right)?;
+        Ok(TypedExpression::new(made, value_base(used)))
+    }
+
+    /// Resolves an expression at a place that wants a type.
+    ///
+    /// # Errors
+    ///
+    /// What [`Body::resolve_expression`] reports of it, and then 401 where its values have another type; or out of memory.
+    #[tactic(auto, unfolding(crate::specs::Expressions::typed_finding))]
+    pub fn type_expression(
+        &self,
+        base: Base,
+        written: &syntax::Expression,
+    ) -> Result<Expression, TypeFault>
+        ensures { Resolves expression_of result
+            (typed_finding (names_of self.now) base (expression_tree written.now)) }
+    {
+        self.resolve_expression(written)?
+            .require_base(base, written.at())
+    }
+}

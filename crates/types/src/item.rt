@@ -1,0 +1,137 @@
+//! Channels and globals.
+
+ghost use Rattle.types.specs.Resolution as spec;
+ghost use Rattle.types.specs.Resolution.{channel_finding, first_finding, global_finding};
+ghost use Rattle.types.specs.Views.{Resolves, first_view};
+ghost use Rattle.resolved.specs.ProgramOf.{channel_entry, global_entry};
+ghost use Rattle.resolved.specs.Value.{zero_value};
+ghost use Rattle.std.specs.Prelude.{◌≡◌};
+ghost use Rattle.syntax.specs.Tree.{channel_tree, constant_tree, global_tree, global_value_tree};
+ghost use Rattle.syntax.specs.Written.{Anywhere, IsInteger, IsNameWithin, IsWrittenConstant, IsWrittenGlobalValue};
+ghost use Rattle.common.specs.declared.limits.TheConstants.{MAX_TEXT};
+
+use crate::fault::{TypeDefect, TypeFault, TypeRefusal};
+use crate::label::resolve_label;
+use crate::operator::{base_of, is_same};
+use crate::statement::resolve_size;
+use common::OrNoMemory;
+use principals::Hierarchy;
+use resolved::expression::{Base, Value};
+use resolved::tables::{Channel, GlobalVariable};
+use std::alloc::Global;
+use syntax::{Constant, GlobalValue};
+
+/// Resolves the declaration of a channel.
+///
+/// # Errors
+///
+/// 303 where its label names a principal that the hierarchy lacks; or out of memory.
+#[tactic(auto, unfolding(crate::specs::Resolution::channel_finding))]
+pub fn resolve_channel(
+    alloc: Global,
+    hierarchy: &Hierarchy,
+    written: &syntax::Channel,
+) -> Result<Channel, TypeFault>
+    ensures { Resolves channel_entry result
+        (channel_finding hierarchy.now (channel_tree written.now)) }
+{
+    let label = resolve_label(alloc, hierarchy, &written.label)?;
+    Ok(Channel {
+        direction: written.direction,
+        name: String::from_str(alloc, written.name.text.as_str())?,
+        label,
+    })
+}
+
+/// The value of a constant, and its type.
+fn value_of(constant: Constant) -> (Value, Base)
+    requires small { IsWrittenConstant Anywhere (IsNameWithin MAX_TEXT) IsInteger
+        (constant_tree constant) }
+    ensures value { result.0 ≡ spec.constant_value (constant_tree constant) }
+    ensures base { result.1 ≡ spec.constant_base (constant_tree constant) }
+{
+    match constant {
+        Constant::Integer {
+            negative,
+            value,
+            ..
+        } => {
+            let number = value as i32;
+            (
+                Value::Number(if negative { -number } else { number }),
+                Base::Int,
+            )
+        }
+        Constant::Truth { value, .. } => (Value::Truth(value), Base::Boolean),
+    }
+}
+
+fn at_of(constant: Constant) -> usize
+    ensures { result ≡ spec.constant_at (constant_tree constant) }
+{
+    match constant {
+        Constant::Integer { at, .. } | Constant::Truth { at, .. } => at,
+    }
+}
+
+/// What each element of an array holds at first.
+fn zero_of(base: Base) -> Value
+    ensures { result ≡ zero_value base }
+{
+    match base {
+        Base::Int => Value::Number(0),
+        Base::Boolean => Value::Truth(false),
+    }
+}
+
+/// The length of a global that is an array, and what its cells hold at first.
+#[tactic(auto, unfolding(crate::specs::Resolution::first_finding))]
+fn resolve_first_value(base: Base, value: &GlobalValue) -> Result<(Option<u32>, Value), TypeFault>
+    requires small { IsWrittenGlobalValue Anywhere (IsNameWithin MAX_TEXT) IsInteger
+        (global_value_tree value.now) }
+    ensures { Resolves first_view result (first_finding base (global_value_tree value.now)) }
+{
+    match value {
+        GlobalValue::Scalar(constant) => {
+            let (value, given) = value_of(*constant);
+            if is_same(given, base) {
+                Ok((None, value))
+            } else {
+                Err(OrNoMemory::Refused(TypeRefusal {
+                    defect: TypeDefect::WrongType,
+                    at: at_of(*constant),
+                }))
+            }
+        }
+        GlobalValue::Array(size) => Ok((Some(resolve_size(*size)?), zero_of(base))),
+    }
+}
+
+/// Resolves the declaration of a global. Precondition: its integers are at most 2147483647.
+///
+/// # Errors
+///
+/// 303 where its label names a principal that the hierarchy lacks, 401 where its first value has another type than the global,
+/// 703 where it is an array of another length than 1 to 65,536; or out of memory.
+#[tactic(auto, unfolding(crate::specs::Resolution::global_finding))]
+pub fn resolve_global(
+    alloc: Global,
+    hierarchy: &Hierarchy,
+    written: &syntax::GlobalVariable,
+) -> Result<GlobalVariable, TypeFault>
+    requires small { IsWrittenGlobalValue Anywhere (IsNameWithin MAX_TEXT) IsInteger
+        (global_value_tree written.now.value) }
+    ensures { Resolves global_entry result
+        (global_finding hierarchy.now (global_tree written.now)) }
+{
+    let label = resolve_label(alloc, hierarchy, &written.label)?;
+    let base = base_of(written.base);
+    let (size, first) = resolve_first_value(base, &written.value)?;
+    Ok(GlobalVariable {
+        name: String::from_str(alloc, written.name.text.as_str())?,
+        base,
+        size,
+        label,
+        first,
+    })
+}

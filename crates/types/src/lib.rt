@@ -1,0 +1,21 @@
+//! Names, base types and sizes of the whole language: scopes, labels, expressions, the top level, statements, blocks and procedures.
+//! `resolve` makes a resolved program of a syntax tree.
+#![tactic(auto)]
+
+mod block;
+mod body;
+mod cells;
+mod expression;
+mod fault;
+mod item;
+mod label;
+pub mod laws;
+mod operator;
+mod procedure;
+mod program;
+mod scope;
+mod statement;
+mod top;
+
+pub use fault::{TypeDefect, TypeFault, TypeRefusal};
+pub use program::resolve;

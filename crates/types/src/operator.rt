@@ -1,0 +1,151 @@
+//! What operators are made to.
+
+ghost use Rattle.types.specs.Expressions as spec;
+ghost use Rattle.resolved.specs.WellFormed.{prefix_base, result_base, same_base};
+ghost use Rattle.resolved.specs.TreeOf.{expression_of};
+ghost use Rattle.std.specs.Prelude.{IfOk, ◌≡◌};
+
+use resolved::expression::{Base, Connective, Expression, Operator, Prefix};
+use std::alloc::{AllocError, Global};
+use syntax::{BaseType, BinaryOperator, UnaryOperator};
+
+/// What an operator is made to by the types of its operands.
+#[derive(Clone, Copy, Debug, PartialEq, Eq)]
+pub enum OperatorUse {
+    /// An operator on two numbers.
+    OfNumbers(Operator),
+    /// An operator on two values of one type: the one on numbers, and the one on truth values.
+    OfEither(Operator, Operator),
+    /// An operator on two truth values, which may leave its right operand alone.
+    OfTruths(Connective),
+}
+
+/// Finds the type in a resolved program that a written type stands for.
+pub fn base_of(base: BaseType) -> Base
+    ensures { result ≡ spec.base_of base }
+{
+    match base {
+        BaseType::Int => Base::Int,
+        BaseType::Boolean => Base::Boolean,
+    }
+}
+
+/// Finds the operator in a resolved program that a written operator before its operand stands for.
+pub fn prefix_of(operator: UnaryOperator) -> Prefix
+    ensures { result ≡ spec.prefix_of operator }
+{
+    match operator {
+        UnaryOperator::Negate => Prefix::Negate,
+        UnaryOperator::Not => Prefix::Not,
+    }
+}
+
+/// Finds the type that an operator wants of its one operand, which is that of its value too.
+pub fn base_of_prefix(prefix: Prefix) -> Base
+    ensures { result ≡ prefix_base prefix }
+{
+    match prefix {
+        Prefix::Negate => Base::Int,
+        Prefix::Not => Base::Boolean,
+    }
+}
+
+/// Finds the type of the values that an operator on two operands gives.
+pub fn base_of_result(operator: Operator) -> Base
+    ensures { result ≡ result_base operator }
+{
+    match operator {
+        Operator::Add
+        | Operator::Subtract
+        | Operator::Multiply
+        | Operator::Divide
+        | Operator::Remainder => Base::Int,
+        Operator::LessThan
+        | Operator::AtMost
+        | Operator::GreaterThan
+        | Operator::AtLeast
+        | Operator::Equal
+        | Operator::Unequal
+        | Operator::Same
+        | Operator::Different => Base::Boolean,
+    }
+}
+
+/// Finds what a written operator between its operands is made to, by the types of these.
+pub fn use_of(operator: BinaryOperator) -> OperatorUse
+    ensures { result ≡ spec.use_of operator }
+{
+    match operator {
+        BinaryOperator::Multiply => OperatorUse::OfNumbers(Operator::Multiply),
+        BinaryOperator::Divide => OperatorUse::OfNumbers(Operator::Divide),
+        BinaryOperator::Remainder => OperatorUse::OfNumbers(Operator::Remainder),
+        BinaryOperator::Add => OperatorUse::OfNumbers(Operator::Add),
+        BinaryOperator::Subtract => OperatorUse::OfNumbers(Operator::Subtract),
+        BinaryOperator::LessThan => OperatorUse::OfNumbers(Operator::LessThan),
+        BinaryOperator::AtMost => OperatorUse::OfNumbers(Operator::AtMost),
+        BinaryOperator::GreaterThan => OperatorUse::OfNumbers(Operator::GreaterThan),
+        BinaryOperator::AtLeast => OperatorUse::OfNumbers(Operator::AtLeast),
+        BinaryOperator::EqualTo => OperatorUse::OfEither(Operator::Equal, Operator::Same),
+        BinaryOperator::NotEqualTo => OperatorUse::OfEither(Operator::Unequal, Operator::Different),
+        BinaryOperator::And => OperatorUse::OfTruths(Connective::And),
+        BinaryOperator::Or => OperatorUse::OfTruths(Connective::Or),
+    }
+}
+
+/// Tests whether two types are the same.
+pub fn is_same(one: Base, other: Base) -> bool
+    ensures { result ≡ same_base one other }
+{
+    match (one, other) {
+        (Base::Int, Base::Int) | (Base::Boolean, Base::Boolean) => true,
+        (Base::Int, Base::Boolean) | (Base::Boolean, Base::Int) => false,
+    }
+}
+
+/// Finds the type that both operands of an operator have to have, where the left one has the type `left`.
+pub fn operands_base(used: OperatorUse, left: Base) -> Base
+    ensures { result ≡ spec.operands_base used left }
+{
+    match used {
+        OperatorUse::OfNumbers(_) => Base::Int,
+        OperatorUse::OfEither(_, _) => left,
+        OperatorUse::OfTruths(_) => Base::Boolean,
+    }
+}
+
+/// Finds the type of the values that a written operator between its operands gives.
+pub fn value_base(used: OperatorUse) -> Base
+    ensures { result ≡ spec.value_base used }
+{
+    match used {
+        OperatorUse::OfNumbers(operator) => base_of_result(operator),
+        OperatorUse::OfEither(_, _) | OperatorUse::OfTruths(_) => Base::Boolean,
+    }
+}
+
+/// Makes the expression of an operator on its two operands, which both have the type `base`.
+///
+/// # Errors
+///
+/// Out of memory.
+pub fn combine(
+    alloc: Global,
+    used: OperatorUse,
+    base: Base,
+    left: Expression,
+    right: Expression,
+) -> Result<Expression, AllocError>
+    ensures { IfOk result (λ made. expression_of made ≡
+        spec.combined used base (expression_of left) (expression_of right)) }
+{
+    let left = Box::new(alloc, left)?;
+    let right = Box::new(alloc, right)?;
+    Ok(match used {
+        OperatorUse::OfNumbers(operator) => Expression::Binary(operator, left, right),
+        OperatorUse::OfEither(on_numbers, on_truths) => match base {
+            Base::Int => Expression::Binary(on_numbers, left, right),
+            Base::Boolean => Expression::Binary(on_truths, left, right),
+        },
+        OperatorUse::OfTruths(connective) => Expression::Short(connective, left, right),
+    })
+}

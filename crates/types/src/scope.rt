@@ -1,0 +1,231 @@
+//! What names stand for, and the uses that places make of them.
+
+ghost use Rattle.types.specs.Environment.{array_finding, declaring, exception_finding, fresh_finding, input_finding, output_finding, procedure_finding, scalar_finding};
+ghost use Rattle.types.specs.Finding.{give};
+ghost use Rattle.types.specs.Views.{Resolves, array_use, found_in, itself, scalar_use, texts_of, without};
+ghost use Rattle.std.specs.Prelude.{OnOk, List, ◌≡◌, None, ℕ};
+
+use crate::fault::{TypeDefect, TypeFault, TypeRefusal};
+use common::OrNoMemory;
+use resolved::expression::{Base, Variable};
+use std::alloc::Global;
+use std::collections::BTreeMap;
+
+/// What a name stands for. Channels are numbered in their order, inputs and outputs together; so are globals, procedures and
+/// exceptions, of which 0, 1 and 2 are `Arith`, `Bounds` and `End`; a local has the number of its slot.
+#[derive(Clone, Copy, Debug, PartialEq, Eq)]
+pub enum Meaning {
+    Input(u32),
+    Output(u32),
+    Exception(u32),
+    Procedure(u32),
+    /// A global, parameter or local that holds one value of this type.
+    Scalar(Variable, Base),
+    /// An array of values of this type, with its length.
+    Array(Variable, Base, u32),
+}
+
+/// A scalar that is used.
+#[derive(Clone, Copy, Debug)]
+pub struct FoundScalar {
+    pub variable: Variable,
+    pub base: Base,
+}
+
+/// An array that is used.
+#[derive(Clone, Copy, Debug)]
+pub struct FoundArray {
+    pub variable: Variable,
+    pub base: Base,
+    pub size: u32,
+}
+
+/// What names stand for. The names are a stranger's, so the table is ordered: no choice of names makes looking them up slow, as
+/// colliding hashes would.
+pub type Names = BTreeMap<String, Meaning>;
+
+/// What a name stands for by a table.
+pub fn find(table: &Names, name: &str) -> Option<Meaning>
+    ensures { result ≡ found_in table.now name.now }
+{
+    table.get(name).copied()
+}
+
+/// Puts a name into a table, where it has this meaning from now on.
+pub fn insert(
+    alloc: Global,
+    table: &mut Names,
+    name: &str,
+    meaning: Meaning,
+) -> Result<(), TypeFault>
+    ensures { Resolves (λ _. λ (other : List ℕ). found_in table.new other) result
+        (give (declaring name.now meaning (found_in table.old))) }
+{
+    table.insert(String::from_str(alloc, name)?, meaning)?;
+    Ok(())
+}
+
+/// Takes names out of a table.
+pub fn remove_all(table: &mut Names, names: &[String])
+    ensures { (other : List ℕ) → found_in table.new other ≡
+        without (texts_of names.now) (found_in table.old) other }
+{
+    for name in names {
+        table.remove(name.as_str());
+    }
+}
+
+/// Requires that a name stands for nothing yet, so that it may be declared.
+///
+/// # Errors
+///
+/// 302 where it stands for something already.
+#[tactic(auto, unfolding(crate::specs::Environment::fresh_finding))]
+pub fn require_fresh(found: Option<Meaning>, at: usize) -> Result<(), TypeFault>
+    ensures made { Resolves (λ _. tt) result (fresh_finding found at) }
+    ensures none { OnOk result (found ≡ None) }
+{
+    match found {
+        None => Ok(()),
+        Some(_) => Err(OrNoMemory::Refused(TypeRefusal {
+            defect: TypeDefect::DeclaredTwice,
+            at,
+        })),
+    }
+}
+
+/// Requires that a name stands for a scalar, and gives its variable and type.
+///
+/// # Errors
+///
+/// 301 where it stands for nothing, 403 where it stands for something else than a scalar.
+#[tactic(auto, unfolding(crate::specs::Environment::scalar_finding))]
+pub fn require_scalar(found: Option<Meaning>, at: usize) -> Result<FoundScalar, TypeFault>
+    ensures { Resolves scalar_use result (scalar_finding found at) }
+{
+    match found {
+        None => Err(OrNoMemory::Refused(TypeRefusal {
+            defect: TypeDefect::UnknownName,
+            at,
+        })),
+        Some(Meaning::Scalar(variable, base)) => Ok(FoundScalar { variable, base }),
+        Some(_) => Err(OrNoMemory::Refused(TypeRefusal {
+            defect: TypeDefect::WrongUse,
+            at,
+        })),
+    }
+}
+
+/// Requires that a name stands for an array, and gives its variable, type and length.
+///
+/// # Errors
+///
+/// 301 where it stands for nothing, 403 where it stands for something else than an array.
+#[tactic(auto, unfolding(crate::specs::Environment::array_finding))]
+pub fn require_array(found: Option<Meaning>, at: usize) -> Result<FoundArray, TypeFault>
+    ensures { Resolves array_use result (array_finding found at) }
+{
+    match found {
+        None => Err(OrNoMemory::Refused(TypeRefusal {
+            defect: TypeDefect::UnknownName,
+            at,
+        })),
+        Some(Meaning::Array(variable, base, size)) => Ok(FoundArray {
+            variable,
+            base,
+            size,
+        }),
+        Some(_) => Err(OrNoMemory::Refused(TypeRefusal {
+            defect: TypeDefect::WrongUse,
+            at,
+        })),
+    }
+}
+
+/// Requires that a name stands for an input, and gives its number.
+///
+/// # Errors
+///
+/// 301 where it stands for nothing, 403 where it stands for something else than an input.
+#[tactic(auto, unfolding(crate::specs::Environment::input_finding))]
+pub fn require_input(found: Option<Meaning>, at: usize) -> Result<u32, TypeFault>
+    ensures { Resolves itself result (input_finding found at) }
+{
+    match found {
+        None => Err(OrNoMemory::Refused(TypeRefusal {
+            defect: TypeDefect::UnknownName,
+            at,
+        })),
+        Some(Meaning::Input(channel)) => Ok(channel),
+        Some(_) => Err(OrNoMemory::Refused(TypeRefusal {
+            defect: TypeDefect::WrongUse,
+            at,
+        })),
+    }
+}
+
+/// Requires that a name stands for an output, and gives its number.
+///
+/// # Errors
+///
+/// 301 where it stands for nothing, 403 where it stands for something else than an output.
+#[tactic(auto, unfolding(crate::specs::Environment::output_finding))]
+pub fn require_output(found: Option<Meaning>, at: usize) -> Result<u32, TypeFault>
+    ensures { Resolves itself result (output_finding found at) }
+{
+    match found {
+        None => Err(OrNoMemory::Refused(TypeRefusal {
+            defect: TypeDefect::UnknownName,
+            at,
+        })),
+        Some(Meaning::Output(channel)) => Ok(channel),
+        Some(_) => Err(OrNoMemory::Refused(TypeRefusal {
+            defect: TypeDefect::WrongUse,
+            at,
+        })),
+    }
+}
+
+/// Requires that a name stands for an exception, and gives its number.
+///
+/// # Errors
+///
+/// 301 where it stands for nothing, 403 where it stands for something else than an exception.
+#[tactic(auto, unfolding(crate::specs::Environment::exception_finding))]
+pub fn require_exception(found: Option<Meaning>, at: usize) -> Result<u32, TypeFault>
+    ensures { Resolves itself result (exception_finding found at) }
+{
+    match found {
+        None => Err(OrNoMemory::Refused(TypeRefusal {
+            defect: TypeDefect::UnknownName,
+            at,
+        })),
+        Some(Meaning::Exception(number)) => Ok(number),
+        Some(_) => Err(OrNoMemory::Refused(TypeRefusal {
+            defect: TypeDefect::WrongUse,
+            at,
+        })),
+    }
+}
+
+/// Requires that a name stands for a procedure, and gives its number.
+///
+/// # Errors
+///
+/// 301 where it stands for nothing, 403 where it stands for something else than a procedure.
+#[tactic(auto, unfolding(crate::specs::Environment::procedure_finding))]
+pub fn require_procedure(found: Option<Meaning>, at: usize) -> Result<u32, TypeFault>
+    ensures { Resolves itself result (procedure_finding found at) }
+{
+    match found {
+        None => Err(OrNoMemory::Refused(TypeRefusal {
+            defect: TypeDefect::UnknownName,
+            at,
+        })),
+        Some(Meaning::Procedure(number)) => Ok(number),
+        Some(_) => Err(OrNoMemory::Refused(TypeRefusal {
+            defect: TypeDefect::WrongUse,
+            at,
+        })),
+    }
+}

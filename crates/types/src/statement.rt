@@ -1,0 +1,399 @@
+//! Statements that hold no others.
+
+ghost use Rattle.types.specs.Statements as spec;
+ghost use Rattle.types.specs.Statements.{arguments_finding, assign_finding, assigned_finding, call_finding, call_statement_finding, declare_array_finding, declare_finding, receive_finding, return_finding, send_finding, size_finding, store_finding, throw_finding};
+ghost use Rattle.types.specs.Views.{Resolves, IsLater, at_point, call_use, expressions_of, itself, names_of, point_of, setting_of, signatures_of, taken};
+ghost use Rattle.resolved.specs.ProgramOf.{slot_entry};
+ghost use Rattle.resolved.specs.TreeOf.{statement_of};
+ghost use Rattle.std.specs.Prelude.{IfOk, OnOk, map, ◌+◌, ◌<◌, ◌≡◌};
+ghost use Rattle.syntax.specs.Limits.{most_nodes};
+ghost use Rattle.syntax.specs.Tree.{call_tree, expression_tree, name_tree, optional_expression_tree, optional_label_tree, right_tree, size_tree};
+
+use crate::body::Body;
+use crate::fault::{TypeDefect, TypeFault, TypeRefusal};
+use crate::label::resolve_optional_label;
+use crate::operator::is_same;
+use crate::scope::{
+    Meaning, require_array, require_exception, require_fresh, require_input, require_output,
+    require_procedure, require_scalar,
+};
+use common::OrNoMemory;
+use common::limits::MAX_ELEMENTS;
+use labels::Label;
+use resolved::expression::{Base, Expression, Variable};
+use resolved::statement::{Exit, Statement};
+use resolved::tables::Slot;
+use std::alloc::AllocError;
+use syntax::{Call, Name, RightSide, Size, WrittenLabel};
+
+/// A call: its procedure, its arguments, and the type of its value, if it gives one.
+#[derive(Drop)]
+pub struct UsedCall {
+    pub procedure: u32,
+    pub arguments: Vec<Expression>,
+    pub result: Option<Base>,
+}
+
+/// Requires that the length of an array is 1 to 65,536, and gives it.
+///
+/// # Errors
+///
+/// 703 where it is another one.
+#[tactic(auto, unfolding(crate::specs::Statements::size_finding))]
+pub fn resolve_size(size: Size) -> Result<u32, TypeFault>
+    ensures { Resolves itself result (size_finding (size_tree size)) }
+{
+    if 0 < size.size && size.size <= MAX_ELEMENTS {
+        Ok(size.size)
+    } else {
+        Err(OrNoMemory::Refused(TypeRefusal {
+            defect: TypeDefect::ArraySize,
+            at: size.at,
+        }))
+    }
+}
+
+impl<'a> Body<'a> {
+    /// The arguments of a call, at places that want the types of the parameters.
+    #[tactic(auto, unfolding(crate::specs::Statements::arguments_finding))]
+    fn resolve_arguments(
+        &self,
+        parameters: &[Base],
+        written: &[syntax::Expression],
+    ) -> Result<Vec<Expression>, TypeFault>
+        ensures { Resolves expressions_of result
+            (arguments_finding (names_of self.now) parameters.now
+            (map expression_tree written.now)) }
+    {
+        let mut arguments = Vec::new(self.alloc);
+        for argument in written {
+            let base = match parameters.get(arguments.len()) {
+                Some(base) => *base,
+                None => Base::Int,
+            };
+            arguments.push(self.type_expression(base, argument)?)?;
+        }
+        Ok(arguments)
+    }
+
+    /// A call.
+    #[tactic(auto, unfolding(crate::specs::Statements::call_finding, crate::specs::Statements::applied_finding))]
+    fn resolve_call(&self, written: &Call) -> Result<UsedCall, TypeFault>
+        ensures { Resolves call_use result
+            (call_finding (signatures_of self.now) (names_of self.now) (call_tree written.now)) }
+    {
+        let name = &written.procedure;
+        let number = require_procedure(self.look_up(name), name.at)?;
+        let (parameters, value) = self.top.signature(number);
+        if parameters.len() != written.arguments.len() {
+            return Err(OrNoMemory::Refused(TypeRefusal {
+                defect: TypeDefect::WrongArgumentCount,
+                at: name.at,
+            }));
+        }
+        let arguments = self.resolve_arguments(parameters, &written.arguments)?;
+        Ok(UsedCall {
+            procedure: number,
+            arguments,
+            result: value,
+        })
+    }
+
+    /// The assignment of a right side to a variable of a type, by a statement that begins at a byte.
+    #[tactic(auto, unfolding(crate::specs::Statements::assigned_finding))]
+    fn resolve_right_side(
+        &self,
+        at: usize,
+        target: Variable,
+        base: Base,
+        value: &RightSide,
+    ) -> Result<Statement, TypeFault>
+        ensures { Resolves statement_of result
+            (assigned_finding (signatures_of self.now) (names_of self.now) at target base
+            (right_tree value.now)) }
+    {
+        match value {
+            RightSide::Receive {
+                at: receive_at,
+                channel,
+            } => {
+                if !is_same(Base::Int, base) {
+                    return Err(OrNoMemory::Refused(TypeRefusal {
+                        defect: TypeDefect::WrongType,
+                        at: *receive_at,
+                    }));
+                }
+                let number = require_input(self.look_up(channel), channel.at)?;
+                Ok(Statement::Receive(at, number, Some(target)))
+            }
+            RightSide::Call(call) => {
+                let made = self.resolve_call(call)?;
+                if !gives(base, made.result) {
+                    return Err(OrNoMemory::Refused(TypeRefusal {
+                        defect: TypeDefect::WrongType,
+                        at: call.procedure.at,
+                    }));
+                }
+                Ok(Statement::Call(at, made.procedure, made.arguments, Some(target)))
+            }
+            RightSide::Value(value) => Ok(Statement::Assign(
+                at,
+                target,
+                self.type_expression(base, value)?,
+            )),
+        }
+    }
+
+    /// Makes the slot of a parameter or local with these parts. It declares nothing.
+    ///
+    /// # Errors
+    ///
+    /// Out of memory.
+    pub fn make_slot(
+        &self,
+        at: usize,
+        base: Base,
+        size: Option<u32>,
+        written: Option<Label>,
+        name: &Name,
+    ) -> Result<Slot, AllocError>
+        ensures { IfOk result (λ slot. slot_entry slot ≡
+            record {
+              base = base;
+              size = size;
+              written = written;
+              at = at;
+              name = (name_tree name.now).text;
+            }) }
+    {
+        Ok(Slot {
+            base,
+            size,
+            written,
+            at,
+            name: String::from_str(self.alloc, name.text.as_str())?,
+        })
+    }
+
+    /// Resolves the declaration of a local with its first value. The local takes the next slot, and is not yet in scope in that
+    /// value. Precondition: fewer slots and loops are taken than a program may have nodes.
+    ///
+    /// # Errors
+    ///
+    /// 303 in its label, 302 where its name is in scope already, then 301 and 401 to 403 in its first value; or out of memory.
+    #[tactic(auto, unfolding(crate::specs::Statements::declare_finding))]
+    pub fn declare_scalar(
+        &mut self,
+        at: usize,
+        base: Base,
+        label: &Option<WrittenLabel>,
+        name: &Name,
+        value: &RightSide,
+    ) -> Result<Statement, TypeFault>
+        requires room { taken self.old < most_nodes }
+        ensures made { Resolves (at_point self.new statement_of) result
+            (declare_finding (setting_of self.old) (point_of self.old) at base
+            (optional_label_tree label.now) (name_tree name.now) (right_tree value.now)) }
+        ensures later { OnOk result (IsLater self.old self.new) }
+        ensures grows { OnOk result (taken self.new ≡ taken self.old + 1) }
+    {
+        let written = resolve_optional_label(self.alloc, self.hierarchy, label)?;
+        require_fresh(self.look_up(name), name.at)?;
+        let variable = Variable::Local(self.slots.len() as u32);
+        let statement = self.resolve_right_side(at, variable, base, value)?;
+        let slot = self.make_slot(at, base, None, written, name)?;
+        self.declare(slot, Meaning::Scalar(variable, base))?;
+        Ok(statement)
+    }
+
+    /// Resolves the declaration of a local that is an array. The local takes the next slot.
+    /// Precondition: fewer slots and loops are taken than a program may have nodes.
+    ///
+    /// # Errors
+    ///
+    /// 303 in its label, 302 where its name is in scope already, then 703 where its length is not 1 to 65,536; or out of memory.
+    #[tactic(auto, unfolding(crate::specs::Statements::declare_array_finding))]
+    pub fn declare_array(
+        &mut self,
+        at: usize,
+        base: Base,
+        written: &Option<WrittenLabel>,
+        name: &Name,
+        size: Size,
+    ) -> Result<Statement, TypeFault>
+        requires room { taken self.old < most_nodes }
+        ensures made { Resolves (at_point self.new statement_of) result
+            (declare_array_finding (setting_of self.old) (point_of self.old) at base
+            (optional_label_tree written.now) (name_tree name.now) (size_tree size)) }
+        ensures later { OnOk result (IsLater self.old self.new) }
+        ensures grows { OnOk result (taken self.new ≡ taken self.old + 1) }
+    {
+        let label = resolve_optional_label(self.alloc, self.hierarchy, written)?;
+        require_fresh(self.look_up(name), name.at)?;
+        let length = resolve_size(size)?;
+        let number = self.slots.len() as u32;
+        let slot = self.make_slot(at, base, Some(length), label, name)?;
+        self.declare(slot, Meaning::Array(Variable::Local(number), base, length))?;
+        Ok(Statement::Clear(at, number))
+    }
+
+    /// Resolves an assignment of a value, a call or a `receive` to a scalar.
+    ///
+    /// # Errors
+    ///
+    /// 301 and 403 where a name stands for nothing or for something of another sort, 401 where a type is wrong, 402 where a call
+    /// has another number of arguments than its procedure has parameters; or out of memory.
+    #[tactic(auto, unfolding(crate::specs::Statements::assign_finding))]
+    pub fn resolve_assign(&self, target: &Name, value: &RightSide) -> Result<Statement, TypeFault>
+        ensures { Resolves statement_of result
+            (assign_finding (signatures_of self.now) (names_of self.now) (name_tree target.now)
+            (right_tree value.now)) }
+    {
+        let found = require_scalar(self.look_up(target), target.at)?;
+        self.resolve_right_side(target.at, found.variable, found.base, value)
+    }
+
+    /// Resolves an assignment to an element of an array.
+    ///
+    /// # Errors
+    ///
+    /// 301 and 403 where a name stands for nothing or for something of another sort, 401 where the index is no int, where the
+    /// value has another type than the elements, or where a type within them is wrong; or out of memory.
+    #[tactic(auto, unfolding(crate::specs::Statements::store_finding))]
+    pub fn resolve_store(
+        &self,
+        name: &Name,
+        index: &syntax::Expression,
+        value: &syntax::Expression,
+    ) -> Result<Statement, TypeFault>
+        ensures { Resolves statement_of result
+            (store_finding (names_of self.now) (name_tree name.now) (expression_tree index.now)
+            (expression_tree value.now)) }
+    {
+        let found = require_array(self.look_up(name), name.at)?;
+        let index = self.type_expression(Base::Int, index)?;
+        let value = self.type_expression(found.base, value)?;
+        Ok(Statement::Store(name.at, found.variable, found.size, index, value))
+    }
+
+    /// Resolves a call whose value, if there is one, is dropped.
+    ///
+    /// # Errors
+    ///
+    /// 301 and 403 where a name stands for nothing or for something of another sort, 402 where there are more or fewer arguments
+    /// than parameters, 401 where the type of an argument is wrong; or out of memory.
+    #[tactic(auto, unfolding(crate::specs::Statements::call_statement_finding))]
+    pub fn resolve_call_statement(&self, call: &Call) -> Result<Statement, TypeFault>
+        ensures { Resolves statement_of result
+            (call_statement_finding (signatures_of self.now) (names_of self.now)
+            (call_tree call.now)) }
+    {
+        let made = self.resolve_call(call)?;
+        Ok(Statement::Call(call.procedure.at, made.procedure, made.arguments, None))
+    }
+
+    /// Resolves a `receive` whose number is dropped.
+    ///
+    /// # Errors
+    ///
+    /// 301 where the name of the channel stands for nothing, 403 where it stands for something else than an input.
+    #[tactic(auto, unfolding(crate::specs::Statements::receive_finding))]
+    pub fn resolve_receive(&self, at: usize, channel: &Name) -> Result<Statement, TypeFault>
+        ensures { Resolves statement_of result
+            (receive_finding (names_of self.now) at (name_tree channel.now)) }
+    {
+        let number = require_input(self.look_up(channel), channel.at)?;
+        Ok(Statement::Receive(at, number, None))
+    }
+
+    /// Resolves a `send` of an int to an output.
+    ///
+    /// # Errors
+    ///
+    /// 301 and 403 where a name stands for nothing or for something of another sort, 401 where the value is no int or a type
+    /// within it is wrong; or out of memory.
+    #[tactic(auto, unfolding(crate::specs::Statements::send_finding))]
+    pub fn resolve_send(
+        &self,
+        at: usize,
+        channel: &Name,
+        value: &syntax::Expression,
+    ) -> Result<Statement, TypeFault>
+        ensures { Resolves statement_of result
+            (send_finding (names_of self.now) at (name_tree channel.now)
+            (expression_tree value.now)) }
+    {
+        let number = require_output(self.look_up(channel), channel.at)?;
+        Ok(Statement::Send(at, number, self.type_expression(Base::Int, value)?))
+    }
+
+    /// Resolves a `throw` of an exception.
+    ///
+    /// # Errors
+    ///
+    /// 301 where its name stands for nothing, 403 where it stands for something else than an exception.
+    #[tactic(auto, unfolding(crate::specs::Statements::throw_finding))]
+    pub fn resolve_throw(&self, at: usize, name: &Name) -> Result<Statement, TypeFault>
+        ensures { Resolves statement_of result
+            (throw_finding (names_of self.now) at (name_tree name.now)) }
+    {
+        let number = require_exception(self.look_up(name), name.at)?;
+        Ok(Statement::Leave(at, Exit::Throw(number)))
+    }
+
+    /// Resolves a `return`, which has a value exactly where the procedure gives one.
+    ///
+    /// # Errors
+    ///
+    /// 301, 401 and 403 in the value; then 401 where a value is missing, is not to be given, or has another type than the
+    /// procedure gives; or out of memory.
+    #[tactic(auto, unfolding(crate::specs::Statements::return_finding))]
+    pub fn resolve_return(
+        &self,
+        at: usize,
+        value: &Option<syntax::Expression>,
+    ) -> Result<Statement, TypeFault>
+        ensures { Resolves statement_of result
+            (return_finding self.now.result (names_of self.now) at
+            (optional_expression_tree value.now)) }
+    {
+        match value {
+            None => match self.result {
+                None => Ok(Statement::Return(at, None)),
+                Some(_) => Err(OrNoMemory::Refused(TypeRefusal {
+                    defect: TypeDefect::WrongType,
+                    at,
+                })),
+            },
+            Some(value) => {
+                let found = self.resolve_expression(value)?;
+                match self.result {
+                    None => Err(OrNoMemory::Refused(TypeRefusal {
+                        defect: TypeDefect::WrongType,
+                        at: value.at(),
+                    })),
+                    Some(base) => {
+                        if is_same(found.base, base) {
+                            Ok(Statement::Return(at, Some(found.expression)))
+                        } else {
+                            Err(OrNoMemory::Refused(TypeRefusal {
+                                defect: TypeDefect::WrongType,
+                                at: value.at(),
+                            }))
+                        }
+                    }
+                }
+            }
+        }
+    }
+}
+
+/// Whether a value that a call gives, if it gives one, has a type.
+fn gives(base: Base, given: Option<Base>) -> bool
+    ensures { result ≡ spec.gives_base base given }
+{
+    match given {
+        None => false,
+        Some(given) => is_same(given, base),
+    }
+}
