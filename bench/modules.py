@@ -6,6 +6,10 @@
 PROGRAM is the built program (crates/flowc_main/out/flowc_main). Each module is built at 256 KiB, 512 KiB and 1 MiB and run for no
 step, so that its bytes are decoded and its code is verified. The least time of ROUNDS counts, and that of a module of one
 instruction is taken off. Growth is the time at 1 MiB by that at 512 KiB: 2 where the work is in proportion to the size.
+
+Then how much memory is held where bytes are read and refused, by byte read, past the LITTLE that the program itself may take: each
+module of 8 MiB is read without its last byte under a limit of the process. So is a small module with any four of its bytes made ff,
+so that each count claims more than there is. The status is 1 where 64 bytes for each byte read do not do, or a claim takes memory.
 """
 
 import struct
@@ -16,6 +20,7 @@ import time
 from pathlib import Path
 
 ROUNDS = 3
+LITTLE = 24 << 20
 SIZES = [256 << 10, 512 << 10, 1 << 20]
 PUSH_TRUE, POP, NOT, RETURN = b"\x02\x01", b"\x03", b"\x16", b"\x23"
 
@@ -102,6 +107,34 @@ def seconds(program, path, world):
     return best
 
 
+def fits(program, path, most):
+    """Whether so many bytes of memory are enough to read a module and to refuse it, or to list it."""
+    limited = f'ulimit -v {most >> 10}; exec "$0" list "$1"'
+    status = subprocess.run(["sh", "-c", limited, program, str(path)], capture_output=True).returncode
+    if status not in (0, 1, 3):
+        sys.exit(f"{path}: status {status}")
+    return status != 3
+
+
+def is_bounded(program, path):
+    """Prints how much is held by byte read, and answers whether that is bounded."""
+    print("\n| Module | bytes held by byte read, at most |\n|---|---|")
+    right = True
+    for name, build in MODULES.items():
+        code = build(8 << 20)[:-1]
+        path.write_bytes(code)
+        held = [it for it in (4, 8, 16, 32, 64) if fits(program, path, LITTLE + it * len(code))]
+        right &= bool(held)
+        print(f"| {name} | {held[0] if held else 'more than 64'} |", flush=True)
+    small = module(procedure(PUSH_TRUE + POP + RETURN, slots=1, handlers=[(0, 2, 0, 3)]))
+    for at in range(8, len(small) - 3):
+        path.write_bytes(small[:at] + b"\xff" * 4 + small[at + 4 :])
+        if not fits(program, path, LITTLE):
+            right = False
+            print(f"| {len(small)} bytes, a claim at {at} | more than {LITTLE >> 20} MiB |")
+    return right
+
+
 def main():
     program = sys.argv[1]
     folder = Path(tempfile.mkdtemp())
@@ -117,7 +150,8 @@ def main():
             path.write_bytes(build(size))
             took.append(max(seconds(program, path, world) - nothing, 1e-6))
         print(f"| {name} | " + " | ".join(f"{t:.3f} s" for t in took) + f" | {took[2] / took[1]:.2f} |", flush=True)
+    return 0 if is_bounded(program, path) else 1
 
 
 if __name__ == "__main__":
-    main()
+    sys.exit(main())

@@ -1,4 +1,9 @@
-pub mod Refusals
-pub mod Labels
-pub mod Unknowns
-pub mod Verdicts
+mod Lines
+mod Walking
+mod Characters
+mod Flows
+mod Labels
+mod Unknowns
+mod Faults
+mod Verdicts
+mod Refusals

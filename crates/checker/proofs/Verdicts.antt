@@ -1,17 +1,20 @@
 -- What a check answers of a source.
-use Rattle.std.proofs.Common.{◌≡◌, sym, subst, ℕ, List, []}
+use Rattle.std.proofs.Common.{◌≡◌, refl, sym, subst, ℕ, List, []}
+use Rattle.std.specs.Prelude.{Some}
 use Rattle.principals.specs.ActsFor.{PrincipalHierarchy}
 use Rattle.resolved.specs.declared.program.Core.{Core}
 use Rattle.resolved.specs.CoreOf.{program_of}
 use Rattle.resolved.specs.EndFaults.{end_faults}
 use Rattle.resolved.specs.Labelled.{Labelled}
 use Rattle.acceptance.specs.Accepted.{IsAccepted, IsResolvedFrom}
-use Rattle.acceptance.specs.Refused.{WrongFlow}
+use Rattle.acceptance.specs.Refused.{IsSourceRefused, WrongFlow}
 use Rattle.acceptance.specs.declared.cause.Cause.TheVariants as causes
+use Rattle.acceptance.specs.declared.cause.Text.TheVariants as texts
 use Rattle.acceptance.proofs.Phases.{accepted_refused}
-use Rattle.checker.specs.declared.fault.CheckRefusal.{CheckRefusal}
-use Rattle.checker.specs.declared.fault.CheckRefusal.TheVariants.{BeforeLabels, FlowNotAllowed}
-use Rattle.checker.specs.Reported.{HasFlow, IsCheckRefusal, IsNotAccepted, RefusesProgram}
+use Rattle.checker.specs.Reported.{AsksForFlow, IsNotAccepted, IsSourceFault, refusal_at}
+use Rattle.checker.specs.Steps.{RefusesProgram}
+use Rattle.checker.specs.declared.fault.RefusedFlow.{RefusedFlow}
+use Rattle.checker.specs.declared.fault.Refusal.{Refusal}
 
 -- a program that is kept stands for the source
 pub accepted-from : (h : PrincipalHierarchy) (source : List ℕ) (core kept : Core) → kept ≡ core → IsResolvedFrom h source (program_of core) → end_faults (program_of core) ≡ [] →
@@ -22,25 +25,30 @@ accepted-from h source core kept same from ended labelled = record {
   labelled = labelled;
 }
 
--- what is reported of the labels
-pub reported-labels : (h : PrincipalHierarchy) (source : List ℕ) (core : Core) (refusal : CheckRefusal) → IsResolvedFrom h source (program_of core)
-    → end_faults (program_of core) ≡ [] → RefusesProgram core refusal → IsCheckRefusal h source refusal
-reported-labels h source core (BeforeLabels refusal) from ended refused = absurd refused
-reported-labels h source core (FlowNotAllowed flow) from ended refused = record {
-  resolved = subst (λ c. IsResolvedFrom h source (program_of c)) (sym refused.0) from;
-  ended = subst (λ c. end_faults (program_of c) ≡ []) (sym refused.0) ended;
-  reported = refused.1;
-}
+-- a refused source is not accepted
+pub refused-not-accepted : (h : PrincipalHierarchy) (source : List ℕ) (refusal : Refusal) → IsSourceFault h source refusal → IsNotAccepted h source
+refused-not-accepted h source refusal fault program accepted = accepted_refused h source program refusal.cause fault.at accepted fault.refused
 
--- what is reported rules out that the source is accepted
-pub reported-refuses : (h : PrincipalHierarchy) (source : List ℕ) (refusal : CheckRefusal) → IsCheckRefusal h source refusal → IsNotAccepted h source
-reported-refuses h source (BeforeLabels refusal) reported = λ program accepted.
-    accepted_refused h source program refusal.cause refusal.at accepted reported
-reported-refuses h source (FlowNotAllowed flow) reported = λ program accepted.
-    accepted_refused h source program causes.FlowNotAllowed reported.reported.last.at accepted
-    (WrongFlow (program_of flow.core) reported.resolved reported.ended flow.policy reported.reported.chain reported.reported.last reported.reported.refused)
+-- a program that is refused for a flow
+module _ (h : PrincipalHierarchy) (source bytes : List ℕ) (core : Core) (flow : RefusedFlow) (same : bytes ≡ source) (from : IsResolvedFrom h source (program_of core))
+    (ended : end_faults (program_of core) ≡ []) (refused : RefusesProgram core flow) where
+  resolved : IsResolvedFrom h source (program_of flow.core)
+  resolved = subst (λ c. IsResolvedFrom h source (program_of c)) (sym refused.0) from
 
--- a refusal of the labels names its flow
-pub flow-labels : (core : Core) (refusal : CheckRefusal) → RefusesProgram core refusal → HasFlow refusal
-flow-labels core (BeforeLabels refusal) refused = absurd refused
-flow-labels core (FlowNotAllowed flow) refused = tt
+  unended : end_faults (program_of flow.core) ≡ []
+  unended = subst (λ c. end_faults (program_of c) ≡ []) (sym refused.0) ended
+
+  abbrev reported : Refusal
+  reported = refusal_at texts.Source bytes causes.FlowNotAllowed flow.at (Some flow)
+
+  pub flow-fault : IsSourceFault h source reported
+  flow-fault = record {
+    text_is = refl;
+    at = flow.at;
+    refused = subst (IsSourceRefused h source causes.FlowNotAllowed) (sym refused.1.at_is)
+        (WrongFlow (program_of flow.core) resolved unended flow.policy refused.1.chain refused.1.last refused.1.refused);
+    place_of = rw same refl;
+  }
+
+  pub flow-asked : AsksForFlow h source reported flow
+  flow-asked = record { resolved = resolved; ended = unended; reported = refused.1; refusal_is = rw same refl }

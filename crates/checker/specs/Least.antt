@@ -12,7 +12,7 @@ use Rattle.checker.specs.declared.checked.Checked.{Checked}
 -- the value of the unknown with a number
 abbrev pub least_value : Checked → ℕ → Label
 least_value checked unknown =
-    values_of (label_lattice (program_of checked.core).hierarchy) checked.written.items checked.solution unknown
+    values_of (label_lattice (program_of checked.core).hierarchy) checked.written.items checked.solution.reached unknown
 
 -- the label of a local or a loop: the value of the unknown with its number
 abbrev pub least_label : Checked → Unwritten → Label

@@ -1,39 +1,38 @@
--- What a refusal of a check reports of a source: why it is refused and at which byte, and for a flow that no labels allow its policy
--- and the steps of its chain.
+-- What a refusal reports of a source under a hierarchy, or of two texts: which text is wrong, why, and at which line and column; and
+-- of a flow that no labels allow its policy and the steps of its chain.
 -- Source: our own.
-use Rattle.std.specs.Prelude.{◌≡◌, ℕ, List, [], ◌∷◌, map, Option, Some, None, slice_get}
+use Rattle.std.specs.Prelude.{◌≡◌, ◌↔◌, ℕ, List, [], map, Option, Some, IsSome}
 use Rattle.principals.specs.ActsFor.{PrincipalHierarchy}
-use Rattle.labels.specs.Constraints.{report_some, reported_steps}
-use Rattle.resolved.specs.declared.target.Target.{Target}
-use Rattle.resolved.specs.declared.program.Core.{Core}
 use Rattle.resolved.specs.CoreOf.{program_of}
 use Rattle.resolved.specs.Program.{Program}
 use Rattle.resolved.specs.EndFaults.{end_faults}
 use Rattle.resolved.specs.Labelled.{Demand}
 use Rattle.resolved.specs.Flow.{IsProgramRefused, ReportedStep, reported_step}
-use Rattle.solver.specs.declared.constraints.Constraint.{Constraint}
-use Rattle.acceptance.specs.Accepted.{IsAccepted, IsResolvedFrom}
-use Rattle.analysis.specs.Reported.{IsBeforeLabels, IsSourceRefusal}
-use Rattle.checker.specs.declared.fault.CheckRefusal.{CheckRefusal}
-use Rattle.checker.specs.declared.fault.CheckRefusal.TheVariants.{BeforeLabels, FlowNotAllowed}
+use Rattle.labels.specs.Constraints.{reported_steps}
+use Rattle.acceptance.specs.Accepted.{HasHierarchy, IsAccepted, IsResolvedFrom, StandFor}
+use Rattle.acceptance.specs.Refused.{AreTextsRefusedAt, IsSourceRefused}
+use Rattle.acceptance.specs.declared.cause.Cause.{Cause}
+use Rattle.acceptance.specs.declared.cause.Cause.TheVariants as causes
+use Rattle.acceptance.specs.declared.cause.Text.{Text}
+use Rattle.acceptance.specs.declared.cause.Text.TheVariants as texts
+use Rattle.checker.specs.Position.{place_at}
 use Rattle.checker.specs.declared.fault.RefusedFlow.{RefusedFlow}
+use Rattle.checker.specs.declared.fault.Refusal.{Refusal}
 use Rattle.checker.specs.declared.fault.Step.{Step}
+
+-- the refusal of a text for a cause at one of its bytes, with a flow or without one
+abbrev pub refusal_at : Text → List ℕ → Cause → (at : ℕ) → Option RefusedFlow → Refusal
+refusal_at text bytes cause at flow = record { text = text; cause = cause; at = place_at bytes at; flow = flow }
+
+-- a refusal has a flow exactly where it is that one is not allowed
+abbrev pub HasFlow : Refusal → Type 0
+HasFlow refusal = (refusal.cause ≡ causes.FlowNotAllowed) ↔ IsSome refusal.flow
+
+-- ---- a flow
 
 -- a step, as one of the definitions
 abbrev pub reported_by : Step → ReportedStep
 reported_by step = record { at = step.at; rule = step.rule; target = step.target }
-
-abbrev pub reported_of : Option Step → List ReportedStep
-reported_of None = []
-reported_of (Some step) = reported_by step ∷ []
-
--- what is reported of the constraint at an index
-abbrev pub report_of : Option (Constraint (Option Target)) → List ReportedStep
-report_of None = []
-report_of (Some c) = report_some reported_step c.at c.rule c.target
-
-abbrev pub report_at : List (Constraint (Option Target)) → ℕ → List ReportedStep
-report_at constraints index = report_of (slice_get constraints index)
 
 -- a program is refused: its policy, byte and steps are those of a chain to the first demand that no labels meet
 pub record ReportsFlow (flow : RefusedFlow) : Type 0 where
@@ -43,27 +42,46 @@ pub record ReportsFlow (flow : RefusedFlow) : Type 0 where
   pub at_is : flow.at ≡ last.at
   pub steps_are : map reported_by flow.steps.items ≡ reported_steps reported_step chain
 
--- why a program without a fault of its ends is refused
-abbrev pub RefusesProgram : Core → CheckRefusal → Type 0
-RefusesProgram core (BeforeLabels refusal) = ⊥
-RefusesProgram core (FlowNotAllowed flow) = (flow.core ≡ core) × ReportsFlow flow
+-- ---- a source under a hierarchy
 
--- a source is refused for a flow: it stands for the program, which has no fault of its ends
-pub record RefusesFlow (h : PrincipalHierarchy) (source : List ℕ) (flow : RefusedFlow) : Type 0 where
+-- it is refused so: for the cause at a byte, and the place is that of the byte
+pub record IsSourceFault (h : PrincipalHierarchy) (source : List ℕ) (refusal : Refusal) : Type 0 where
+  pub text_is : refusal.text ≡ texts.Source
+  pub at : ℕ
+  pub refused : IsSourceRefused h source refusal.cause at
+  pub place_of : refusal.at ≡ place_at source at
+
+-- it asks for this flow: it stands for the flow's program, which has no fault of its ends and asks for the flow; and the refusal is
+-- that the flow is not allowed, at the place of its byte
+pub record AsksForFlow (h : PrincipalHierarchy) (source : List ℕ) (refusal : Refusal) (flow : RefusedFlow) : Type 0 where
   pub resolved : IsResolvedFrom h source (program_of flow.core)
   pub ended : end_faults (program_of flow.core) ≡ []
   pub reported : ReportsFlow flow
+  pub refusal_is : refusal ≡ refusal_at texts.Source source causes.FlowNotAllowed flow.at (Some flow)
 
--- the source is refused so
-abbrev pub IsCheckRefusal : PrincipalHierarchy → (source : List ℕ) → CheckRefusal → Type 0
-IsCheckRefusal h source (BeforeLabels refusal) = IsSourceRefusal h source refusal
-IsCheckRefusal h source (FlowNotAllowed flow) = RefusesFlow h source flow
-
--- no program is accepted of the source
+-- no program is accepted of it
 abbrev pub IsNotAccepted : PrincipalHierarchy → (source : List ℕ) → Type 0
 IsNotAccepted h source = (program : Program) → ¬ IsAccepted h source program
 
--- a source that is refused for a flow is reported with that flow
-abbrev pub HasFlow : CheckRefusal → Type 0
-HasFlow (BeforeLabels refusal) = IsBeforeLabels refusal
-HasFlow (FlowNotAllowed flow) = Unit {0}
+-- ---- two texts
+
+-- what the two texts have, their bytes or their paths, of one of them
+abbrev pub text_among : (hierarchy source : List ℕ) → Text → List ℕ
+text_among hierarchy source texts.Hierarchy = hierarchy
+text_among hierarchy source texts.Source = source
+
+-- the first of two texts that is wrong is the refusal's; it is refused for its cause at a byte, and its place is that of the byte
+pub record IsFirstFault (hierarchy source : List ℕ) (refusal : Refusal) : Type 0 where
+  pub at : ℕ
+  pub refused : AreTextsRefusedAt hierarchy source refusal.text refusal.cause at
+  pub place_of : refusal.at ≡ place_at (text_among hierarchy source refusal.text) at
+
+-- the source asks for this flow under the hierarchy of the other text
+pub record TextsAskForFlow (hierarchy source : List ℕ) (refusal : Refusal) (flow : RefusedFlow) : Type 0 where
+  pub principals : PrincipalHierarchy
+  pub has : HasHierarchy hierarchy principals
+  pub asks : AsksForFlow principals source refusal flow
+
+-- two texts stand for no program
+abbrev pub StandForNone : (hierarchy source : List ℕ) → Type 0
+StandForNone hierarchy source = (program : Program) → ¬ StandFor hierarchy source program

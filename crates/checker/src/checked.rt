@@ -15,7 +15,7 @@ pub struct Checked {
     pub written: Vec<Label>,
     /// Which of the written labels reach those that are not written.
     pub solution: Solution,
-    pub ghost rows: { length solution ≤ length written.items },
+    pub ghost rows: { length solution.reached ≤ length written.items },
 }
 
 impl Checked {

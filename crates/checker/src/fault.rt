@@ -1,13 +1,18 @@
 //! Why a source was not accepted.
 
-ghost use Rattle.checker.specs.declared.fault.CheckRefusal.TheVariants.{BeforeLabels};
-ghost use Rattle.std.specs.Prelude.{◌≡◌};
+ghost use Rattle.acceptance.specs.Causes.{cause_words};
+ghost use Rattle.checker.specs.Reported as reported;
+ghost use Rattle.std.specs.Prelude.{Some, ◌≡◌};
 
-use analysis::SourceRefusal;
+use crate::position::place_of;
+use acceptance::{Cause, Text};
 use common::OrNoMemory;
 use labels::Policy;
+use lexer::Place;
 use resolved::program::Core;
 use resolved::target::Target;
+use std::error::Error;
+use std::fmt;
 
 /// A step of a flow chain.
 #[derive(Clone, Copy, Debug, PartialEq, Eq)]
@@ -33,22 +38,50 @@ pub struct RefusedFlow {
     pub steps: Vec<Step>,
 }
 
-/// Why a source is not accepted.
+/// Why a source, or the hierarchy text before it, is refused: for this cause at this place of it.
 #[derive(Drop)]
-pub enum CheckRefusal {
-    /// It is refused before its labels are looked at.
-    BeforeLabels(SourceRefusal),
-    /// It asks for a flow that no labels allow.
-    FlowNotAllowed(RefusedFlow),
+pub struct Refusal {
+    pub text: Text,
+    pub cause: Cause,
+    pub at: Place,
+    /// The flow that is not allowed, where that is the cause.
+    pub flow: Option<RefusedFlow>,
 }
 
 /// Why a check accepted no program.
-pub type CheckFault = OrNoMemory<CheckRefusal>;
+pub type Fault = OrNoMemory<Refusal>;
 
-impl From<SourceRefusal> for CheckRefusal {
-    ghost from_gives = { λ refusal given. given ≡ BeforeLabels refusal };
+impl fmt::Display for Refusal {
+    ghost output = { λ refusal. Some (cause_words refusal.cause) };
 
-    fn from(refusal: SourceRefusal) -> CheckRefusal {
-        CheckRefusal::BeforeLabels(refusal)
+    fn fmt<W: fmt::Write>(&self, f: &mut fmt::Formatter<W>) -> fmt::Result {
+        write!(f, "{}", self.cause.words())
+    }
+}
+
+// A flow is left out: the place says where it arrives.
+impl fmt::Debug for Refusal {
+    fn fmt<W: fmt::Write>(&self, f: &mut fmt::Formatter<W>) -> fmt::Result {
+        write!(f, "{:?} {:?} {:?}", self.text, self.cause, self.at)
+    }
+}
+
+impl Error for Refusal {}
+
+/// The refusal of a text for a cause at one of its bytes, with the flow where one is not allowed.
+pub(crate) fn refusal_at(
+    text: Text,
+    bytes: &[u8],
+    cause: Cause,
+    at: usize,
+    flow: Option<RefusedFlow>,
+) -> Refusal
+    ensures { result ≡ reported.refusal_at text bytes.now cause at flow }
+{
+    Refusal {
+        text,
+        cause,
+        at: place_of(bytes, at),
+        flow,
     }
 }

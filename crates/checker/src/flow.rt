@@ -1,5 +1,6 @@
 //! What is reported of a program whose constraints the solver refuses: the policy, and the steps of the chain.
-ghost use Rattle.checker.specs.Reported.{ReportsFlow, report_at, reported_by, reported_of};
+ghost use Rattle.checker.specs.Reported.{ReportsFlow, reported_by};
+ghost use Rattle.checker.specs.Steps.{report_at, reported_of};
 ghost use Rattle.labels.specs.Constraints.{label_lattice};
 ghost use Rattle.labels.specs.Label.{Covers, flows};
 ghost use Rattle.resolved.specs.CoreOf.{program_of};

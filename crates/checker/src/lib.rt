@@ -1,12 +1,18 @@
-//! Checking a source: from its bytes under a hierarchy to an accepted program with the least labels of its
-//! locals, or the first fault.
+//! Checking a source: from its text under a hierarchy, or from the bytes of two texts, to an accepted program with the least labels
+//! of its locals, or the first fault at its line and column.
 #![tactic(auto)]
 
+mod analysing;
 pub mod checked;
 pub mod fault;
 mod flow;
+mod found;
 pub mod phases;
+pub mod position;
+pub mod texts;
 
 pub use checked::Checked;
-pub use fault::{CheckFault, CheckRefusal, RefusedFlow, Step};
+pub use fault::{Fault, Refusal, RefusedFlow, Step};
 pub use phases::check;
+pub use position::{place_of, places_agree};
+pub use texts::check_texts;

@@ -1,7 +1,8 @@
-//! All phases, from the bytes of a source to an accepted program.
+//! All phases, from the text of a source to an accepted program.
 ghost use Rattle.acceptance.specs.Accepted.{IsAccepted};
 ghost use Rattle.checker.specs.Least.{least_label};
-ghost use Rattle.checker.specs.Reported.{HasFlow, IsCheckRefusal, IsNotAccepted, RefusesProgram};
+ghost use Rattle.checker.specs.Reported.{AsksForFlow, HasFlow, IsNotAccepted, IsSourceFault};
+ghost use Rattle.checker.specs.Steps.{RefusesProgram};
 ghost use Rattle.common.specs.Answers.{IfRefused};
 ghost use Rattle.path_map.specs.EndsOf.{AreEndsOf};
 ghost use Rattle.resolved.specs.CoreOf.{program_of};
@@ -9,12 +10,14 @@ ghost use Rattle.resolved.specs.EndFaults.{end_faults};
 ghost use Rattle.resolved.specs.Flow.{AreLeast};
 ghost use Rattle.resolved.specs.Isolated.{Isolated};
 ghost use Rattle.resolved.specs.Labelled.{Labelled};
-ghost use Rattle.std.specs.Prelude.{IfErr, IfOk, [], ◌≡◌};
+ghost use Rattle.std.specs.Prelude.{IfErr, IfOk, IfSome, [], ◌≡◌};
 
+use crate::analysing::{Analysed, analyse};
 use crate::checked::Checked;
-use crate::fault::{CheckFault, CheckRefusal};
+use crate::fault::{Fault, RefusedFlow, refusal_at};
 use crate::flow::flow_of;
-use analysis::{Analysed, analyse};
+use crate::found::Found;
+use acceptance::{Cause, Text};
 use common::OrNoMemory;
 use constraints::gather;
 use labels::LabelLattice;
@@ -24,38 +27,53 @@ use resolved::program::Core;
 use solver::{Constraints, solve};
 use std::alloc::Global;
 
-/// Checks a source under a hierarchy, phase by phase: its text, tokens and tree, its names, types and sizes, the ends of its
+/// Checks a source under a hierarchy, phase by phase: its length, its tokens and tree, its names, types and sizes, the ends of its
 /// statements, and its labels.
 ///
 /// # Errors
 ///
-/// The first fault of the source, with its byte; or out of memory.
-pub fn check(alloc: Global, hierarchy: &Hierarchy, source: &[u8]) -> Result<Checked, CheckFault>
-    // The source stands for the program, and some labels allow its flows.
+/// The first fault of the source, at its line and column, with the flow where one is not allowed; or out of memory.
+pub fn check(alloc: Global, hierarchy: &Hierarchy, source: &str) -> Result<Checked, Fault>
+    // The source stands for the program, which is isolated; the labels of its locals and loops are the least.
     ensures accepted { IfOk result (λ checked.
         IsAccepted hierarchy.now source.now (program_of checked.core)) }
     ensures isolated { IfOk result (λ checked. Isolated (program_of checked.core)) }
-
-    // The labels of its locals and loops are the least.
     ensures least { IfOk result (λ checked.
         AreLeast (program_of checked.core) (least_label checked)) }
 
-    // A refusal is the first fault, at its byte, and of a source that stands for no program.
-    ensures first_fault { IfErr result (IfRefused
-        (IsCheckRefusal hierarchy.now source.now)) }
+    // A refusal is the first fault, at its line and column, and of a source that stands for no program.
+    ensures first_fault { IfErr result (IfRefused (IsSourceFault hierarchy.now source.now)) }
     ensures rejected { IfErr result (IfRefused (λ _. IsNotAccepted hierarchy.now source.now)) }
 
-    // One for a flow names the flow.
+    // There is a flow exactly where one is not allowed, and it is the one that the source asks for.
     ensures flow { IfErr result (IfRefused HasFlow) }
+    ensures asked { IfErr result (IfRefused (λ refusal. IfSome refusal.flow
+        (AsksForFlow hierarchy.now source.now refusal))) }
 {
     isolation::noninterference::labelled_programs_are_isolated();
-    let Analysed { core, ends } = analyse(alloc, hierarchy, source).map_err(OrNoMemory::cast)?;
-    let checked = find_labels(alloc, core, &ends)?;
-    Ok(checked)
+    let analysed = match analyse(alloc, hierarchy, source) {
+        Ok(analysed) => analysed,
+        Err(OrNoMemory::NoMemory) => return Err(OrNoMemory::NoMemory),
+        Err(OrNoMemory::Refused(Found { cause, at })) => {
+            let bytes = source.as_bytes();
+            let refusal = refusal_at(Text::Source, bytes, cause, at, None);
+            return Err(OrNoMemory::Refused(refusal));
+        }
+    };
+    let Analysed { core, ends } = analysed;
+    match find_labels(alloc, core, &ends) {
+        Ok(checked) => Ok(checked),
+        Err(OrNoMemory::NoMemory) => Err(OrNoMemory::NoMemory),
+        Err(OrNoMemory::Refused(flow)) => {
+            let (bytes, at) = (source.as_bytes(), flow.at);
+            let refusal = refusal_at(Text::Source, bytes, Cause::FlowNotAllowed, at, Some(flow));
+            Err(OrNoMemory::Refused(refusal))
+        }
+    }
 }
 
 // A program without a fault of its ends, with its least labels if it is labelled.
-fn find_labels(alloc: Global, core: Core, ends: &Ends) -> Result<Checked, CheckFault>
+fn find_labels(alloc: Global, core: Core, ends: &Ends) -> Result<Checked, OrNoMemory<RefusedFlow>>
     requires ended { end_faults (program_of core) ≡ [] }
     requires mapped { AreEndsOf (program_of core) ends.now }
     ensures core { IfOk result (λ checked. checked.core ≡ core) }
@@ -80,7 +98,7 @@ fn find_labels(alloc: Global, core: Core, ends: &Ends) -> Result<Checked, CheckF
         Err(OrNoMemory::NoMemory) => Err(OrNoMemory::NoMemory),
         Err(OrNoMemory::Refused(refusal)) => {
             let flow = flow_of(alloc, core, &system, &refusal)?;
-            Err(OrNoMemory::Refused(CheckRefusal::FlowNotAllowed(flow)))
+            Err(OrNoMemory::Refused(flow))
         }
     }
 }

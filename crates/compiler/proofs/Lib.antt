@@ -1,7 +1,3 @@
-mod Lines
-mod Walking
-mod Characters
-mod Refusals
 pub mod Readers
 mod Isolating
 mod Coding

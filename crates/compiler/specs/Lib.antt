@@ -1,5 +1,1 @@
-pub mod Position
-pub mod NextPlace
-pub mod Characters
-pub mod Reported
 pub mod Compiled

@@ -2,9 +2,6 @@
 #![tactic(auto)]
 
 mod compilation;
-pub mod fault;
-pub mod position;
 
-pub use compilation::{check_texts, compile};
-pub use fault::{CompileRefusal, Fault, TextsFault, TextsRefusal};
-pub use position::{place_of, places_agree};
+pub use checker::{Fault, Refusal};
+pub use compilation::compile;

@@ -11,8 +11,7 @@ use Rattle.gathering.specs.Names.{NamedAtom, NamedConstraint}
 use Rattle.gathering.specs.Walk as walk
 use Rattle.gathering.specs.Walk.{flow, flows, raised_flows, raised_once}
 use Rattle.path_map.specs.declared.raises.Raises.{Raises}
-use Rattle.path_map.specs.Joins.{raised_list}
-use Rattle.path_map.specs.Sets.{AreRaised, is_one_of}
+use Rattle.path_map.specs.Exceptions.{AreRaised, is_one_of, raised_list}
 use Rattle.solver.specs.declared.constraints.Atom.{Atom}
 use Rattle.constraints.specs.LeftSides.{part, left_parts}
 use Rattle.constraints.specs.Added.{AreAdded, IsLeft, IsPart, PartConstraint, Stored, flow_if, stand_for, stands_for, wanted_constraint}

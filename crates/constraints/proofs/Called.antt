@@ -18,8 +18,7 @@ use Rattle.gathering.specs.Names.{NamedConstraint, named_atoms}
 use Rattle.gathering.specs.Walk as walk
 use Rattle.gathering.specs.Walk.{argument_constraints, call_atoms, call_flows, flow, inner_atom, raised_once, rule_constraint}
 use Rattle.path_map.specs.declared.raises.Raises.{Raises}
-use Rattle.path_map.specs.Joins.{raised_list}
-use Rattle.path_map.specs.Sets.{AreRaised}
+use Rattle.path_map.specs.Exceptions.{AreRaised, raised_list}
 use Rattle.solver.specs.declared.constraints.Atom.{Atom}
 use Rattle.constraints.specs.Added.{AreAdded, IsLeftFrom, Stored, flow_if}
 use Rattle.constraints.specs.LeftSides.{IsJoined, joined, scope_of, wanted_part}

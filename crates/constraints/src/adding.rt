@@ -1,7 +1,7 @@
 //! How a constraint is added: one that stands for a demand, or an inner one.
 ghost use Rattle.constraints.specs.Added.{AreAdded, IsLeft, IsPart, flow_if};
 ghost use Rattle.constraints.specs.Takers.{takers_of};
-ghost use Rattle.path_map.specs.Sets.{AreRaised};
+ghost use Rattle.path_map.specs.Exceptions.{AreRaised};
 ghost use Rattle.constraints.specs.LeftSides.{scope_of};
 ghost use Rattle.gathering.specs.Names.{NamedAtom};
 ghost use Rattle.gathering.specs.Walk.{flow, inner_atom, inner_constraint, raised_flows, rule_constraint};

@@ -5,7 +5,7 @@ ghost use Rattle.constraints.specs.Takers.{takers_of};
 ghost use Rattle.constraints.specs.declared.rows.ThrownLabel.{ThrownLabel};
 ghost use Rattle.gathering.specs.Names.{NamedAtom, named_atoms};
 ghost use Rattle.gathering.specs.Walk.{argument_constraints, call_atoms, call_constraints, call_ends, call_flows, flow, inner_atom, raised_once};
-ghost use Rattle.path_map.specs.Sets.{AreRaised};
+ghost use Rattle.path_map.specs.Exceptions.{AreRaised};
 ghost use Rattle.resolved.specs.CoreOf.{program_of};
 ghost use Rattle.resolved.specs.Ends.{declared_by, thrown_ends};
 ghost use Rattle.resolved.specs.Labelled.{any_of, label_of, one};

@@ -5,7 +5,7 @@ ghost use Rattle.constraints.specs.Takers.{takers_of};
 ghost use Rattle.constraints.specs.Walks.{IsSimple, valued_constraints};
 ghost use Rattle.gathering.specs.Names.{NamedAtom};
 ghost use Rattle.gathering.specs.Walk.{target_constraint};
-ghost use Rattle.path_map.specs.Sets.{AreRaised};
+ghost use Rattle.path_map.specs.Exceptions.{AreRaised};
 ghost use Rattle.resolved.specs.Ends.{index_raises, raises};
 ghost use Rattle.resolved.specs.Tree.{Assign, Clear, Leave, Receive, ReturnWith, Send, Store};
 ghost use Rattle.resolved.specs.TreeOf.{expression_of, some_expression_of};

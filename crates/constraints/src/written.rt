@@ -67,14 +67,12 @@ fn number_at(list: &[Label], order: &[u32], at: usize, label: &Label) -> Option<
     Some(number)
 }
 
-// Adds a label behind the others, and gives its part.
-fn append(list: &mut Vec<Label>, label: &Label) -> Result<Atom, AllocError>
+// Adds a label behind the others, and gives its part. The number is how many there are.
+fn append(list: &mut Vec<Label>, number: u32, label: &Label) -> Result<Atom, AllocError>
+    requires { number ≡ length list.old.items }
     ensures grown { OnOk result (TableGrows list.old.items list.new.items) }
     ensures meaning { IfOk result (λ atom. Means list.new.items atom (Written label.now)) }
 {
-    let Ok(number) = u32::try_from(list.len()) else {
-        return Err(AllocError);
-    };
     list.push(label.clone()?)?;
     Ok(Atom::Written(number))
 }
@@ -93,5 +91,5 @@ pub(crate) fn add(written: &mut Labels, label: &Label) -> Result<Atom, AllocErro
         return Err(AllocError);
     };
     written.order.insert(at, number)?;
-    append(&mut written.list, label)
+    append(&mut written.list, number, label)
 }

@@ -1,10 +1,10 @@
 //! Where the bytes of a text stand, each found in a few steps.
 
-ghost use Rattle.compiler.specs.Position.{column_of, line_of};
+ghost use Rattle.checker.specs.Position.{column_of, line_of};
 ghost use Rattle.explaining.specs.Marks.{marks_of};
 ghost use Rattle.std.specs.Prelude.{IfOk, ◌≡◌};
 
-use compiler::position::place_after;
+use checker::position::place_after;
 use lexer::Place;
 use std::alloc::{AllocError, Global};
 

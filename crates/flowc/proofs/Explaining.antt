@@ -1,11 +1,11 @@
 -- What an explanation shows of two texts.
 use Rattle.std.proofs.Common.{◌≡◌, refl, sym, subst, ◌∙◌, ◌⊎◌, inl, inr, ℕ, List, Result, Ok, Err, IfOk, OnErr, OnOk}
-use Rattle.std.specs.Prelude.{◌↔◌, Option, Some, None, IfErr, IfSome, IsSome, MatchResult}
+use Rattle.std.specs.Prelude.{Option, Some, None, IfErr, IfSome, MatchResult}
 use Rattle.std.specs.Io.KnownBytes.{Appends}
 use Rattle.channels.specs.Sink.{AppendsPrefix}
 use Rattle.checker.specs.declared.fault.RefusedFlow.{RefusedFlow}
-use Rattle.compiler.specs.Reported.{AsksForFlow, IsFirstFault, IsFlowRefusal}
-use Rattle.compiler.specs.declared.fault.CompileRefusal.{CompileRefusal}
+use Rattle.checker.specs.Reported.{HasFlow, IsFirstFault, TextsAskForFlow}
+use Rattle.checker.specs.declared.fault.Refusal.{Refusal}
 use Rattle.explaining.specs.Flow.{flow_text}
 use Rattle.flowc.specs.Explained.{IsRefusedFor, Explains, ExplainsRefusal, ExplainsSome, ShowsChain}
 use Rattle.flowc.specs.Explained.ExplainsSome.{chain}
@@ -14,29 +14,23 @@ use Rattle.flowc.specs.declared.ended.Ended.{Ended}
 use Rattle.flowc.specs.declared.fault.PerformFault.{PerformFault}
 use Rattle.flowc.specs.declared.fault.PerformFault.TheVariants.{Refused, CannotWrite, NoMemory}
 
-with_flow : (h s : List ℕ) (refusal : CompileRefusal) (found : Option RefusedFlow) (flow : RefusedFlow) → found ≡ Some flow → IsFirstFault h s refusal
-    → (IsFlowRefusal refusal ↔ IsSome found) → IfSome found (AsksForFlow h s refusal) → IsRefusedFor h s refusal (Some flow)
-with_flow h s refusal found flow is first has asked = record {
-  first = first;
-  has_flow = subst (λ (f : Option RefusedFlow). IsFlowRefusal refusal ↔ IsSome f) is has;
-  asked = subst (λ (f : Option RefusedFlow). IfSome f (AsksForFlow h s refusal)) is asked;
-}
+-- what is known of a refusal
+module _ (h s : List ℕ) (refusal : Refusal) (old new : Option (List ℕ)) (first : IsFirstFault h s refusal) (has : HasFlow refusal)
+    (asked : IfSome refusal.flow (TextsAskForFlow h s refusal)) where
+  refused_for : IsRefusedFor h s refusal
+  refused_for = record { first = first; has_flow = has; asked = asked }
 
--- a prefix of the chain of the flow went out
-pub chain_of : (h s : List ℕ) (refusal : CompileRefusal) (found : Option RefusedFlow) (flow : RefusedFlow) (old new : Option (List ℕ)) → found ≡ Some flow → IsFirstFault h s refusal
-    → (IsFlowRefusal refusal ↔ IsSome found) → IfSome found (AsksForFlow h s refusal) → AppendsPrefix old new (flow_text s flow) → ExplainsSome h s old new
-chain_of h s refusal found flow old new is first has asked out = chain refusal flow (with_flow h s refusal found flow is first has asked) out
+  -- a prefix of the chain of the flow went out
+  pub chain_of : (flow : RefusedFlow) → refusal.flow ≡ Some flow → AppendsPrefix old new (flow_text s flow) → ExplainsSome h s old new
+  chain_of flow is out = chain refusal flow refused_for is out
 
--- the whole chain went out, and then its refusal is reported
-pub reported_chain : (h s : List ℕ) (refusal : CompileRefusal) (found : Option RefusedFlow) (flow : RefusedFlow) (old new : Option (List ℕ)) → found ≡ Some flow → IsFirstFault h s refusal
-    → (IsFlowRefusal refusal ↔ IsSome found) → IfSome found (AsksForFlow h s refusal) → Appends old new (flow_text s flow) → ExplainsRefusal h s old new
-reported_chain h s refusal found flow old new is first has asked out = (refusal, Some flow, with_flow h s refusal found flow is first has asked, out)
+  -- the whole chain went out, and then its refusal is reported
+  pub reported_chain : (flow : RefusedFlow) → refusal.flow ≡ Some flow → Appends old new (flow_text s flow) → ExplainsRefusal h s old new
+  reported_chain flow is out = (refusal, refused_for, subst (λ (f : Option RefusedFlow). ShowsChain s f old new) (sym is) out)
 
--- another refusal is reported, and nothing went out
-pub reported_other : (h s : List ℕ) (refusal : CompileRefusal) (found : Option RefusedFlow) (old new : Option (List ℕ)) → found ≡ None → IsFirstFault h s refusal
-    → (IsFlowRefusal refusal ↔ IsSome found) → IfSome found (AsksForFlow h s refusal) → old ≡ new → ExplainsRefusal h s old new
-reported_other h s refusal found old new is first has asked same =
-    (refusal, found, record { first = first; has_flow = has; asked = asked }, subst (λ (f : Option RefusedFlow). ShowsChain s f old new) (sym is) same)
+  -- another refusal is reported, and nothing went out
+  pub reported_other : refusal.flow ≡ None → old ≡ new → ExplainsRefusal h s old new
+  reported_other is same = (refusal, refused_for, subst (λ (f : Option RefusedFlow). ShowsChain s f old new) (sym is) same)
 
 -- what an explanation shows, or why it shows nothing
 pub explain_shows : (h s h' s' : List ℕ) (status : ℕ) (old new : Option (List ℕ)) (outcome : Result Ended PerformFault)

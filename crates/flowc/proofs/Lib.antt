@@ -6,3 +6,4 @@ pub mod Refusals
 pub mod Reporting
 pub mod Sessions
 pub mod Settled
+mod TextRead

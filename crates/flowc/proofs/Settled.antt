@@ -3,7 +3,7 @@ use Rattle.std.proofs.Common.{◌≡◌, ◌∙◌, sym, subst, arith, refl, ℕ
 use Rattle.common.specs.Answers.{IfRefused}
 use Rattle.common.specs.declared.fault.OrNoMemory.{OrNoMemory}
 use Rattle.common.specs.declared.fault.OrNoMemory.TheVariants as or
-use Rattle.compiler.specs.Reported.{StandForNone}
+use Rattle.checker.specs.Reported.{StandForNone}
 use Rattle.flowc.specs.Compiled.{AreAccepted}
 use Rattle.flowc.specs.Task.{status_of_fault}
 use Rattle.flowc.specs.declared.fault.PerformFault.{PerformFault}

@@ -1,14 +1,14 @@
 -- What an explanation of two texts shows: the least labels of an accepted source, or the chain of a flow that is refused.
 -- Source: our own; labels of locals may be left out, and are then inferred, as in JFlow (Myers 1999).
-use Rattle.std.specs.Prelude.{◌≡◌, ◌↔◌, ℕ, List, Option, Some, None, IfSome, IsSome}
+use Rattle.std.specs.Prelude.{◌≡◌, ℕ, List, Option, Some, None, IfSome}
 use Rattle.std.specs.Io.KnownBytes.{Appends}
 use Rattle.acceptance.specs.Accepted.{StandFor}
 use Rattle.channels.specs.Sink.{AppendsPrefix}
 use Rattle.checker.specs.Least.{least_label}
 use Rattle.checker.specs.declared.checked.Checked.{Checked}
+use Rattle.checker.specs.Reported.{HasFlow, IsFirstFault, TextsAskForFlow}
 use Rattle.checker.specs.declared.fault.RefusedFlow.{RefusedFlow}
-use Rattle.compiler.specs.Reported.{AsksForFlow, IsFirstFault, IsFlowRefusal}
-use Rattle.compiler.specs.declared.fault.CompileRefusal.{CompileRefusal}
+use Rattle.checker.specs.declared.fault.Refusal.{Refusal}
 use Rattle.explaining.specs.Flow.{flow_text}
 use Rattle.explaining.specs.Locals.{WritesLabels, WritesSomeLabels}
 use Rattle.resolved.specs.CoreOf.{program_of}
@@ -25,10 +25,10 @@ Explains hierarchy source old new =
     (checked : Checked) × IsCheckOf hierarchy source checked × WritesLabels checked source old new
 
 -- the first fault of two texts, with the flow where one is not allowed
-pub record IsRefusedFor (hierarchy source : List ℕ) (refusal : CompileRefusal) (flow : Option RefusedFlow) : Type 0 where
+pub record IsRefusedFor (hierarchy source : List ℕ) (refusal : Refusal) : Type 0 where
   pub first : IsFirstFault hierarchy source refusal
-  pub has_flow : IsFlowRefusal refusal ↔ IsSome flow
-  pub asked : IfSome flow (AsksForFlow hierarchy source refusal)
+  pub has_flow : HasFlow refusal
+  pub asked : IfSome refusal.flow (TextsAskForFlow hierarchy source refusal)
 
 -- the chain of a flow that is not allowed went out; of another refusal nothing
 abbrev pub ShowsChain : (source : List ℕ) → Option RefusedFlow → (old new : Option (List ℕ)) → Type 0
@@ -37,13 +37,12 @@ ShowsChain source (Some flow) old new = Appends old new (flow_text source flow)
 
 abbrev pub ExplainsRefusal : (hierarchy source : List ℕ) → (old new : Option (List ℕ)) → Type 0
 ExplainsRefusal hierarchy source old new =
-    (refusal : CompileRefusal) × (flow : Option RefusedFlow) × IsRefusedFor hierarchy source refusal flow
-    × ShowsChain source flow old new
+    (refusal : Refusal) × IsRefusedFor hierarchy source refusal × ShowsChain source refusal.flow old new
 
 -- where a stream failed or memory ran out: nothing was written, or a prefix of one of these
 pub data ExplainsSome (hierarchy source : List ℕ) (old new : Option (List ℕ)) : Type 0 where
   nothing : old ≡ new → ExplainsSome hierarchy source old new
   labels : (checked : Checked) → IsCheckOf hierarchy source checked
       → WritesSomeLabels checked source old new → ExplainsSome hierarchy source old new
-  chain : (refusal : CompileRefusal) (flow : RefusedFlow) → IsRefusedFor hierarchy source refusal (Some flow)
+  chain : (refusal : Refusal) (flow : RefusedFlow) → IsRefusedFor hierarchy source refusal → refusal.flow ≡ Some flow
       → AppendsPrefix old new (flow_text source flow) → ExplainsSome hierarchy source old new

@@ -3,6 +3,7 @@ pub mod Explained
 pub mod Lines
 pub mod Messages
 pub mod Promises
+pub mod Source
 pub mod Stdout
 pub mod Task
 pub mod View

@@ -8,7 +8,7 @@ use Rattle.channels.specs.declared.defect.WorldRefusal.{WorldRefusal}
 use Rattle.channels.specs.Defects.{world_number, world_words}
 use Rattle.acceptance.specs.Causes.{cause_number, cause_words}
 use Rattle.acceptance.specs.declared.cause.Cause.TheVariants.{NotUtf8}
-use Rattle.compiler.specs.declared.fault.CompileRefusal.{CompileRefusal}
+use Rattle.checker.specs.declared.fault.Refusal.{Refusal}
 use Rattle.resolved.specs.Exceptions.{exception_name}
 use Rattle.machine.specs.declared.status.Status.{Status}
 use Rattle.machine.specs.declared.status.Status.TheVariants as status
@@ -48,7 +48,7 @@ abbrev pub world_line : (path : List ℕ) → WorldRefusal → List ℕ
 world_line path refusal = at_one path refusal.line (saying (world_number refusal.defect) (world_words refusal.defect))
 
 -- what is wrong with a hierarchy text or a source, at a line and a column
-abbrev pub text_line : (path : List ℕ) → CompileRefusal → List ℕ
+abbrev pub text_line : (path : List ℕ) → Refusal → List ℕ
 text_line path refusal =
     at_two path refusal.at.line refusal.at.column (saying (cause_number refusal.cause) (cause_words refusal.cause))
 

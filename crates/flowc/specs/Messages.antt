@@ -14,8 +14,8 @@ use Rattle.channels.specs.Sink.{AppendsPrefix}
 use Rattle.channels.specs.World.{input_names}
 use Rattle.channels.specs.WorldText.{IsWorldRefusal, IsWorldText, lines_of}
 use Rattle.channels.specs.declared.defect.WorldRefusal.{WorldRefusal}
-use Rattle.compiler.specs.Reported.{IsFirstFault, text_among}
-use Rattle.compiler.specs.declared.fault.CompileRefusal.{CompileRefusal}
+use Rattle.checker.specs.Reported.{IsFirstFault, text_among}
+use Rattle.checker.specs.declared.fault.Refusal.{Refusal}
 use Rattle.machine.specs.Run.{ReportsStatus}
 use Rattle.machine.specs.declared.status.Status.{Status}
 use Rattle.verifier.specs.Refusals.{HasNoDefect}
@@ -36,7 +36,7 @@ WroteLine line old new failed = Appends old new line ⊎ (IsTrue failed × Appen
 
 -- the line reports the first fault of two texts, with the path of the text that it is in
 pub record IsTextsLine (hierarchy_path source_path hierarchy source line : List ℕ) : Type 0 where
-  pub refusal : CompileRefusal
+  pub refusal : Refusal
   pub first : IsFirstFault hierarchy source refusal
   pub says : line ≡ text_line (text_among hierarchy_path source_path refusal.text) refusal
 

@@ -1,12 +1,12 @@
 //! Explains the labels of a source, or why it is refused a flow.
 
-ghost use Rattle.compiler.specs.Reported.{AsksForFlow, IsFirstFault, IsFlowRefusal};
+ghost use Rattle.checker.specs.Reported.{HasFlow, IsFirstFault, TextsAskForFlow};
 ghost use Rattle.flowc.specs.Compiled.{AreAccepted};
 ghost use Rattle.flowc.specs.Explained.{Explains, ExplainsRefusal, ExplainsSome};
 ghost use Rattle.flowc.specs.Lines.{IsPerformFault};
 ghost use Rattle.flowc.specs.Messages.{IsTextsLine};
 ghost use Rattle.flowc.specs.Task.{status_of_fault};
-ghost use Rattle.std.specs.Prelude.{[], ◌≡◌, ◌↔◌, IfErr, IfOk, IfSome, IsSome, OnErr, OnOk};
+ghost use Rattle.std.specs.Prelude.{[], ◌≡◌, IfErr, IfOk, IfSome, OnErr, OnOk};
 ghost use Rattle.std.specs.String.{string_bytes};
 
 use crate::ended::Ended;
@@ -14,8 +14,8 @@ use crate::fault::PerformFault;
 use crate::reading::File;
 use crate::texts::texts_line;
 use channels::Sink;
+use checker::{Refusal, check_texts};
 use common::OrNoMemory;
-use compiler::{TextsRefusal, check_texts};
 use explaining::{write_flow, write_labels};
 use std::alloc::Global;
 
@@ -48,8 +48,8 @@ pub fn explain<O: Sink>(
             Ok(Ended::report_nothing(alloc))
         }
         Err(OrNoMemory::NoMemory) => Err(PerformFault::NoMemory),
-        Err(OrNoMemory::Refused(refused)) => {
-            let line = explain_refusal(alloc, hierarchy, source, refused, out)?;
+        Err(OrNoMemory::Refused(refusal)) => {
+            let line = explain_refusal(alloc, hierarchy, source, &refusal, out)?;
             Err(PerformFault::Refused(line))
         }
     }
@@ -61,13 +61,13 @@ fn explain_refusal<O: Sink>(
     alloc: Global,
     hierarchy: File<'_>,
     source: File<'_>,
-    refused: TextsRefusal,
+    refusal: &Refusal,
     out: &mut O,
 ) -> Result<String, PerformFault>
-    requires first_fault { IsFirstFault hierarchy.bytes.now source.bytes.now refused.refusal }
-    requires flow { IsFlowRefusal refused.refusal ↔ IsSome refused.flow }
-    requires asked { IfSome refused.flow
-        (AsksForFlow hierarchy.bytes.now source.bytes.now refused.refusal) }
+    requires first_fault { IsFirstFault hierarchy.bytes.now source.bytes.now refusal.now }
+    requires flow { HasFlow refusal.now }
+    requires asked { IfSome refusal.now.flow
+        (TextsAskForFlow hierarchy.bytes.now source.bytes.now refusal.now) }
     ensures line { IfOk result (λ line. IsTextsLine
         hierarchy.entry.path.now source.entry.path.now
         hierarchy.entry.bytes.now source.entry.bytes.now (string_bytes line)) }
@@ -77,8 +77,8 @@ fn explain_refusal<O: Sink>(
         hierarchy.entry.bytes.now source.entry.bytes.now (O.taken out.old) (O.taken out.new) }
     ensures message { IfErr result (IsPerformFault (λ _. ⊥) (O.has_failed out.new)) }
 {
-    if let Some(flow) = &refused.flow {
+    if let Some(flow) = &refusal.flow {
         write_flow(alloc, flow, source.bytes, out)?;
     }
-    Ok(texts_line(alloc, hierarchy, source, refused.refusal)?)
+    Ok(texts_line(alloc, hierarchy, source, refusal)?)
 }

@@ -9,6 +9,7 @@ mod list;
 mod messages;
 mod reading;
 mod running;
+mod sources;
 mod tasks;
 mod texts;
 
@@ -17,14 +18,15 @@ pub use bytecode::{FormatFault, FormatRefusal, decode};
 pub use channels::{
     Device, Pair, Sink, SinkFault, ViewFault, World, WorldDefect, WorldFault, WorldRefusal,
 };
-pub use checker::{CheckFault, CheckRefusal, Checked, RefusedFlow};
+pub use checker::{Checked, Fault, Refusal, RefusedFlow, check_texts};
 pub use command_line::{DEFAULT_STEPS, MAX_STEPS, Task, TaskFault, TaskRefusal, task};
 pub use common::OrNoMemory;
-pub use compiler::{CompileRefusal, Fault, TextsFault, TextsRefusal, check_texts, compile};
+pub use compiler::compile;
 pub use host::{Answer, Event, Host, HostFault, HostRefusal, Id, MAX_SESSIONS};
 pub use lexer::Place;
 pub use machine::{NewFault, NewRefusal, Status};
 pub use modules::{FormatDefect, Module};
+pub use sources::{Feed, ReadFault, Source, SourceFault, read_text};
 pub use tasks::{Done, perform};
 pub use verifier::{
     CodeDefect, CodeRefusal, LoadFault, LoadRefusal, Verified, VerifyFault, load, verify,

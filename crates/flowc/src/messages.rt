@@ -7,7 +7,7 @@ ghost use Rattle.std.specs.String.{string_bytes};
 use acceptance::Cause;
 use bytecode::FormatRefusal;
 use channels::WorldRefusal;
-use compiler::CompileRefusal;
+use checker::Refusal;
 use principals::{UNKNOWN_PRINCIPAL, UNKNOWN_PRINCIPAL_WORDS};
 use std::alloc::{AllocError, Global};
 use verifier::{CodeRefusal, LoadRefusal};
@@ -79,8 +79,8 @@ pub fn encoding_line(alloc: Global, path: &str) -> Result<String, AllocError>
 }
 
 /// The line that reports what is wrong with a hierarchy text or a source, at a line and a column.
-pub fn text_line(alloc: Global, path: &str, refusal: CompileRefusal) -> Result<String, AllocError>
-    ensures { IfOk result (λ line. string_bytes line ≡ lines.text_line path.now refusal) }
+pub fn text_line(alloc: Global, path: &str, refusal: &Refusal) -> Result<String, AllocError>
+    ensures { IfOk result (λ line. string_bytes line ≡ lines.text_line path.now refusal.now) }
 {
     let (at, cause) = (refusal.at, refusal.cause);
     let (number, words) = (cause.number(), cause.words());

@@ -1,8 +1,8 @@
 //! Checks and compiles the texts of two files: of a hierarchy, and of a source under it.
 
 ghost use Rattle.channels.specs.Sink.{AppendsPrefix};
+ghost use Rattle.checker.specs.Reported.{IsFirstFault};
 ghost use Rattle.compiler.specs.Compiled.{IsCompiled};
-ghost use Rattle.compiler.specs.Reported.{IsFirstFault};
 ghost use Rattle.flowc.specs.Compiled.{AreAccepted};
 ghost use Rattle.flowc.specs.Lines.{IsPerformFault};
 ghost use Rattle.flowc.specs.Messages.{IsTextsLine};
@@ -17,8 +17,9 @@ use crate::messages::text_line;
 use crate::reading::File;
 use acceptance::Text;
 use channels::{Sink, write_all};
+use checker::{Refusal, check_texts};
 use common::OrNoMemory;
-use compiler::{CompileRefusal, check_texts, compile};
+use compiler::compile;
 use std::alloc::{AllocError, Global};
 
 /// Checks a source under a hierarchy, and says so on standard output.
@@ -49,7 +50,7 @@ pub fn check<O: Sink>(
         }
         Err(OrNoMemory::NoMemory) => Err(PerformFault::NoMemory),
         Err(OrNoMemory::Refused(refused)) => {
-            let line = texts_line(alloc, hierarchy, source, refused.refusal)?;
+            let line = texts_line(alloc, hierarchy, source, &refused)?;
             Err(PerformFault::Refused(line))
         }
     }
@@ -70,7 +71,7 @@ pub fn build(alloc: Global, hierarchy: File<'_>, source: File<'_>) -> Result<Vec
         Ok(code) => Ok(code),
         Err(OrNoMemory::NoMemory) => Err(PerformFault::NoMemory),
         Err(OrNoMemory::Refused(refusal)) => {
-            let line = texts_line(alloc, hierarchy, source, refusal)?;
+            let line = texts_line(alloc, hierarchy, source, &refusal)?;
             Err(PerformFault::Refused(line))
         }
     }
@@ -81,9 +82,9 @@ pub fn texts_line(
     alloc: Global,
     hierarchy: File<'_>,
     source: File<'_>,
-    refusal: CompileRefusal,
+    refusal: &Refusal,
 ) -> Result<String, AllocError>
-    requires { IsFirstFault hierarchy.bytes.now source.bytes.now refusal }
+    requires { IsFirstFault hierarchy.bytes.now source.bytes.now refusal.now }
     ensures { IfOk result (λ line. IsTextsLine
         hierarchy.entry.path.now source.entry.path.now
         hierarchy.entry.bytes.now source.entry.bytes.now (string_bytes line)) }

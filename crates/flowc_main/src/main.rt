@@ -6,8 +6,9 @@ ghost use Rattle.std.specs.Prelude.{◌≡◌, IfOk, length};
 
 use channels::{Device, write_all};
 use common::OrNoMemory;
-use flowc::{Task, TaskRefusal, perform, task};
-use std::io::ErrorKind;
+use flowc::{Feed, SourceFault, Task, TaskRefusal, perform, read_text, task};
+use std::alloc::AllocError;
+use std::io::{Error, ErrorKind};
 use std::process::ExitCode;
 use std::rt::Files;
 use std::{env, fs};
@@ -76,24 +77,56 @@ fn read_files(rt: &HostRuntime, asked: &Task) -> Result<Vec<Vec<u8>>, ProgramFau
 {
     let mut files = Vec::new(rt.alloc());
     if let Some(path) = asked.path(0) {
-        files.push(read(rt, path)?)?;
+        files.push(read_file(rt, asked, path)?)?;
     }
     if let Some(path) = asked.path(1) {
-        files.push(read(rt, path)?)?;
+        files.push(read_file(rt, asked, path)?)?;
     }
     Ok(files)
 }
 
+// The bytes of a file that the task reads. A hierarchy and a source are read no further than it takes to see that they are too
+// long; a module and a world have no such limit.
+fn read_file(rt: &HostRuntime, asked: &Task, path: &str) -> Result<Vec<u8>, ProgramFault> {
+    match asked {
+        Task::Check { .. } | Task::Build { .. } | Task::Explain { .. } => read_start(rt, path),
+        Task::Run { .. } | Task::List { .. } => read_whole(rt, path),
+    }
+}
+
+// What is read of the file of a text.
+fn read_start(rt: &HostRuntime, path: &str) -> Result<Vec<u8>, ProgramFault> {
+    let file = match fs::open(rt, path) {
+        Ok(file) => file,
+        Err(error) => return Err(no_file(rt, path, &error)?),
+    };
+    match read_text(rt.alloc(), &mut Feed::new(file)) {
+        Ok(bytes) => Ok(bytes),
+        Err(OrNoMemory::NoMemory) => Err(OrNoMemory::NoMemory),
+        Err(OrNoMemory::Refused(SourceFault)) => Err(cannot_read(rt, path)?),
+    }
+}
+
 // All bytes of a file.
-fn read(rt: &HostRuntime, path: &str) -> Result<Vec<u8>, ProgramFault> {
+fn read_whole(rt: &HostRuntime, path: &str) -> Result<Vec<u8>, ProgramFault> {
     match fs::read(rt, path) {
         Ok(bytes) => Ok(bytes),
-        Err(error) if error.kind() == ErrorKind::OutOfMemory => Err(OrNoMemory::NoMemory),
-        Err(_) => {
-            let line = format!(in rt.alloc(); "flowc: {path}: cannot read\n")?;
-            Err(OrNoMemory::Refused(ProgramRefusal::File(line)))
-        }
+        Err(error) => Err(no_file(rt, path, &error)?),
     }
+}
+
+// Why a file was not opened or not read: memory ran out, or it cannot be read.
+fn no_file(rt: &HostRuntime, path: &str, error: &Error) -> Result<ProgramFault, AllocError> {
+    if error.kind() == ErrorKind::OutOfMemory {
+        return Ok(OrNoMemory::NoMemory);
+    }
+    cannot_read(rt, path)
+}
+
+// The refusal of a file that cannot be read.
+fn cannot_read(rt: &HostRuntime, path: &str) -> Result<ProgramFault, AllocError> {
+    let line = format!(in rt.alloc(); "flowc: {path}: cannot read\n")?;
+    Ok(OrNoMemory::Refused(ProgramRefusal::File(line)))
 }
 
 // Makes these bytes the content of a file.

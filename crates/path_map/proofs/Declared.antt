@@ -1,5 +1,5 @@
 -- Rows of the exceptions that procedures declare, one more at a time.
-use Rattle.std.proofs.Common.{◌≡◌, refl, sym, ap, subst, ◌∙◌, ℕ, ◌<◌, ◌≤◌, List, [], ◌∷◌, ◌++◌, length, get_or, map, arith, ◌⊎◌, inl, inr}
+use Rattle.std.proofs.Common.{◌≡◌, refl, sym, ap, subst, ◌∙◌, ℕ, ◌<◌, ◌≤◌, List, [], ◌∷◌, ◌++◌, length, get_or, arith, ◌⊎◌, inl, inr}
 use Rattle.std.specs.Prelude.{Option}
 use Rattle.std.proofs.Math.Nat.{eq-or-lt_of_le}
 use Rattle.std.proofs.Math.Seq.{get_or-append_seam}
@@ -13,7 +13,7 @@ use Rattle.resolved.specs.ProgramOf.{procedure_entry}
 use Rattle.resolved.specs.Ends.{declared_by}
 use Rattle.path_map.specs.declared.set.ExceptionSet.{ExceptionSet}
 use Rattle.path_map.specs.Rows.{AreDeclaredRows, no_row, says}
-use Rattle.path_map.specs.Sets.{is_one_of}
+use Rattle.path_map.specs.Exceptions.{is_one_of}
 
 -- the procedure of a program that has an item of its table
 procedure-there : (core : Core) (i : ℕ) (procedure : Procedure) → i < length core.procedures.items

@@ -16,9 +16,10 @@ use Rattle.common.specs.declared.fault.OrNoMemory.{OrNoMemory}
 use Rattle.common.specs.Answers.{IfRefused}
 use Rattle.resolved.specs.declared.fault.EndRefusal.{EndRefusal}
 use Rattle.path_map.specs.FirstFault.{IsFirstEndFault}
-use Rattle.path_map.specs.Joins.{join, of_loop, raised_list, raises_some}
+use Rattle.path_map.specs.Exceptions.{is_one_of, raised_list}
+use Rattle.path_map.specs.Joins.{join, of_loop, raises_some}
 use Rattle.path_map.specs.Paths.{inner_paths, block_paths, handlers_paths}
-use Rattle.path_map.specs.Sets.{row_has, IsSum, IsSummaryOf, is_one_of, throws}
+use Rattle.path_map.specs.Sets.{row_has, IsSum, IsSummaryOf, throws}
 use Rattle.path_map.specs.Walks.{IsFound, AreThrown, AreLeft}
 use Rattle.path_map.proofs.Summary.{loop-thrown}
 use Rattle.path_map.proofs.Walking.{both, looped, try-found}

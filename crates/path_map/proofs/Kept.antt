@@ -3,7 +3,7 @@ use Rattle.std.proofs.Common.{◌≡◌, ◌≢◌, refl, sym, ap, ◌∙◌, su
 use Rattle.std.specs.Prelude.{◌==◌, slice_index_or}
 use Rattle.std.proofs.lemmas.Bool.{eqb-true, eqb-false, ne_eqb, ltb-true, ltb-false}
 use Rattle.std.proofs.Math.Bool.{or-false, and-true, and-false}
-use Rattle.std.proofs.lemmas.List.{length-append}
+use Rattle.std.proofs.lemmas.List.{length-append, length-map}
 use Rattle.resolved.specs.declared.statement.Exit.{Exit}
 use Rattle.resolved.specs.declared.statement.Exit.TheVariants.{Normal, Return, Break, Continue, Throw}
 use Rattle.resolved.specs.Ends.{same_exit, has_end, thrown_ends}
@@ -15,7 +15,8 @@ use Rattle.path_map.specs.declared.table.Entry.{Entry}
 use Rattle.path_map.specs.Exits.{exits_of, raised_by, thrown_in}
 use Rattle.path_map.specs.Entries.{below, listed, row_at, exceptions_at, end_if, entry_ends, IsKept, AreKept, RowsGrow, IsRowFor, IsRowOf, HasExits, IsPut}
 use Rattle.path_map.specs.Joins.{only_raised}
-use Rattle.path_map.specs.Sets.{row_has, is_one_of, throws, IsSummaryOf}
+use Rattle.path_map.specs.Exceptions.{is_one_of}
+use Rattle.path_map.specs.Sets.{row_has, throws, IsSummaryOf}
 use Rattle.path_map.proofs.Rows.{past-row}
 use Rattle.path_map.proofs.Summary.{none-thrown, summary-is, throws-in, throws-thrown}
 
@@ -196,6 +197,33 @@ pub exits-at : (rows : List ExceptionSet) (entries : List Entry) (number : ℕ) 
 exits-at rows [] number none kept there = absurd (omega arith)
 exits-at rows (x ∷ entries) zero none kept there = kept.0.summary
 exits-at rows (x ∷ entries) (suc number) none kept there = exits-at rows entries number none kept.1 (omega arith)
+
+-- an entry that is read
+kept-at : (rows : List ExceptionSet) (entries : List Entry) (number : ℕ) (none : Entry) → AreKept rows entries → number < length entries
+    → (get_or entries number none).row < length rows
+kept-at rows [] number none kept there = absurd (omega arith)
+kept-at rows (x ∷ entries) zero none kept there = kept.0.there
+kept-at rows (x ∷ entries) (suc number) none kept there = kept-at rows entries number none kept.1 (omega arith)
+
+ends-at : (rows : List ExceptionSet) (entries : List Entry) (number : ℕ) (none : Entry) → number < length entries
+    → entry_ends rows (get_or entries number none) ≡ slice_index_or (map (entry_ends rows) entries) number []
+ends-at rows [] number none there = absurd (omega arith)
+ends-at rows (x ∷ entries) zero none there = refl
+ends-at rows (x ∷ entries) (suc number) none there = ends-at rows entries number none (omega arith)
+
+module _ (rows : List ExceptionSet) (entries : List Entry) (found : List (List Exit)) (number : ℕ) (entry none : Entry)
+    (is : entry ≡ get_or entries number none) (view : map (entry_ends rows) entries ≡ found) (there : number < length found) where
+  inside : number < length entries
+  inside = omega (arith, there, ap length view, length-map entries (entry_ends rows))
+
+  pub row-inside : AreKept rows entries → entry.row < length rows
+  row-inside kept = subst (λ (e : Entry). e.row < length rows) (sym is) (kept-at rows entries number none kept inside)
+
+  pub end-found : (exit : Exit) → has_end (entry_ends rows entry) exit ≡ has_end (slice_index_or found number []) exit
+  end-found exit =
+      ap (λ (e : Entry). has_end (entry_ends rows e) exit) is
+      ∙ (ap (λ ends. has_end ends exit) (ends-at rows entries number none inside)
+      ∙ ap (λ v. has_end (slice_index_or v number []) exit) view)
 
 -- an entry that is written
 one-exception : (set : ℕ → Bool) (x e : ℕ) → IsSummaryOf set (One x) → ((e == x) || false) ≡ set e

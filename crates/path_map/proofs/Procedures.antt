@@ -30,7 +30,8 @@ use Rattle.path_map.specs.FirstFault.{IsFirstEndFault}
 use Rattle.path_map.specs.Exits.{exits_of, raised_by}
 use Rattle.path_map.specs.Joins.{join_raised}
 use Rattle.path_map.specs.Paths.{AreAlike, block_paths}
-use Rattle.path_map.specs.Sets.{AreDeclared, is_one_of, row_has, throws}
+use Rattle.path_map.specs.Exceptions.{is_one_of}
+use Rattle.path_map.specs.Sets.{AreDeclared, row_has, throws}
 use Rattle.path_map.specs.Walks.{IsFound}
 use Rattle.path_map.proofs.Summary.{same-number, raised-append, throws-thrown}
 use Rattle.path_map.proofs.Alike.{alike-refl, alike-step, alike-end}

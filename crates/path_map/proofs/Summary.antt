@@ -14,7 +14,8 @@ use Rattle.path_map.specs.declared.exits.Raised.TheVariants.{Nothing, One, Sever
 use Rattle.path_map.specs.declared.exits.Exits.{Exits}
 use Rattle.path_map.specs.Exits.{thrown_in, raised_by, exits_of}
 use Rattle.path_map.specs.Joins.{join_raised, join, after, only_raised, of_loop}
-use Rattle.path_map.specs.Sets.{is_one_of, IsSummaryOf, throws}
+use Rattle.path_map.specs.Exceptions.{is_one_of}
+use Rattle.path_map.specs.Sets.{IsSummaryOf, throws}
 
 pub or-same : (a : Bool) → (a || a) ≡ a
 or-same true = refl

@@ -1,6 +1,6 @@
--- How summaries of ends are put together.
+-- Private: how summaries of ends are put together.
 -- Source: our own.
-use Rattle.std.specs.Prelude.{ℕ, List, [], ◌∷◌, ◌++◌, Bool, true, false, ◌==◌, ◌||◌, if◌then◌else◌, Option, Some, None}
+use Rattle.std.specs.Prelude.{ℕ, List, [], true, false, ◌==◌, ◌||◌, if◌then◌else◌, Option, Some, None}
 use Rattle.resolved.specs.Tree.{Expression}
 use Rattle.resolved.specs.Ends.{raises}
 use Rattle.path_map.specs.declared.exits.Raised.{Raised}
@@ -37,10 +37,7 @@ only_raised raised = record { normal = false; returns = false; breaks = false; c
 abbrev pub of_loop : Exits → Exits
 of_loop body = record body { normal = true; breaks = false; continues = false }
 
--- the exceptions of an expression that can raise `Arith` or not, and `Bounds` or not; and those of one that may be there
-abbrev pub raised_list : (arith bounds : Bool) → List ℕ
-raised_list arith bounds = (if arith then 0 ∷ [] else []) ++ (if bounds then 1 ∷ [] else [])
-
+-- the exceptions of an expression that may be there
 abbrev pub raises_some : Option Expression → List ℕ
 raises_some None = []
 raises_some (Some e) = raises e

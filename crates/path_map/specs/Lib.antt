@@ -1,4 +1,5 @@
 pub mod Exits
+pub mod Exceptions
 pub mod Pieces
 pub mod EndsOf
 pub mod Paths

@@ -6,7 +6,8 @@ use Rattle.resolved.specs.CoreOf.{program_of}
 use Rattle.resolved.specs.Program.{procedure_at}
 use Rattle.resolved.specs.Ends.{declared_by}
 use Rattle.path_map.specs.declared.set.ExceptionSet.{ExceptionSet}
-use Rattle.path_map.specs.Sets.{row_has, is_one_of}
+use Rattle.path_map.specs.Exceptions.{is_one_of}
+use Rattle.path_map.specs.Sets.{row_has}
 
 -- whether an exception is declared, by a row if there is one
 abbrev pub says : Option ExceptionSet → (declared : List ℕ) → ℕ → Bool

@@ -1,14 +1,12 @@
 -- Sets of exceptions as rows of bits, 64 in a word, and the summary of such a set.
 -- Source: our own.
 use Rattle.std.specs.Prelude.{◌≡◌, ◌≢◌, ℕ, ◌/◌, ◌%◌, List, Bool, true, false, ◌==◌, ◌&&◌, ◌||◌, slice_index}
-use Rattle.std.specs.List.{list_any}
 use Rattle.std.specs.Int.{bit_at}
 use Rattle.resolved.specs.declared.statement.Exit.{Exit}
 use Rattle.resolved.specs.declared.statement.Exit.TheVariants.{Throw}
 use Rattle.resolved.specs.Ends.{has_end}
 use Rattle.path_map.specs.declared.exits.Raised.{Raised}
-use Rattle.path_map.specs.declared.raises.Raises.{Raises}
-use Rattle.path_map.specs.Joins.{raised_list}
+use Rattle.path_map.specs.Exceptions.{is_one_of}
 use Rattle.path_map.specs.declared.exits.Raised.TheVariants.{Nothing, One, Several}
 
 -- whether an exception is in a row
@@ -18,10 +16,6 @@ row_has words exception = bit_at (slice_index words (exception / 64)) (exception
 -- whether an exception is in one word of a row
 abbrev pub word_has : (word index : ℕ) → ℕ → Bool
 word_has word index exception = (exception / 64 == index) && (bit_at word (exception % 64) == 1)
-
--- whether an exception is among these
-abbrev pub is_one_of : List ℕ → ℕ → Bool
-is_one_of exceptions exception = list_any (λ other. exception == other) exceptions
 
 -- two exceptions of a set
 pub record HasTwo (set : ℕ → Bool) : Type 0 where
@@ -41,11 +35,6 @@ abbrev pub IsSummaryOf : (ℕ → Bool) → Raised → Type 0
 IsSummaryOf set Nothing = (exception : ℕ) → set exception ≡ false
 IsSummaryOf set (One exception) = HasOnly set exception
 IsSummaryOf set Several = HasTwo set
-
--- an expression raises these: two sets that are the same
-abbrev pub AreRaised : Raises → List ℕ → Type 0
-AreRaised found exceptions = (exception : ℕ) →
-    is_one_of (raised_list found.arith found.bounds) exception ≡ is_one_of exceptions exception
 
 -- an exception of a set that is not declared
 pub record HasUndeclared (set : ℕ → Bool) (declared : List ℕ) : Type 0 where

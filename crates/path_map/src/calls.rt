@@ -1,7 +1,8 @@
 //! What calls raise: the exceptions that procedures declare.
 ghost use Rattle.path_map.specs.Exits.{raised_by};
 ghost use Rattle.path_map.specs.Rows.{AreDeclaredRows, says};
-ghost use Rattle.path_map.specs.Sets.{IsSum, is_one_of};
+ghost use Rattle.path_map.specs.Exceptions.{is_one_of};
+ghost use Rattle.path_map.specs.Sets.{IsSum};
 ghost use Rattle.resolved.specs.CoreOf.{program_of};
 ghost use Rattle.resolved.specs.Ends.{declared_by};
 ghost use Rattle.resolved.specs.Program.{procedure_at};

@@ -1,7 +1,8 @@
 //! The exceptions that expressions can raise.
 ghost use Rattle.path_map.specs.Exits.{raised_by};
-ghost use Rattle.path_map.specs.Joins.{raised_list, raises_some};
-ghost use Rattle.path_map.specs.Sets.{AreRaised, IsSum, is_one_of};
+ghost use Rattle.path_map.specs.Exceptions.{AreRaised, is_one_of, raised_list};
+ghost use Rattle.path_map.specs.Joins.{raises_some};
+ghost use Rattle.path_map.specs.Sets.{IsSum};
 ghost use Rattle.resolved.specs.Ends.{divisor_can_raise, index_can_raise, is_division, raises, raises_all};
 ghost use Rattle.resolved.specs.TreeOf.{expression_of, some_expression_of};
 ghost use Rattle.resolved.specs.Value.{in_range, literal_number};

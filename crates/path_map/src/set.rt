@@ -46,6 +46,16 @@ impl ExceptionSet {
         Ok(())
     }
 
+    pub(crate) fn has(&self, exception: u32) -> bool
+        ensures { result ≡ row_has self.now.words.items exception }
+    {
+        let word = exception as usize / 64;
+        if word >= self.words.len() {
+            return false;
+        }
+        self.words[word] & (1 << (exception % 64)) != 0
+    }
+
     // Takes an exception out, and says whether it was there.
     pub(crate) fn remove(&mut self, exception: u32) -> bool
         ensures there { result ≡ row_has self.old.words.items exception }

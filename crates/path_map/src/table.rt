@@ -1,11 +1,14 @@
 //! The possible ends of the statements and blocks of a program, as they are kept.
-ghost use Rattle.path_map.specs.Entries.{IsPut, IsRowFor, IsRowOf, RowsGrow};
+ghost use Rattle.path_map.specs.Entries.{IsPut, IsRowFor, IsRowOf, RowsGrow, entry_ends, exceptions_at};
 ghost use Rattle.path_map.specs.Exits.{exits_of};
+ghost use Rattle.path_map.specs.Exceptions.{is_one_of};
+ghost use Rattle.resolved.specs.Ends.{has_end};
 ghost use Rattle.std.specs.Prelude.{IfOk, OnOk, IsTrue, [], length, slice_index_or, ◌++◌, ◌<◌, ◌∷◌, ◌≡◌};
 
 use crate::exits::{Exits, Raised};
 use crate::raises::Raises;
 use crate::set::ExceptionSet;
+use resolved::statement::Exit;
 use std::alloc::{AllocError, Global};
 use std::marker::Model;
 
@@ -109,6 +112,41 @@ impl Ends {
         ensures { result ≡ exits_of (slice_index_or self.now number []) }
     {
         self.entries[number].exits
+    }
+
+    /// Whether a statement or block can end thus; an exception is one of its ends by its number, also among several.
+    pub fn has(&self, number: usize, exit: Exit) -> bool
+        requires { number < length self.now }
+        ensures { result ≡ has_end (slice_index_or self.now number []) exit }
+    {
+        let entry = self.entries[number];
+        can_end(&self.rows, entry, exit)
+    }
+}
+
+// Whether a statement or block with this entry can end thus.
+fn can_end(rows: &[ExceptionSet], entry: Entry, exit: Exit) -> bool
+    requires { entry.row < length rows.now }
+    ensures { result ≡ has_end (entry_ends rows.now entry) exit }
+{
+    match exit {
+        Exit::Normal => entry.exits.normal,
+        Exit::Return => entry.exits.returns,
+        Exit::Break => entry.exits.breaks,
+        Exit::Continue => entry.exits.continues,
+        Exit::Throw(exception) => has_raised(rows, entry, exception),
+    }
+}
+
+// Whether an exception is among the ends of an entry.
+fn has_raised(rows: &[ExceptionSet], entry: Entry, exception: u32) -> bool
+    requires { entry.row < length rows.now }
+    ensures { result ≡ is_one_of (exceptions_at rows.now entry.row entry.exits.raised) exception }
+{
+    match entry.exits.raised {
+        Raised::Nothing => false,
+        Raised::One(only) => exception == only,
+        Raised::Several => rows[entry.row].has(exception),
     }
 }
 

@@ -1,7 +1,7 @@
 //! The walk along a program that finds its ends.
 ghost use Rattle.common.specs.Answers.{IfRefused};
 ghost use Rattle.path_map.specs.FirstFault.{IsFirstEndFault};
-ghost use Rattle.path_map.specs.Sets.{AreRaised};
+ghost use Rattle.path_map.specs.Exceptions.{AreRaised};
 ghost use Rattle.path_map.specs.Walks.{AreHandlersFound, AreLeft, AreStatementsFound, AreThrown, IsBlockFound, IsFormFound, IsFoundAlone, IsStatementFound, faults_of_block, faults_of_handlers, faults_within};
 ghost use Rattle.common.specs.declared.fault.OrNoMemory.TheVariants.{Refused};
 ghost use Rattle.resolved.specs.CoreOf.{program_of};

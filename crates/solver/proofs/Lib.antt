@@ -1,13 +1,15 @@
+pub mod Bits
 pub mod Breaking
 pub mod Candidates
 pub mod Chains
 pub mod Comparing
+pub mod Counting
 pub mod Filling
 pub mod Meaning
-pub mod Members
+pub mod Queued
 pub mod Refusing
 pub mod Rows
 pub mod Searching
 pub mod Solved
-pub mod Spreading
 pub mod Values
+pub mod Working

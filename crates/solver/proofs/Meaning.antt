@@ -11,7 +11,7 @@ use Rattle.labels.specs.Constraints as formal
 use Rattle.solver.specs.Broken.{written_at}
 use Rattle.solver.specs.Links.{AreBelow, InRange, IsBelow, Link, edges_at, left_links, link, links_of, same}
 use Rattle.solver.specs.Reach as reach
-use Rattle.solver.specs.Reach.{LeadsTo, ReachesBy, edge, row_of}
+use Rattle.solver.specs.Reach.{AreEdges, LeadsTo, ReachesBy, edge, row_of}
 use Rattle.solver.specs.Constraints.{atom_of, constraint_of}
 use Rattle.solver.specs.declared.edges.Edge.{Edge}
 use Rattle.solver.specs.declared.edges.Edges.{Edges}
@@ -111,10 +111,6 @@ links_of-has {T} k (d ∷ cs) (suc i) c from at part =
     let e : suc k + i ≡ k + suc i = omega arith in
     Contains-append_right (left_links k d.right d.left.items) (links_of (suc k) cs) (link from (k + suc i) c.right)
     (subst (λ n. Contains (links_of (suc k) cs) (link from n c.right)) e (links_of-has (suc k) cs i c from at part))
-
--- edges that are those of constraints
-pub record AreEdges {T : Type 0} (cs : List (Constraint T)) (edges : Edges) : Type 0 where
-  pub row : (from : Atom) → row_of edges from ≡ edges_at from (links_of 0 cs)
 
 pub leads-part : {T : Type 0} (cs : List (Constraint T)) (edges : Edges) → AreEdges cs edges → (from : Atom) (by : ℕ) (to : Atom) → LeadsTo edges from by to → IsPart cs by from to
 leads-part {T} cs edges are from by to h =

@@ -14,21 +14,20 @@ use Rattle.solver.specs.Breaker.{Arrives, Breaks, BreaksAlong, BreaksFirst, IsBr
 use Rattle.solver.specs.Broken.{AllRightsInside, is_below, written_at}
 use Rattle.solver.specs.Links.{AreBelow, InRange, IsBelow, edges_at, links_of, row_at}
 use Rattle.solver.specs.Reach as reach
-use Rattle.solver.specs.Reach.{CameFrom, IsTrail, LeadsTo, LeadsOn, ReachesBy, LeadsInside, nothing_found, row_of}
+use Rattle.solver.specs.Reach.{AreEdges, CameFrom, IsTrail, LeadsTo, LeadsOn, ReachesBy, LeadsInside, nothing_found, row_of}
 use Rattle.solver.specs.Rows.{AreRows, atom_has, has_at, left_has, reached_by, unknowns_with}
 use Rattle.solver.specs.Constraints.{Picks, atom_of, constraint_of, is_among, row_join, rows_with, values_of}
 use Rattle.solver.specs.declared.edges.Edges.{Edges}
-use Rattle.solver.specs.declared.number_set.NumberSet.{NumberSet}
 use Rattle.solver.specs.declared.search.Found.{Found}
 use Rattle.solver.specs.declared.constraints.Atom.{Atom}
 use Rattle.solver.specs.declared.constraints.Atom.TheVariants.{Unknown, Written}
 use Rattle.solver.specs.declared.constraints.Constraint.{Constraint}
-use Rattle.solver.proofs.Meaning.{AreEdges, at-map, in_table, leads-part, part-leads, reaches-to}
+use Rattle.solver.proofs.Meaning.{at-map, in_table, leads-part, part-leads, reaches-to}
 use Rattle.solver.proofs.Values.{is_among-row}
 use Rattle.common.proofs.Cases.{by_test, contained_map, contained_map_only, contained_place, contained_at, there_map_only}
 
 -- ---- the written elements in whose row an unknown stands
-rows_with-has : (k count : ℕ) (rows : List NumberSet) (u i : ℕ) → i < count → IsTrue (has_at rows u (k + i)) → Contains (rows_with k (reached_by k count rows) u) (k + i)
+rows_with-has : (k count : ℕ) (rows : List (List Bool)) (u i : ℕ) → i < count → IsTrue (has_at rows u (k + i)) → Contains (rows_with k (reached_by k count rows) u) (k + i)
 rows_with-has k zero rows u i h has = absurd (omega (arith, h))
 rows_with-has k (suc count) rows u zero h has =
     let first : is_among u (unknowns_with k 0 rows) ≡ true = is_among-row rows k u ∙ (ap (has_at rows u) (sym (add-zero k)) ∙ has) in
@@ -44,7 +43,7 @@ rows_with-has k (suc count) rows u (suc i) h has =
     go true e more = rw e (Contains-later k (rows_with (suc k) (reached_by (suc k) count rows) u) (k + suc i) more)
     go false e more = rw e more
 
-rows_with-only : (k count : ℕ) (rows : List NumberSet) (u n : ℕ) → Contains (rows_with k (reached_by k count rows) u) n → (n < k + count) × IsTrue (has_at rows u n)
+rows_with-only : (k count : ℕ) (rows : List (List Bool)) (u n : ℕ) → Contains (rows_with k (reached_by k count rows) u) n → (n < k + count) × IsTrue (has_at rows u n)
 rows_with-only k zero rows u n h = absurd (none_in_nil n h)
 rows_with-only k (suc count) rows u n h = go (is_among u (unknowns_with k 0 rows)) refl (rows_with-only (suc k) count rows u n)
   where
@@ -79,14 +78,14 @@ pub found-sound : (edges : Edges) (n : ℕ) (found : List Found) → IsTrail edg
 found-sound edges n found trail k h = trail-sound edges n found trail (suc k) k (omega arith) h
 
 -- ---- some element that passes a test
-list_any-has : {X : Type 0} (test : X → Bool) (xs : List X) (x : X) → Contains xs x → IsTrue (test x) → IsTrue (list_any test xs)
+pub list_any-has : {X : Type 0} (test : X → Bool) (xs : List X) (x : X) → Contains xs x → IsTrue (test x) → IsTrue (list_any test xs)
 list_any-has test [] x h passes = absurd (none_in_nil x h)
 list_any-has {X} test (y ∷ ys) x h passes =
     ⊎_elim (λ (is : y ≡ x). or_left (test y) (list_any test ys) (subst (λ (z : X). IsTrue (test z)) (sym is) passes))
     (λ k. or_right (test y) (list_any test ys) (list_any-has test ys x k passes))
     (Contains-cons_cases y ys x h)
 
-list_any-only : {X : Type 0} (test : X → Bool) (xs : List X) → IsTrue (list_any test xs) → (x : X) × Contains xs x × IsTrue (test x)
+pub list_any-only : {X : Type 0} (test : X → Bool) (xs : List X) → IsTrue (list_any test xs) → (x : X) × Contains xs x × IsTrue (test x)
 list_any-only test [] h = absurd (cc)
 list_any-only test (y ∷ ys) h =
     ⊎_elim (λ here. (y, Contains-first y ys, here))
@@ -132,7 +131,7 @@ rights-inside cs edges are written unknowns range count is from by n leads =
     subst (λ m. n < m) (sym is) (right-below cs edges are written unknowns range from by (Written n) leads)
 
 module _ {T V : Type 0} (l : Lattice V) (laws : LatticeLaws l) (table : List V) (cs : List (Constraint T)) (edges : Edges) (are : AreEdges cs edges) (unknowns : ℕ)
-    (range : InRange (length table) unknowns cs) (rows : List NumberSet) (are_rows : AreRows edges rows) where
+    (range : InRange (length table) unknowns cs) (rows : List (List Bool)) (are_rows : AreRows edges rows) where
   abbrev all_meant : List (formal.Constraint T ℕ V)
   all_meant = map (constraint_of l table) cs
 

@@ -1,16 +1,21 @@
 -- The join of written elements one after the other, in place of all together.
-use Rattle.std.proofs.Common.{◌≡◌, ◌≢◌, refl, sym, ap, ◌∙◌, subst, ℕ, zero, suc, ◌<◌, ◌+◌, length, List, [], ◌∷◌, ◌++◌, Bool, true, false, arith, add-zero, zero-add, add-one, ⊎_elim, eq-eqb}
+use Rattle.std.proofs.Common.{◌≡◌, ◌≢◌, refl, sym, ap, ◌∙◌, subst, ℕ, zero, suc, ◌<◌, ◌+◌, length, List, [], ◌∷◌, ◌++◌, Bool, true, false, arith, add-zero, zero-add, add-one, ⊎_elim, eq-eqb, nat_eq}
 use Rattle.std.specs.Prelude.{Contains, if◌then◌else◌, IsTrue, ◌==◌}
-use Rattle.std.proofs.lemmas.Bool.{or_left}
+use Rattle.std.proofs.lemmas.Bool.{eqb-true, or_left}
 use Rattle.std.proofs.lemmas.List.Elements.{Contains-append_cases, Contains-append_left, Contains-append_right}
 use Rattle.principals.proofs.Closure.{none_in_nil, Contains-cons_cases, Contains-later, Contains-first}
 use Rattle.labels.specs.Constraints.{IsJoin, LatticeLaws, Lattice}
-use Rattle.solver.specs.Bits.{has_bit}
+use Rattle.labels.specs.Row.{has}
 use Rattle.solver.specs.Broken.{written_at}
 use Rattle.solver.specs.Rows.{has_at, reached_by, unknowns_with}
 use Rattle.solver.specs.Constraints.{AreAlike, is_among, row_join, rows_with}
-use Rattle.solver.specs.declared.number_set.NumberSet.{NumberSet}
-use Rattle.solver.proofs.Members.{neq-eqb}
+
+neq-eqb : (a b : ℕ) → a ≢ b → nat_eq a b ≡ false
+neq-eqb a b ne = go (nat_eq a b) refl
+  where
+    go : (t : Bool) → nat_eq a b ≡ t → nat_eq a b ≡ false
+    go true e = absurd (ne (eqb-true a b e))
+    go false e = e
 
 -- a number, or none
 abbrev pub one_row : ℕ → Bool → List ℕ
@@ -30,25 +35,25 @@ rows_with-append k (row ∷ a) b u = go (is_among u row) refl (rows_with-append 
         rw e (more ∙ ap (λ m. rows_with (suc k) a u ++ rows_with m b u) n)
 
 -- ---- rows by unknowns and by written elements
-none_before : (rows : List NumberSet) (n from u : ℕ) → u < from → is_among u (unknowns_with n from rows) ≡ false
+none_before : (rows : List (List Bool)) (n from u : ℕ) → u < from → is_among u (unknowns_with n from rows) ≡ false
 none_before [] n from u h = refl
-none_before (row ∷ rows) n from u h = go (has_bit row.words.items n) refl (none_before rows n (suc from) u (omega (arith, h)))
+none_before (row ∷ rows) n from u h = go (has row n) refl (none_before rows n (suc from) u (omega (arith, h)))
   where
     apart : (from == u) ≡ false
     apart = neq-eqb from u (let ne : from ≢ u = omega (arith, h) in ne)
 
-    go : (t : Bool) → has_bit row.words.items n ≡ t → is_among u (unknowns_with n (suc from) rows) ≡ false → is_among u (unknowns_with n from (row ∷ rows)) ≡ false
+    go : (t : Bool) → has row n ≡ t → is_among u (unknowns_with n (suc from) rows) ≡ false → is_among u (unknowns_with n from (row ∷ rows)) ≡ false
     go true e more = rw (e, apart) more
     go false e more = rw e more
 
-among_from : (rows : List NumberSet) (n from u : ℕ) → is_among (from + u) (unknowns_with n from rows) ≡ has_at rows u n
+among_from : (rows : List (List Bool)) (n from u : ℕ) → is_among (from + u) (unknowns_with n from rows) ≡ has_at rows u n
 among_from [] n from u = refl
-among_from (row ∷ rows) n from zero = go (has_bit row.words.items n) refl
+among_from (row ∷ rows) n from zero = go (has row n) refl
   where
-    go : (t : Bool) → has_bit row.words.items n ≡ t → is_among (from + 0) (unknowns_with n from (row ∷ rows)) ≡ has_bit row.words.items n
+    go : (t : Bool) → has row n ≡ t → is_among (from + 0) (unknowns_with n from (row ∷ rows)) ≡ has row n
     go true e = rw e (or_left (from == from + 0) _ (eq-eqb from (from + 0) (sym (add-zero from))))
     go false e = rw e (none_before rows n (suc from) (from + 0) (omega arith))
-among_from (row ∷ rows) n from (suc u) = go (has_bit row.words.items n) refl (among_from rows n (suc from) u)
+among_from (row ∷ rows) n from (suc u) = go (has row n) refl (among_from rows n (suc from) u)
   where
     next : suc from + u ≡ from + suc u
     next = omega arith
@@ -56,29 +61,29 @@ among_from (row ∷ rows) n from (suc u) = go (has_bit row.words.items n) refl (
     apart : (from == from + suc u) ≡ false
     apart = neq-eqb from (from + suc u) (let ne : from ≢ from + suc u = omega arith in ne)
 
-    go : (t : Bool) → has_bit row.words.items n ≡ t → is_among (suc from + u) (unknowns_with n (suc from) rows) ≡ has_at rows u n →
+    go : (t : Bool) → has row n ≡ t → is_among (suc from + u) (unknowns_with n (suc from) rows) ≡ has_at rows u n →
         is_among (from + suc u) (unknowns_with n from (row ∷ rows)) ≡ has_at rows u n
     go true e more = rw (e, apart) (ap (λ w. is_among w (unknowns_with n (suc from) rows)) (sym next) ∙ more)
     go false e more = rw e (ap (λ w. is_among w (unknowns_with n (suc from) rows)) (sym next) ∙ more)
 
-pub is_among-row : (rows : List NumberSet) (n u : ℕ) → is_among u (unknowns_with n 0 rows) ≡ has_at rows u n
+pub is_among-row : (rows : List (List Bool)) (n u : ℕ) → is_among u (unknowns_with n 0 rows) ≡ has_at rows u n
 is_among-row rows n u = ap (λ w. is_among w (unknowns_with n 0 rows)) (sym (zero-add u)) ∙ among_from rows n 0 u
 
-pub length-reached_by : (n count : ℕ) (rows : List NumberSet) → length (reached_by n count rows) ≡ count
+pub length-reached_by : (n count : ℕ) (rows : List (List Bool)) → length (reached_by n count rows) ≡ count
 length-reached_by n zero rows = refl
 length-reached_by n (suc count) rows = ap suc (length-reached_by (suc n) count rows)
 
-more_from : (n count : ℕ) (rows : List NumberSet) → reached_by n (suc count) rows ≡ reached_by n count rows ++ unknowns_with (n + count) 0 rows ∷ []
+more_from : (n count : ℕ) (rows : List (List Bool)) → reached_by n (suc count) rows ≡ reached_by n count rows ++ unknowns_with (n + count) 0 rows ∷ []
 more_from n zero rows = ap (λ m. unknowns_with m 0 rows ∷ []) (sym (add-zero n))
 more_from n (suc count) rows =
     let next : suc n + count ≡ n + suc count = omega arith in
     ap (λ (ls : List (List ℕ)). unknowns_with n 0 rows ∷ ls) (more_from (suc n) count rows ∙ ap (λ m. reached_by (suc n) count rows ++ unknowns_with m 0 rows ∷ []) next)
 
-pub reached_by-more : (i : ℕ) (rows : List NumberSet) → reached_by 0 (i + 1) rows ≡ reached_by 0 i rows ++ unknowns_with i 0 rows ∷ []
+pub reached_by-more : (i : ℕ) (rows : List (List Bool)) → reached_by 0 (i + 1) rows ≡ reached_by 0 i rows ++ unknowns_with i 0 rows ∷ []
 reached_by-more i rows =
     ap (λ m. reached_by 0 m rows) (add-one i) ∙ (more_from 0 i rows ∙ ap (λ m. reached_by 0 i rows ++ unknowns_with m 0 rows ∷ []) (zero-add i))
 
-pub rows_with-more : (rows : List NumberSet) (i u : ℕ) (t : Bool) → t ≡ has_at rows u i →
+pub rows_with-more : (rows : List (List Bool)) (i u : ℕ) (t : Bool) → t ≡ has_at rows u i →
     rows_with 0 (reached_by 0 (i + 1) rows) u ≡ rows_with 0 (reached_by 0 i rows) u ++ one_row i t
 rows_with-more rows i u t is =
     let before = rows_with 0 (reached_by 0 i rows) u in

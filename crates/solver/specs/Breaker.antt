@@ -1,66 +1,60 @@
 -- Private: the constraints with a written right side that a written element breaks: by rows of bits, and along edges with a chain.
 -- Source: our own.
-use Rattle.std.specs.Prelude.{◌≡◌, ℕ, ◌/◌, ◌<◌, ◌≤◌, List, Bool, true, false, Option, Some, None, IsTrue, length, slice_get, slice_index_or}
+use Rattle.std.specs.Prelude.{◌≡◌, ℕ, ◌<◌, ◌≤◌, List, Bool, true, false, Option, Some, None, IsTrue, length, slice_get, slice_index_or}
 use Rattle.solver.specs.Reach.{LeadsTo, LeadsOn, ReachesBy}
-use Rattle.solver.specs.Bits.{has_bit}
+use Rattle.labels.specs.Row.{has}
 use Rattle.solver.specs.Rows.{left_has}
 use Rattle.solver.specs.declared.edges.Edges.{Edges}
-use Rattle.solver.specs.declared.number_set.NumberSet.{NumberSet}
 use Rattle.solver.specs.declared.constraints.Atom.{Atom}
 use Rattle.solver.specs.declared.constraints.Atom.TheVariants.{Unknown, Written}
 use Rattle.solver.specs.declared.constraints.Constraint.{Constraint}
 
 -- an element reaches a left side, and does not lie below the written right side
-pub record BreaksSides (below : ℕ → ℕ → Bool) (rows : List NumberSet) (left : List Atom) (right : Atom) (n : ℕ) : Type 0 where
+pub record BreaksSides (below : ℕ → ℕ → Bool) (rows : List (List Bool)) (left : List Atom) (right : Atom) (n : ℕ) : Type 0 where
   pub to : ℕ
   pub is : right ≡ Written to
   pub member : IsTrue (left_has rows left n)
   pub fails : below n to ≡ false
 
 -- so it is of the constraint at an index
-pub record Breaks {T : Type 0} (below : ℕ → ℕ → Bool) (rows : List NumberSet) (cs : List (Constraint T)) (n i : ℕ) : Type 0 where
+pub record Breaks {T : Type 0} (below : ℕ → ℕ → Bool) (rows : List (List Bool)) (cs : List (Constraint T)) (n i : ℕ) : Type 0 where
   pub constraint : Constraint T
   pub at : slice_get cs i ≡ Some constraint
   pub sides : BreaksSides below rows constraint.left.items constraint.right n
 
 -- no element below a count breaks a constraint below an index
-abbrev pub NoneBreaks : {T : Type 0} → (below : ℕ → ℕ → Bool) → (count : ℕ) → List NumberSet → List (Constraint T) → (bound : ℕ) → Type 0
+abbrev pub NoneBreaks : {T : Type 0} → (below : ℕ → ℕ → Bool) → (count : ℕ) → List (List Bool) → List (Constraint T) → (bound : ℕ) → Type 0
 NoneBreaks below count rows cs bound = (n i : ℕ) → n < count → i < bound → Breaks below rows cs n i → ⊥
 
 -- an element that breaks the first constraint that is broken, or nothing where none is
-pub record BreaksFirst {T : Type 0} (below : ℕ → ℕ → Bool) (count : ℕ) (rows : List NumberSet) (cs : List (Constraint T)) (n : ℕ) : Type 0 where
+pub record BreaksFirst {T : Type 0} (below : ℕ → ℕ → Bool) (count : ℕ) (rows : List (List Bool)) (cs : List (Constraint T)) (n : ℕ) : Type 0 where
   pub inside : n < count
   pub index : ℕ
   pub breaks : Breaks below rows cs n index
   pub before : NoneBreaks below count rows cs index
 
-abbrev pub IsFirstBreaker : {T : Type 0} → (below : ℕ → ℕ → Bool) → (count : ℕ) → List NumberSet → List (Constraint T) → Option ℕ → Type 0
+abbrev pub IsFirstBreaker : {T : Type 0} → (below : ℕ → ℕ → Bool) → (count : ℕ) → List (List Bool) → List (Constraint T) → Option ℕ → Type 0
 IsFirstBreaker below count rows cs None = (n i : ℕ) → n < count → Breaks below rows cs n i → ⊥
 IsFirstBreaker below count rows cs (Some n) = BreaksFirst below count rows cs n
 
 -- members lie below an element; and so it is kept for each element of which something is known
-abbrev pub IsKnown : (below : ℕ → ℕ → Bool) → List ℕ → (to : ℕ) → Type 0
-IsKnown below words to = (n : ℕ) → IsTrue (has_bit words n) → below n to ≡ true
+abbrev pub IsKnown : (below : ℕ → ℕ → Bool) → List Bool → (to : ℕ) → Type 0
+IsKnown below row to = (n : ℕ) → IsTrue (has row n) → below n to ≡ true
 
-pub data IsKnownRow (below : ℕ → ℕ → Bool) (count to : ℕ) : Option NumberSet → Type 0 where
+pub data IsKnownRow (below : ℕ → ℕ → Bool) (count to : ℕ) : Option (List Bool) → Type 0 where
   nothing : IsKnownRow below count to None
-  some : (row : NumberSet) → row.count ≡ count → IsKnown below row.words.items to → IsKnownRow below count to (Some row)
+  some : (row : List Bool) → length row ≡ count → IsKnown below row to → IsKnownRow below count to (Some row)
 
-abbrev pub AreKnownRows : (below : ℕ → ℕ → Bool) → (count : ℕ) → List (Option NumberSet) → Type 0
-AreKnownRows below count known = (to : ℕ) (d : Option NumberSet) → to < length known → IsKnownRow below count to (slice_index_or known to d)
+abbrev pub AreKnownRows : (below : ℕ → ℕ → Bool) → (count : ℕ) → List (Option (List Bool)) → Type 0
+AreKnownRows below count known = (to : ℕ) (d : Option (List Bool)) → to < length known → IsKnownRow below count to (slice_index_or known to d)
 
 -- a member of a row that does not lie below an element, or none where all do
-abbrev pub IsAbove : (below : ℕ → ℕ → Bool) → (count : ℕ) → List ℕ → (to : ℕ) → Option ℕ → Type 0
-IsAbove below count words to None = (n : ℕ) → n < count → IsTrue (has_bit words n) → below n to ≡ true
-IsAbove below count words to (Some n) = (n < count) × IsTrue (has_bit words n) × (below n to ≡ false)
-
--- so it is among the 64 numbers of one word
-abbrev pub IsAboveInWord : (below : ℕ → ℕ → Bool) → (count : ℕ) → List ℕ → (at to : ℕ) → Option ℕ → Type 0
-IsAboveInWord below count words at to None = (n : ℕ) → n < count → n / 64 ≡ at → IsTrue (has_bit words n) → below n to ≡ true
-IsAboveInWord below count words at to (Some n) = (n < count) × IsTrue (has_bit words n) × (below n to ≡ false)
+abbrev pub IsAbove : (below : ℕ → ℕ → Bool) → (count : ℕ) → List Bool → (to : ℕ) → Option ℕ → Type 0
+IsAbove below count row to None = (n : ℕ) → n < count → IsTrue (has row n) → below n to ≡ true
+IsAbove below count row to (Some n) = (n < count) × IsTrue (has row n) × (below n to ≡ false)
 
 -- an element that breaks a constraint with these sides, or none where none does
-abbrev pub IsBreakerOf : (below : ℕ → ℕ → Bool) → (count : ℕ) → List NumberSet → List Atom → Atom → Option ℕ → Type 0
+abbrev pub IsBreakerOf : (below : ℕ → ℕ → Bool) → (count : ℕ) → List (List Bool) → List Atom → Atom → Option ℕ → Type 0
 IsBreakerOf below count rows left right None = (n : ℕ) → n < count → BreaksSides below rows left right n → ⊥
 IsBreakerOf below count rows left right (Some n) = (n < count) × BreaksSides below rows left right n
 

@@ -65,8 +65,13 @@ pub record IsSolveRefusal {T V : Type 0} (l : Lattice V) (system : Constraints V
   pub picked : Picks (constraints_of l system) refusal.chain.items chain
   pub refused : IsRefusedAt l (constraints_of l system) (written_at l system.written.items refusal.from) chain last
 
--- a solution: for each written element what it reaches, and so values that fit all constraints and are least
-pub record IsSolution {T V : Type 0} (l : Lattice V) (system : Constraints V T) (reached : List (List ℕ)) : Type 0 where
-  pub rows : length reached ≡ length system.written.items
-  pub fits : FitsAll l (constraints_of l system) (values_of l system.written.items reached)
-  pub least : IsLeast l (constraints_of l system) (values_of l system.written.items reached)
+-- what is seen of a solution: for each written element the unknowns that it reaches, and how often left sides were looked at
+pub record Solved : Type 0 where
+  pub reached : List (List ℕ)
+  pub looks : ℕ
+
+-- a solution: what each written element reaches, and so values that fit all constraints and are least
+pub record IsSolution {T V : Type 0} (l : Lattice V) (system : Constraints V T) (solution : Solved) : Type 0 where
+  pub rows : length solution.reached ≡ length system.written.items
+  pub fits : FitsAll l (constraints_of l system) (values_of l system.written.items solution.reached)
+  pub least : IsLeast l (constraints_of l system) (values_of l system.written.items solution.reached)

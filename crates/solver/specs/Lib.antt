@@ -1,8 +1,10 @@
-pub mod Bits
 pub mod Breaker
 pub mod Broken
+pub mod Constraints
 pub mod Links
+pub mod Looks
+pub mod Queue
 pub mod Reach
 pub mod Rows
-pub mod Spread
-pub mod Constraints
+pub mod Walks
+pub mod Work

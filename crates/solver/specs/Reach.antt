@@ -1,12 +1,13 @@
 -- Private: what a written element reaches along edges, and the chains to it that a search finds.
 -- Source: our own.
 use Rattle.std.specs.Prelude.{◌≡◌, ℕ, suc, ◌<◌, ◌≤◌, List, [], ◌∷◌, ◌++◌, length, set, Bool, true, false, IsTrue, Contains, slice_index_or}
-use Rattle.solver.specs.Links.{row_at}
+use Rattle.solver.specs.Links.{edges_at, links_of, row_at}
 use Rattle.solver.specs.declared.edges.Edge.{Edge}
 use Rattle.solver.specs.declared.edges.Edges.{Edges}
 use Rattle.solver.specs.declared.search.Found.{Found}
 use Rattle.solver.specs.declared.constraints.Atom.{Atom}
 use Rattle.solver.specs.declared.constraints.Atom.TheVariants.{Unknown, Written}
+use Rattle.solver.specs.declared.constraints.Constraint.{Constraint}
 
 -- the edges from an atom, and one of them
 abbrev pub row_of : Edges → Atom → List Edge
@@ -18,6 +19,10 @@ edge by to = record { by = by; to = to }
 
 abbrev pub LeadsTo : Edges → Atom → ℕ → Atom → Type 0
 LeadsTo edges from by to = Contains (row_of edges from) (edge by to)
+
+-- edges that are those of constraints
+pub record AreEdges {T : Type 0} (cs : List (Constraint T)) (edges : Edges) : Type 0 where
+  pub row : (from : Atom) → row_of edges from ≡ edges_at from (links_of 0 cs)
 
 -- the unknowns to which edges lead lie below a count
 abbrev pub LeadInside : ℕ → List Edge → Type 0

@@ -1,16 +1,15 @@
 //! A written element that breaks a constraint with a written right side: it reaches the left side, and does not lie below the right
 //! side.
-ghost use Rattle.solver.specs.Breaker.{AreKnownRows, IsAbove, IsAboveInWord, IsBreakerOf, IsFirstBreaker, IsKnownRow, IsKnown};
+ghost use Rattle.solver.specs.Breaker.{AreKnownRows, IsAbove, IsBreakerOf, IsFirstBreaker, IsKnownRow, IsKnown};
 ghost use Rattle.solver.specs.Broken.{is_below};
 ghost use Rattle.solver.specs.Links.{AreBelow, InRange, IsBelow};
-ghost use Rattle.solver.specs.Bits.{has_bit};
+ghost use Rattle.labels.specs.Row.{has};
 ghost use Rattle.solver.specs.Rows.{AreSized, atom_has, left_has};
 ghost use Rattle.std.specs.Prelude.{Bool, IfOk, IsTrue, OnOk, Some, false, length, true, ℕ, ◌+◌, ◌/◌, ◌<◌, ◌||◌, ◌≡◌};
 
 use crate::broken::leq;
 use crate::constraints::{Atom, Constraint};
-use crate::number_set::NumberSet;
-use labels::Lattice;
+use labels::{Lattice, Row};
 use std::alloc::{AllocError, Global};
 
 /// A written element that breaks the first constraint that is broken, if one is. Each element is compared at most once with each
@@ -20,7 +19,7 @@ pub fn first_breaker<L: Lattice, T>(
     lattice: &L,
     written: &[L::Elem],
     constraints: &[Constraint<T>],
-    rows: &[NumberSet],
+    rows: &[Row],
 ) -> Result<Option<usize>, AllocError>
     requires range { InRange (length written.now) (length rows.now) constraints.now }
     requires sized { AreSized (length written.now) rows.now }
@@ -43,8 +42,8 @@ fn breaker_of<L: Lattice, T>(
     lattice: &L,
     written: &[L::Elem],
     constraint: &Constraint<T>,
-    rows: &[NumberSet],
-    known: &mut Vec<Option<NumberSet>>,
+    rows: &[Row],
+    known: &mut Vec<Option<Row>>,
 ) -> Result<Option<usize>, AllocError>
     requires left { AreBelow (length written.now) (length rows.now) constraint.now.left.items }
     requires right { IsBelow (length written.now) (length rows.now) constraint.now.right }
@@ -67,7 +66,7 @@ fn breaker_of<L: Lattice, T>(
 }
 
 // For each written element, that nothing is known yet of what lies below it.
-fn nothing_known(alloc: Global, count: usize) -> Result<Vec<Option<NumberSet>>, AllocError>
+fn nothing_known(alloc: Global, count: usize) -> Result<Vec<Option<Row>>, AllocError>
     ensures all { IfOk result (λ known. length known.items ≡ count) }
     ensures kept { IfOk result (λ known. (below : ℕ → ℕ → Bool) →
         AreKnownRows below count known.items) }
@@ -79,20 +78,15 @@ fn nothing_known(alloc: Global, count: usize) -> Result<Vec<Option<NumberSet>>, 
     Ok(known)
 }
 
-// The written elements that are a part of a left side or reach one.
-fn left_row(
-    alloc: Global,
-    left: &[Atom],
-    rows: &[NumberSet],
-    count: usize,
-) -> Result<NumberSet, AllocError>
+/// The written elements that are a part of a left side or reach one.
+pub fn left_row(alloc: Global, left: &[Atom], rows: &[Row], count: usize) -> Result<Row, AllocError>
     requires range { AreBelow count (length rows.now) left.now }
     requires sized { AreSized count rows.now }
-    ensures count { IfOk result (λ row. row.count ≡ count) }
-    ensures members { IfOk result (λ row. (n : ℕ) → has_bit row.words.items n
+    ensures count { IfOk result (λ row. length row ≡ count) }
+    ensures members { IfOk result (λ row. (n : ℕ) → has row n
         ≡ left_has rows.now left.now n) }
 {
-    let mut row = NumberSet::new(alloc, count)?;
+    let mut row = Row::new(alloc, count)?;
     for atom in left {
         add_atom(&mut row, *atom, rows);
     }
@@ -100,12 +94,12 @@ fn left_row(
 }
 
 // Adds the written elements of one atom.
-fn add_atom(row: &mut NumberSet, atom: Atom, rows: &[NumberSet])
-    requires range { IsBelow row.old.count (length rows.now) atom }
-    requires sized { AreSized row.old.count rows.now }
-    ensures count { row.new.count ≡ row.old.count }
-    ensures members { (n : ℕ) → has_bit row.new.words.items n
-        ≡ (has_bit row.old.words.items n || atom_has rows.now n atom) }
+fn add_atom(row: &mut Row, atom: Atom, rows: &[Row])
+    requires range { IsBelow (length row.old) (length rows.now) atom }
+    requires sized { AreSized (length row.old) rows.now }
+    ensures count { length row.new ≡ length row.old }
+    ensures members { (n : ℕ) → has row.new n
+        ≡ (has row.old n || atom_has rows.now n atom) }
 {
     match atom {
         Atom::Written(n) => row.set(n as usize),
@@ -120,22 +114,19 @@ fn first_above<L: Lattice>(
     alloc: Global,
     lattice: &L,
     written: &[L::Elem],
-    left: &NumberSet,
-    known: &mut Option<NumberSet>,
+    left: &Row,
+    known: &mut Option<Row>,
     to: usize,
 ) -> Result<Option<usize>, AllocError>
     requires to { to < length written.now }
-    requires left { left.now.count ≡ length written.now }
+    requires left { length left.now ≡ length written.now }
     requires known { IsKnownRow (is_below (L.order lattice.now) written.now)
         (length written.now) to known.old }
     ensures known { OnOk result (IsKnownRow (is_below (L.order lattice.now) written.now)
         (length written.now) to known.new) }
     ensures above { IfOk result (IsAbove (is_below (L.order lattice.now) written.now)
-        (length written.now) left.now.words.items to) }
+        (length written.now) left.now to) }
 {
-    if left.is_empty() {
-        return Ok(None);
-    }
     let mut below = known_row(alloc, known.take(), written.len())?;
     let above = compare(lattice, written, left, &mut below, to);
     *known = Some(below);
@@ -143,100 +134,40 @@ fn first_above<L: Lattice>(
 }
 
 // What is known, as a row.
-fn known_row(alloc: Global, known: Option<NumberSet>, count: usize) -> Result<NumberSet, AllocError>
+fn known_row(alloc: Global, known: Option<Row>, count: usize) -> Result<Row, AllocError>
     ensures { IfOk result (λ row. (below : ℕ → ℕ → Bool) (to : ℕ) →
         IsKnownRow below count to known → IsKnownRow below count to (Some row)) }
 {
     match known {
         Some(row) => Ok(row),
-        None => Ok(NumberSet::new(alloc, count)?),
+        None => Ok(Row::new(alloc, count)?),
     }
 }
 
-// The same, given what is known to lie below. A word of which all members are known costs one step.
+// The same, given what is known to lie below. Numbers that are known cost one step for 64 of them.
 fn compare<L: Lattice>(
     lattice: &L,
     written: &[L::Elem],
-    left: &NumberSet,
-    known: &mut NumberSet,
+    left: &Row,
+    known: &mut Row,
     to: usize,
 ) -> Option<usize>
     requires to { to < length written.now }
-    requires left { left.now.count ≡ length written.now }
-    requires count { known.old.count ≡ length written.now }
-    requires known { IsKnown (is_below (L.order lattice.now) written.now) known.old.words.items to }
-    ensures count { known.new.count ≡ known.old.count }
-    ensures known { IsKnown (is_below (L.order lattice.now) written.now) known.new.words.items to }
+    requires left { length left.now ≡ length written.now }
+    requires count { length known.old ≡ length written.now }
+    requires known { IsKnown (is_below (L.order lattice.now) written.now) known.old to }
+    ensures count { length known.new ≡ length known.old }
+    ensures known { IsKnown (is_below (L.order lattice.now) written.now) known.new to }
     ensures above { IsAbove (is_below (L.order lattice.now) written.now)
-        (length written.now) left.now.words.items to result }
+        (length written.now) left.now to result }
 {
-    for at in 0..written.len() / 64 + 1 {
-        if let Some(n) = compare_word(lattice, written, left, known, to, at) {
+    let mut from = 0;
+    while let Some(n) = left.first_beyond(known, from) {
+        if !leq(lattice, written, n, to) {
             return Some(n);
         }
+        known.set(n);
+        from = n + 1;
     }
     None
-}
-
-// The same of the 64 numbers of one word.
-fn compare_word<L: Lattice>(
-    lattice: &L,
-    written: &[L::Elem],
-    left: &NumberSet,
-    known: &mut NumberSet,
-    to: usize,
-    at: usize,
-) -> Option<usize>
-    requires to { to < length written.now }
-    requires at { at < length written.now / 64 + 1 }
-    requires left { left.now.count ≡ length written.now }
-    requires count { known.old.count ≡ length written.now }
-    requires known { IsKnown (is_below (L.order lattice.now) written.now) known.old.words.items to }
-    ensures count { known.new.count ≡ known.old.count }
-    ensures known { IsKnown (is_below (L.order lattice.now) written.now) known.new.words.items to }
-    ensures above { IsAboveInWord (is_below (L.order lattice.now) written.now)
-        (length written.now) left.now.words.items at to result }
-{
-    if known.covers_word(left, at) {
-        return None;
-    }
-    let first = at * 64;
-    let last = first + (written.len() - first).min(64);
-    for n in first..last {
-        if !stays_below(lattice, written, left, known, to, n) {
-            return Some(n);
-        }
-    }
-    None
-}
-
-// Whether a number is no member of a row, or its element lies below another one. It is then known.
-fn stays_below<L: Lattice>(
-    lattice: &L,
-    written: &[L::Elem],
-    left: &NumberSet,
-    known: &mut NumberSet,
-    to: usize,
-    n: usize,
-) -> bool
-    requires to { to < length written.now }
-    requires n { n < length written.now }
-    requires left { left.now.count ≡ length written.now }
-    requires count { known.old.count ≡ length written.now }
-    requires known { IsKnown (is_below (L.order lattice.now) written.now) known.old.words.items to }
-    ensures count { known.new.count ≡ known.old.count }
-    ensures known { IsKnown (is_below (L.order lattice.now) written.now) known.new.words.items to }
-    ensures below { result ≡ true → IsTrue (has_bit left.now.words.items n) →
-        is_below (L.order lattice.now) written.now n to ≡ true }
-    ensures above { result ≡ false → IsTrue (has_bit left.now.words.items n) ×
-        (is_below (L.order lattice.now) written.now n to ≡ false) }
-{
-    if !left.has(n) || known.has(n) {
-        return true;
-    }
-    if !leq(lattice, written, n, to) {
-        return false;
-    }
-    known.set(n);
-    true
 }

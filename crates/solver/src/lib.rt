@@ -8,12 +8,12 @@ mod chain;
 pub mod constraints;
 mod edges;
 pub mod fault;
-mod number_set;
-mod reached;
+mod order;
+mod queue;
 mod search;
 pub mod solution;
 pub mod solving;
-mod spread;
+mod worklist;
 
 pub use constraints::{Atom, Constraint, Constraints};
 pub use fault::{SolveFault, SolveRefusal};

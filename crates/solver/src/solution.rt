@@ -3,39 +3,50 @@ ghost use Rattle.solver.specs.Rows.{AreSized, has_at, reached_by};
 ghost use Rattle.solver.specs.Constraints.{AreAlike, row_join, rows_with, values_of};
 ghost use Rattle.std.specs.Prelude.{All, IfOk, length, ◌<◌, ◌≡◌, ◌≤◌};
 
-use crate::number_set::NumberSet;
-use labels::Lattice;
+use labels::{Lattice, Row};
 use std::alloc::{AllocError, Global};
 use std::marker::Model;
 
 /// The least values of the unknowns of constraints: for each unknown the written elements that reach it, as a row of bits. The value
 /// of an unknown is the join of the written elements that reach it. A contract sees for each written element, by its number, the
-/// unknowns that it reaches.
+/// unknowns that it reaches; and how often left sides were looked at.
 #[derive(Debug, Drop)]
 pub struct Solution {
     /// How many written elements there are.
     count: usize,
-    rows: Vec<NumberSet>,
+    rows: Vec<Row>,
+    looks: u64,
     ghost sized: { AreSized count rows.items },
 }
 
 impl Model for Solution {
-    ghost use Rattle.std.specs.Prelude.{List, ℕ};
+    ghost use Rattle.solver.specs.Constraints.{Solved};
 
-    ghost Value = { List (List ℕ) };
+    ghost Value = { Solved };
 
     ghost use Rattle.solver.specs.Rows.{reached_by};
 
-    ghost view = { λ solution. reached_by 0 solution.count solution.rows.items };
+    ghost view = { λ solution. record {
+      reached = reached_by 0 solution.count solution.rows.items;
+      looks = solution.looks;
+    } };
 }
 
 impl Solution {
-    // The solution with these rows of numbers below this.
-    pub(crate) fn of(count: usize, rows: Vec<NumberSet>) -> Solution
+    // The solution with these rows of numbers below this, and this number of looks.
+    pub(crate) fn of(count: usize, rows: Vec<Row>, looks: u64) -> Solution
         requires { AreSized count rows.items }
-        ensures { result ≡ reached_by 0 count rows.items }
+        ensures { result ≡ record { reached = reached_by 0 count rows.items; looks = looks } }
     {
-        Solution { count, rows }
+        Solution { count, rows, looks }
+    }
+
+    /// How often left sides of constraints whose right side is an unknown were looked at. Once it is the greatest number of 64 bits,
+    /// it stays so.
+    pub fn looks(&self) -> u64
+        ensures { result ≡ self.now.looks }
+    {
+        self.looks
     }
 
     /// The value of an unknown, exact up to the order: the join of the written elements that reach it. The precondition holds of the
@@ -47,9 +58,9 @@ impl Solution {
         written: &[L::Elem],
         unknown: u32,
     ) -> Result<L::Elem, AllocError>
-        requires { length self.now ≤ length written.now }
+        requires { length self.now.reached ≤ length written.now }
         ensures { IfOk result (AreAlike (L.order lattice.now)
-            (values_of (L.order lattice.now) written.now self.now unknown)) }
+            (values_of (L.order lattice.now) written.now self.now.reached unknown)) }
     {
         let rows = self.rows.as_slice();
         let numbers = numbers_of(alloc, self.count, rows, unknown as usize)?;
@@ -58,7 +69,7 @@ impl Solution {
 }
 
 // Whether a number is in the row of an unknown.
-fn reaches(rows: &[NumberSet], count: usize, unknown: usize, number: usize) -> bool
+fn reaches(rows: &[Row], count: usize, unknown: usize, number: usize) -> bool
     requires sized { AreSized count rows.now }
     requires inside { number < count }
     ensures { result ≡ has_at rows.now unknown number }
@@ -70,7 +81,7 @@ fn reaches(rows: &[NumberSet], count: usize, unknown: usize, number: usize) -> b
 fn numbers_of(
     alloc: Global,
     count: usize,
-    rows: &[NumberSet],
+    rows: &[Row],
     unknown: usize,
 ) -> Result<Vec<usize>, AllocError>
     requires { AreSized count rows.now }

@@ -2,6 +2,7 @@
 ghost use Rattle.solver.specs.Breaker.{BreaksAlong, IsBreakChain};
 ghost use Rattle.solver.specs.Broken.{AllRightsInside, is_below};
 ghost use Rattle.solver.specs.Links.{InRange};
+ghost use Rattle.solver.specs.Looks.{AreLooks};
 ghost use Rattle.solver.specs.Reach.{LeadsInside};
 ghost use Rattle.common.specs.Answers.{IfRefused};
 ghost use Rattle.solver.specs.Constraints.{IsSolution, IsSolveRefusal};
@@ -13,9 +14,9 @@ use crate::chain::chain_to;
 use crate::constraints::Constraints;
 use crate::edges::{Edges, edges_of};
 use crate::fault::{SolveFault, SolveRefusal};
-use crate::reached::rows_of;
 use crate::search::trace;
 use crate::solution::Solution;
+use crate::worklist::rows_of;
 use common::OrNoMemory;
 use labels::Lattice;
 use std::alloc::{AllocError, Global};
@@ -25,8 +26,8 @@ use std::alloc::{AllocError, Global};
 /// constraints are refused exactly where no values fit them all. It is a precondition that the numbers of written elements and of
 /// unknowns are in range.
 ///
-/// It takes a bit for each pair of an unknown and a written element. A constraint is looked at for 64 written elements at a time,
-/// and again only when one more of them reaches its left side.
+/// It takes a bit for each pair of an unknown and a written element. A constraint whose right side is an unknown is looked at once,
+/// and again only when one more written element reaches its left side. The looks are counted up to the greatest number of 64 bits.
 pub fn solve<L: Lattice, T>(
     alloc: Global,
     lattice: &L,
@@ -35,6 +36,7 @@ pub fn solve<L: Lattice, T>(
     requires { InRange (length system.now.written.items) system.now.unknowns
         system.now.constraints.items }
     ensures accepted { IfOk result (IsSolution (L.order lattice.now) system.now) }
+    ensures looks { IfOk result (λ solution. AreLooks system.now solution.looks) }
     ensures rejected { IfErr result (IfRefused
         (IsSolveRefusal (L.order lattice.now) system.now)) }
 {
@@ -44,9 +46,15 @@ pub fn solve<L: Lattice, T>(
     let written = system.written.as_slice();
     let constraints = system.constraints.as_slice();
     let edges = edges_of(alloc, constraints, count, unknowns)?;
-    let rows = rows_of(alloc, &edges)?;
-    match first_breaker(alloc, lattice, written, constraints, rows.as_slice())? {
-        None => Ok(Solution::of(count, rows)),
+    let reached = rows_of(alloc, &edges, constraints)?;
+    match first_breaker(
+        alloc,
+        lattice,
+        written,
+        constraints,
+        reached.rows.as_slice(),
+    )? {
+        None => Ok(Solution::of(count, reached.rows, reached.looks)),
         Some(value) => {
             let refusal = find_refusal(alloc, lattice, written, &edges, value)?;
             Err(OrNoMemory::Refused(refusal))

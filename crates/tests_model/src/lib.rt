@@ -1,12 +1,12 @@
-//! Tests of `lexer`, `principals`, `labels`, `analysis` and `solver`: what no row of the program `rows` reaches.
+//! Tests of `lexer`, `principals`, `labels` and `solver`: what no row of the program `rows` reaches.
 #![tactic(auto)]
 
-#[cfg(test)]
-mod analysing;
 #[cfg(test)]
 mod hierarchies;
 #[cfg(test)]
 mod labels_of;
+#[cfg(test)]
+mod rows;
 #[cfg(test)]
 mod solving;
 #[cfg(test)]

@@ -70,3 +70,46 @@ fn refuses(rt: HostRuntime) -> Result<(), Fail> {
     assert!(rt; matches!(&answer, Err(OrNoMemory::Refused(_))));
     Ok(())
 }
+
+// A label of its own flows into each of three unknowns, and these flow round a circle.
+fn circle(alloc: Global) -> Result<Vec<Constraint<u8>>, AllocError>
+    ensures { IfOk result (λ constraints. InRange 3 3 constraints.items) }
+{
+    let mut constraints = Vec::with_capacity(alloc, 6)?;
+    'written: for n in 0..3u32 {
+        constraints.push(flow(alloc, Atom::Written(n), Atom::Unknown(n))?)?;
+    }
+    'copies: for n in 0..3u32 {
+        constraints.push(flow(alloc, Atom::Unknown((n + 1) % 3), Atom::Unknown(n))?)?;
+    }
+    Ok(constraints)
+}
+
+// The labels that one of three principals alone may read.
+fn secrets(alloc: Global) -> Result<Vec<Label>, AllocError>
+    ensures { IfOk result (λ labels. length labels.items ≡ 3) }
+{
+    let mut labels = Vec::with_capacity(alloc, 3)?;
+    for owner in 0..3u32 {
+        let policies = vec![in alloc; Policy::written(owner, Vec::new(alloc))]?;
+        labels.push(Label::written(policies))?;
+    }
+    Ok(labels)
+}
+
+#[test]
+fn looks_again_around_a_circle(rt: HostRuntime) -> Result<(), Fail> {
+    let alloc = rt.alloc();
+    let hierarchy = Hierarchy::read(alloc, "principal Alice, Bob, Carol;")?;
+    let lattice = LabelLattice {
+        hierarchy: &hierarchy,
+    };
+    let system = Constraints {
+        written: secrets(alloc)?,
+        unknowns: 3,
+        constraints: circle(alloc)?,
+    };
+    let solution = solve(alloc, &lattice, &system)?;
+    assert!(rt; solution.looks() > 6);
+    Ok(())
+}

@@ -100,7 +100,7 @@ fn size_of(alloc: Global) -> Result<usize, Fault> {
 #[test]
 fn a_refused_growth_changes_no_answer(rt: HostRuntime) -> Result<(), Fail> {
     let mut answer = size_of(rt.alloc());
-    if answer.as_ref().err() == Some(&OrNoMemory::NoMemory) {
+    if matches!(&answer, Err(OrNoMemory::NoMemory)) {
         answer = size_of(rt.alloc());
     }
     assert!(rt; matches!(&answer, Ok(76)));

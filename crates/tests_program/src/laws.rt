@@ -48,7 +48,7 @@ fn laws_of_compiling(_rt: HostRuntime) {
     lowering::laws::graphs_fit_the_file();
     lowering::laws::modules_have_no_defect();
     lowering::laws::modules_are_never_stuck();
-    compiler::places_agree();
+    checker::places_agree();
     parser::spelling_laws();
     parser::one_reading();
 }

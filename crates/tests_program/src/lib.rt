@@ -5,6 +5,10 @@
 #[cfg(test)]
 mod compilation;
 #[cfg(test)]
+mod hosting;
+#[cfg(test)]
 mod laws;
 #[cfg(test)]
 mod performing;
+#[cfg(test)]
+mod sources;

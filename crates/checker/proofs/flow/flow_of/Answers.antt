@@ -4,8 +4,9 @@ use Rattle.labels.specs.Label.{Label, ReaderPolicy, Covers}
 use Rattle.labels.specs.Constraints.{label_lattice}
 use Rattle.resolved.specs.declared.target.Target.{Target}
 use Rattle.solver.specs.declared.constraints.Constraint.{Constraint}
-use Rattle.checker.specs.Reported.{report_at, reported_by}
-use Rattle.checker.proofs.Refusals.{index-inside, last-read, right-written, flow-fails, right-inside, labels-read, last_of, flow-reported}
+use Rattle.checker.specs.Reported.{reported_by}
+use Rattle.checker.specs.Steps.{report_at}
+use Rattle.checker.proofs.Flows.{index-inside, last-read, right-written, flow-fails, right-inside, labels-read, last_of, flow-reported}
 use Rattle.checker.proofs.flow.flow_of.Goals as goal
 
 pub overflow_sub-last : goal.overflow_sub-last

@@ -14,7 +14,7 @@ pub returns-in-Ok-clause-labelled : goal.returns-in-Ok-clause-labelled
 returns-in-Ok-clause-labelled c =
     let program = program_of c.args.core in
     let l = label_lattice c.args.core.hierarchy in
-    let values : ℕ → Label = values_of l c.in_ok-system.system.written.items c.in-Ok.solution in
+    let values : ℕ → Label = values_of l c.in_ok-system.system.written.items c.in-Ok.solution.reached in
     fitting-labelled program (constraints_of l c.in_ok-system.system) c.in_ok-system.ensures.gathered.gathered values
     c.in-Ok.ensures.accepted.fits
 
@@ -22,7 +22,7 @@ pub returns-in-Ok-clause-least : goal.returns-in-Ok-clause-least
 returns-in-Ok-clause-least c =
     let program = program_of c.args.core in
     let l = label_lattice c.args.core.hierarchy in
-    let values : ℕ → Label = values_of l c.in_ok-system.system.written.items c.in-Ok.solution in
+    let values : ℕ → Label = values_of l c.in_ok-system.system.written.items c.in-Ok.solution.reached in
     least-labels program (constraints_of l c.in_ok-system.system) c.in_ok-system.ensures.gathered.gathered values
     (unwritten_number program) c.in_ok-system.ensures.gathered.numbered
     c.in-Ok.ensures.accepted.least

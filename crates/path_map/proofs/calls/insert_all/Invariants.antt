@@ -1,7 +1,8 @@
 use Rattle.std.proofs.Common.{map, take}
 use Rattle.resolved.specs.Ends.{declared_by}
 use Rattle.resolved.specs.ProgramOf.{thrown_entry}
-use Rattle.path_map.specs.Sets.{IsSum, is_one_of}
+use Rattle.path_map.specs.Exceptions.{is_one_of}
+use Rattle.path_map.specs.Sets.{IsSum}
 use Rattle.path_map.proofs.calls.insert_all.Given as goal
 
 abbrev pub invariant-loop-thrown : goal.invariant-loop-thrown

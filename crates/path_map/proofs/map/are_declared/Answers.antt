@@ -2,7 +2,8 @@ use Rattle.std.proofs.Common.{ℕ, ◌&&◌, not, map, take, ap, ◌∙◌, sym}
 use Rattle.std.specs.Prelude.{◌==◌}
 use Rattle.resolved.specs.Ends.{declared_by}
 use Rattle.resolved.specs.ProgramOf.{thrown_entry}
-use Rattle.path_map.specs.Sets.{row_has, is_one_of}
+use Rattle.path_map.specs.Exceptions.{is_one_of}
+use Rattle.path_map.specs.Sets.{row_has}
 use Rattle.path_map.proofs.Procedures.{declared-more}
 use Rattle.path_map.proofs.map.are_declared.Goals as goal
 use Rattle.path_map.proofs.Rows.{not-more}

@@ -12,7 +12,8 @@ use Rattle.resolved.specs.declared.fault.EndDefect.TheVariants as defect
 use Rattle.common.specs.declared.fault.OrNoMemory.TheVariants.{Refused}
 use Rattle.path_map.specs.FirstFault.{IsFirstEndFault}
 use Rattle.path_map.specs.Paths.{block_paths, rest_paths, inner_paths}
-use Rattle.path_map.specs.Joins.{raised_list, raises_some}
+use Rattle.path_map.specs.Exceptions.{raised_list}
+use Rattle.path_map.specs.Joins.{raises_some}
 use Rattle.path_map.specs.Walks.{IsFound, AreThrown}
 use Rattle.path_map.proofs.Walking.{along-begin, handling-begin, has-room, reserved, outside, inside, along-step, never-raised, in-handler, handling-step, first-left, first-right, none-both, Along, Handling}
 use Rattle.path_map.proofs.Forms.{found-at, faults-at, first-at, return-found, store-same, if-found, while-found, try-is-found, tried-throws}

@@ -2,7 +2,8 @@ use Rattle.resolved.specs.Ends.{declared_by}
 use Rattle.resolved.specs.Program.{procedure_at}
 use Rattle.resolved.specs.CoreOf.{program_of}
 use Rattle.std.proofs.Common.{ap, ◌∙◌, true}
-use Rattle.path_map.specs.Joins.{only_raised, raised_list}
+use Rattle.path_map.specs.Exceptions.{raised_list}
+use Rattle.path_map.specs.Joins.{only_raised}
 use Rattle.path_map.proofs.Walking.{call-found}
 use Rattle.path_map.proofs.walk.call.Goals as goal
 

@@ -1,4 +1,4 @@
-use Rattle.path_map.specs.Joins.{raised_list}
+use Rattle.path_map.specs.Exceptions.{raised_list}
 use Rattle.path_map.proofs.Walking.{returning-found}
 use Rattle.path_map.proofs.walk.give_back.Goals as goal
 

@@ -1,4 +1,4 @@
-use Rattle.path_map.specs.Joins.{raised_list}
+use Rattle.path_map.specs.Exceptions.{raised_list}
 use Rattle.path_map.proofs.Walking.{going-found}
 use Rattle.path_map.proofs.walk.go_on.Goals as goal
 

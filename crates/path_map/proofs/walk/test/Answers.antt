@@ -1,6 +1,6 @@
 use Rattle.resolved.specs.Ends.{raises}
 use Rattle.resolved.specs.TreeOf.{expression_of}
-use Rattle.path_map.specs.Joins.{raised_list}
+use Rattle.path_map.specs.Exceptions.{raised_list}
 use Rattle.path_map.proofs.Walking.{raising-found}
 use Rattle.path_map.proofs.walk.test.Goals as goal
 

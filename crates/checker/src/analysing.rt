@@ -1,0 +1,75 @@
+//! The phases that come before labels, in their order.
+
+ghost use Rattle.acceptance.specs.Accepted.{IsResolvedFrom, IsText, IsTreeOf};
+ghost use Rattle.checker.specs.Found.{IsBeforeLabels, IsFound};
+ghost use Rattle.common.specs.Answers.{IfRefused};
+ghost use Rattle.path_map.specs.EndsOf.{AreEndsOf};
+ghost use Rattle.principals.specs.ActsFor.{PrincipalHierarchy};
+ghost use Rattle.resolved.specs.CoreOf.{program_of};
+ghost use Rattle.resolved.specs.EndFaults.{end_faults};
+ghost use Rattle.std.specs.Prelude.{IfErr, IfOk, [], ◌≡◌};
+ghost use Rattle.syntax.specs.Tree.{program_tree};
+
+use crate::found::Found;
+use acceptance::Cause;
+use common::OrNoMemory;
+use common::limits::MAX_TEXT;
+use lexer::lex;
+use parser::parse;
+use path_map::{Ends, ends};
+use principals::Hierarchy;
+use resolved::program::Core;
+use std::alloc::Global;
+use types::resolve;
+
+/// A source without a fault before its labels: its resolved program, and the possible ends of each statement and block of it.
+#[derive(Drop)]
+pub(crate) struct Analysed {
+    pub core: Core,
+    pub ends: Ends,
+}
+
+/// Analyses a source under a hierarchy, phase by phase: its length, its tokens, its tree, its names, types and sizes, and the ends of
+/// its statements.
+pub(crate) fn analyse(
+    alloc: Global,
+    hierarchy: &Hierarchy,
+    source: &str,
+) -> Result<Analysed, OrNoMemory<Found>>
+    // The program is the one that the source stands for, and has no fault of its ends.
+    ensures resolved { IfOk result (λ analysed.
+        IsResolvedFrom hierarchy.now source.now (program_of analysed.core)) }
+    ensures ended { IfOk result (λ analysed. end_faults (program_of analysed.core) ≡ []) }
+
+    // The ends are those of its statements and blocks.
+    ensures mapped { IfOk result (λ analysed.
+        AreEndsOf (program_of analysed.core) analysed.ends) }
+
+    // A refusal is the first fault, at its byte, and not one of labels.
+    ensures first_fault { IfErr result (IfRefused (IsFound hierarchy.now source.now)) }
+    ensures before_labels { IfErr result (IfRefused IsBeforeLabels) }
+{
+    if source.len() > MAX_TEXT {
+        return Err(OrNoMemory::Refused(Found {
+            cause: Cause::TextTooLong,
+            at: 0,
+        }));
+    }
+    let tree = read(alloc, source)?;
+    let core = resolve(alloc, tree, hierarchy).map_err(OrNoMemory::cast)?;
+    let ends = ends(alloc, &core).map_err(OrNoMemory::cast)?;
+    Ok(Analysed { core, ends })
+}
+
+// The tree that a source spells.
+fn read(alloc: Global, source: &str) -> Result<syntax::Program, OrNoMemory<Found>>
+    requires text { IsText source.now }
+    ensures spelled { IfOk result (λ tree. IsTreeOf source.now (program_tree tree)) }
+    ensures first_fault { (h : PrincipalHierarchy) → IfErr result (IfRefused
+        (IsFound h source.now)) }
+    ensures before_labels { IfErr result (IfRefused IsBeforeLabels) }
+{
+    let tokens = lex(alloc, source).map_err(OrNoMemory::cast)?;
+    let tree = parse(alloc, tokens.as_slice()).map_err(OrNoMemory::cast)?;
+    Ok(tree)
+}

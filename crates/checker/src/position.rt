@@ -1,0 +1,70 @@
+//! Where the bytes of a text stand.
+
+ghost use Rattle.checker.specs.Characters.{ColumnsAgree, LinesAgree};
+ghost use Rattle.checker.specs.NextPlace.{next_place};
+ghost use Rattle.checker.specs.Position as spec;
+ghost use Rattle.checker.specs.Position.{column_of, line_of, place_at};
+ghost use Rattle.std.specs.Prelude.{length, ◌+◌, ◌<◌, ◌^◌, ◌≡◌, ◌≤◌};
+
+use lexer::Place;
+
+/// The line and the column of the byte `at` of a text, both from 1; of a byte behind the text, those of its end.
+///
+/// A line ends with U+000A, and a column is one character. The text may be no UTF-8, and the byte may lie within a character: those
+/// that begin before it are counted.
+pub fn place_of(text: &[u8], at: usize) -> Place
+    ensures line { result.line ≡ line_of text.now at }
+    ensures column { result.column ≡ column_of text.now at }
+{
+    let start = Place { line: 1, column: 1 };
+    place_after(text, start, 0, at.min(text.len()))
+}
+
+/// The place of the byte `to` of a text, or of its end, counted on from the place of the byte `from`.
+pub fn place_after(text: &[u8], start: Place, from: usize, to: usize) -> Place
+    requires order { from ≤ to }
+    requires within { to ≤ length text.now }
+    requires start { start ≡ place_at text.now from }
+    ensures { result ≡ place_at text.now to }
+{
+    let mut place = start;
+    for byte in &text[from..to] {
+        place = next(place, *byte);
+    }
+    place
+}
+
+// The place behind a byte that stands at this place.
+fn next(place: Place, byte: u8) -> Place
+    requires few_lines { place.line + 1 < 2 ^ 64 }
+    requires few_columns { place.column + 1 < 2 ^ 64 }
+    ensures { result ≡ next_place place byte }
+{
+    if byte == b'\n' {
+        Place {
+            line: place.line + 1,
+            column: 1,
+        }
+    } else if begins_character(byte) {
+        Place {
+            line: place.line,
+            column: place.column + 1,
+        }
+    } else {
+        place
+    }
+}
+
+// A character begins with this byte.
+fn begins_character(byte: u8) -> bool
+    ensures { result ≡ spec.begins_character byte }
+{
+    byte < 128 || byte >= 192
+}
+
+/// The law that these places are those of [`lexer::place`]: a character of a text in UTF-8 has the same line and the same column by
+/// both. It does nothing when it is called.
+pub fn places_agree()
+    ensures line { LinesAgree }
+    ensures column { ColumnsAgree }
+{}

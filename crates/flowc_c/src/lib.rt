@@ -1,0 +1,11 @@
+//! `flowc` as a library for programs in other languages: functions that C can call, as `include/flowc.h` declares them.
+//!
+//! A result whose length the caller cannot know goes to the head of a place that the caller gives. Where it does not fit, nothing is
+//! written, and the answer says how long it is.
+#![tactic(auto)]
+
+pub mod modules_c;
+pub mod outcome;
+mod place;
+pub mod texts_c;
+pub mod version_c;

@@ -1,0 +1,37 @@
+-- Private: No public clause cites it. A work list: rows that grow, and constraints that wait to be looked at, until none does.
+-- Source: our own.
+use Rattle.std.specs.Prelude.{◌≡◌, ◌≢◌, ℕ, ◌+◌, ◌*◌, ◌-◌, ◌^◌, ◌<◌, ◌≤◌, List, [], ◌∷◌, length, Bool, false, IsTrue, Some, slice_get, Contains}
+use Rattle.std.specs.Global.{Global}
+use Rattle.std.specs.declared.vec.Vec.{Vec}
+use Rattle.solver.specs.Looks.{count_of, looked_at, unknowns_left, written_left}
+use Rattle.solver.specs.Queue.{RightIsUnknown, flag}
+use Rattle.solver.specs.Reach.{ReachesBy}
+use Rattle.solver.specs.Rows.{AreSized, has_at, left_has}
+use Rattle.solver.specs.declared.edges.Edge.{Edge}
+use Rattle.solver.specs.declared.edges.Edges.{Edges}
+use Rattle.solver.specs.declared.constraints.Atom.TheVariants.{Unknown}
+use Rattle.solver.specs.declared.constraints.Constraint.{Constraint}
+
+-- how often constraints may still come to wait: for each unknown, once for each of its edges and each number that is not in its row
+abbrev pub room : (most : ℕ) → List (Vec Edge Global) → List (List Bool) → ℕ
+room most [] rows = 0
+room most (es ∷ edges) [] = 0
+room most (es ∷ edges) (row ∷ rows) = (most - count_of (λ b. b) row) * length es.items + room most edges rows
+
+-- each constraint whose right side is an unknown waits or fits, but one that may do neither
+pub record IsWork {T : Type 0} (cs : List (Constraint T)) (edges : Edges) (rows : List (List Bool)) (waits : List Bool) (order : List ℕ) (but : ℕ) : Type 0 where
+  pub all : length rows ≡ length edges.unknown.items
+  pub sized : AreSized (length edges.written.items) rows
+  pub sound : (u n : ℕ) → IsTrue (has_at rows u n) → ReachesBy edges n u
+  pub count : length waits ≡ length cs
+  pub listed : (i : ℕ) → IsTrue (flag waits i) → Contains order i
+  pub rights : (i : ℕ) → Contains order i → RightIsUnknown cs i
+  pub settled : (i : ℕ) (c : Constraint T) (u n : ℕ) → slice_get cs i ≡ Some c → c.right ≡ Unknown u → i ≢ but → flag waits i ≡ false →
+      IsTrue (left_has rows c.left.items n) → IsTrue (has_at rows u n)
+
+-- the bounds of the number of looks so far
+pub record AreSoFar {T : Type 0} (cs : List (Constraint T)) (edges : Edges) (rows : List (List Bool)) (order : List ℕ) (looks : ℕ) : Type 0 where
+  pub at_least : looked_at cs ≤ looks + length order
+  pub at_most : looks + length order + room (written_left cs 0 (length edges.written.items)) edges.unknown.items rows
+      ≤ looked_at cs + written_left cs 0 (length edges.written.items) * unknowns_left cs
+  pub greatest : looks < 2 ^ 64

@@ -1,0 +1,116 @@
+//! Constraints that wait to be looked at, each at most once.
+ghost use Rattle.solver.specs.Queue.{Added, AllSeeded, IsNext, IsSeeded, Seeds, flag};
+ghost use Rattle.solver.specs.Reach.{edge as edge_of};
+ghost use Rattle.solver.specs.declared.constraints.Atom.TheVariants.{Unknown};
+ghost use Rattle.std.specs.Prelude.{Contains, IfOk, OnOk, [], if◌then◌else◌, length, set, true, ℕ, ◌++◌, ◌<◌, ◌∷◌, ◌≡◌};
+
+use crate::constraints::{Atom, Constraint};
+use crate::edges::{Edge, Edges};
+use crate::order::order_of;
+use std::alloc::{AllocError, Global};
+use std::collections::VecDeque;
+
+/// For each constraint whether it waits, and those that do, by their indices, in order.
+#[derive(Drop)]
+pub struct Queue {
+    pub(crate) waits: Vec<bool>,
+    pub(crate) order: VecDeque<usize>,
+}
+
+impl Queue {
+    // A constraint waits, unless it does so already.
+    fn add(&mut self, by: usize) -> Result<(), AllocError>
+        requires { by < length self.old.waits.items }
+        ensures waits { OnOk result (self.new.waits.items ≡ set self.old.waits.items by true) }
+        ensures order { OnOk result (self.new.order.items ≡ (if flag self.old.waits.items by
+            then self.old.order.items else (self.old.order.items ++ by ∷ []))) }
+    {
+        if self.waits[by] {
+            return Ok(());
+        }
+        self.waits[by] = true;
+        self.order.push_back(by)?;
+        Ok(())
+    }
+
+    // The constraint of an edge waits, if the edge leads to an unknown.
+    fn add_along(&mut self, edge: Edge) -> Result<(), AllocError>
+        requires { (i u : ℕ) → Contains (edge ∷ []) (edge_of i (Unknown u))
+            → i < length self.old.waits.items }
+        ensures { OnOk result (Added (edge ∷ []) self.old.waits.items self.old.order.items
+            self.new.waits.items self.new.order.items) }
+    {
+        if let Atom::Unknown(_) = edge.to {
+            self.add(edge.by)?;
+            return Ok(());
+        }
+        Ok(())
+    }
+
+    /// So do those of all these edges.
+    pub fn add_all(&mut self, edges: &[Edge]) -> Result<(), AllocError>
+        requires { (i u : ℕ) → Contains edges.now (edge_of i (Unknown u))
+            → i < length self.old.waits.items }
+        ensures { OnOk result (Added edges.now self.old.waits.items self.old.order.items
+            self.new.waits.items self.new.order.items) }
+    {
+        for edge in edges {
+            self.add_along(*edge)?;
+        }
+        Ok(())
+    }
+
+    // A constraint waits, if there is one with this index whose right side is an unknown.
+    fn seed<T>(&mut self, constraints: &[Constraint<T>], by: usize) -> Result<(), AllocError>
+        requires { IsSeeded constraints.now self.old.waits.items self.old.order.items }
+        ensures seeded { OnOk result (IsSeeded constraints.now
+            self.new.waits.items self.new.order.items) }
+        ensures kept { OnOk result (Seeds constraints.now by
+            self.old.waits.items self.new.waits.items) }
+    {
+        if by >= constraints.len() {
+            return Ok(());
+        }
+        if let Atom::Unknown(_) = constraints[by].right {
+            self.add(by)?;
+            return Ok(());
+        }
+        Ok(())
+    }
+
+    /// The constraint that waited first. It does not wait any more.
+    pub fn next(&mut self) -> Option<usize>
+        requires { (i : ℕ) → Contains self.old.order.items i → i < length self.old.waits.items }
+        ensures { IsNext self.old.waits.items self.old.order.items
+            self.new.waits.items self.new.order.items result }
+    {
+        let by = self.order.pop_front()?;
+        self.waits[by] = false;
+        Some(by)
+    }
+}
+
+/// All constraints whose right side is an unknown, along the flow.
+pub fn all_queued<T>(
+    alloc: Global,
+    edges: &Edges,
+    constraints: &[Constraint<T>],
+) -> Result<Queue, AllocError>
+    ensures { IfOk result (λ queue. AllSeeded constraints.now
+        queue.waits.items queue.order.items) }
+{
+    let count = constraints.len();
+    let order = order_of(alloc, edges, count)?;
+    let mut queue = Queue {
+        waits: vec![in alloc; false; count]?,
+        order: VecDeque::with_capacity(alloc, count)?,
+    };
+    'ordered: for by in &order {
+        queue.seed(constraints, *by)?;
+    }
+    // Whatever the order is, each of them waits.
+    'all: for by in 0..count {
+        queue.seed(constraints, by)?;
+    }
+    Ok(queue)
+}

@@ -1,0 +1,110 @@
+//! Which written elements reach each unknown: a work list of constraints.
+ghost use Rattle.solver.specs.Links.{InRange};
+ghost use Rattle.solver.specs.Looks.{written_left};
+ghost use Rattle.solver.specs.Queue.{RightIsUnknown};
+ghost use Rattle.solver.specs.Reach.{AreEdges};
+ghost use Rattle.solver.specs.Rows.{AreRows, AreSized, has_at};
+ghost use Rattle.solver.specs.Work.{AreSoFar, IsWork, room};
+ghost use Rattle.std.specs.Prelude.{IfOk, OnOk, [], false, length, ℕ, ◌+◌, ◌∷◌, ◌≡◌, ◌≤◌};
+
+use crate::breaker::left_row;
+use crate::constraints::{Atom, Constraint};
+use crate::edges::Edges;
+use crate::queue::{Queue, all_queued};
+use labels::Row;
+use std::alloc::{AllocError, Global};
+
+/// For each unknown the numbers of the written elements that reach it, and how often left sides were looked at.
+#[derive(Drop)]
+pub struct Reached {
+    pub rows: Vec<Row>,
+    pub looks: u64,
+}
+
+/// What reaches all unknowns. Each constraint whose right side is an unknown is looked at, and again when a row in its left side has
+/// grown: at most once for each written element.
+pub fn rows_of<T>(
+    alloc: Global,
+    edges: &Edges,
+    constraints: &[Constraint<T>],
+) -> Result<Reached, AllocError>
+    requires edges { AreEdges constraints.now edges.now }
+    requires range { InRange (length edges.now.written.items) (length edges.now.unknown.items)
+        constraints.now }
+    ensures rows { IfOk result (λ reached. AreRows edges.now reached.rows.items) }
+    ensures looks { IfOk result (λ reached. AreSoFar constraints.now edges.now
+        reached.rows.items [] reached.looks) }
+{
+    let written = edges.written.len();
+    let mut queue = all_queued(alloc, edges, constraints)?;
+    let mut reached = Reached {
+        rows: empty_rows(alloc, edges.unknown.len(), written)?,
+        looks: 0,
+    };
+    while let Some(by) = queue.next() {
+        reached.look(alloc, edges, constraints, by, &mut queue)?;
+    }
+    Ok(reached)
+}
+
+// So many empty rows.
+fn empty_rows(alloc: Global, count: usize, written: usize) -> Result<Vec<Row>, AllocError>
+    ensures all { IfOk result (λ rows. length rows.items ≡ count) }
+    ensures sized { IfOk result (λ rows. AreSized written rows.items) }
+    ensures empty { IfOk result (λ rows. (u n : ℕ) → has_at rows.items u n ≡ false) }
+{
+    let mut rows = Vec::with_capacity(alloc, count)?;
+    for _u in 0..count {
+        rows.push(Row::new(alloc, written)?)?;
+    }
+    Ok(rows)
+}
+
+impl Reached {
+    // Looks at the left side of a constraint. Where the row of the right side grew, the constraints with it on the left wait.
+    fn look<T>(
+        &mut self,
+        alloc: Global,
+        edges: &Edges,
+        constraints: &[Constraint<T>],
+        by: usize,
+        queue: &mut Queue,
+    ) -> Result<(), AllocError>
+        requires edges { AreEdges constraints.now edges.now }
+        requires range { InRange (length edges.now.written.items)
+            (length edges.now.unknown.items) constraints.now }
+        requires right { RightIsUnknown constraints.now by }
+        requires work { IsWork constraints.now edges.now self.old.rows.items
+            queue.old.waits.items queue.old.order.items by }
+        requires so_far { AreSoFar constraints.now edges.now self.old.rows.items
+            (by ∷ queue.old.order.items) self.old.looks }
+        ensures work { OnOk result (IsWork constraints.now edges.now self.new.rows.items
+            queue.new.waits.items queue.new.order.items (length constraints.now)) }
+        ensures so_far { OnOk result (AreSoFar constraints.now edges.now self.new.rows.items
+            queue.new.order.items self.new.looks) }
+        ensures less { OnOk result (length queue.new.order.items
+            + room (written_left constraints.now 0 (length edges.now.written.items))
+            edges.now.unknown.items self.new.rows.items
+            ≤ length queue.old.order.items
+            + room (written_left constraints.now 0 (length edges.now.written.items))
+            edges.now.unknown.items self.old.rows.items) }
+    {
+        let constraint = &constraints[by];
+        let Atom::Unknown(unknown) = constraint.right else {
+            unreachable!();
+        };
+        let unknown = unknown as usize;
+        let count = edges.written.len();
+        let left = left_row(
+            alloc,
+            constraint.left.as_slice(),
+            self.rows.as_slice(),
+            count,
+        )?;
+        self.looks = self.looks.saturating_add(1);
+        if self.rows[unknown].join_from(&left) {
+            queue.add_all(edges.unknown[unknown].as_slice())?;
+        }
+        Ok(())
+    }
+}

@@ -1,0 +1,82 @@
+//! Texts that are read from sources which fail, and from sources that have too much.
+
+use common::OrNoMemory;
+use flowc::{Cause, Fault, Feed, Source, SourceFault, Text, compile, read_text};
+use std::alloc::Global;
+use std::io::{Error, ErrorKind, Read, Result as ReadResult, repeat};
+use std::test::Fail;
+
+// A reader that fails at once.
+#[derive(Drop)]
+struct Broken;
+
+impl Read for Broken {
+    fn read(&mut self, _buffer: &mut [u8]) -> ReadResult<usize> {
+        Err(Error::from(ErrorKind::Other))
+    }
+}
+
+// Whether a text of three bytes whose reader then fails is refused, and the source has failed.
+fn is_refused(alloc: Global) -> bool {
+    let mut feed = Feed::new(repeat(b'x').take(3).chain(Broken));
+    let is_fault = matches!(
+        read_text(alloc, &mut feed),
+        Err(OrNoMemory::Refused(SourceFault))
+    );
+    is_fault && feed.failed()
+}
+
+#[test]
+fn a_reader_that_fails_gives_no_text(rt: HostRuntime) {
+    assert!(rt; is_refused(rt.alloc()));
+}
+
+// How many bytes are read of a source that has so many.
+fn count_of(alloc: Global, length: u64) -> Result<usize, Fail> {
+    let mut feed = Feed::new(repeat(b' ').take(length));
+    Ok(read_text(alloc, &mut feed)?.len())
+}
+
+#[test]
+fn no_more_is_read_than_shows_that_a_text_is_too_long(rt: HostRuntime) -> Result<(), Fail> {
+    for (length, count) in [
+        (0, 0),
+        (4096, 4096),
+        (4097, 4097),
+        (1_048_576, 1_048_576),
+        (1_048_577, 1_048_577),
+        (2_000_000, 1_048_577),
+    ] {
+        assert_eq!(rt; count_of(rt.alloc(), length)?, count);
+    }
+    Ok(())
+}
+
+// Whether a source was refused for its length, at its first place.
+fn is_refused_for_its_length(compiled: &Result<Vec<u8>, Fault>) -> bool {
+    match compiled {
+        Err(OrNoMemory::Refused(refusal)) => {
+            refusal.text == Text::Source
+                && refusal.cause == Cause::TextTooLong
+                && refusal.at.line == 1
+                && refusal.at.column == 1
+        }
+        _ => false,
+    }
+}
+
+// Whether so many spaces, as they are read, are refused for their length.
+fn is_too_long(alloc: Global, length: u64) -> Result<bool, Fail> {
+    let mut feed = Feed::new(repeat(b' ').take(length));
+    let text = read_text(alloc, &mut feed)?;
+    let compiled = compile(alloc, b"", &text);
+    Ok(is_refused_for_its_length(&compiled))
+}
+
+#[test]
+fn what_is_read_of_a_text_that_is_too_long_is_refused(rt: HostRuntime) -> Result<(), Fail> {
+    for (length, wanted) in [(1_048_576, false), (1_048_577, true), (2_000_000, true)] {
+        assert_eq!(rt; is_too_long(rt.alloc(), length)?, wanted);
+    }
+    Ok(())
+}
