@@ -1,4 +1,4 @@
--- How large constraints are, and how many exceptions the callees of a program declare, each as often as it is called.
+-- Private: how large constraints are, and how many exceptions the callees of a program declare, each as often as it is called.
 -- Source: our own.
 use Rattle.std.specs.Prelude.{ℕ, suc, ◌+◌, List, [], ◌∷◌, length, sum_by}
 use Rattle.labels.specs.Constraints.{Constraint}

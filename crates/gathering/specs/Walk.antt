@@ -1,4 +1,4 @@
--- The gathering of a program's demands by a walk along its tree, in a size in proportion to the tree (and, for a call, to the
+-- Private: the gathering of a program's demands by a walk along its tree, in a size in proportion to the tree (and, for a call, to the
 -- exceptions that its callee declares). The program-counter label (pc) of a statement is one atom: an inner unknown where the pc has grown. Each end
 -- that matters has a taker, an inner unknown that was made where the end is caught, and what an end is reached at flows to its
 -- taker. Inner unknowns have numbers from n on, in the order in which the walk comes to what makes them.

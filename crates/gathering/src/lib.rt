@@ -1,5 +1,5 @@
 //! The gathering of a program's label demands as constraints in linear size.
 #![tactic(auto)]
 
-pub mod laws;
+mod laws;
 pub mod unknowns;

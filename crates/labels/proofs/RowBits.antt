@@ -1,10 +1,11 @@
 -- The truth values of a row are the bits of its words: what the operations on words mean for them.
-use Rattle.std.proofs.Common.{◌≡◌, refl, sym, ap, subst, ◌∙◌, ℕ, zero, suc, ◌<◌, ◌≤◌, ◌+◌, ◌/◌, ◌^◌, length, set, List, Bool, true, false, arith, nat_eq, ◌||◌, ◌≢◌, ⊎_elim, not, replicate}
+use Rattle.std.proofs.Common.{◌≡◌, refl, sym, ap, subst, ◌∙◌, ℕ, zero, suc, ◌<◌, ◌≤◌, ◌+◌, ◌/◌, ◌^◌, length, set, List, Bool, true, false, arith, nat_eq, ◌||◌, ◌&&◌, ◌≢◌, ⊎_elim, not, replicate, []}
 use Rattle.std.specs.Prelude.{IsTrue, ◌==◌, ◌↔◌, Option, Some, None}
 use Rattle.std.proofs.lemmas.Bool.{eqb-true, eqb-false, cases_lt}
 use Rattle.std.proofs.lemmas.List.{ext_get_or, length-set, get_or-set_other}
 use Rattle.std.proofs.lemmas.Grind.{get_or-set_at}
 use Rattle.std.proofs.lemmas.Simd.{length-zip2}
+use Rattle.std.proofs.Math.Bool.{and-true, and-false}
 use Rattle.labels.specs.Row.{FirstBeyond, Includes, has, union}
 use Rattle.labels.specs.Words.{AreJoined, FirstNew, GrowBetween, SomeGrow, bits_of, has_bit, word}
 use Rattle.labels.proofs.WordBits.{bit-beyond, includes-kept, joined-bit, kept-has}
@@ -55,6 +56,21 @@ bits-set old new n i h each =
         rw e (sym (get_or-set_at (bits_of old 0 n) i k true false is (omega (arith, h, length-bits old 0 n))))
     at k lt false e =
         rw e (sym (get_or-set_other (bits_of old 0 n) i k true false (eqb-false k i e) ∙ bits-at old n k lt))
+
+pub bits-cleared : (old new : List ℕ) (n i : ℕ) → i < n → ((k : ℕ) → has_bit new k ≡ (has_bit old k && not (k == i))) →
+    bits_of new 0 n ≡ set (bits_of old 0 n) i false
+bits-cleared old new n i h each =
+    ext_get_or false (bits_of new 0 n) (set (bits_of old 0 n) i false) (length-bits new 0 n ∙ sym (length-set (bits_of old 0 n) i false ∙ length-bits old 0 n))
+    (λ k lt. bits-at new n k (omega (arith, lt, length-bits new 0 n)) ∙ (each k ∙ at k (omega (arith, lt, length-bits new 0 n)) (nat_eq k i) refl))
+  where
+    at : (k : ℕ) → k < n → (t : Bool) → nat_eq k i ≡ t → (has_bit old k && not (k == i)) ≡ has (set (bits_of old 0 n) i false) k
+    at k lt true e =
+        let is : k ≡ i = eqb-true k i e in
+        ap (λ b. has_bit old k && not b) e ∙ (and-false (has_bit old k)
+        ∙ sym (get_or-set_at (bits_of old 0 n) i k false false is (omega (arith, h, length-bits old 0 n))))
+    at k lt false e =
+        ap (λ b. has_bit old k && not b) e ∙ (and-true (has_bit old k)
+        ∙ sym (get_or-set_other (bits_of old 0 n) i k false false (eqb-false k i e) ∙ bits-at old n k lt))
 
 pub length-union : (a b : List Bool) → length a ≡ length b → length (union a b) ≡ length a
 length-union a b e = length-zip2 (λ x y. x || y) a b e
@@ -155,6 +171,25 @@ first-beyond n words others from (Some i) clear clear' new = record {
   missing = bits-all others n clear' i ∙ new.missing;
   before = λ k ge lt there. subst IsTrue (sym (bits-all others n clear' k)) (new.before k ge lt (subst IsTrue (bits-all words n clear k) there));
 }
+
+-- the least number, where there are no others
+none-has : (k : ℕ) → has [] k ≡ false
+none-has k = refl
+
+module _ (n : ℕ) (words : List ℕ) (clear : (k : ℕ) → n ≤ k → has_bit words k ≡ false) where
+  no-others : (k : ℕ) → IsTrue (has_bit [] k) → IsTrue (has [] k)
+  no-others k there = none-has k ∙ (sym (bit-beyond [] k (omega arith)) ∙ there)
+
+  pub first-alone : (from : ℕ) (found : Option ℕ) → FirstNew words [] from n found → FirstBeyond (bits_of words 0 n) [] from found
+  first-alone from None new = λ k ge lt there.
+      no-others k (new k ge (omega (arith, lt, length-bits words 0 n)) (subst IsTrue (bits-all words n clear k) there))
+  first-alone from (Some i) new = record {
+    from_on = new.from_on;
+    inside = omega (arith, new.inside, length-bits words 0 n);
+    there = subst IsTrue (sym (bits-all words n clear i)) new.there;
+    missing = none-has i;
+    before = λ k ge lt there. no-others k (new.before k ge lt (subst IsTrue (bits-all words n clear k) there));
+  }
 
 -- two rows whose values are as many have the same bound
 pub bounds-same : (a b : List ℕ) (n m : ℕ) (xs ys : List Bool) → bits_of a 0 n ≡ xs → bits_of b 0 m ≡ ys → length xs ≡ length ys → m ≡ n

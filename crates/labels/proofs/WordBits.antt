@@ -1,9 +1,11 @@
 -- The bits of words: after one is set, of words that are joined, and as truth values.
-use Rattle.std.proofs.Common.{◌≡◌, refl, sym, ap, subst, ◌∙◌, ℕ, zero, suc, ◌<◌, ◌≤◌, ◌+◌, ◌*◌, ◌/◌, ◌%◌, ◌^◌, length, set, get_or, get_or-set_other, get_or-set_same, List, Bool, true, false, arith, nat_eq, ◌||◌, ◌≢◌, w64, max, [], ◌∷◌, ⊎_elim, replicate}
+use Rattle.std.proofs.Common.{◌≡◌, refl, sym, ap, subst, ◌∙◌, ℕ, zero, suc, ◌<◌, ◌≤◌, ◌+◌, ◌*◌, ◌/◌, ◌%◌, ◌^◌, length, set, get_or, get_or-set_other, get_or-set_same, List, Bool, true, false, arith, nat_eq, ◌||◌, ◌&&◌, not, ◌≢◌, w64, max, [], ◌∷◌, ⊎_elim, replicate}
 use Rattle.std.specs.Prelude.{IsTrue, bit_or, ◌==◌}
-use Rattle.std.specs.Int.{bit_at}
+use Rattle.std.specs.Int.{bit_at, bit_not}
+use Rattle.std.specs.Int.Bits.{bit_and}
+use Rattle.std.proofs.Math.Bool.{and-true, and-false}
 use Rattle.std.proofs.lemmas.Bool.{eqb-true, eqb-false, eq-eqb, cases_lt}
-use Rattle.std.proofs.lemmas.Nat.Bits.{bit_at_or, bit_at_set_same, bit_at_set_other, bit_at-lt, bit_at-zero, bit_at_above, same_from_bits}
+use Rattle.std.proofs.lemmas.Nat.Bits.{bit_at_or, bit_at_set_same, bit_at_set_other, bit_at_clear_same, bit_at_clear_other, bit_at-lt, bit_at-zero, bit_at_above, same_from_bits}
 use Rattle.labels.specs.Row.{has}
 use Rattle.labels.specs.Words.{GrowBetween, IsKept, NoneNew, has_bit, word}
 
@@ -44,6 +46,38 @@ set-bit words i w n h is = at_word (nat_eq (n / 64) (i / 64)) refl
         let apart : n / 64 ≢ i / 64 = eqb-false (n / 64) (i / 64) e in
         let other : n ≢ i = λ is_n. apart (ap (λ x. x / 64) is_n) in
         ap (λ x. bit_at x (n % 64) == 1) (get_or-set_other words (i / 64) (n / 64) new 0 apart) ∙ rw (neq-eqb n i other) refl
+
+-- a number is taken out
+pub clear-bit : (words : List ℕ) (i w n : ℕ) → i / 64 < length words → w ≡ word words (i / 64) →
+    has_bit (set words (i / 64) (bit_and w (bit_not w64 (1 * 2 ^ (i % 64) % 2 ^ 64)))) n ≡ (has_bit words n && not (n == i))
+clear-bit words i w n h is = at_word (nat_eq (n / 64) (i / 64)) refl
+  where
+    new : ℕ
+    new = bit_and w (bit_not w64 (1 * 2 ^ (i % 64) % 2 ^ 64))
+
+    stays : (t : Bool) → n ≢ i → t ≡ (t && not (n == i))
+    stays t other = sym (and-true t) ∙ ap (λ b. t && not b) (sym (neq-eqb n i other))
+
+    at_bit : n / 64 ≡ i / 64 → (t : Bool) → nat_eq (n % 64) (i % 64) ≡ t → (bit_at new (n % 64) == 1) ≡ (has_bit words n && not (n == i))
+    at_bit same true e =
+        let place : n % 64 ≡ i % 64 = eqb-true (n % 64) (i % 64) e in
+        let is_n : n ≡ i = omega (arith, same, place) in
+        let here : bit_at new (n % 64) ≡ 0 = ap (bit_at new) place ∙ bit_at_clear_same w64 w (i % 64) (omega arith) in
+        ap (λ x. x == 1) here ∙ (sym (and-false (has_bit words n)) ∙ ap (λ b. has_bit words n && not b) (sym (eq-eqb n i is_n)))
+    at_bit same false e =
+        let place : n % 64 ≢ i % 64 = eqb-false (n % 64) (i % 64) e in
+        let here : bit_at new (n % 64) ≡ bit_at (get_or words (n / 64) 0) (n % 64) =
+        bit_at_clear_other w64 w (i % 64) (omega arith) (n % 64) (omega arith) place ∙ (ap (λ x. bit_at x (n % 64)) is ∙ ap (λ j. bit_at (get_or words j 0) (n % 64)) (sym same)) in
+        ap (λ x. x == 1) here ∙ stays (has_bit words n) (λ is_n. place (ap (λ x. x % 64) is_n))
+
+    at_word : (t : Bool) → nat_eq (n / 64) (i / 64) ≡ t → has_bit (set words (i / 64) new) n ≡ (has_bit words n && not (n == i))
+    at_word true e =
+        let same : n / 64 ≡ i / 64 = eqb-true (n / 64) (i / 64) e in
+        ap (λ x. bit_at x (n % 64) == 1) (ap (λ j. get_or (set words (i / 64) new) j 0) same ∙ get_or-set_same words (i / 64) new 0 h)
+        ∙ at_bit same (nat_eq (n % 64) (i % 64)) refl
+    at_word false e =
+        let apart : n / 64 ≢ i / 64 = eqb-false (n / 64) (i / 64) e in
+        ap (λ x. bit_at x (n % 64) == 1) (get_or-set_other words (i / 64) (n / 64) new 0 apart) ∙ stays (has_bit words n) (λ is_n. apart (ap (λ x. x / 64) is_n))
 
 -- a union
 max-one : (a b : ℕ) → a < 2 → b < 2 → (max a b == 1) ≡ (a == 1 || b == 1)
@@ -135,4 +169,14 @@ pub none-more : (words others : List ℕ) (from i : ℕ) → NoneNew words other
 none-more words others from i none this = λ n ge lt has.
     ⊎_elim (λ (before : n < i). none n ge before has)
     (λ (at : i ≤ n). let is : i ≡ n = omega (arith, at, lt) in subst (λ k. IsTrue (has_bit others k)) is (this (subst (λ k. IsTrue (has_bit words k)) (sym is) has)))
+    (cases_lt n i)
+
+-- without others: a word without a bit, and one number whose bit is not set
+pub none-word : (words : List ℕ) (from i more : ℕ) → NoneNew words [] from i → word words (i / 64) ≡ 0 → i % 64 ≡ 0 → more ≤ 64 → NoneNew words [] from (i + more)
+none-word words from i more none zeros first short = λ n ge lt has.
+    ⊎_elim (λ (before : n < i). none n ge before has)
+    (λ (at : i ≤ n).
+    let same : i / 64 ≡ n / 64 = omega (arith, at, lt, first, short) in
+    let empty : has_bit words n ≡ false = ap (λ w. bit_at w (n % 64) == 1) (ap (word words) (sym same) ∙ zeros) ∙ ap (λ x. x == 1) (bit_at-zero (n % 64)) in
+    absurd (let no : false ≡ true = sym empty ∙ has in cc))
     (cases_lt n i)

@@ -1,8 +1,8 @@
 //! Sets of numbers below a bound, a bit for each number.
 ghost use Rattle.labels.specs.Row.{FirstBeyond, Includes, has, union};
-ghost use Rattle.std.specs.Prelude.{IfOk, IsTrue, false, length, replicate, set, true, ◌<◌, ◌↔◌, ◌≡◌, ◌≢◌};
+ghost use Rattle.std.specs.Prelude.{IfOk, IsTrue, [], false, length, replicate, set, true, ◌<◌, ◌↔◌, ◌≡◌, ◌≢◌};
 
-use crate::words::{covers_words, first_new, has_bit, join_words};
+use crate::words::{covers_words, first_bit, first_new, has_bit, join_words};
 use std::alloc::{AllocError, Global};
 use std::marker::Model;
 
@@ -54,6 +54,14 @@ impl Row {
         self.words[i / 64] |= 1u64 << (i % 64);
     }
 
+    /// Takes a number out. Precondition: it is below the bound.
+    pub fn remove(&mut self, i: usize)
+        requires { i < length self.old }
+        ensures { self.new ≡ set self.old i false }
+    {
+        self.words[i / 64] &= !(1u64 << (i % 64));
+    }
+
     /// The set becomes the union with the other one. The answer is whether it grew. Precondition: both have the same bound.
     pub fn join_from(&mut self, other: &Row) -> bool
         requires { length self.old ≡ length other.now }
@@ -77,5 +85,12 @@ impl Row {
         ensures { FirstBeyond self.now other.now from result }
     {
         first_new(self.words.as_slice(), other.words.as_slice(), from, self.n)
+    }
+
+    /// The least number, from one on, that is in the set.
+    pub fn first_from(&self, from: usize) -> Option<usize>
+        ensures { FirstBeyond self.now [] from result }
+    {
+        first_bit(self.words.as_slice(), from, self.n)
     }
 }

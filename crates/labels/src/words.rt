@@ -1,6 +1,6 @@
 //! Words of bits: joined and compared four at a time.
 ghost use Rattle.labels.specs.Words.{AreJoined, AreWords, FirstNew, GrowBetween, has_bit};
-ghost use Rattle.std.specs.Prelude.{length, not, ◌*◌, ◌+◌, ◌/◌, ◌<◌, ◌≡◌, ◌≤◌};
+ghost use Rattle.std.specs.Prelude.{[], length, not, ◌*◌, ◌+◌, ◌/◌, ◌<◌, ◌≡◌, ◌≤◌};
 
 use std::simd::prelude::*;
 
@@ -109,6 +109,24 @@ pub(crate) fn first_new(words: &[u64], others: &[u64], from: usize, to: usize) -
         if i % 64 == 0 && !one_grows(others, words, i / 64) {
             i += (to - i).min(64);
         } else if has_bit(words, i) && !has_bit(others, i) {
+            return Some(i);
+        } else {
+            i += 1;
+        }
+    }
+    None
+}
+
+/// The least number, from one on and below another one, whose bit is set. A word without a bit costs one step.
+pub(crate) fn first_bit(words: &[u64], from: usize, to: usize) -> Option<usize>
+    requires { to / 64 < length words.now }
+    ensures { FirstNew words.now [] from to result }
+{
+    let mut i = from;
+    while i < to {
+        if i % 64 == 0 && words[i / 64] == 0 {
+            i += (to - i).min(64);
+        } else if has_bit(words, i) {
             return Some(i);
         } else {
             i += 1;

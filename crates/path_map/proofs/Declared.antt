@@ -1,6 +1,6 @@
 -- Rows of the exceptions that procedures declare, one more at a time.
 use Rattle.std.proofs.Common.{◌≡◌, refl, sym, ap, subst, ◌∙◌, ℕ, ◌<◌, ◌≤◌, List, [], ◌∷◌, ◌++◌, length, get_or, arith, ◌⊎◌, inl, inr}
-use Rattle.std.specs.Prelude.{Option}
+use Rattle.std.specs.Prelude.{Option, None}
 use Rattle.std.proofs.Math.Nat.{eq-or-lt_of_le}
 use Rattle.std.proofs.Math.Seq.{get_or-append_seam}
 use Rattle.std.proofs.lemmas.Bool.{cases_lt}
@@ -11,12 +11,12 @@ use Rattle.resolved.specs.CoreOf.{program_of}
 use Rattle.resolved.specs.Program.{ThrownEntry, procedure_at}
 use Rattle.resolved.specs.ProgramOf.{procedure_entry}
 use Rattle.resolved.specs.Ends.{declared_by}
-use Rattle.path_map.specs.declared.set.ExceptionSet.{ExceptionSet}
-use Rattle.path_map.specs.Rows.{AreDeclaredRows, no_row, says}
+use Rattle.path_map.specs.declared.members.ExceptionSet.{ExceptionSet}
+use Rattle.path_map.specs.Rows.{AreDeclaredRows, HasBound, HaveBound, no_row, says}
 use Rattle.path_map.specs.Exceptions.{is_one_of}
 
 -- the procedure of a program that has an item of its table
-procedure-there : (core : Core) (i : ℕ) (procedure : Procedure) → i < length core.procedures.items
+pub procedure-there : (core : Core) (i : ℕ) (procedure : Procedure) → i < length core.procedures.items
     → procedure ≡ get_or core.procedures.items i procedure → procedure_at (program_of core) i ≡ procedure_entry procedure
 procedure-there core i procedure inside is =
     get_or-map procedure_entry core.procedures.items i procedure _ inside ∙ ap procedure_entry (sym is)
@@ -51,3 +51,25 @@ rows-grow core rows row i procedure thrown count inside is throws has old f exce
     go : (f < length rows) ⊎ (length rows ≤ f) → Says (get_or (rows ++ row ∷ []) f no_row) f
     go (inl before) = subst (λ r. Says r f) (sym (get_or_append_left rows (row ∷ []) no_row f before)) (old f exception)
     go (inr from) = behind (eq-or-lt_of_le from)
+
+-- its bound is that of the others
+pub bounds-grow : (bound : ℕ) (rows : List (Option ExceptionSet)) (row : Option ExceptionSet) → HaveBound bound rows → HasBound bound row
+    → HaveBound bound (rows ++ row ∷ [])
+bounds-grow bound rows row old new f = go (cases_lt f (length rows))
+  where
+    none : HasBound bound None
+    none set is = absurd (cc)
+
+    behind : (length rows ≡ f) ⊎ (length rows < f) → HasBound bound (get_or (rows ++ row ∷ []) f no_row)
+    behind (inl last) =
+        subst (λ g. HasBound bound (get_or (rows ++ row ∷ []) g no_row)) last
+        (subst (λ r. HasBound bound r) (sym (get_or-append_seam rows row [] no_row)) new)
+    behind (inr past) =
+        subst (λ r. HasBound bound r) (sym (get_or_past (rows ++ row ∷ []) f no_row (omega (arith, length-append rows (row ∷ []))))) none
+
+    go : (f < length rows) ⊎ (length rows ≤ f) → HasBound bound (get_or (rows ++ row ∷ []) f no_row)
+    go (inl before) = subst (λ r. HasBound bound r) (sym (get_or_append_left rows (row ∷ []) no_row f before)) (old f)
+    go (inr from) = behind (eq-or-lt_of_le from)
+
+pub no-bounds : (bound : ℕ) → HaveBound bound []
+no-bounds bound f set is = absurd (cc)

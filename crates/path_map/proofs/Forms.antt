@@ -19,14 +19,14 @@ use Rattle.path_map.specs.FirstFault.{IsFirstEndFault}
 use Rattle.path_map.specs.Exceptions.{is_one_of, raised_list}
 use Rattle.path_map.specs.Joins.{join, of_loop, raises_some}
 use Rattle.path_map.specs.Paths.{inner_paths, block_paths, handlers_paths}
-use Rattle.path_map.specs.Sets.{row_has, IsSum, IsSummaryOf, throws}
+use Rattle.path_map.specs.Sets.{IsSum, IsSummaryOf, throws}
 use Rattle.path_map.specs.Walks.{IsFound, AreThrown, AreLeft}
 use Rattle.path_map.proofs.Summary.{loop-thrown}
 use Rattle.path_map.proofs.Walking.{both, looped, try-found}
 
 -- what is found of a tree is found of the statement that stands for it
 module _ (program : Program) (s : S.Statement) (tree : Statement) (is : statement_of s ≡ tree) where
-  pub found-at : (e0 e1 : List (List Exit)) (r0 r1 : List ℕ) (x : Exits) → IsFound (statement_ends program tree) (inner_paths program tree) e0 e1 r0 r1 x
+  pub found-at : (e0 e1 : List (List Exit)) (r0 r1 : ℕ → Bool) (x : Exits) → IsFound (statement_ends program tree) (inner_paths program tree) e0 e1 r0 r1 x
       → IsFound (statement_ends program (statement_of s)) (inner_paths program (statement_of s)) e0 e1 r0 r1 x
   found-at e0 e1 r0 r1 x found =
       subst (λ t. IsFound (statement_ends program t) (inner_paths program t) e0 e1 r0 r1 x) (sym is) found
@@ -38,12 +38,12 @@ module _ (program : Program) (s : S.Statement) (tree : Statement) (is : statemen
       → IfRefused (IsFirstEndFault (inner_faults program in_loop (statement_of s))) fault
   first-at in_loop fault first = subst (λ t. IfRefused (IsFirstEndFault (inner_faults program in_loop t)) fault) (sym is) first
 
-pub found-same : (ends : List Exit) (paths : List (List Exit)) (e0 e1 : List (List Exit)) (r0 r1 : List ℕ) (x y : Exits)
+pub found-same : (ends : List Exit) (paths : List (List Exit)) (e0 e1 : List (List Exit)) (r0 r1 : ℕ → Bool) (x y : Exits)
     → y ≡ x → IsFound ends paths e0 e1 r0 r1 x → IsFound ends paths e0 e1 r0 r1 y
 found-same ends paths e0 e1 r0 r1 x y is found = subst (λ z. IsFound ends paths e0 e1 r0 r1 z) (sym is) found
 
 -- a return, with a value or without one
-pub return-found : (program : Program) (at : ℕ) (value : Option Expression) (e0 e1 : List (List Exit)) (r0 r1 : List ℕ) (x : Exits)
+pub return-found : (program : Program) (at : ℕ) (value : Option Expression) (e0 e1 : List (List Exit)) (r0 r1 : ℕ → Bool) (x : Exits)
     → IsFound (Return ∷ thrown_ends (raises_some value)) [] e0 e1 r0 r1 x
     → IsFound (statement_ends program (ReturnWith at value)) (inner_paths program (ReturnWith at value)) e0 e1 r0 r1 x
 return-found program at None e0 e1 r0 r1 x found = found
@@ -63,7 +63,7 @@ store-same index value length can first second both_first all is p q r t e =
     ∙ sym (list_any-append (λ other. e == other) (raises index ++ raises value) (index_raises index length))
 
 -- the forms with blocks
-pub if-found : (program : Program) (at : ℕ) (e : Expression) (yes_block no_block : Block) (e0 e1 e2 : List (List Exit)) (r0 r1 r2 r3 : List ℕ) (x y z j k : Exits)
+pub if-found : (program : Program) (at : ℕ) (e : Expression) (yes_block no_block : Block) (e0 e1 e2 : List (List Exit)) (r0 r1 r2 r3 : ℕ → Bool) (x y z j k : Exits)
     → IsFound (thrown_ends (raises e)) [] e0 e0 r0 r1 x
     → IsFound (block_ends program yes_block) (block_paths program yes_block) e0 e1 r1 r2 y
     → IsFound (block_ends program no_block) (block_paths program no_block) e1 e2 r2 r3 z
@@ -75,7 +75,7 @@ if-found program at e yes_block no_block e0 e1 e2 r0 r1 r2 r3 x y z j k tested t
     (both (thrown_ends (raises e) ++ block_ends program yes_block) (block_ends program no_block) (block_paths program yes_block) (block_paths program no_block) e0 e1 e2 r0 r2 r3 (join x y) z
     (both (thrown_ends (raises e)) (block_ends program yes_block) [] (block_paths program yes_block) e0 e0 e1 r0 r1 r2 x y tested taken) other)
 
-pub while-found : (program : Program) (at loop : ℕ) (e : Expression) (body : Block) (e0 e1 : List (List Exit)) (r0 r1 r2 : List ℕ) (x y j k : Exits)
+pub while-found : (program : Program) (at loop : ℕ) (e : Expression) (body : Block) (e0 e1 : List (List Exit)) (r0 r1 r2 : ℕ → Bool) (x y j k : Exits)
     → IsFound (thrown_ends (raises e)) [] e0 e0 r0 r1 x
     → IsFound (block_ends program body) (block_paths program body) e0 e1 r1 r2 y
     → j ≡ join x y → k ≡ of_loop j
@@ -87,14 +87,14 @@ while-found program at loop e body e0 e1 r0 r1 r2 x y j k tested turned first se
     (looped (thrown_ends (raises e) ++ block_ends program body) (block_paths program body) e0 e1 r0 r2 (join x y)
     (both (thrown_ends (raises e)) (block_ends program body) [] (block_paths program body) e0 e0 e1 r0 r1 r2 x y tested turned)))
 
-module _ (program : Program) (at : ℕ) (block : Block) (handlers : Handlers) (e0 e1 : List (List Exit)) (none i1 : List ℕ) (x : Exits)
-    (empty : (e : ℕ) → row_has none e ≡ false) (tried : IsFound (block_ends program block) (block_paths program block) e0 e1 none i1 x) where
+module _ (program : Program) (at : ℕ) (block : Block) (handlers : Handlers) (e0 e1 : List (List Exit)) (none i1 : ℕ → Bool) (x : Exits)
+    (empty : (e : ℕ) → none e ≡ false) (tried : IsFound (block_ends program block) (block_paths program block) e0 e1 none i1 x) where
   pub tried-throws : AreThrown i1 (block_ends program block)
   tried-throws = record { has = λ e. tried.raised.has e ∙ ap (λ z. z || throws (block_ends program block) e) (empty e) }
 
-  pub try-is-found : (e2 : List (List Exit)) (i2 r0 r1 r2 : List ℕ) (y w j : Exits) (k : Raised)
+  pub try-is-found : (e2 : List (List Exit)) (i2 r0 r1 r2 : ℕ → Bool) (y w j : Exits) (k : Raised)
       → IsFound (handlers_ends program handlers) (handlers_paths program handlers) e1 e2 r0 r1 y → AreLeft i1 i2 handlers
-      → IsSum r1 (row_has i2) r2 → IsSummaryOf (row_has i2) k → w ≡ record x { raised = k } → j ≡ join w y
+      → IsSum r1 i2 r2 → IsSummaryOf i2 k → w ≡ record x { raised = k } → j ≡ join w y
       → IsFound (statement_ends program (Try at block handlers)) (inner_paths program (Try at block handlers)) e0 e2 r0 r2 j
   try-is-found e2 i2 r0 r1 r2 y w j k handled left united summary first second =
       found-same (statement_ends program (Try at block handlers)) (inner_paths program (Try at block handlers)) e0 e2 r0 r2 (join (record x { raised = k }) y) j

@@ -1,23 +1,25 @@
 -- What is kept of the ends of statements and blocks, and what they are in it.
-use Rattle.std.proofs.Common.{◌≡◌, ◌≢◌, refl, sym, ap, ◌∙◌, subst, ℕ, zero, suc, ◌*◌, ◌<◌, ◌≤◌, List, [], ◌∷◌, ◌++◌, Bool, true, false, ◌&&◌, ◌||◌, map, filter, set, length, get_or, arith, ltb}
+use Rattle.std.proofs.Common.{◌≡◌, ◌≢◌, refl, sym, ap, ◌∙◌, subst, ℕ, zero, suc, ◌<◌, ◌≤◌, List, [], ◌∷◌, ◌++◌, Bool, true, false, ◌&&◌, ◌||◌, map, filter, set, length, get_or, arith, ltb}
 use Rattle.std.specs.Prelude.{◌==◌, slice_index_or}
 use Rattle.std.proofs.lemmas.Bool.{eqb-true, eqb-false, ne_eqb, ltb-true, ltb-false}
 use Rattle.std.proofs.Math.Bool.{or-false, and-true, and-false}
-use Rattle.std.proofs.lemmas.List.{length-append, length-map}
+use Rattle.std.proofs.lemmas.List.{get_or_past, length-append, length-map}
 use Rattle.resolved.specs.declared.statement.Exit.{Exit}
 use Rattle.resolved.specs.declared.statement.Exit.TheVariants.{Normal, Return, Break, Continue, Throw}
 use Rattle.resolved.specs.Ends.{same_exit, has_end, thrown_ends}
 use Rattle.path_map.specs.declared.exits.Raised.{Raised}
 use Rattle.path_map.specs.declared.exits.Raised.TheVariants.{Nothing, One, Several}
 use Rattle.path_map.specs.declared.exits.Exits.{Exits}
-use Rattle.path_map.specs.declared.set.ExceptionSet.{ExceptionSet}
+use Rattle.path_map.specs.declared.members.ExceptionSet.{ExceptionSet}
 use Rattle.path_map.specs.declared.table.Entry.{Entry}
 use Rattle.path_map.specs.Exits.{exits_of, raised_by, thrown_in}
 use Rattle.path_map.specs.Entries.{below, listed, row_at, exceptions_at, end_if, entry_ends, IsKept, AreKept, RowsGrow, IsRowFor, IsRowOf, HasExits, IsPut}
 use Rattle.path_map.specs.Joins.{only_raised}
 use Rattle.path_map.specs.Exceptions.{is_one_of}
-use Rattle.path_map.specs.Sets.{row_has, throws, IsSummaryOf}
-use Rattle.path_map.proofs.Rows.{past-row}
+use Rattle.path_map.specs.declared.members.Kept.{Kept}
+use Rattle.path_map.specs.declared.members.Kept.TheVariants.{Empty, Single, Many}
+use Rattle.path_map.specs.Kept.{IsInside, kept_has}
+use Rattle.path_map.specs.Sets.{members, throws, IsSummaryOf}
 use Rattle.path_map.proofs.Summary.{none-thrown, summary-is, throws-in, throws-thrown}
 
 -- the exceptions of a row
@@ -46,14 +48,19 @@ listed-at p (suc n) e near = go (e == n) refl (p n) refl (λ less. listed-at p n
         let less : e < n = let differs : e ≢ n = eqb-false e n f in omega arith in
         rw g (rest less)
 
-pub listed-has : (words : List ℕ) (e : ℕ) → is_one_of (listed words) e ≡ row_has words e
-listed-has words e = go (ltb e (64 * length words)) refl
+inside-below : (bound : ℕ) (kept : Kept) → IsInside bound kept → (e : ℕ) → bound ≤ e → kept_has kept e ≡ false
+inside-below bound Empty inside e far = refl
+inside-below bound (Single only) inside e far = let below : only < bound = inside.0 only refl in ne_eqb e only (λ same. absurd (omega (arith, below, same, far)))
+inside-below bound (Many row) inside e far = let same : length row ≡ bound = inside.1 row refl in get_or_past row e false (omega (arith, same, far))
+
+pub listed-has : (set : ExceptionSet) (e : ℕ) → is_one_of (listed set) e ≡ members set e
+listed-has set e = go (ltb e set.bound) refl
   where
-    go : (b : Bool) → ltb e (64 * length words) ≡ b → is_one_of (listed words) e ≡ row_has words e
-    go true f = listed-at (row_has words) (64 * length words) e (ltb-true e (64 * length words) f)
+    go : (b : Bool) → ltb e set.bound ≡ b → is_one_of (listed set) e ≡ members set e
+    go true f = listed-at (members set) set.bound e (ltb-true e set.bound f)
     go false f =
-        let far : 64 * length words ≤ e = ltb-false e (64 * length words) f in
-        listed-before (row_has words) (64 * length words) e far ∙ sym (past-row words e (omega arith))
+        let far : set.bound ≤ e = ltb-false e set.bound f in
+        listed-before (members set) set.bound e far ∙ sym (inside-below set.bound set.kept set.inside e far)
 
 -- the ends of an entry
 if-has : (test : Bool) (x : Exit) (rest : List Exit) (exit : Exit)
@@ -124,7 +131,7 @@ exceptions-same : (old new : List ExceptionSet) (row : ℕ) (raised : Raised) �
     → exceptions_at new row raised ≡ exceptions_at old row raised
 exceptions-same old new row Nothing same = refl
 exceptions-same old new row (One e) same = refl
-exceptions-same old new row Several same = ap listed same
+exceptions-same old new row Several same = same
 
 module _ (old new : List ExceptionSet) (grown : RowsGrow old new) where
   ends-same : (entry : Entry) → IsKept old entry → entry_ends new entry ≡ entry_ends old entry
@@ -155,7 +162,7 @@ row-append [] set row there = absurd (omega arith)
 row-append (x ∷ rows) set zero there = refl
 row-append (x ∷ rows) set (suc row) there = row-append rows set row (omega arith)
 
-row-last : (rows : List ExceptionSet) (set : ExceptionSet) → row_at (rows ++ set ∷ []) (length rows) ≡ set.words.items
+row-last : (rows : List ExceptionSet) (set : ExceptionSet) → row_at (rows ++ set ∷ []) (length rows) ≡ listed set
 row-last [] set = refl
 row-last (x ∷ rows) set = row-last rows set
 
@@ -165,15 +172,15 @@ pushed-grow rows set = record {
   same = λ row there. row-append rows set row there;
 }
 
-pub pushed-row : (rows : List ExceptionSet) (set : ExceptionSet) → IsRowOf set.words.items (rows ++ set ∷ []) (length rows)
+pub pushed-row : (rows : List ExceptionSet) (set : ExceptionSet) → IsRowOf (members set) (rows ++ set ∷ []) (length rows)
 pushed-row rows set = record {
   there = omega (arith, length-append rows (set ∷ []));
-  same = λ e. ap (λ words. row_has words e) (row-last rows set);
+  same = λ e. ap (λ list. is_one_of list e) (row-last rows set) ∙ listed-has set e;
 }
 
-pub row-is : (rows : List ExceptionSet) (row : ℕ) (set none : ExceptionSet) → row < length rows → set ≡ get_or rows row none → row_at rows row ≡ set.words.items
+pub row-is : (rows : List ExceptionSet) (row : ℕ) (set none : ExceptionSet) → row < length rows → set ≡ get_or rows row none → row_at rows row ≡ listed set
 row-is [] row set none there is = absurd (omega arith)
-row-is (x ∷ rows) zero set none there is = ap (λ (s : ExceptionSet). s.words.items) (sym is)
+row-is (x ∷ rows) zero set none there is = ap listed (sym is)
 row-is (x ∷ rows) (suc row) set none there is = row-is rows row set none (omega arith) is
 
 -- more entries
@@ -234,24 +241,24 @@ one-exception set x e only = go (e == x) refl (set e) refl
     go false f false g = rw (f, g) refl
     go false f true g = absurd (eqb-false e x f (only.only e g))
 
-module _ (rows : List ExceptionSet) (exits : Exits) (words : List ℕ) (row : ℕ) (raised : Raised) (there : row < length rows) (sum : IsSummaryOf (row_has words) raised)
-    (of : raised ≡ Several → (e : ℕ) → row_has (row_at rows row) e ≡ row_has words e) where
+module _ (rows : List ExceptionSet) (exits : Exits) (set : ℕ → Bool) (row : ℕ) (raised : Raised) (there : row < length rows) (sum : IsSummaryOf set raised)
+    (of : raised ≡ Several → (e : ℕ) → is_one_of (row_at rows row) e ≡ set e) where
   written : Entry
   written = record { exits = record exits { raised = raised }; row = row }
 
-  members : (r : Raised) → raised ≡ r → (e : ℕ) → is_one_of (exceptions_at rows row r) e ≡ row_has words e
-  members Nothing is e = sym ((subst (IsSummaryOf (row_has words)) is sum) e)
-  members (One x) is e = one-exception (row_has words) x e (subst (IsSummaryOf (row_has words)) is sum)
-  members Several is e = listed-has (row_at rows row) e ∙ of is e
+  written-members : (r : Raised) → raised ≡ r → (e : ℕ) → is_one_of (exceptions_at rows row r) e ≡ set e
+  written-members Nothing is e = sym ((subst (IsSummaryOf set) is sum) e)
+  written-members (One x) is e = one-exception set x e (subst (IsSummaryOf set) is sum)
+  written-members Several is e = of is e
 
-  pub written-has : HasExits exits words (entry_ends rows (record { exits = record exits { raised = raised }; row = row }))
+  pub written-has : HasExits exits set (entry_ends rows (record { exits = record exits { raised = raised }; row = row }))
   unfolding written
   written-has = record {
     normal = entry-normal rows written;
     returns = entry-returns rows written;
     breaks = entry-breaks rows written;
     continues = entry-continues rows written;
-    raised = λ e. entry-raised rows written e ∙ members raised refl e;
+    raised = λ e. entry-raised rows written e ∙ written-members raised refl e;
   }
 
   pub written-kept : IsKept rows (record { exits = record exits { raised = raised }; row = row })
@@ -259,23 +266,23 @@ module _ (rows : List ExceptionSet) (exits : Exits) (words : List ℕ) (row : �
   written-kept =
       let ends : List Exit = entry_ends rows written in
       let is : raised ≡ raised_by (thrown_in ends) =
-      summary-is (thrown_in ends) (row_has words) (λ e. throws-in ends e ∙ written-has.raised e) raised sum in
+      summary-is (thrown_in ends) set (λ e. throws-in ends e ∙ written-has.raised e) raised sum in
       record {
         there = there;
         summary =
             rw (written-has.normal, written-has.returns, written-has.breaks, written-has.continues, sym is) refl;
       }
 
-module _ (old new : List ExceptionSet) (entries : List Entry) (at : ℕ) (exits given : Exits) (words : List ℕ) (row : ℕ) (raised : Raised)
-    (grown : RowsGrow old new) (kept : AreKept old entries) (of : IsRowFor words raised new row) (sum : IsSummaryOf (row_has words) raised)
+module _ (old new : List ExceptionSet) (entries : List Entry) (at : ℕ) (exits given : Exits) (raises : ℕ → Bool) (row : ℕ) (raised : Raised)
+    (grown : RowsGrow old new) (kept : AreKept old entries) (of : IsRowFor raises raised new row) (sum : IsSummaryOf raises raised)
     (is : given ≡ record exits { raised = raised }) where
-  pub put-is : IsPut at exits words (map (entry_ends old) entries) (map (entry_ends new) (set entries at (record { exits = given; row = row })))
+  pub put-is : IsPut at exits raises (map (entry_ends old) entries) (map (entry_ends new) (set entries at (record { exits = given; row = row })))
   put-is =
       let entry : Entry = record { exits = record exits { raised = raised }; row = row } in
-      subst (λ (x : Exits). IsPut at exits words (map (entry_ends old) entries) (map (entry_ends new) (set entries at (record { exits = x; row = row })))) (sym is)
+      subst (λ (x : Exits). IsPut at exits raises (map (entry_ends old) entries) (map (entry_ends new) (set entries at (record { exits = x; row = row })))) (sym is)
       (record {
         ends = entry_ends new entry;
-        has = written-has new exits words row raised of.there sum of.same;
+        has = written-has new exits raises row raised of.there sum of.same;
         written =
             view-set new entries at entry
             ∙ ap (λ xs. set xs at (entry_ends new entry)) (view-grown old new grown entries kept);
@@ -285,15 +292,15 @@ module _ (old new : List ExceptionSet) (entries : List Entry) (at : ℕ) (exits 
   put-kept =
       subst (λ (x : Exits). AreKept new (set entries at (record { exits = x; row = row }))) (sym is)
       (kept-set new entries at (record { exits = record exits { raised = raised }; row = row }) (kept-grown old new grown entries kept)
-      (written-kept new exits words row raised of.there sum of.same))
+      (written-kept new exits raises row raised of.there sum of.same))
 
 -- an entry for which room is made
 pub room-kept : (rows : List ExceptionSet) (given : Exits) → given ≡ only_raised Nothing → 0 < length rows → IsKept rows (record { exits = given; row = 0 })
 room-kept rows given is some = rw is (record { there = some; summary = refl })
 
 -- a row that is there already, and one that is new
-pub row-for : (rows : List ExceptionSet) (words : List ℕ) (summary : Raised) (row : ℕ) → IsRowOf words rows row → IsRowFor words summary rows row
-row-for rows words summary row of = record { there = of.there; same = λ several. of.same }
+pub row-for : (rows : List ExceptionSet) (set : ℕ → Bool) (summary : Raised) (row : ℕ) → IsRowOf set rows row → IsRowFor set summary rows row
+row-for rows set summary row of = record { there = of.there; same = λ several. of.same }
 
-pub no-row : (rows : List ExceptionSet) (words : List ℕ) (summary : Raised) → 0 < length rows → (summary ≡ Several → ⊥) → IsRowFor words summary rows 0
-no-row rows words summary some none = record { there = some; same = λ several. absurd (none several) }
+pub no-row : (rows : List ExceptionSet) (set : ℕ → Bool) (summary : Raised) → 0 < length rows → (summary ≡ Several → ⊥) → IsRowFor set summary rows 0
+no-row rows set summary some none = record { there = some; same = λ several. absurd (none several) }

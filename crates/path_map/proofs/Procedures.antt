@@ -31,7 +31,7 @@ use Rattle.path_map.specs.Exits.{exits_of, raised_by}
 use Rattle.path_map.specs.Joins.{join_raised}
 use Rattle.path_map.specs.Paths.{AreAlike, block_paths}
 use Rattle.path_map.specs.Exceptions.{is_one_of}
-use Rattle.path_map.specs.Sets.{AreDeclared, row_has, throws}
+use Rattle.path_map.specs.Sets.{AreDeclared, throws}
 use Rattle.path_map.specs.Walks.{IsFound}
 use Rattle.path_map.proofs.Summary.{same-number, raised-append, throws-thrown}
 use Rattle.path_map.proofs.Alike.{alike-refl, alike-step, alike-end}
@@ -109,14 +109,14 @@ module _ (program : Program) (procedure : ProcedureEntry) where
   no-faults clean value ends = rw (clean, value, ends) refl
 
 -- what a walk along a procedure's body has found of its ends
-pub record Ended (program : Program) (procedure : ProcedureEntry) (raised : List ℕ) (exits : Exits) : Type 0 where
+pub record Ended (program : Program) (procedure : ProcedureEntry) (raised : ℕ → Bool) (exits : Exits) : Type 0 where
   pub summary : exits ≡ exits_of (block_ends program procedure.body)
-  pub same : (e : ℕ) → row_has raised e ≡ throws (block_ends program procedure.body) e
+  pub same : (e : ℕ) → raised e ≡ throws (block_ends program procedure.body) e
   pub clean : block_faults program false true procedure.body ≡ []
   pub value : (is_some procedure.result && has_end (block_ends program procedure.body) Normal) ≡ (is_some procedure.result && exits.normal)
 
-pub walked : (program : Program) (procedure : Procedure) (body : List S.Statement) (old new : List (List Exit)) (none raised : List ℕ) (exits : Exits)
-    → body ≡ procedure.body.items → ((e : ℕ) → row_has none e ≡ false)
+pub walked : (program : Program) (procedure : Procedure) (body : List S.Statement) (old new : List (List Exit)) (none raised : ℕ → Bool) (exits : Exits)
+    → body ≡ procedure.body.items → ((e : ℕ) → none e ≡ false)
     → IsFound (block_ends program (block_of body)) (block_paths program (block_of body)) old new none raised exits
     → block_faults program false true (block_of body) ≡ []
     → Ended program (procedure_entry procedure) raised exits
@@ -132,13 +132,13 @@ walked program procedure body old new none raised exits lent empty found clean =
       value = ap (λ (x : Exits). is_some (result_entry procedure.result) && x.normal) (sym summary);
     }
 
-pub all-may-end : (program : Program) (procedure : Procedure) (list : List Thrown) (raised : List ℕ) (exits : Exits) (declared : Bool)
+pub all-may-end : (program : Program) (procedure : Procedure) (list : List Thrown) (raised : ℕ → Bool) (exits : Exits) (declared : Bool)
     → list ≡ procedure.throws.items → Ended program (procedure_entry procedure) raised exits
-    → AreDeclared (row_has raised) (declared_by (map thrown_entry list)) declared
+    → AreDeclared raised (declared_by (map thrown_entry list)) declared
     → list_all (may_end (procedure_entry procedure)) (block_ends program (block_of procedure.body.items)) ≡ not (exits.breaks || (exits.continues || not declared))
 all-may-end program procedure list raised exits declared lent ended are =
-    may-all (procedure_entry procedure) (block_ends program (block_of procedure.body.items)) (row_has raised) declared ended.same
-    (subst (λ throws. AreDeclared (row_has raised) (declared_by (map thrown_entry throws)) declared) lent are)
+    may-all (procedure_entry procedure) (block_ends program (block_of procedure.body.items)) raised declared ended.same
+    (subst (λ throws. AreDeclared raised (declared_by (map thrown_entry throws)) declared) lent are)
     ∙ ap (λ (x : Exits). not (x.breaks || (x.continues || not declared))) (sym ended.summary)
 
 -- along the procedures of a program

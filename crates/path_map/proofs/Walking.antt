@@ -24,7 +24,7 @@ use Rattle.path_map.specs.Exits.{exits_of, raised_by, thrown_in}
 use Rattle.path_map.specs.Joins.{join, join_raised, after, only_raised, of_loop}
 use Rattle.path_map.specs.Paths.{AreAlike, statement_paths, block_paths, rest_paths, handlers_paths}
 use Rattle.path_map.specs.Exceptions.{is_one_of}
-use Rattle.path_map.specs.Sets.{row_has, IsSum, IsSummaryOf, throws}
+use Rattle.path_map.specs.Sets.{IsSum, IsSummaryOf, throws}
 use Rattle.path_map.specs.Walks.{IsFound, AreThrown, AreLeft}
 use Rattle.path_map.proofs.Summary.{exits-append, exits-assoc, exits-then, throws-then, after-assoc, after-normal, join-none, loop-summary, loop-throws, exits-pass, throws-pass, throws-in, throws-thrown, exits-thrown, raised-same, raised-append, summary-is}
 use Rattle.path_map.specs.EndsOf.{SameEnds}
@@ -33,21 +33,21 @@ use Rattle.path_map.proofs.Alike.{alike-refl, alike-set, alike-length, alike-bot
 use Rattle.path_map.proofs.Rows.{not-more}
 
 -- sums of sets
-pub sum-then : (a b c : List ℕ) (f g h : ℕ → Bool) → IsSum a f b → IsSum b g c → ((e : ℕ) → h e ≡ (f e || g e)) → IsSum a h c
+pub sum-then : (a b c : ℕ → Bool) (f g h : ℕ → Bool) → IsSum a f b → IsSum b g c → ((e : ℕ) → h e ≡ (f e || g e)) → IsSum a h c
 sum-then a b c f g h first second each = record {
   has = λ e.
-      second.has e ∙ ap (λ x. x || g e) (first.has e) ∙ or_assoc (row_has a e) (f e) (g e)
-      ∙ ap (λ x. row_has a e || x) (sym (each e));
+      second.has e ∙ ap (λ x. x || g e) (first.has e) ∙ or_assoc (a e) (f e) (g e)
+      ∙ ap (λ x. a e || x) (sym (each e));
 }
 
-pub sum-same : (a b : List ℕ) (f g : ℕ → Bool) → IsSum a f b → ((e : ℕ) → g e ≡ f e) → IsSum a g b
-sum-same a b f g sum each = record { has = λ e. sum.has e ∙ ap (λ x. row_has a e || x) (sym (each e)) }
+pub sum-same : (a b : ℕ → Bool) (f g : ℕ → Bool) → IsSum a f b → ((e : ℕ) → g e ≡ f e) → IsSum a g b
+sum-same a b f g sum each = record { has = λ e. sum.has e ∙ ap (λ x. a e || x) (sym (each e)) }
 
-pub sum-none : (a : List ℕ) → IsSum a (λ e. false) a
-sum-none a = record { has = λ e. sym (or-false (row_has a e)) }
+pub sum-none : (a : ℕ → Bool) → IsSum a (λ e. false) a
+sum-none a = record { has = λ e. sym (or-false (a e)) }
 
-put-same : (ends : List Exit) (own : List ℕ) (found : Exits) (written : List Exit) → found ≡ exits_of ends
-    → ((e : ℕ) → row_has own e ≡ throws ends e) → HasExits found own written → SameEnds written ends
+put-same : (ends : List Exit) (own : ℕ → Bool) (found : Exits) (written : List Exit) → found ≡ exits_of ends
+    → ((e : ℕ) → own e ≡ throws ends e) → HasExits found own written → SameEnds written ends
 put-same ends own found written is own-is has Normal = has.normal ∙ ap (λ (x : Exits). x.normal) is
 put-same ends own found written is own-is has Return = has.returns ∙ ap (λ (x : Exits). x.returns) is
 put-same ends own found written is own-is has Break = has.breaks ∙ ap (λ (x : Exits). x.breaks) is
@@ -55,15 +55,15 @@ put-same ends own found written is own-is has Continue = has.continues ∙ ap (�
 put-same ends own found written is own-is has (Throw e) = has.raised e ∙ own-is e
 
 -- a statement with nothing in it
-pub alone : (ends : List Exit) (had has : List ℕ) (found : Exits) → found ≡ exits_of ends → IsSum had (throws ends) has
+pub alone : (ends : List Exit) (had has : ℕ → Bool) (found : Exits) → found ≡ exits_of ends → IsSum had (throws ends) has
     → (entries : List (List Exit)) → IsFound ends [] entries entries had has found
 alone ends had has found is sum entries = record { summary = is; entries = alike-nil entries; raised = sum }
 
-pub one-thrown : (had has : List ℕ) (x : ℕ) → IsSum had (λ other. other == x) has → IsSum had (λ e. (e == x) || false) has
+pub one-thrown : (had has : ℕ → Bool) (x : ℕ) → IsSum had (λ other. other == x) has → IsSum had (λ e. (e == x) || false) has
 one-thrown had has x sum = sum-same had has (λ other. other == x) (λ e. (e == x) || false) sum (λ e. or-false (e == x))
 
 -- a piece whose exceptions were found in a set of its own, and then written into the entry for which room was made
-module _ (ends : List Exit) (paths : List (List Exit)) (old room new : List (List Exit)) (at : ℕ) (none own : List ℕ) (found : Exits)
+module _ (ends : List Exit) (paths : List (List Exit)) (old room new : List (List Exit)) (at : ℕ) (none own : ℕ → Bool) (found : Exits)
     (made : room ≡ old ++ [] ∷ []) (number : at ≡ length old) (piece : IsFound ends paths room new none own found) where
   in-room : AreAlike new (old ++ [] ∷ paths)
   in-room =
@@ -72,21 +72,21 @@ module _ (ends : List Exit) (paths : List (List Exit)) (old room new : List (Lis
   pub has-room : at < length new
   has-room = omega (arith, number, alike-length new (old ++ [] ∷ paths) in-room, length-append old ([] ∷ paths))
 
-  pub reserved : (put : List (List Exit)) (had has : List ℕ) → ((e : ℕ) → row_has none e ≡ false)
-      → IsSum had (row_has own) has → IsPut at found own new put → IsFound ends (ends ∷ paths) old put had has found
+  pub reserved : (put : List (List Exit)) (had has : ℕ → Bool) → ((e : ℕ) → none e ≡ false)
+      → IsSum had own has → IsPut at found own new put → IsFound ends (ends ∷ paths) old put had has found
   reserved put had has empty united written =
-      let own-is : (e : ℕ) → row_has own e ≡ throws ends e = λ e. piece.raised.has e ∙ ap (λ b. b || throws ends e) (empty e) in
+      let own-is : (e : ℕ) → own e ≡ throws ends e = λ e. piece.raised.has e ∙ ap (λ b. b || throws ends e) (empty e) in
       record {
         summary = piece.summary;
         entries =
             subst (λ xs. AreAlike xs (old ++ ends ∷ paths)) (ap (λ i. set new i written.ends) (sym number) ∙ sym written.written)
             (alike-set old new [] paths written.ends ends in-room
             (put-same ends own found written.ends piece.summary own-is written.has));
-        raised = record { has = λ e. united.has e ∙ ap (λ b. row_has had e || b) (own-is e) };
+        raised = record { has = λ e. united.has e ∙ ap (λ b. had e || b) (own-is e) };
       }
 
 -- two pieces, one after the other
-pub both : (a b : List Exit) (ps qs : List (List Exit)) (e0 e1 e2 : List (List Exit)) (r0 r1 r2 : List ℕ) (x y : Exits)
+pub both : (a b : List Exit) (ps qs : List (List Exit)) (e0 e1 e2 : List (List Exit)) (r0 r1 r2 : ℕ → Bool) (x y : Exits)
     → IsFound a ps e0 e1 r0 r1 x → IsFound b qs e1 e2 r1 r2 y → IsFound (a ++ b) (ps ++ qs) e0 e2 r0 r2 (join x y)
 both a b ps qs e0 e1 e2 r0 r1 r2 x y first second = record {
   summary = ap (λ k. join k y) first.summary ∙ ap (λ k. join (exits_of a) k) second.summary ∙ sym (exits-append a b);
@@ -95,7 +95,7 @@ both a b ps qs e0 e1 e2 r0 r1 r2 x y first second = record {
 }
 
 -- a loop by its condition and body
-pub looped : (ends : List Exit) (ps : List (List Exit)) (e0 e1 : List (List Exit)) (r0 r1 : List ℕ) (x : Exits)
+pub looped : (ends : List Exit) (ps : List (List Exit)) (e0 e1 : List (List Exit)) (r0 r1 : ℕ → Bool) (x : Exits)
     → IsFound ends ps e0 e1 r0 r1 x → IsFound (Normal ∷ filter leaves_loop ends) ps e0 e1 r0 r1 (of_loop x)
 looped ends ps e0 e1 r0 r1 x piece = record {
   summary = ap of_loop piece.summary ∙ sym (loop-summary ends);
@@ -112,13 +112,13 @@ or-swap false false true = refl
 or-swap false false false = refl
 
 module _ (b h : List Exit) (handlers : Handlers) (pb ph : List (List Exit)) (e0 e1 e2 : List (List Exit))
-    (none i1 i2 r0 r1 r2 : List ℕ) (x y : Exits) (k : Raised)
-    (empty : (e : ℕ) → row_has none e ≡ false) (tried : IsFound b pb e0 e1 none i1 x)
-    (handled : IsFound h ph e1 e2 r0 r1 y) (left : AreLeft i1 i2 handlers) (united : IsSum r1 (row_has i2) r2) (summary : IsSummaryOf (row_has i2) k) where
-  inner-throws : (e : ℕ) → row_has i1 e ≡ throws b e
+    (none i1 i2 r0 r1 r2 : ℕ → Bool) (x y : Exits) (k : Raised)
+    (empty : (e : ℕ) → none e ≡ false) (tried : IsFound b pb e0 e1 none i1 x)
+    (handled : IsFound h ph e1 e2 r0 r1 y) (left : AreLeft i1 i2 handlers) (united : IsSum r1 i2 r2) (summary : IsSummaryOf i2 k) where
+  inner-throws : (e : ℕ) → i1 e ≡ throws b e
   inner-throws e = tried.raised.has e ∙ ap (λ z. z || throws b e) (empty e)
 
-  pass-throws : (e : ℕ) → throws (filter (passes handlers) b) e ≡ row_has i2 e
+  pass-throws : (e : ℕ) → throws (filter (passes handlers) b) e ≡ i2 e
   pass-throws e =
       throws-pass handlers b e ∙ ap (λ z. z && not (handles handlers e)) (sym (inner-throws e)) ∙ sym (left.has e)
 
@@ -129,7 +129,7 @@ module _ (b h : List Exit) (handlers : Handlers) (pb ph : List (List Exit)) (e0 
   try-found =
       let passing : List Exit = filter (passes handlers) b in
       let is : k ≡ raised_by (thrown_in passing) =
-      summary-is (thrown_in passing) (row_has i2) (λ e. throws-in passing e ∙ pass-throws e) k summary in
+      summary-is (thrown_in passing) i2 (λ e. throws-in passing e ∙ pass-throws e) k summary in
       record {
         summary =
             ap (λ (z : Exits). join (record z { raised = k }) y) tried.summary
@@ -138,10 +138,10 @@ module _ (b h : List Exit) (handlers : Handlers) (pb ph : List (List Exit)) (e0 
         entries = alike-both e0 e1 e2 pb ph tried.entries handled.entries;
         raised = record {
           has = λ e.
-              united.has e ∙ ap (λ z. z || row_has i2 e) (handled.raised.has e)
-              ∙ or-swap (row_has r0 e) (throws h e) (row_has i2 e)
-              ∙ ap (λ z. row_has r0 e || (z || throws h e)) (sym (pass-throws e))
-              ∙ ap (λ z. row_has r0 e || z) (sym (list_any-append (same_exit (Throw e)) passing h));
+              united.has e ∙ ap (λ z. z || i2 e) (handled.raised.has e)
+              ∙ or-swap (r0 e) (throws h e) (i2 e)
+              ∙ ap (λ z. r0 e || (z || throws h e)) (sym (pass-throws e))
+              ∙ ap (λ z. r0 e || z) (sym (list_any-append (same_exit (Throw e)) passing h));
         };
       }
 
@@ -158,22 +158,22 @@ pub none-both : (a b : List EndRefusal) → a ≡ [] → b ≡ [] → a ++ b ≡
 none-both a b p q = ap (λ xs. xs ++ b) p ∙ q
 
 -- along the statements of a block: what was found so far, with what is to come, is what is found of the block
-pub record Along (program : Program) (in_loop : Bool) (block tail : Block) (old now : List (List Exit)) (had has : List ℕ) (so_far : Exits) : Type 0 where
+pub record Along (program : Program) (in_loop : Bool) (block tail : Block) (old now : List (List Exit)) (had has : ℕ → Bool) (so_far : Exits) : Type 0 where
   pub summary : after so_far (exits_of (block_ends program tail)) ≡ exits_of (block_ends program block)
   pub entries : AreAlike (now ++ rest_paths program tail) (old ++ rest_paths program block)
-  pub raised : (e : ℕ) → (row_has has e || (so_far.normal && throws (block_ends program tail) e)) ≡ (row_has had e || throws (block_ends program block) e)
+  pub raised : (e : ℕ) → (has e || (so_far.normal && throws (block_ends program tail) e)) ≡ (had e || throws (block_ends program block) e)
   pub faults : block_faults program in_loop so_far.normal tail ≡ block_faults program in_loop true block
 
-module _ (program : Program) (in_loop : Bool) (block : Block) (old : List (List Exit)) (had : List ℕ) where
+module _ (program : Program) (in_loop : Bool) (block : Block) (old : List (List Exit)) (had : ℕ → Bool) where
   pub along-begin : (so_far : Exits) → so_far ≡ record (only_raised Nothing) { normal = true } → Along program in_loop block block old old had had so_far
   along-begin so_far is = record {
     summary = ap (λ (x : Exits). after x (exits_of (block_ends program block))) is;
     entries = alike-refl (old ++ rest_paths program block);
-    raised = λ e. ap (λ (x : Exits). row_has had e || (x.normal && throws (block_ends program block) e)) is;
+    raised = λ e. ap (λ (x : Exits). had e || (x.normal && throws (block_ends program block) e)) is;
     faults = ap (λ (x : Exits). block_faults program in_loop x.normal block) is;
   }
 
-  module _ (statement : Statement) (tail : Block) (now : List (List Exit)) (has : List ℕ) (so_far : Exits)
+  module _ (statement : Statement) (tail : Block) (now : List (List Exit)) (has : ℕ → Bool) (so_far : Exits)
       (along : Along program in_loop block (Then statement tail) old now had has so_far) where
     pub outside : may_stand in_loop statement ≡ false
         → IfRefused (IsFirstEndFault (block_faults program in_loop true block)) (Refused (record { defect = defect.OutsideLoop; at = place_of statement }))
@@ -193,7 +193,7 @@ module _ (program : Program) (in_loop : Bool) (block : Block) (old : List (List 
         subst (λ faults. IfRefused (IsFirstEndFault faults) fault) along.faults
         (rw (stands, reached) (first-left (inner_faults program in_loop statement) (block_faults program in_loop (has_end (statement_ends program statement) Normal) tail) fault first))
 
-    pub along-step : may_stand in_loop statement ≡ true → so_far.normal ≡ true → (next : List (List Exit)) (more : List ℕ) (found : Exits)
+    pub along-step : may_stand in_loop statement ≡ true → so_far.normal ≡ true → (next : List (List Exit)) (more : ℕ → Bool) (found : Exits)
         → IsFound (statement_ends program statement) (statement_paths program statement) now next has more found
         → inner_faults program in_loop statement ≡ [] → Along program in_loop block tail old next had more (after so_far found)
     along-step stands reached next more found piece clean =
@@ -209,11 +209,11 @@ module _ (program : Program) (in_loop : Bool) (block : Block) (old : List (List 
           entries =
               alike-step next now (statement_paths program statement) (rest_paths program tail) (old ++ rest_paths program block) piece.entries along.entries;
           raised = λ e.
-              ap (λ b. row_has more e || (b && throws rest e)) goes_on
+              ap (λ b. more e || (b && throws rest e)) goes_on
               ∙ ap (λ b. b || (has_end ends Normal && throws rest e)) (piece.raised.has e)
-              ∙ or_assoc (row_has has e) (throws ends e) (has_end ends Normal && throws rest e)
-              ∙ ap (λ b. row_has has e || b) (sym (throws-then ends rest e))
-              ∙ ap (λ b. row_has has e || (b && throws (then_ends ends rest) e)) (sym reached)
+              ∙ or_assoc (has e) (throws ends e) (has_end ends Normal && throws rest e)
+              ∙ ap (λ b. has e || b) (sym (throws-then ends rest e))
+              ∙ ap (λ b. has e || (b && throws (then_ends ends rest) e)) (sym reached)
               ∙ along.raised e;
           faults =
               ap (λ b. block_faults program in_loop b tail) goes_on
@@ -221,29 +221,29 @@ module _ (program : Program) (in_loop : Bool) (block : Block) (old : List (List 
               ∙ along.faults;
         }
 
-  pub along-end : (now : List (List Exit)) (has : List ℕ) (so_far : Exits) → Along program in_loop block Empty old now had has so_far
+  pub along-end : (now : List (List Exit)) (has : ℕ → Bool) (so_far : Exits) → Along program in_loop block Empty old now had has so_far
       → IsFound (block_ends program block) (rest_paths program block) old now had has so_far
   along-end now has so_far along = record {
     summary = after-normal so_far ∙ along.summary;
     entries = alike-end now (old ++ rest_paths program block) along.entries;
-    raised = record { has = λ e. sym (ap (λ b. row_has has e || b) (and-false so_far.normal) ∙ or-false (row_has has e)) ∙ along.raised e };
+    raised = record { has = λ e. sym (ap (λ b. has e || b) (and-false so_far.normal) ∙ or-false (has e)) ∙ along.raised e };
   }
 
-  pub along-clean : (now : List (List Exit)) (has : List ℕ) (so_far : Exits) → Along program in_loop block Empty old now had has so_far
+  pub along-clean : (now : List (List Exit)) (has : ℕ → Bool) (so_far : Exits) → Along program in_loop block Empty old now had has so_far
       → block_faults program in_loop true block ≡ []
   along-clean now has so_far along = sym along.faults
 
 -- along handlers: what the walk has taken out of the inner set, and the faults that are to come
-pub record Remaining (program : Program) (in_loop : Bool) (faults : List EndRefusal) (row : List ℕ) (tail : Handlers) : Type 0 where
+pub record Remaining (program : Program) (in_loop : Bool) (faults : List EndRefusal) (row : ℕ → Bool) (tail : Handlers) : Type 0 where
   pub ends : List Exit
   pub are : AreThrown row ends
   pub same : handlers_faults program in_loop ends tail ≡ faults
 
-pub record Handling (program : Program) (in_loop : Bool) (handlers tail : Handlers) (old now : List (List Exit)) (had has was row : List ℕ) (so_far : Exits) : Type 0 where
+pub record Handling (program : Program) (in_loop : Bool) (handlers tail : Handlers) (old now : List (List Exit)) (had has was row : ℕ → Bool) (so_far : Exits) : Type 0 where
   pub summary : join so_far (exits_of (handlers_ends program tail)) ≡ exits_of (handlers_ends program handlers)
   pub entries : AreAlike (now ++ handlers_paths program tail) (old ++ handlers_paths program handlers)
-  pub raised : (e : ℕ) → (row_has has e || throws (handlers_ends program tail) e) ≡ (row_has had e || throws (handlers_ends program handlers) e)
-  pub left : (e : ℕ) → (row_has row e && not (handles tail e)) ≡ (row_has was e && not (handles handlers e))
+  pub raised : (e : ℕ) → (has e || throws (handlers_ends program tail) e) ≡ (had e || throws (handlers_ends program handlers) e)
+  pub left : (e : ℕ) → (row e && not (handles tail e)) ≡ (was e && not (handles handlers e))
   pub remaining : (ends : List Exit) → AreThrown was ends → Remaining program in_loop (handlers_faults program in_loop ends handlers) row tail
 
 throws-without : (h : ℕ) (ends : List Exit) (e : ℕ)
@@ -269,7 +269,7 @@ throws-without h (Throw x ∷ ends) e = go (h == x) refl (e == x) refl (throws-w
         let same : (e == h) ≡ true = eq-eqb e h (is ∙ sym (eqb-true h x f)) in
         rw (f, g) (rest ∙ rw same (and-false (throws ends e)))
 
-module _ (program : Program) (in_loop : Bool) (handlers : Handlers) (old : List (List Exit)) (had was : List ℕ) where
+module _ (program : Program) (in_loop : Bool) (handlers : Handlers) (old : List (List Exit)) (had was : ℕ → Bool) where
   pub handling-begin : (so_far : Exits) → so_far ≡ only_raised Nothing → Handling program in_loop handlers handlers old old had had was was so_far
   handling-begin so_far is = record {
     summary = ap (λ x. join x (exits_of (handlers_ends program handlers))) is;
@@ -279,17 +279,17 @@ module _ (program : Program) (in_loop : Bool) (handlers : Handlers) (old : List 
     remaining = λ ends are. record { ends = ends; are = are; same = refl };
   }
 
-  module _ (at handled : ℕ) (body : Block) (tail : Handlers) (now : List (List Exit)) (has row taken : List ℕ) (so_far : Exits)
+  module _ (at handled : ℕ) (body : Block) (tail : Handlers) (now : List (List Exit)) (has row taken : ℕ → Bool) (so_far : Exits)
       (along : Handling program in_loop handlers (Catch at handled body tail) old now had has was row so_far)
-      (without : (e : ℕ) → row_has taken e ≡ (row_has row e && not (e == handled))) where
-    pub never-raised : row_has row handled ≡ false → (ends : List Exit) → AreThrown was ends
+      (without : (e : ℕ) → taken e ≡ (row e && not (e == handled))) where
+    pub never-raised : row handled ≡ false → (ends : List Exit) → AreThrown was ends
         → IfRefused (IsFirstEndFault (handlers_faults program in_loop ends handlers)) (Refused (record { defect = defect.NeverRaised; at = at }))
     never-raised absent ends are =
         let there = along.remaining ends are in
         let none : throws there.ends handled ≡ false = sym (there.are.has handled) ∙ absent in
         subst (λ faults. IfRefused (IsFirstEndFault faults) (Refused (record { defect = defect.NeverRaised; at = at }))) there.same (rw none refl)
 
-    pub in-handler : row_has row handled ≡ true → (fault : OrNoMemory EndRefusal) → IfRefused (IsFirstEndFault (block_faults program in_loop true body)) fault
+    pub in-handler : row handled ≡ true → (fault : OrNoMemory EndRefusal) → IfRefused (IsFirstEndFault (block_faults program in_loop true body)) fault
         → (ends : List Exit) → AreThrown was ends → IfRefused (IsFirstEndFault (handlers_faults program in_loop ends handlers)) fault
     in-handler present fault first ends are =
         let there = along.remaining ends are in
@@ -298,7 +298,7 @@ module _ (program : Program) (in_loop : Bool) (handlers : Handlers) (old : List 
         (rw some (first-left (block_faults program in_loop true body)
         (handlers_faults program in_loop (filter (λ exit. not (same_exit (Throw handled) exit)) there.ends) tail) fault first))
 
-    pub handling-step : row_has row handled ≡ true → (next : List (List Exit)) (more : List ℕ) (found : Exits)
+    pub handling-step : row handled ≡ true → (next : List (List Exit)) (more : ℕ → Bool) (found : Exits)
         → IsFound (block_ends program body) (block_paths program body) now next has more found
         → block_faults program in_loop true body ≡ []
         → Handling program in_loop handlers tail old next had more was taken (join so_far found)
@@ -315,12 +315,12 @@ module _ (program : Program) (in_loop : Bool) (handlers : Handlers) (old : List 
               alike-step next now (block_paths program body) (handlers_paths program tail) (old ++ handlers_paths program handlers) piece.entries along.entries;
           raised = λ e.
               ap (λ b. b || throws rest e) (piece.raised.has e)
-              ∙ or_assoc (row_has has e) (throws ends e) (throws rest e)
-              ∙ ap (λ b. row_has has e || b) (sym (list_any-append (same_exit (Throw e)) ends rest))
+              ∙ or_assoc (has e) (throws ends e) (throws rest e)
+              ∙ ap (λ b. has e || b) (sym (list_any-append (same_exit (Throw e)) ends rest))
               ∙ along.raised e;
           left = λ e.
               ap (λ b. b && not (handles tail e)) (without e)
-              ∙ not-more (row_has row e) (e == handled) (handles tail e)
+              ∙ not-more (row e) (e == handled) (handles tail e)
               ∙ along.left e;
           remaining = λ given are.
               let there = along.remaining given are in
@@ -335,25 +335,25 @@ module _ (program : Program) (in_loop : Bool) (handlers : Handlers) (old : List 
               };
         }
 
-  pub handling-end : (now : List (List Exit)) (has row : List ℕ) (so_far : Exits) → Handling program in_loop handlers NoMore old now had has was row so_far
+  pub handling-end : (now : List (List Exit)) (has row : ℕ → Bool) (so_far : Exits) → Handling program in_loop handlers NoMore old now had has was row so_far
       → IsFound (handlers_ends program handlers) (handlers_paths program handlers) old now had has so_far
   handling-end now has row so_far along = record {
     summary = sym (join-none so_far) ∙ along.summary;
     entries = alike-end now (old ++ handlers_paths program handlers) along.entries;
-    raised = record { has = λ e. sym (or-false (row_has has e)) ∙ along.raised e };
+    raised = record { has = λ e. sym (or-false (has e)) ∙ along.raised e };
   }
 
-  pub handling-left : (now : List (List Exit)) (has row : List ℕ) (so_far : Exits) → Handling program in_loop handlers NoMore old now had has was row so_far
+  pub handling-left : (now : List (List Exit)) (has row : ℕ → Bool) (so_far : Exits) → Handling program in_loop handlers NoMore old now had has was row so_far
       → AreLeft was row handlers
-  handling-left now has row so_far along = record { has = λ e. sym (and-true (row_has row e)) ∙ along.left e }
+  handling-left now has row so_far along = record { has = λ e. sym (and-true (row e)) ∙ along.left e }
 
-  pub handling-clean : (now : List (List Exit)) (has row : List ℕ) (so_far : Exits) → Handling program in_loop handlers NoMore old now had has was row so_far
+  pub handling-clean : (now : List (List Exit)) (has row : ℕ → Bool) (so_far : Exits) → Handling program in_loop handlers NoMore old now had has was row so_far
       → (ends : List Exit) → AreThrown was ends → handlers_faults program in_loop ends handlers ≡ []
   handling-clean now has row so_far along ends are = sym (along.remaining ends are).same
 
 -- a statement that only raises, goes on or returns
 module _ (listed exceptions : List ℕ) (same : (e : ℕ) → is_one_of listed e ≡ is_one_of exceptions e) (raised : Raised) (is : raised ≡ raised_by listed)
-    (had has : List ℕ) (sum : IsSum had (is_one_of listed) has) (exits : Exits) (entries : List (List Exit)) where
+    (had has : ℕ → Bool) (sum : IsSum had (is_one_of listed) has) (exits : Exits) (entries : List (List Exit)) where
   raised-is : raised ≡ raised_by exceptions
   raised-is = is ∙ raised-same listed exceptions same
 
@@ -383,7 +383,7 @@ module _ (listed exceptions : List ℕ) (same : (e : ℕ) → is_one_of listed e
 
 -- a call: what its arguments raise, and what the procedure declares
 pub call-found : (listed exceptions declared : List ℕ) (same : (e : ℕ) → is_one_of listed e ≡ is_one_of exceptions e) (own other : Raised)
-    → own ≡ raised_by listed → other ≡ raised_by declared → (had mid has : List ℕ) → IsSum had (is_one_of listed) mid → IsSum mid (is_one_of declared) has
+    → own ≡ raised_by listed → other ≡ raised_by declared → (had mid has : ℕ → Bool) → IsSum had (is_one_of listed) mid → IsSum mid (is_one_of declared) has
     → (exits : Exits) (entries : List (List Exit)) → exits ≡ record (only_raised (join_raised own other)) { normal = true }
     → IsFound (Normal ∷ thrown_ends (exceptions ++ declared)) [] entries entries had has exits
 call-found listed exceptions declared same own other own_is other_is had mid has first second exits entries made =

@@ -1,36 +1,37 @@
 -- What is kept of the ends of statements and blocks: a summary, and the number of a row of exceptions, where they are
 -- several.
 -- Source: our own.
-use Rattle.std.specs.Prelude.{◌≡◌, ℕ, zero, suc, ◌*◌, ◌<◌, ◌≤◌, List, [], ◌∷◌, ◌++◌, Bool, length, map, filter, set, if◌then◌else◌, slice_index_or, ⊤}
+use Rattle.std.specs.Prelude.{◌≡◌, ℕ, zero, suc, ◌<◌, ◌≤◌, List, [], ◌∷◌, ◌++◌, Bool, length, map, filter, set, if◌then◌else◌, slice_index_or, ⊤}
 use Rattle.resolved.specs.declared.statement.Exit.{Exit}
 use Rattle.resolved.specs.declared.statement.Exit.TheVariants.{Normal, Return, Break, Continue}
 use Rattle.resolved.specs.Ends.{has_end, thrown_ends}
 use Rattle.path_map.specs.declared.exits.Raised.{Raised}
 use Rattle.path_map.specs.declared.exits.Raised.TheVariants.{Nothing, One, Several}
 use Rattle.path_map.specs.declared.exits.Exits.{Exits}
-use Rattle.path_map.specs.declared.set.ExceptionSet.{ExceptionSet}
+use Rattle.path_map.specs.declared.members.ExceptionSet.{ExceptionSet}
 use Rattle.path_map.specs.declared.table.Entry.{Entry}
 use Rattle.path_map.specs.Exits.{exits_of}
-use Rattle.path_map.specs.Sets.{row_has, throws}
+use Rattle.path_map.specs.Exceptions.{is_one_of}
+use Rattle.path_map.specs.Sets.{members, throws}
 
 -- the numbers below n
 abbrev pub below : ℕ → List ℕ
 below zero = []
 below (suc n) = n ∷ below n
 
--- the exceptions of a row
-abbrev pub listed : (words : List ℕ) → List ℕ
-listed words = filter (row_has words) (below (64 * length words))
+-- the exceptions of a set
+abbrev pub listed : ExceptionSet → List ℕ
+listed set = filter (members set) (below set.bound)
 
--- the words of a row of a table
+-- the exceptions of a row of a table
 abbrev pub row_at : List ExceptionSet → (row : ℕ) → List ℕ
-row_at rows row = slice_index_or (map (λ (set : ExceptionSet). set.words.items) rows) row []
+row_at rows row = slice_index_or (map listed rows) row []
 
 -- the exceptions of a summary, where those that are several are in a row
 abbrev pub exceptions_at : List ExceptionSet → (row : ℕ) → Raised → List ℕ
 exceptions_at rows row Nothing = []
 exceptions_at rows row (One exception) = exception ∷ []
-exceptions_at rows row Several = listed (row_at rows row)
+exceptions_at rows row Several = row_at rows row
 
 -- the ends of an entry
 abbrev pub end_if : Bool → Exit → List Exit
@@ -57,25 +58,25 @@ pub record RowsGrow (old new : List ExceptionSet) : Type 0 where
   pub same : (row : ℕ) → row < length old → row_at new row ≡ row_at old row
 
 -- a row of a table with these exceptions
-pub record IsRowOf (words : List ℕ) (rows : List ExceptionSet) (row : ℕ) : Type 0 where
+pub record IsRowOf (set : ℕ → Bool) (rows : List ExceptionSet) (row : ℕ) : Type 0 where
   pub there : row < length rows
-  pub same : (exception : ℕ) → row_has (row_at rows row) exception ≡ row_has words exception
+  pub same : (exception : ℕ) → is_one_of (row_at rows row) exception ≡ set exception
 
 -- a row for a set with these exceptions and this summary: it has them, if they are several
-pub record IsRowFor (words : List ℕ) (summary : Raised) (rows : List ExceptionSet) (row : ℕ) : Type 0 where
+pub record IsRowFor (set : ℕ → Bool) (summary : Raised) (rows : List ExceptionSet) (row : ℕ) : Type 0 where
   pub there : row < length rows
-  pub same : summary ≡ Several → (exception : ℕ) → row_has (row_at rows row) exception ≡ row_has words exception
+  pub same : summary ≡ Several → (exception : ℕ) → is_one_of (row_at rows row) exception ≡ set exception
 
--- ends with these four that are no exception, and the exceptions of a row
-pub record HasExits (exits : Exits) (words : List ℕ) (ends : List Exit) : Type 0 where
+-- ends with these four that are no exception, and the exceptions of a set
+pub record HasExits (exits : Exits) (set : ℕ → Bool) (ends : List Exit) : Type 0 where
   pub normal : has_end ends Normal ≡ exits.normal
   pub returns : has_end ends Return ≡ exits.returns
   pub breaks : has_end ends Break ≡ exits.breaks
   pub continues : has_end ends Continue ≡ exits.continues
-  pub raised : (exception : ℕ) → throws ends exception ≡ row_has words exception
+  pub raised : (exception : ℕ) → throws ends exception ≡ set exception
 
 -- a table in which one entry was written
-pub record IsPut (at : ℕ) (exits : Exits) (words : List ℕ) (old new : List (List Exit)) : Type 0 where
+pub record IsPut (at : ℕ) (exits : Exits) (raised : ℕ → Bool) (old new : List (List Exit)) : Type 0 where
   pub ends : List Exit
-  pub has : HasExits exits words ends
+  pub has : HasExits exits raised ends
   pub written : new ≡ set old at ends

@@ -5,6 +5,7 @@ pub mod EndsOf
 pub mod Paths
 pub mod FirstFault
 pub mod Joins
+pub mod Kept
 pub mod Sets
 pub mod Rows
 pub mod Entries

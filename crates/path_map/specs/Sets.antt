@@ -1,21 +1,18 @@
--- Sets of exceptions as rows of bits, 64 in a word, and the summary of such a set.
+-- Sets of exceptions, and the summary of such a set.
 -- Source: our own.
-use Rattle.std.specs.Prelude.{◌≡◌, ◌≢◌, ℕ, ◌/◌, ◌%◌, List, Bool, true, false, ◌==◌, ◌&&◌, ◌||◌, slice_index}
-use Rattle.std.specs.Int.{bit_at}
+use Rattle.std.specs.Prelude.{◌≡◌, ◌≢◌, ℕ, List, Bool, true, false, ◌||◌}
 use Rattle.resolved.specs.declared.statement.Exit.{Exit}
 use Rattle.resolved.specs.declared.statement.Exit.TheVariants.{Throw}
 use Rattle.resolved.specs.Ends.{has_end}
 use Rattle.path_map.specs.declared.exits.Raised.{Raised}
+use Rattle.path_map.specs.declared.members.ExceptionSet.{ExceptionSet}
 use Rattle.path_map.specs.Exceptions.{is_one_of}
+use Rattle.path_map.specs.Kept.{kept_has}
 use Rattle.path_map.specs.declared.exits.Raised.TheVariants.{Nothing, One, Several}
 
--- whether an exception is in a row
-abbrev pub row_has : List ℕ → ℕ → Bool
-row_has words exception = bit_at (slice_index words (exception / 64)) (exception % 64) == 1
-
--- whether an exception is in one word of a row
-abbrev pub word_has : (word index : ℕ) → ℕ → Bool
-word_has word index exception = (exception / 64 == index) && (bit_at word (exception % 64) == 1)
+-- whether an exception is in a set
+abbrev pub members : ExceptionSet → ℕ → Bool
+members set exception = kept_has set.kept exception
 
 -- two exceptions of a set
 pub record HasTwo (set : ℕ → Bool) : Type 0 where
@@ -47,9 +44,9 @@ abbrev pub AreDeclared : (ℕ → Bool) → (declared : List ℕ) → Bool → T
 AreDeclared set declared true = (exception : ℕ) → set exception ≡ true → is_one_of declared exception ≡ true
 AreDeclared set declared false = HasUndeclared set declared
 
--- a row to which those of a set were added
-pub record IsSum (old : List ℕ) (added : ℕ → Bool) (new : List ℕ) : Type 0 where
-  pub has : (exception : ℕ) → row_has new exception ≡ (row_has old exception || added exception)
+-- a set to which those of another one were added
+pub record IsSum (old added new : ℕ → Bool) : Type 0 where
+  pub has : (exception : ℕ) → new exception ≡ (old exception || added exception)
 
 -- the exceptions among ends, as a set
 abbrev pub throws : List Exit → ℕ → Bool

@@ -1,51 +1,55 @@
 -- Private: what a walk finds of a piece of a program.
 -- Source: our own.
-use Rattle.std.specs.Prelude.{◌≡◌, ℕ, List, [], ◌++◌, Bool, true, not, ◌&&◌}
+use Rattle.std.specs.Prelude.{◌≡◌, ℕ, ◌+◌, ◌<◌, List, [], ◌++◌, length, Bool, true, not, ◌&&◌, IsTrue, All}
+use Rattle.common.specs.declared.exceptions.TheConstants.{BUILT_IN}
 use Rattle.resolved.specs.declared.program.Core.{Core}
 use Rattle.resolved.specs.declared.statement.Exit.{Exit}
 use Rattle.resolved.specs.declared.statement.Statement as S
 use Rattle.resolved.specs.declared.statement.Handler.{Handler}
+use Rattle.resolved.specs.declared.tables.Thrown.{Thrown}
 use Rattle.resolved.specs.CoreOf.{program_of}
 use Rattle.resolved.specs.TreeOf.{statement_of, block_of, handlers_of}
 use Rattle.resolved.specs.Tree.{Handlers}
+use Rattle.resolved.specs.Program.{ProcedureEntry}
+use Rattle.resolved.specs.WellFormed.{block_fits, handlers_fit, statement_fits}
 use Rattle.resolved.specs.Ends.{handles, statement_ends, block_ends, handlers_ends}
 use Rattle.resolved.specs.EndFaults.{inner_faults, block_faults, handlers_faults}
 use Rattle.resolved.specs.declared.fault.EndRefusal.{EndRefusal}
 use Rattle.path_map.specs.declared.exits.Exits.{Exits}
 use Rattle.path_map.specs.Exits.{exits_of}
 use Rattle.path_map.specs.Paths.{AreAlike, statement_paths, inner_paths, block_paths, rest_paths, handlers_paths}
-use Rattle.path_map.specs.Sets.{IsSum, row_has, throws}
+use Rattle.path_map.specs.Sets.{IsSum, throws}
 
 -- of a piece with these ends, and with these in it, where `old` are the ends before it and `had` the exceptions so far
-pub record IsFound (ends : List Exit) (paths : List (List Exit)) (old new : List (List Exit)) (had has : List ℕ) (found : Exits) : Type 0 where
+pub record IsFound (ends : List Exit) (paths : List (List Exit)) (old new : List (List Exit)) (had has : ℕ → Bool) (found : Exits) : Type 0 where
   pub summary : found ≡ exits_of ends
   pub entries : AreAlike new (old ++ paths)
   pub raised : IsSum had (throws ends) has
 
 -- of a piece with nothing in it
-abbrev pub IsFoundAlone : (ends : List Exit) → (had has : List ℕ) → Exits → Type 0
+abbrev pub IsFoundAlone : (ends : List Exit) → (had has : ℕ → Bool) → Exits → Type 0
 IsFoundAlone ends had has found = (entries : List (List Exit)) → IsFound ends [] entries entries had has found
 
 -- of a block with its own entry, and without it
-abbrev pub IsBlockFound : Core → List S.Statement → (old new : List (List Exit)) (had has : List ℕ) → Exits → Type 0
+abbrev pub IsBlockFound : Core → List S.Statement → (old new : List (List Exit)) (had has : ℕ → Bool) → Exits → Type 0
 IsBlockFound core block =
     IsFound (block_ends (program_of core) (block_of block)) (block_paths (program_of core) (block_of block))
 
-abbrev pub AreStatementsFound : Core → List S.Statement → (old new : List (List Exit)) (had has : List ℕ) → Exits → Type 0
+abbrev pub AreStatementsFound : Core → List S.Statement → (old new : List (List Exit)) (had has : ℕ → Bool) → Exits → Type 0
 AreStatementsFound core block =
     IsFound (block_ends (program_of core) (block_of block)) (rest_paths (program_of core) (block_of block))
 
 -- of a statement with its own entry, and without it
-abbrev pub IsStatementFound : Core → S.Statement → (old new : List (List Exit)) (had has : List ℕ) → Exits → Type 0
+abbrev pub IsStatementFound : Core → S.Statement → (old new : List (List Exit)) (had has : ℕ → Bool) → Exits → Type 0
 IsStatementFound core statement =
     IsFound (statement_ends (program_of core) (statement_of statement)) (statement_paths (program_of core) (statement_of statement))
 
-abbrev pub IsFormFound : Core → S.Statement → (old new : List (List Exit)) (had has : List ℕ) → Exits → Type 0
+abbrev pub IsFormFound : Core → S.Statement → (old new : List (List Exit)) (had has : ℕ → Bool) → Exits → Type 0
 IsFormFound core statement =
     IsFound (statement_ends (program_of core) (statement_of statement)) (inner_paths (program_of core) (statement_of statement))
 
 -- of handlers
-abbrev pub AreHandlersFound : Core → List Handler → (old new : List (List Exit)) (had has : List ℕ) → Exits → Type 0
+abbrev pub AreHandlersFound : Core → List Handler → (old new : List (List Exit)) (had has : ℕ → Bool) → Exits → Type 0
 AreHandlersFound core handlers =
     IsFound (handlers_ends (program_of core) (handlers_of handlers)) (handlers_paths (program_of core) (handlers_of handlers))
 
@@ -59,10 +63,32 @@ faults_within core in_loop statement = inner_faults (program_of core) in_loop (s
 abbrev pub faults_of_handlers : Core → (in_loop : Bool) → (ends : List Exit) → List Handler → List EndRefusal
 faults_of_handlers core in_loop ends handlers = handlers_faults (program_of core) in_loop ends (handlers_of handlers)
 
--- the exceptions of a row are those of ends
-pub record AreThrown (row : List ℕ) (ends : List Exit) : Type 0 where
-  pub has : (exception : ℕ) → row_has row exception ≡ throws ends exception
+-- the exceptions of a set are those of ends
+pub record AreThrown (set : ℕ → Bool) (ends : List Exit) : Type 0 where
+  pub has : (exception : ℕ) → set exception ≡ throws ends exception
 
--- the exceptions of a row that handlers leave
-pub record AreLeft (old new : List ℕ) (handlers : Handlers) : Type 0 where
-  pub has : (exception : ℕ) → row_has new exception ≡ (row_has old exception && not (handles handlers exception))
+-- the exceptions of a set that handlers leave
+pub record AreLeft (old new : ℕ → Bool) (handlers : Handlers) : Type 0 where
+  pub has : (exception : ℕ) → new exception ≡ (old exception && not (handles handlers exception))
+
+-- how many exceptions there are, built in and declared
+abbrev pub exception_count : Core → ℕ
+exception_count core = BUILT_IN + length (program_of core).exceptions
+
+-- declared exceptions are below a bound
+abbrev pub AreThrownInside : (bound : ℕ) → List Thrown → Type 0
+AreThrownInside bound throws = All (λ (declared : Thrown). declared.exception < bound) throws
+
+-- a piece fits some procedure, so that its exceptions are there
+pub record FitsSome (fitting : ProcedureEntry → Bool) : Type 0 where
+  pub procedure : ProcedureEntry
+  pub fits : IsTrue (fitting procedure)
+
+abbrev pub BlockFits : Core → List S.Statement → Type 0
+BlockFits core block = FitsSome (λ procedure. block_fits (program_of core) procedure (block_of block))
+
+abbrev pub StatementFits : Core → S.Statement → Type 0
+StatementFits core statement = FitsSome (λ procedure. statement_fits (program_of core) procedure (statement_of statement))
+
+abbrev pub HandlersFit : Core → List Handler → Type 0
+HandlersFit core handlers = FitsSome (λ procedure. handlers_fit (program_of core) procedure (handlers_of handlers))

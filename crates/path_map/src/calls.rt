@@ -1,8 +1,9 @@
 //! What calls raise: the exceptions that procedures declare.
 ghost use Rattle.path_map.specs.Exits.{raised_by};
-ghost use Rattle.path_map.specs.Rows.{AreDeclaredRows, says};
+ghost use Rattle.path_map.specs.Rows.{AreDeclaredRows, HasBound, HaveBound, says};
 ghost use Rattle.path_map.specs.Exceptions.{is_one_of};
-ghost use Rattle.path_map.specs.Sets.{IsSum};
+ghost use Rattle.path_map.specs.Sets.{IsSum, members};
+ghost use Rattle.path_map.specs.Walks.{AreThrownInside, exception_count};
 ghost use Rattle.resolved.specs.CoreOf.{program_of};
 ghost use Rattle.resolved.specs.Ends.{declared_by};
 ghost use Rattle.resolved.specs.Program.{procedure_at};
@@ -10,7 +11,8 @@ ghost use Rattle.resolved.specs.ProgramOf.{thrown_entry};
 ghost use Rattle.std.specs.Prelude.{IfOk, OnOk, map, ℕ, ◌≡◌};
 
 use crate::exits::Raised;
-use crate::set::ExceptionSet;
+use crate::members::ExceptionSet;
+use common::exceptions::BUILT_IN;
 use resolved::program::Core;
 use resolved::tables::Thrown;
 use std::alloc::{AllocError, Global};
@@ -21,19 +23,29 @@ use std::alloc::{AllocError, Global};
 pub(crate) struct Walk<'a> {
     pub(crate) alloc: Global,
     pub(crate) core: &'a Core,
+    // How many exceptions there are.
+    pub(crate) bound: u32,
     rows: Vec<Option<ExceptionSet>>,
+    ghost count: { bound ≡ exception_count core.now },
     ghost same: { AreDeclaredRows core.now rows.items },
+    ghost bounded: { HaveBound bound rows.items },
 }
 
 impl<'a> Walk<'a> {
     pub(crate) fn along(alloc: Global, core: &'a Core) -> Result<Walk<'a>, AllocError>
         ensures { IfOk result (λ walk. walk.core.now ≡ core.now) }
     {
+        let bound = core.exceptions.len() as u32 + BUILT_IN;
         let mut rows = Vec::new(alloc);
         for procedure in &core.procedures {
-            rows.push(row_of(alloc, &procedure.throws, core.exceptions.len())?)?;
+            rows.push(row_of(alloc, &procedure.throws, bound)?)?;
         }
-        Ok(Walk { alloc, core, rows })
+        Ok(Walk {
+            alloc,
+            core,
+            bound,
+            rows,
+        })
     }
 
     // The summary of the exceptions that a procedure declares, which are added to a set.
@@ -42,11 +54,13 @@ impl<'a> Walk<'a> {
         callee: u32,
         set: &mut ExceptionSet,
     ) -> Result<Raised, AllocError>
+        requires { set.old.bound ≡ self.now.bound }
+        ensures bound { set.new.bound ≡ set.old.bound }
         ensures summary { IfOk result (λ summary. summary
             ≡ raised_by (declared_by (procedure_at (program_of self.now.core.now) callee).throws)) }
-        ensures added { OnOk result (IsSum set.old.words.items
+        ensures added { OnOk result (IsSum (members set.old)
             (is_one_of (declared_by (procedure_at (program_of self.now.core.now) callee).throws))
-            set.new.words.items) }
+            (members set.new)) }
     {
         match self.core.procedures.get(callee as usize) {
             None => Ok(Raised::Nothing),
@@ -62,27 +76,27 @@ impl<'a> Walk<'a> {
 }
 
 // The row of declared exceptions, where they are more than the words of a row of all.
-fn row_of(
-    alloc: Global,
-    throws: &[Thrown],
-    exceptions: usize,
-) -> Result<Option<ExceptionSet>, AllocError>
-    ensures { IfOk result (λ row. (exception : ℕ) →
+fn row_of(alloc: Global, throws: &[Thrown], bound: u32) -> Result<Option<ExceptionSet>, AllocError>
+    requires { AreThrownInside bound throws.now }
+    ensures bound { IfOk result (HasBound bound) }
+    ensures declared { IfOk result (λ row. (exception : ℕ) →
         says row (declared_by (map thrown_entry throws.now)) exception
         ≡ is_one_of (declared_by (map thrown_entry throws.now)) exception) }
 {
-    if throws.len() <= exceptions / 64 {
+    if throws.len() <= bound as usize / 64 {
         return Ok(None);
     }
-    let mut row = ExceptionSet::new(alloc);
+    let mut row = ExceptionSet::new(alloc, bound);
     insert_all(throws, &mut row)?;
     Ok(Some(row))
 }
 
 // Adds declared exceptions to a set.
 fn insert_all(throws: &[Thrown], set: &mut ExceptionSet) -> Result<(), AllocError>
-    ensures { OnOk result (IsSum set.old.words.items
-        (is_one_of (declared_by (map thrown_entry throws.now))) set.new.words.items) }
+    requires { AreThrownInside set.old.bound throws.now }
+    ensures bound { set.new.bound ≡ set.old.bound }
+    ensures added { OnOk result (IsSum (members set.old)
+        (is_one_of (declared_by (map thrown_entry throws.now))) (members set.new)) }
 {
     for thrown in throws {
         set.insert(thrown.exception)?;

@@ -5,6 +5,7 @@ mod calls;
 pub mod exits;
 pub mod fault;
 pub mod map;
+mod members;
 pub mod raises;
 mod set;
 pub mod table;

@@ -3,17 +3,18 @@ ghost use Rattle.common.specs.Answers.{IfRefused};
 ghost use Rattle.path_map.specs.EndsOf.{AreEndsOf};
 ghost use Rattle.path_map.specs.FirstFault.{IsFirstEndFault};
 ghost use Rattle.path_map.specs.Paths.{AreAlike, block_paths};
-ghost use Rattle.path_map.specs.Sets.{AreDeclared, row_has};
+ghost use Rattle.path_map.specs.Sets.{AreDeclared, members};
 ghost use Rattle.resolved.specs.CoreOf.{program_of};
 ghost use Rattle.resolved.specs.EndFaults.{end_faults, procedure_faults};
 ghost use Rattle.resolved.specs.Ends.{declared_by};
 ghost use Rattle.resolved.specs.ProgramOf.{procedure_entry, thrown_entry};
-ghost use Rattle.std.specs.Prelude.{IfErr, IfOk, OnOk, [], is_some, map, not, ◌&&◌, ◌++◌, ◌||◌, ◌≡◌};
+ghost use Rattle.resolved.specs.WellFormed.{procedure_fits};
+ghost use Rattle.std.specs.Prelude.{IfErr, IfOk, IsTrue, OnOk, [], is_some, map, not, ◌&&◌, ◌++◌, ◌||◌, ◌≡◌};
 
 use crate::calls::Walk;
 use crate::exits::{Exits, Raised};
 use crate::fault::EndFault;
-use crate::set::ExceptionSet;
+use crate::members::ExceptionSet;
 use crate::table::Ends;
 use crate::walk::{refuse, walk_block};
 use resolved::EndDefect;
@@ -43,6 +44,8 @@ pub fn ends(alloc: Global, core: &Core) -> Result<Ends, EndFault>
 
 // Finds the ends of a procedure's body and of what is in it.
 fn walk_procedure(walk: &Walk, procedure: &Procedure, table: &mut Ends) -> Result<(), EndFault>
+    requires { IsTrue (procedure_fits (program_of walk.now.core.now)
+        (procedure_entry procedure.now)) }
     ensures found { OnOk result (AreAlike table.new (table.old ++ block_paths
         (program_of walk.now.core.now) (procedure_entry procedure.now).body)) }
     ensures accepted { OnOk result (procedure_faults
@@ -50,7 +53,7 @@ fn walk_procedure(walk: &Walk, procedure: &Procedure, table: &mut Ends) -> Resul
     ensures first_fault { IfErr result (IfRefused (IsFirstEndFault (procedure_faults
         (program_of walk.now.core.now) (procedure_entry procedure.now)))) }
 {
-    let mut raised = ExceptionSet::new(walk.alloc);
+    let mut raised = ExceptionSet::new(walk.alloc, walk.bound);
     let exits = walk_block(walk, false, &procedure.body, table, &mut raised)?;
     if lacks_value(procedure, exits) {
         return Err(refuse(EndDefect::NoValueReturned, procedure.at));
@@ -78,7 +81,7 @@ fn lets_out(exits: Exits, declared: bool) -> bool
 
 // Whether all exceptions of a set are declared. Those that are, are taken out.
 fn are_declared(throws: &[Thrown], set: &mut ExceptionSet) -> bool
-    ensures { AreDeclared (row_has set.old.words.items)
+    ensures { AreDeclared (members set.old)
         (declared_by (map thrown_entry throws.now)) result }
 {
     for thrown in throws {

@@ -2,15 +2,16 @@
 ghost use Rattle.path_map.specs.Exits.{raised_by};
 ghost use Rattle.path_map.specs.Exceptions.{AreRaised, is_one_of, raised_list};
 ghost use Rattle.path_map.specs.Joins.{raises_some};
-ghost use Rattle.path_map.specs.Sets.{IsSum};
+ghost use Rattle.path_map.specs.Sets.{IsSum, members};
+ghost use Rattle.common.specs.declared.exceptions.TheConstants.{BUILT_IN};
 ghost use Rattle.resolved.specs.Ends.{divisor_can_raise, index_can_raise, is_division, raises, raises_all};
 ghost use Rattle.resolved.specs.TreeOf.{expression_of, some_expression_of};
 ghost use Rattle.resolved.specs.Value.{in_range, literal_number};
 ghost use Rattle.common.specs.Integers.{is_zero};
-ghost use Rattle.std.specs.Prelude.{IfOk, OnOk, map, ℕ, ◌||◌, ◌≡◌};
+ghost use Rattle.std.specs.Prelude.{IfOk, OnOk, map, ℕ, ◌||◌, ◌≡◌, ◌≤◌};
 
 use crate::exits::Raised;
-use crate::set::ExceptionSet;
+use crate::members::ExceptionSet;
 use common::exceptions::{ARITH, BOUNDS};
 use common::limits::MAX_INTEGER;
 use resolved::expression::{Expression, Operator, Prefix};
@@ -45,10 +46,12 @@ impl Raises {
 
     // The summary of these exceptions, which are added to a set.
     pub(crate) fn add_to(self, set: &mut ExceptionSet) -> Result<Raised, AllocError>
+        requires { BUILT_IN ≤ set.old.bound }
+        ensures bound { set.new.bound ≡ set.old.bound }
         ensures summary { IfOk result (λ summary. summary
             ≡ raised_by (raised_list self.arith self.bounds)) }
-        ensures added { OnOk result (IsSum set.old.words.items
-            (is_one_of (raised_list self.arith self.bounds)) set.new.words.items) }
+        ensures added { OnOk result (IsSum (members set.old)
+            (is_one_of (raised_list self.arith self.bounds)) (members set.new)) }
     {
         if self.arith {
             set.insert(ARITH)?;

@@ -1,119 +1,160 @@
 //! Sets of exceptions.
-ghost use Rattle.path_map.specs.Sets.{IsSummaryOf, IsSum, row_has, word_has};
-ghost use Rattle.std.specs.Prelude.{IsTrue, OnOk, false, length, not, ℕ, ◌&&◌, ◌<◌, ◌==◌, ◌≡◌, ◌≤◌};
+ghost use Rattle.labels.specs.Row.{has};
+ghost use Rattle.path_map.specs.Kept.{kept_has};
+ghost use Rattle.path_map.specs.Sets.{IsSummaryOf, IsSum, members};
+ghost use Rattle.path_map.specs.declared.members.Kept.TheVariants.{Single};
+ghost use Rattle.std.specs.Prelude.{IfOk, IsTrue, OnOk, false, length, not, ℕ, ◌&&◌, ◌^◌, ◌<◌, ◌==◌, ◌≡◌};
 
 use crate::exits::Raised;
+use crate::members::{ExceptionSet, Kept};
+use labels::Row;
 use std::alloc::{AllocError, Global};
 
-// A set of exceptions, as a row of bits that is as long as its greatest exception has asked for. Numbers of 32 bits take 67,108,864
-// words of 64 bits at most.
-#[derive(Drop)]
-pub(crate) struct ExceptionSet {
-    words: Vec<u64>,
-    ghost short: { length words.items ≤ 67108864 },
-}
-
 impl ExceptionSet {
-    pub(crate) fn new(alloc: Global) -> ExceptionSet
-        ensures { (exception : ℕ) → row_has result.words.items exception ≡ false }
+    pub(crate) fn new(alloc: Global, bound: u32) -> ExceptionSet
+        ensures bound { result.bound ≡ bound }
+        ensures empty { (exception : ℕ) → members result exception ≡ false }
     {
         ExceptionSet {
-            words: Vec::new(alloc),
+            alloc,
+            bound,
+            kept: Kept::Empty,
         }
-    }
-
-    // Makes room for so many words.
-    #[tactic(auto, using(crate::proofs::Rows::zeros_behind))]
-    fn grow(&mut self, count: usize) -> Result<(), AllocError>
-        requires { count ≤ 67108864 }
-        ensures room { OnOk result (count ≤ length self.new.words.items) }
-        ensures unchanged { OnOk result ((exception : ℕ) →
-            row_has self.new.words.items exception ≡ row_has self.old.words.items exception) }
-    {
-        if self.words.len() < count {
-            self.words.resize(count, 0)?;
-        }
-        Ok(())
     }
 
     pub(crate) fn insert(&mut self, exception: u32) -> Result<(), AllocError>
-        ensures { OnOk result (IsSum self.old.words.items (λ other. other == exception)
-            self.new.words.items) }
+        requires { exception < self.old.bound }
+        ensures bound { self.new.bound ≡ self.old.bound }
+        ensures added { OnOk result (IsSum (members self.old) (λ other. other == exception)
+            (members self.new)) }
     {
-        let word = exception as usize / 64;
-        self.grow(word + 1)?;
-        self.words[word] |= 1 << (exception % 64);
+        match &mut self.kept {
+            Kept::Empty => self.kept = Kept::Single(exception),
+            Kept::Single(only) => {
+                if *only != exception {
+                    let row = row_of_two(self.alloc, self.bound, *only, exception)?;
+                    self.kept = Kept::Many(row);
+                }
+            }
+            Kept::Many(row) => row.set(exception as usize),
+        }
         Ok(())
     }
 
     pub(crate) fn has(&self, exception: u32) -> bool
-        ensures { result ≡ row_has self.now.words.items exception }
+        ensures { result ≡ members self.now exception }
     {
-        let word = exception as usize / 64;
-        if word >= self.words.len() {
-            return false;
+        match &self.kept {
+            Kept::Empty => false,
+            Kept::Single(only) => exception == *only,
+            Kept::Many(row) => exception < self.bound && row.has(exception as usize),
         }
-        self.words[word] & (1 << (exception % 64)) != 0
     }
 
     // Takes an exception out, and says whether it was there.
     pub(crate) fn remove(&mut self, exception: u32) -> bool
-        ensures there { result ≡ row_has self.old.words.items exception }
-        ensures left { (other : ℕ) → row_has self.new.words.items other
-            ≡ (row_has self.old.words.items other && not (other == exception)) }
+        ensures bound { self.new.bound ≡ self.old.bound }
+        ensures there { result ≡ members self.old exception }
+        ensures left { (other : ℕ) → members self.new other
+            ≡ (members self.old other && not (other == exception)) }
     {
-        let word = exception as usize / 64;
-        if word >= self.words.len() {
+        if !self.has(exception) {
             return false;
         }
-        let bit = 1 << (exception % 64);
-        let there = self.words[word] & bit != 0;
-        self.words[word] &= !bit;
-        there
+        match &mut self.kept {
+            Kept::Empty => {}
+            Kept::Single(_) => self.kept = Kept::Empty,
+            Kept::Many(row) => row.remove(exception as usize),
+        }
+        true
     }
 
     pub(crate) fn unite(&mut self, other: &ExceptionSet) -> Result<(), AllocError>
-        ensures { OnOk result (IsSum self.old.words.items (row_has other.now.words.items)
-            self.new.words.items) }
+        requires { other.now.bound ≡ self.old.bound }
+        ensures bound { self.new.bound ≡ self.old.bound }
+        ensures united { OnOk result (IsSum (members self.old) (members other.now)
+            (members self.new)) }
     {
-        self.grow(other.words.len())?;
-        for (i, word) in other.words.iter().enumerate() {
-            self.words[i] |= *word;
+        match &other.kept {
+            Kept::Empty => Ok(()),
+            Kept::Single(exception) => self.insert(*exception),
+            Kept::Many(row) => self.unite_row(row),
+        }
+    }
+
+    fn unite_row(&mut self, row: &Row) -> Result<(), AllocError>
+        requires { length row.now ≡ self.old.bound }
+        ensures bound { self.new.bound ≡ self.old.bound }
+        ensures united { OnOk result (IsSum (members self.old) (has row.now) (members self.new)) }
+    {
+        match &mut self.kept {
+            Kept::Empty => {
+                let mut joined = Row::new(self.alloc, self.bound as usize)?;
+                let _grew = joined.join_from(row);
+                self.kept = Kept::Many(joined);
+            }
+            Kept::Single(only) => {
+                let mut joined = Row::new(self.alloc, self.bound as usize)?;
+                joined.set(*only as usize);
+                let _grew = joined.join_from(row);
+                self.kept = Kept::Many(joined);
+            }
+            Kept::Many(own) => {
+                let _grew = own.join_from(row);
+            }
         }
         Ok(())
     }
 
-    // Whether the rows are the same.
+    // Whether both are rows of the same exceptions.
     pub(crate) fn is_same(&self, other: &ExceptionSet) -> bool
-        ensures { IsTrue result → self.now.words.items ≡ other.now.words.items }
+        ensures { IsTrue result → (exception : ℕ) →
+            members self.now exception ≡ members other.now exception }
     {
-        self.words == other.words
+        match (&self.kept, &other.kept) {
+            (Kept::Many(row), Kept::Many(others)) => {
+                self.bound == other.bound && row.covers(others) && others.covers(row)
+            }
+            _ => false,
+        }
     }
 
     // The summary of the set.
     pub(crate) fn summary(&self) -> Raised
-        ensures { IsSummaryOf (row_has self.now.words.items) result }
+        ensures { IsSummaryOf (members self.now) result }
     {
-        let mut summary = Raised::Nothing;
-        for (i, word) in self.words.iter().enumerate() {
-            summary = summary.join(summary_of_word(*word, i));
+        match &self.kept {
+            Kept::Empty => Raised::Nothing,
+            Kept::Single(only) => Raised::One(*only),
+            Kept::Many(row) => summary_of_row(row),
         }
-        summary
     }
 }
 
-// The summary of the exceptions of one word of a row.
-fn summary_of_word(word: u64, index: usize) -> Raised
-    requires { index < 67108864 }
-    ensures { IsSummaryOf (word_has word index) result }
+// The row of two exceptions.
+fn row_of_two(alloc: Global, bound: u32, one: u32, other: u32) -> Result<Row, AllocError>
+    requires one { one < bound }
+    requires other { other < bound }
+    ensures bound { IfOk result (λ row. length row ≡ bound) }
+    ensures both { IfOk result (λ row. IsSum (kept_has (Single one)) (λ exception. exception == other)
+        (has row)) }
 {
-    if word == 0 {
-        return Raised::Nothing;
+    let mut row = Row::new(alloc, bound as usize)?;
+    row.set(one as usize);
+    row.set(other as usize);
+    Ok(row)
+}
+
+// The summary of a row: it stops at the second exception.
+fn summary_of_row(row: &Row) -> Raised
+    requires { length row.now < 2 ^ 32 }
+    ensures { IsSummaryOf (has row.now) result }
+{
+    match row.first_from(0) {
+        None => Raised::Nothing,
+        Some(first) => match row.first_from(first + 1) {
+            None => Raised::One(first as u32),
+            Some(_) => Raised::Several,
+        },
     }
-    let lowest = word.trailing_zeros();
-    let others = word & !(1 << lowest);
-    if others != 0 {
-        return Raised::Several;
-    }
-    Raised::One(index as u32 * 64 + lowest)
 }

@@ -2,12 +2,13 @@
 ghost use Rattle.path_map.specs.Entries.{IsPut, IsRowFor, IsRowOf, RowsGrow, entry_ends, exceptions_at};
 ghost use Rattle.path_map.specs.Exits.{exits_of};
 ghost use Rattle.path_map.specs.Exceptions.{is_one_of};
+ghost use Rattle.path_map.specs.Sets.{members};
 ghost use Rattle.resolved.specs.Ends.{has_end};
 ghost use Rattle.std.specs.Prelude.{IfOk, OnOk, IsTrue, [], length, slice_index_or, ◌++◌, ◌<◌, ◌∷◌, ◌≡◌};
 
 use crate::exits::{Exits, Raised};
+use crate::members::ExceptionSet;
 use crate::raises::Raises;
-use crate::set::ExceptionSet;
 use resolved::statement::Exit;
 use std::alloc::{AllocError, Global};
 use std::marker::Model;
@@ -50,7 +51,7 @@ impl Ends {
         ensures { IfOk result (λ ends. ends ≡ []) }
     {
         let mut rows = Vec::new(alloc);
-        rows.push(ExceptionSet::new(alloc))?;
+        rows.push(ExceptionSet::new(alloc, 0))?;
         let mut calls = Vec::new(alloc);
         for _ in 0..procedures {
             for _ in 0..4 {
@@ -86,7 +87,7 @@ impl Ends {
         call: Option<(u32, Raises)>,
     ) -> Result<(), AllocError>
         requires { at < length self.old }
-        ensures { OnOk result (IsPut at exits raised.words.items self.old self.new) }
+        ensures { OnOk result (IsPut at exits (members raised) self.old self.new) }
     {
         let summary = raised.summary();
         let like = likely(self.calls.as_slice(), call, self.rows.len());
@@ -158,7 +159,7 @@ fn row_of(
     like: usize,
 ) -> Result<usize, AllocError>
     requires { 0 < length rows.old.items }
-    ensures row { IfOk result (IsRowFor set.words.items summary rows.new.items) }
+    ensures row { IfOk result (IsRowFor (members set) summary rows.new.items) }
     ensures grown { RowsGrow rows.old.items rows.new.items }
 {
     match summary {
@@ -170,7 +171,7 @@ fn row_of(
 
 // Keeps a set as a row, and gives its number. It stands for another set with the same exceptions, if that row is like it.
 fn keep(rows: &mut Vec<ExceptionSet>, set: ExceptionSet, like: usize) -> Result<usize, AllocError>
-    ensures kept { IfOk result (IsRowOf set.words.items rows.new.items) }
+    ensures kept { IfOk result (IsRowOf (members set) rows.new.items) }
     ensures grown { RowsGrow rows.old.items rows.new.items }
 {
     if is_like(rows, like, &set) {
@@ -183,7 +184,7 @@ fn keep(rows: &mut Vec<ExceptionSet>, set: ExceptionSet, like: usize) -> Result<
 
 // Whether a row has the exceptions of a set.
 fn is_like(rows: &[ExceptionSet], number: usize, set: &ExceptionSet) -> bool
-    ensures { IsTrue result → IsRowOf set.now.words.items rows.now number }
+    ensures { IsTrue result → IsRowOf (members set.now) rows.now number }
 {
     match rows.get(number) {
         None => false,

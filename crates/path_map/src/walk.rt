@@ -2,23 +2,24 @@
 ghost use Rattle.common.specs.Answers.{IfRefused};
 ghost use Rattle.path_map.specs.FirstFault.{IsFirstEndFault};
 ghost use Rattle.path_map.specs.Exceptions.{AreRaised};
-ghost use Rattle.path_map.specs.Walks.{AreHandlersFound, AreLeft, AreStatementsFound, AreThrown, IsBlockFound, IsFormFound, IsFoundAlone, IsStatementFound, faults_of_block, faults_of_handlers, faults_within};
+ghost use Rattle.path_map.specs.Sets.{members};
+ghost use Rattle.path_map.specs.Walks.{AreHandlersFound, AreLeft, AreStatementsFound, AreThrown, BlockFits, HandlersFit, IsBlockFound, IsFormFound, IsFoundAlone, IsStatementFound, StatementFits, faults_of_block, faults_of_handlers, faults_within};
 ghost use Rattle.common.specs.declared.fault.OrNoMemory.TheVariants.{Refused};
 ghost use Rattle.resolved.specs.CoreOf.{program_of};
 ghost use Rattle.resolved.specs.EndFaults.{may_stand};
 ghost use Rattle.resolved.specs.Ends.{declared_by, raises, thrown_ends};
 ghost use Rattle.resolved.specs.Program.{procedure_at};
 ghost use Rattle.resolved.specs.TreeOf.{expression_of, handlers_of, statement_of};
-ghost use Rattle.common.specs.declared.exceptions.TheConstants.{END};
+ghost use Rattle.common.specs.declared.exceptions.TheConstants.{BUILT_IN, END};
 ghost use Rattle.resolved.specs.declared.statement.Exit.{Exit};
 ghost use Rattle.resolved.specs.declared.statement.Exit.TheVariants.{Normal, Return, Throw};
-ghost use Rattle.std.specs.Prelude.{IfErr, IfOk, List, OnOk, [], length, ℕ, ◌++◌, ◌∷◌, ◌≡◌};
+ghost use Rattle.std.specs.Prelude.{IfErr, IfOk, List, OnOk, [], length, ℕ, ◌++◌, ◌<◌, ◌∷◌, ◌≡◌, ◌≤◌};
 
 use crate::calls::Walk;
 use crate::exits::{Exits, Raised};
 use crate::fault::EndFault;
+use crate::members::ExceptionSet;
 use crate::raises::{Raises, index_can_raise, raises_of, raises_of_all, raises_of_some};
-use crate::set::ExceptionSet;
 use crate::table::Ends;
 use common::OrNoMemory;
 use common::exceptions::END;
@@ -37,14 +38,17 @@ pub(crate) fn walk_block(
     table: &mut Ends,
     raised: &mut ExceptionSet,
 ) -> Result<Exits, EndFault>
+    requires fits { BlockFits walk.now.core.now block.now }
+    requires bound { raised.old.bound ≡ walk.now.bound }
+    ensures bound { raised.new.bound ≡ raised.old.bound }
     ensures found { IfOk result (IsBlockFound walk.now.core.now block.now
-        table.old table.new raised.old.words.items raised.new.words.items) }
+        table.old table.new (members raised.old) (members raised.new)) }
     ensures accepted { OnOk result (faults_of_block walk.now.core.now in_loop block.now ≡ []) }
     ensures first_fault { IfErr result (IfRefused (IsFirstEndFault
         (faults_of_block walk.now.core.now in_loop block.now))) }
 {
     let at = table.reserve()?;
-    let mut own = ExceptionSet::new(walk.alloc);
+    let mut own = ExceptionSet::new(walk.alloc, walk.bound);
     let exits = walk_statements(walk, in_loop, block, table, &mut own)?;
     raised.unite(&own)?;
     table.put(at, exits, own, None)?;
@@ -60,8 +64,11 @@ fn walk_statements(
     table: &mut Ends,
     raised: &mut ExceptionSet,
 ) -> Result<Exits, EndFault>
+    requires fits { BlockFits walk.now.core.now block.now }
+    requires bound { raised.old.bound ≡ walk.now.bound }
+    ensures bound { raised.new.bound ≡ raised.old.bound }
     ensures found { IfOk result (AreStatementsFound walk.now.core.now block.now
-        table.old table.new raised.old.words.items raised.new.words.items) }
+        table.old table.new (members raised.old) (members raised.new)) }
     ensures accepted { OnOk result (faults_of_block walk.now.core.now in_loop block.now ≡ []) }
     ensures first_fault { IfErr result (IfRefused (IsFirstEndFault
         (faults_of_block walk.now.core.now in_loop block.now))) }
@@ -89,14 +96,17 @@ fn walk_statement(
     table: &mut Ends,
     raised: &mut ExceptionSet,
 ) -> Result<Exits, EndFault>
+    requires fits { StatementFits walk.now.core.now statement.now }
+    requires bound { raised.old.bound ≡ walk.now.bound }
+    ensures bound { raised.new.bound ≡ raised.old.bound }
     ensures found { IfOk result (IsStatementFound walk.now.core.now statement.now
-        table.old table.new raised.old.words.items raised.new.words.items) }
+        table.old table.new (members raised.old) (members raised.new)) }
     ensures accepted { OnOk result (faults_within walk.now.core.now in_loop statement.now ≡ []) }
     ensures first_fault { IfErr result (IfRefused (IsFirstEndFault
         (faults_within walk.now.core.now in_loop statement.now))) }
 {
     let at = table.reserve()?;
-    let mut own = ExceptionSet::new(walk.alloc);
+    let mut own = ExceptionSet::new(walk.alloc, walk.bound);
     let exits = walk_form(walk, in_loop, statement, table, &mut own)?;
     raised.unite(&own)?;
     table.put(at, exits, own, call_of(statement))?;
@@ -112,8 +122,11 @@ fn walk_form(
     table: &mut Ends,
     raised: &mut ExceptionSet,
 ) -> Result<Exits, EndFault>
+    requires fits { StatementFits walk.now.core.now statement.now }
+    requires bound { raised.old.bound ≡ walk.now.bound }
+    ensures bound { raised.new.bound ≡ raised.old.bound }
     ensures found { IfOk result (IsFormFound walk.now.core.now statement.now
-        table.old table.new raised.old.words.items raised.new.words.items) }
+        table.old table.new (members raised.old) (members raised.new)) }
     ensures accepted { OnOk result (faults_within walk.now.core.now in_loop statement.now ≡ []) }
     ensures first_fault { IfErr result (IfRefused (IsFirstEndFault
         (faults_within walk.now.core.now in_loop statement.now))) }
@@ -147,7 +160,7 @@ fn walk_form(
         Statement::Leave(_, exit) => Ok(leave(*exit, raised)?),
         Statement::Return(_, value) => Ok(give_back(raises_of_some(value), raised)?),
         Statement::Try(_, block, handlers) => {
-            let mut inner = ExceptionSet::new(walk.alloc);
+            let mut inner = ExceptionSet::new(walk.alloc, walk.bound);
             let tried = walk_block(walk, in_loop, block, table, &mut inner)?;
             let handled = walk_handlers(walk, in_loop, handlers, &mut inner, table, raised)?;
             raised.unite(&inner)?;
@@ -167,14 +180,18 @@ fn walk_handlers(
     table: &mut Ends,
     raised: &mut ExceptionSet,
 ) -> Result<Exits, EndFault>
+    requires fits { HandlersFit walk.now.core.now handlers.now }
+    requires bound { raised.old.bound ≡ walk.now.bound }
+    ensures bound { raised.new.bound ≡ raised.old.bound }
+    ensures inner_bound { inner.new.bound ≡ inner.old.bound }
     ensures found { IfOk result (AreHandlersFound walk.now.core.now handlers.now
-        table.old table.new raised.old.words.items raised.new.words.items) }
-    ensures left { OnOk result (AreLeft inner.old.words.items inner.new.words.items
+        table.old table.new (members raised.old) (members raised.new)) }
+    ensures left { OnOk result (AreLeft (members inner.old) (members inner.new)
         (handlers_of handlers.now)) }
-    ensures accepted { OnOk result ((ends : List Exit) → AreThrown inner.old.words.items ends →
+    ensures accepted { OnOk result ((ends : List Exit) → AreThrown (members inner.old) ends →
         faults_of_handlers walk.now.core.now in_loop ends handlers.now ≡ []) }
     ensures first_fault { IfErr result (λ fault. (ends : List Exit)
-        → AreThrown inner.old.words.items ends →
+        → AreThrown (members inner.old) ends →
         IfRefused (IsFirstEndFault
         (faults_of_handlers walk.now.core.now in_loop ends handlers.now)) fault) }
 {
@@ -199,34 +216,42 @@ fn call_of(statement: &Statement) -> Option<(u32, Raises)> {
 
 // The ends of a statement that goes on or raises these exceptions.
 fn go_on(found: Raises, raised: &mut ExceptionSet) -> Result<Exits, AllocError>
-    ensures { IfOk result (λ exits. (exceptions : List ℕ) → AreRaised found exceptions →
+    requires { BUILT_IN ≤ raised.old.bound }
+    ensures bound { raised.new.bound ≡ raised.old.bound }
+    ensures found { IfOk result (λ exits. (exceptions : List ℕ) → AreRaised found exceptions →
         IsFoundAlone (Normal ∷ thrown_ends exceptions)
-        raised.old.words.items raised.new.words.items exits) }
+        (members raised.old) (members raised.new) exits) }
 {
     Ok(Exits::go_on_or_raise(found.add_to(raised)?))
 }
 
 // The ends of a statement that returns or raises these exceptions.
 fn give_back(found: Raises, raised: &mut ExceptionSet) -> Result<Exits, AllocError>
-    ensures { IfOk result (λ exits. (exceptions : List ℕ) → AreRaised found exceptions →
+    requires { BUILT_IN ≤ raised.old.bound }
+    ensures bound { raised.new.bound ≡ raised.old.bound }
+    ensures found { IfOk result (λ exits. (exceptions : List ℕ) → AreRaised found exceptions →
         IsFoundAlone (Return ∷ thrown_ends exceptions)
-        raised.old.words.items raised.new.words.items exits) }
+        (members raised.old) (members raised.new) exits) }
 {
     Ok(Exits::return_or_raise(found.add_to(raised)?))
 }
 
 // The ends of a condition, for a statement that goes on with its value.
 fn test(condition: &Expression, raised: &mut ExceptionSet) -> Result<Exits, AllocError>
-    ensures { IfOk result (IsFoundAlone (thrown_ends (raises (expression_of condition.now)))
-        raised.old.words.items raised.new.words.items) }
+    requires { BUILT_IN ≤ raised.old.bound }
+    ensures bound { raised.new.bound ≡ raised.old.bound }
+    ensures found { IfOk result (IsFoundAlone (thrown_ends (raises (expression_of condition.now)))
+        (members raised.old) (members raised.new)) }
 {
     Ok(Exits::raise_only(raises_of(condition).add_to(raised)?))
 }
 
 // The ends of a receive.
 fn receive(raised: &mut ExceptionSet) -> Result<Exits, AllocError>
-    ensures { IfOk result (IsFoundAlone (Normal ∷ Throw END ∷ [])
-        raised.old.words.items raised.new.words.items) }
+    requires { BUILT_IN ≤ raised.old.bound }
+    ensures bound { raised.new.bound ≡ raised.old.bound }
+    ensures found { IfOk result (IsFoundAlone (Normal ∷ Throw END ∷ [])
+        (members raised.old) (members raised.new)) }
 {
     raised.insert(END)?;
     Ok(Exits::go_on_or_raise(Raised::One(END)))
@@ -239,10 +264,12 @@ fn call(
     arguments: Raises,
     raised: &mut ExceptionSet,
 ) -> Result<Exits, AllocError>
-    ensures { IfOk result (λ exits. (exceptions : List ℕ) → AreRaised arguments exceptions →
+    requires { raised.old.bound ≡ walk.now.bound }
+    ensures bound { raised.new.bound ≡ raised.old.bound }
+    ensures found { IfOk result (λ exits. (exceptions : List ℕ) → AreRaised arguments exceptions →
         let declared = declared_by (procedure_at (program_of walk.now.core.now) callee).throws in
         IsFoundAlone (Normal ∷ thrown_ends (exceptions ++ declared))
-        raised.old.words.items raised.new.words.items exits) }
+        (members raised.old) (members raised.new) exits) }
 {
     let own = arguments.add_to(raised)?;
     let declared = walk.add_declared(callee, raised)?;
@@ -251,8 +278,10 @@ fn call(
 
 // The ends of `break`, `continue` or `throw`.
 fn leave(exit: Exit, raised: &mut ExceptionSet) -> Result<Exits, AllocError>
-    ensures { IfOk result (IsFoundAlone (exit ∷ [])
-        raised.old.words.items raised.new.words.items) }
+    requires { (exception : ℕ) → exit ≡ Throw exception → exception < raised.old.bound }
+    ensures bound { raised.new.bound ≡ raised.old.bound }
+    ensures found { IfOk result (IsFoundAlone (exit ∷ [])
+        (members raised.old) (members raised.new)) }
 {
     let none = Exits::raise_only(Raised::Nothing);
     match exit {

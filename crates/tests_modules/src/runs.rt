@@ -23,6 +23,13 @@ const MODULE: [u8; 86] = [
     0, 0, 0, 0, 1, 0, 0, 0, 0, 0, 0, 0, 0, 0, 0, 0, 0, 1, 35, 0, 0, 0, 0, 0, 0, 0, 0,
 ];
 
+// The first one with a scalar and an array of ten ints as slots.
+const SLOTS: [u8; 86] = [
+    70, 76, 79, 66, 0, 0, 0, 1, 0, 0, 0, 0, 0, 0, 0, 0, 0, 0, 0, 0, 0, 0, 0, 1, 1, 0, 0, 0, 3, 112,
+    117, 98, 0, 0, 0, 0, 0, 0, 0, 0, 0, 0, 0, 1, 0, 0, 0, 0, 0, 0, 0, 0, 2, 0, 0, 0, 0, 0, 0, 0, 0,
+    0, 10, 0, 0, 0, 11, 1, 0, 0, 0, 7, 38, 0, 0, 0, 0, 35, 0, 0, 0, 0, 0, 0, 0, 0,
+];
+
 // A module, made anew where memory runs out.
 fn module_of(alloc: Global, bytes: &[u8]) -> Option<Module> {
     for _ in 0..2 {
@@ -33,18 +40,18 @@ fn module_of(alloc: Global, bytes: &[u8]) -> Option<Module> {
     None
 }
 
-// The machine of the first module, or none where memory runs out.
-fn machine_once(alloc: Global) -> Option<Machine> {
-    let module = module_of(alloc, &SENDS)?;
+// The machine of a module without inputs, or none where memory runs out.
+fn machine_once(alloc: Global, bytes: &[u8]) -> Option<Machine> {
+    let module = module_of(alloc, bytes)?;
     let world = World::read(alloc, &module, "").ok()?;
     let verified = verify(alloc, module).ok()?;
     Machine::new(alloc, verified, world).ok()
 }
 
 // The same, made anew where memory runs out.
-fn machine_of(alloc: Global) -> Option<Machine> {
+fn machine_of(alloc: Global, bytes: &[u8]) -> Option<Machine> {
     for _ in 0..4 {
-        if let Some(machine) = machine_once(alloc) {
+        if let Some(machine) = machine_once(alloc, bytes) {
             return Some(machine);
         }
     }
@@ -96,7 +103,7 @@ fn a_changed_byte_is_refused_or_runs(rt: HostRuntime) -> Result<(), Fail> {
 
 #[test]
 fn counts_its_steps(rt: HostRuntime) -> Result<(), Fail> {
-    let mut machine = machine_of(rt.alloc()).ok_or("no machine")?;
+    let mut machine = machine_of(rt.alloc(), &SENDS).ok_or("no machine")?;
     assert_eq!(rt; machine.module().channels().len(), 1);
     for (steps, taken, status) in [
         (0, 0, Status::Running),
@@ -117,7 +124,7 @@ fn counts_its_steps(rt: HostRuntime) -> Result<(), Fail> {
 
 #[test]
 fn lends_the_values_of_its_frames(rt: HostRuntime) -> Result<(), Fail> {
-    let mut machine = machine_of(rt.alloc()).ok_or("no machine")?;
+    let mut machine = machine_of(rt.alloc(), &SENDS).ok_or("no machine")?;
     assert_eq!(rt; machine.slab().len(), 0);
     assert_eq!(rt; machine.run(1).0, 1);
     assert_eq!(rt; machine.slab(), [Cell::Int(7)].as_slice());
@@ -127,10 +134,21 @@ fn lends_the_values_of_its_frames(rt: HostRuntime) -> Result<(), Fail> {
     Ok(())
 }
 
+// Before the first step the slots are there, an array element by element.
+#[test]
+fn lends_all_slots_of_the_first_frame(rt: HostRuntime) -> Result<(), Fail> {
+    let mut machine = machine_of(rt.alloc(), &SLOTS).ok_or("no machine")?;
+    assert_eq!(rt; machine.cells(), 11);
+    assert_eq!(rt; machine.slab(), [Cell::Int(0); 11].as_slice());
+    assert_eq!(rt; machine.run(3), (3, Status::Finished));
+    assert_eq!(rt; machine.cells(), 0);
+    Ok(())
+}
+
 // A step for which memory runs out changes nothing, and is taken by the next call.
 #[test]
 fn tries_a_refused_step_again(rt: HostRuntime) -> Result<(), Fail> {
-    let mut machine = machine_of(rt.alloc()).ok_or("no machine")?;
+    let mut machine = machine_of(rt.alloc(), &SENDS).ok_or("no machine")?;
     let (taken, status) = machine.run(5);
     if status == Status::NoMemory {
         assert!(rt; taken < 2 && machine.sent().pairs().is_empty());

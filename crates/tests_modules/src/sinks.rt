@@ -149,10 +149,10 @@ fn fills_its_room(alloc: Global, sent: &Sent, module: &Module, text: &[u8], room
 fn a_view_ends_where_its_sink_fails(rt: HostRuntime) -> Result<(), Fail> {
     let module = decode(rt.alloc(), &MODULE)?;
     let mut sent = Sent::new(rt.alloc());
-    for number in [-7, 12] {
+    for number in [7, 8] {
         sent.push(Pair { channel: 1, number })?;
     }
-    let text = b"pub -7\npub 12\n";
+    let text = b"pub 7\npub 8\n";
     for room in 0..=text.len() {
         assert!(rt;
             fills_its_room(rt.alloc(), &sent, &module, text, room),

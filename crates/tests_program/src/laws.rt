@@ -8,10 +8,6 @@ fn laws_of_sources(_rt: HostRuntime) {
     resolved::laws::programs_are_labelled_or_refused();
     resolved::laws::gathered_constraints_decide();
     resolved::laws::precise_programs_are_accepted();
-    gathering::laws::programs_are_gathered();
-    gathering::laws::labellings_fit_what_is_gathered();
-    gathering::laws::unknowns_have_numbers_below_their_count();
-    gathering::laws::what_is_gathered_is_in_proportion_to_the_program();
     runs::ends_are_possible();
     runs::calls_give_their_value();
     runs::sent_stays_sent();

@@ -1,10 +1,12 @@
-use Rattle.std.proofs.Common.{map, take}
+use Rattle.std.proofs.Common.{◌≡◌, map, take}
 use Rattle.resolved.specs.Ends.{declared_by}
 use Rattle.resolved.specs.ProgramOf.{thrown_entry}
 use Rattle.path_map.specs.Exceptions.{is_one_of}
-use Rattle.path_map.specs.Sets.{IsSum}
+use Rattle.path_map.specs.Sets.{IsSum, members}
 use Rattle.path_map.proofs.calls.insert_all.Given as goal
 
 abbrev pub invariant-loop-thrown : goal.invariant-loop-thrown
-invariant-loop-thrown l =
-    IsSum l.fn.set.words.items (is_one_of (declared_by (map thrown_entry (take l.thrown-index l.throws)))) l.set.words.items
+invariant-loop-thrown l = record {
+  added : IsSum (members l.fn.set) (is_one_of (declared_by (map thrown_entry (take l.thrown-index l.throws)))) (members l.set);
+  bound : l.set.bound ≡ l.fn.set.bound;
+}

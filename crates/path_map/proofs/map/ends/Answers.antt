@@ -1,5 +1,8 @@
 use Rattle.common.specs.Answers.{IfRefused}
-use Rattle.std.proofs.Common.{◌≡◌, sym, subst, map, drop, ◌+◌, ◌++◌, [], rules}
+use Rattle.std.proofs.Common.{◌≡◌, sym, subst, map, drop, get_or, length, ◌+◌, ◌<◌, ◌++◌, [], rules}
+use Rattle.std.specs.Prelude.{IsTrue}
+use Rattle.resolved.specs.WellFormed.{procedure_fits}
+use Rattle.path_map.proofs.Fitting.{procedure-fits}
 use Rattle.resolved.specs.CoreOf.{program_of}
 use Rattle.resolved.specs.EndFaults.{end_faults, procedure_faults}
 use Rattle.resolved.specs.ProgramOf.{procedure_entry}
@@ -57,3 +60,10 @@ returns-clause-accepted c =
     beside-clean program all c.loop-procedure.table
     (subst (λ list. Beside program all list c.loop-procedure.table)
     (last-procedure c.deref-procedure-items.result.now c.loop-procedure.procedure-index c.loop-procedure-test.false) c.loop-procedure.invariant)
+
+pub walk_procedure-requires : goal.walk_procedure-requires
+walk_procedure-requires c =
+    subst (λ core. IsTrue (procedure_fits (program_of core) (procedure_entry c.procedure-item.result))) (sym c.in_ok-walk.ensures)
+    (procedure-fits c.args.core.now c.loop-procedure.procedure-index c.procedure-item.result
+    (subst (λ list. c.loop-procedure.procedure-index < length list) c.deref-procedure-items.ensures.value c.loop-procedure-test.true)
+    (subst (λ list. c.procedure-item.result ≡ get_or list c.loop-procedure.procedure-index c.procedure-item.result) c.deref-procedure-items.ensures.value c.procedure-item.is))

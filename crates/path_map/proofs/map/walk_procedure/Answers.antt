@@ -6,7 +6,9 @@ use Rattle.resolved.specs.EndFaults.{procedure_faults}
 use Rattle.resolved.specs.ProgramOf.{procedure_entry}
 use Rattle.path_map.specs.FirstFault.{IsFirstEndFault}
 use Rattle.path_map.specs.Paths.{AreAlike, block_paths}
+use Rattle.path_map.specs.Sets.{members}
 use Rattle.path_map.proofs.Procedures.{walked, all-may-end, no-value-first, undeclared-first, no-faults}
+use Rattle.path_map.proofs.Fitting.{lent-body-fits}
 use Rattle.path_map.proofs.map.walk_procedure.Goals as goal
 
 pub returns-clause-found : goal.returns-clause-found
@@ -17,16 +19,16 @@ returns-clause-found c =
 pub returns-clause-accepted : goal.returns-clause-accepted
 returns-clause-accepted c =
     let piece = walked (program_of c.args.walk.now.core.now) c.args.procedure.now c.deref.result.now c.args.table.now c.walk_block.new.table
-    c.new-raised.result.words.items c.walk_block.new.raised.words.items c.in_ok-exits.exits c.deref.ensures.value c.new-raised.ensures c.in_ok-exits.ensures.found c.in_ok-exits.ensures.accepted in
+    (members c.new-raised.result) (members c.walk_block.new.raised) c.in_ok-exits.exits c.deref.ensures.value c.new-raised.ensures.empty c.in_ok-exits.ensures.found c.in_ok-exits.ensures.accepted in
     no-faults (program_of c.args.walk.now.core.now) (procedure_entry c.args.procedure.now) piece.clean
     (piece.value ∙ (sym c.lacks_value.ensures ∙ c.if-lacks_value.false))
-    (all-may-end (program_of c.args.walk.now.core.now) c.args.procedure.now c.deref-2.result.now c.walk_block.new.raised.words.items c.in_ok-exits.exits c.are_declared-declared.result
+    (all-may-end (program_of c.args.walk.now.core.now) c.args.procedure.now c.deref-2.result.now (members c.walk_block.new.raised) c.in_ok-exits.exits c.are_declared-declared.result
     c.deref-2.ensures.value piece c.are_declared-declared.ensures ∙ ap not (sym c.lets_out.ensures ∙ c.if-lets_out.false))
 
 pub returns-then-lacks_value-clause-first_fault : goal.returns-then-lacks_value-clause-first_fault
 returns-then-lacks_value-clause-first_fault c =
     let piece = walked (program_of c.args.walk.now.core.now) c.args.procedure.now c.deref.result.now c.args.table.now c.walk_block.new.table
-    c.new-raised.result.words.items c.walk_block.new.raised.words.items c.in_ok-exits.exits c.deref.ensures.value c.new-raised.ensures c.in_ok-exits.ensures.found c.in_ok-exits.ensures.accepted in
+    (members c.new-raised.result) (members c.walk_block.new.raised) c.in_ok-exits.exits c.deref.ensures.value c.new-raised.ensures.empty c.in_ok-exits.ensures.found c.in_ok-exits.ensures.accepted in
     subst (λ fault. IfRefused (IsFirstEndFault (procedure_faults (program_of c.args.walk.now.core.now) (procedure_entry c.args.procedure.now))) fault) (sym c.refuse.ensures)
     (no-value-first (program_of c.args.walk.now.core.now) (procedure_entry c.args.procedure.now) piece.clean
     (piece.value ∙ (sym c.lacks_value.ensures ∙ c.if-lacks_value.true)))
@@ -34,9 +36,13 @@ returns-then-lacks_value-clause-first_fault c =
 pub returns-then-lets_out-clause-first_fault : goal.returns-then-lets_out-clause-first_fault
 returns-then-lets_out-clause-first_fault c =
     let piece = walked (program_of c.args.walk.now.core.now) c.args.procedure.now c.deref.result.now c.args.table.now c.walk_block.new.table
-    c.new-raised.result.words.items c.walk_block.new.raised.words.items c.in_ok-exits.exits c.deref.ensures.value c.new-raised.ensures c.in_ok-exits.ensures.found c.in_ok-exits.ensures.accepted in
+    (members c.new-raised.result) (members c.walk_block.new.raised) c.in_ok-exits.exits c.deref.ensures.value c.new-raised.ensures.empty c.in_ok-exits.ensures.found c.in_ok-exits.ensures.accepted in
     subst (λ fault. IfRefused (IsFirstEndFault (procedure_faults (program_of c.args.walk.now.core.now) (procedure_entry c.args.procedure.now))) fault) (sym c.refuse-then-lets_out.ensures)
     (undeclared-first (program_of c.args.walk.now.core.now) (procedure_entry c.args.procedure.now) piece.clean
     (piece.value ∙ (sym c.lacks_value.ensures ∙ c.if-lacks_value.false))
-    (all-may-end (program_of c.args.walk.now.core.now) c.args.procedure.now c.deref-2.result.now c.walk_block.new.raised.words.items c.in_ok-exits.exits c.are_declared-declared.result
+    (all-may-end (program_of c.args.walk.now.core.now) c.args.procedure.now c.deref-2.result.now (members c.walk_block.new.raised) c.in_ok-exits.exits c.are_declared-declared.result
     c.deref-2.ensures.value piece c.are_declared-declared.ensures ∙ ap not (sym c.lets_out.ensures ∙ c.if-lets_out.true)))
+
+pub walk_block-requires-clause-fits : goal.walk_block-requires-clause-fits
+walk_block-requires-clause-fits c =
+    lent-body-fits c.args.walk.now.core.now c.args.procedure.now c.deref.result.now c.deref.ensures.value c.requires

@@ -1,8 +1,9 @@
 use Rattle.path_map.specs.Exceptions.{raised_list}
+use Rattle.path_map.specs.Sets.{members}
 use Rattle.path_map.proofs.Walking.{returning-found}
 use Rattle.path_map.proofs.walk.give_back.Goals as goal
 
-pub returns : goal.returns
-returns c = λ exceptions same entries.
+pub returns-clause-found : goal.returns-clause-found
+returns-clause-found c = λ exceptions same entries.
     returning-found (raised_list c.args.found.arith c.args.found.bounds) exceptions same c.in_ok-add_to.field-0 c.in_ok-add_to.ensures.summary
-    c.args.raised.now.words.items c.add_to.new.set.words.items c.in_ok-add_to.ensures.added c.return_or_raise.result entries c.return_or_raise.ensures
+    (members c.args.raised.now) (members c.add_to.new.set) c.in_ok-add_to.ensures.added c.return_or_raise.result entries c.return_or_raise.ensures

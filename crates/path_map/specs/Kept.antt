@@ -1,0 +1,17 @@
+-- How a set of exceptions below a bound is kept.
+-- Source: our own.
+use Rattle.std.specs.Prelude.{◌≡◌, ℕ, ◌<◌, List, length, Bool, false, ◌==◌}
+use Rattle.labels.specs.Row.{has}
+use Rattle.path_map.specs.declared.members.Kept.{Kept}
+use Rattle.path_map.specs.declared.members.Kept.TheVariants.{Empty, Single, Many}
+
+-- whether an exception is in it
+abbrev pub kept_has : Kept → ℕ → Bool
+kept_has Empty exception = false
+kept_has (Single only) exception = exception == only
+kept_has (Many row) exception = has row exception
+
+-- its exceptions are below the bound, which is that of a row
+abbrev pub IsInside : (bound : ℕ) → Kept → Type 0
+IsInside bound kept =
+    ((only : ℕ) → kept ≡ Single only → only < bound) × ((row : List Bool) → kept ≡ Many row → length row ≡ bound)
