@@ -8,9 +8,13 @@ _flowc() {
     fi
     case $before in
         --observer | --steps) return ;;
+        --under)
+            COMPREPLY=($(compgen -f -- "$word"))
+            return
+            ;;
     esac
     case ${COMP_WORDS[1]}:$word in
-        run:-*) COMPREPLY=($(compgen -W "--observer --steps --help" -- "$word")) ;;
+        run:-*) COMPREPLY=($(compgen -W "--under --observer --steps --help" -- "$word")) ;;
         *:-*) COMPREPLY=($(compgen -W "--help" -- "$word")) ;;
         *) COMPREPLY=($(compgen -f -- "$word")) ;;
     esac

@@ -21,6 +21,11 @@ def listed(folder, ending):
     return sorted(f for f in os.listdir(path) if f.endswith(ending)) if os.path.isdir(path) else []
 
 
+def edit_folders(crate):
+    """The folders of a crate's edits: those that the gate tries, and those beside it."""
+    return ['crates/%s/must-fail' % crate, 'crates/%s/must-fail-by-hand' % crate]
+
+
 def crates():
     """The crates of crates.txt: name, the heading above it (a `#` line), the libraries that it uses."""
     found, heading = [], ''

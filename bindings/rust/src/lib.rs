@@ -1,40 +1,25 @@
-//! Checks, compiles, explains and lists, by calls of the library libflowc. Every call may be made on any thread.
+//! Checks, compiles, explains and lists, and runs modules in a host, by calls of the library libflowc. Every call may be made on any
+//! thread. A source that is made to hurt takes up to 5 MiB of stack to check, and a thread of `std` has 2 MiB: sources of strangers are
+//! for a thread with 8 MiB ([`std::thread::Builder::stack_size`]).
 //!
 //! ```
-//! let source = b"output{Alice:} a; void main() { send a, 7; }";
-//! let module = flowc::compile(b"principal Alice, Bob;", source).unwrap();
-//! assert!(flowc::list(&module).unwrap().starts_with("output a {Alice:}\n"));
+//! let source = b"input{Alice:} s; output{Alice:} a; output{} n;
+//!     void main() throws (End{Alice:}) { send n, 1; int x = receive s; send a, x; }";
+//! let module = flowc::compile(b"principal Alice, Bob;", source)?;
+//! let mut host = flowc::Host::new()?;
+//! let session = host.open(&module, b"s = 7")?;
+//! host.turn(session, 1000)?;
+//! let bob = flowc::principal(&module, "Bob")?.unwrap();
+//! assert_eq!(host.view(session, bob)?, [flowc::Pair { channel: 2, number: 1 }]);
+//! # Ok::<(), flowc::Error>(())
 //! ```
 
 use std::fmt;
 
-/// The calls as `include/flowc.h` declares them.
-mod sys {
-    #[repr(C)]
-    pub struct Outcome {
-        pub status: u32,
-        pub number: u32,
-        pub text: u32,
-        pub procedure: u32,
-        pub line: usize,
-        pub column: usize,
-        pub offset: usize,
-        pub length: usize,
-    }
+mod hosts;
+mod sys;
 
-    #[link(name = "flowc", kind = "static")]
-    extern "C" {
-        pub fn flowc_version(out: *mut u8, out_size: usize) -> Outcome;
-        pub fn flowc_check(h: *const u8, hn: usize, s: *const u8, sn: usize, out: *mut u8, out_size: usize) -> Outcome;
-        pub fn flowc_compile(h: *const u8, hn: usize, s: *const u8, sn: usize, out: *mut u8, out_size: usize) -> Outcome;
-        pub fn flowc_explain(h: *const u8, hn: usize, s: *const u8, sn: usize, out: *mut u8, out_size: usize) -> Outcome;
-        pub fn flowc_list(m: *const u8, mn: usize, out: *mut u8, out_size: usize) -> Outcome;
-    }
-}
-
-const DONE: u32 = 0;
-const REFUSED: u32 = 1;
-const TOO_SHORT: u32 = 4;
+pub use hosts::{principal, Host, Pair, Run, Session, Turn};
 
 /// Where what was given is wrong.
 #[derive(Clone, Copy, Debug, PartialEq, Eq)]
@@ -47,6 +32,22 @@ pub enum Place {
     Bytes { offset: usize },
     /// At a byte of the code of a procedure of a module, from 0 on.
     Code { procedure: u32, offset: usize },
+    /// In the text of a world, from line 1 on.
+    World { line: usize },
+    /// In what a host was asked, which has no place.
+    Event,
+}
+
+impl fmt::Display for Place {
+    fn fmt(&self, f: &mut fmt::Formatter<'_>) -> fmt::Result {
+        match self {
+            Place::Hierarchy { line, column } | Place::Source { line, column } => write!(f, "{line}:{column}: "),
+            Place::Bytes { offset } => write!(f, "{offset}: "),
+            Place::Code { procedure, offset } => write!(f, "{procedure}:{offset}: "),
+            Place::World { line } => write!(f, "{line}: "),
+            Place::Event => Ok(()),
+        }
+    }
 }
 
 /// Why there is no result.
@@ -58,14 +59,28 @@ pub enum Error {
     NoMemory,
 }
 
+impl Error {
+    /// The number of a refusal, as docs/ERRORS.md has it.
+    pub fn number(&self) -> Option<u32> {
+        match self {
+            Error::Refused { number, .. } => Some(*number),
+            Error::NoMemory => None,
+        }
+    }
+
+    /// The place of a refusal.
+    pub fn place(&self) -> Option<Place> {
+        match self {
+            Error::Refused { place, .. } => Some(*place),
+            Error::NoMemory => None,
+        }
+    }
+}
+
 impl fmt::Display for Error {
     fn fmt(&self, f: &mut fmt::Formatter<'_>) -> fmt::Result {
         match self {
-            Error::Refused { number, place, words, .. } => match place {
-                Place::Hierarchy { line, column } | Place::Source { line, column } => write!(f, "{line}:{column}: {number} {words}"),
-                Place::Bytes { offset } => write!(f, "{offset}: {number} {words}"),
-                Place::Code { procedure, offset } => write!(f, "{procedure}:{offset}: {number} {words}"),
-            },
+            Error::Refused { number, place, words, .. } => write!(f, "{place}{number} {words}"),
             Error::NoMemory => write!(f, "out of memory"),
         }
     }
@@ -74,16 +89,17 @@ impl fmt::Display for Error {
 impl std::error::Error for Error {}
 
 // Calls with a place of a length that is guessed, and once more where that was too short.
-fn asked(guess: usize, call: impl Fn(*mut u8, usize) -> sys::Outcome) -> (sys::Outcome, Vec<u8>) {
+fn asked<T: Clone + Default, O: sys::Said>(guess: usize, mut call: impl FnMut(*mut T, usize) -> O) -> (O, Vec<T>) {
     let mut size = guess;
     loop {
-        let mut out = vec![0; size];
+        let mut out = vec![T::default(); size];
         let outcome = call(out.as_mut_ptr(), size);
-        if outcome.status != TOO_SHORT && outcome.length <= size {
-            out.truncate(outcome.length);
+        let end = outcome.end();
+        if end.status != sys::TOO_SHORT && end.length <= size {
+            out.truncate(end.length);
             return (outcome, out);
         }
-        size = outcome.length;
+        size = end.length;
     }
 }
 
@@ -91,20 +107,26 @@ fn asked(guess: usize, call: impl Fn(*mut u8, usize) -> sys::Outcome) -> (sys::O
 fn answer(asked: (sys::Outcome, Vec<u8>)) -> Result<Vec<u8>, Error> {
     let (outcome, out) = asked;
     match outcome.status {
-        DONE => Ok(out),
-        REFUSED => Err(Error::Refused {
-            number: outcome.number,
-            place: match outcome.text {
-                0 => Place::Hierarchy { line: outcome.line, column: outcome.column },
-                1 => Place::Source { line: outcome.line, column: outcome.column },
-                2 => Place::Bytes { offset: outcome.offset },
-                _ => Place::Code { procedure: outcome.procedure, offset: outcome.offset },
-            },
-            words: text(out),
-            chain: String::new(),
-        }),
-        _ => Err(Error::NoMemory),
+        sys::DONE => Ok(out),
+        _ => Err(refusal(&outcome, text(out))),
     }
+}
+
+// Why a call that is not done has no result.
+fn refusal(outcome: &sys::Outcome, words: String) -> Error {
+    if outcome.status != sys::REFUSED {
+        return Error::NoMemory;
+    }
+    let sys::Outcome { line, column, offset, procedure, .. } = *outcome;
+    let place = match outcome.text {
+        0 => Place::Hierarchy { line, column },
+        1 => Place::Source { line, column },
+        2 => Place::Bytes { offset },
+        3 => Place::Code { procedure, offset },
+        4 => Place::World { line },
+        _ => Place::Event,
+    };
+    Error::Refused { number: outcome.number, place, words, chain: String::new() }
 }
 
 fn text(bytes: Vec<u8>) -> String {
@@ -160,6 +182,7 @@ mod tests {
     fn says_the_first_fault() {
         let fault = compile(HIERARCHY, WRONG).unwrap_err();
         assert_eq!(fault.to_string(), "1:84: 601 flow not allowed");
+        assert_eq!((fault.number(), fault.place()), (Some(601), Some(Place::Source { line: 1, column: 84 })));
     }
 
     #[test]

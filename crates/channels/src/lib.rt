@@ -14,5 +14,5 @@ pub use defect::{WorldDefect, WorldFault, WorldRefusal};
 pub use labels::Pair;
 pub use sent::Sent;
 pub use sink::{Device, Sink, SinkFault, write_all};
-pub use view::{ViewFault, pairs_for, write_view};
+pub use view::{ViewFault, pairs_for, pairs_for_under, write_view, write_view_under};
 pub use world::{InputList, World};

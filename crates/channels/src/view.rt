@@ -1,19 +1,22 @@
 //! What an observer is shown of the pairs that a run has sent.
 
+ghost use Rattle.labels.specs.Carried.{number_by_name, numbered};
+ghost use Rattle.labels.specs.Label.{may_read};
 ghost use Rattle.modules.specs.Isolated.{module_view};
-ghost use Rattle.channels.specs.Sink.{AppendsPrefix};
+ghost use Rattle.principals.specs.ActsFor.{ContainsHierarchy};
 ghost use Rattle.channels.specs.View as view;
-ghost use Rattle.channels.specs.View.{ShowsAll, ShowsPrefix, answers_for, is_shown, name_in, pair_line, readable, observer_view, view_text};
-ghost use Rattle.std.specs.Io.KnownBytes.{Appends};
+ghost use Rattle.channels.specs.View.{CarriesLabels, ShowsAll, ShowsPrefix, answers_for, is_shown, name_in, pair_line, readable, renumbered};
 ghost use Rattle.common.specs.Answers.{IfRefused};
-ghost use Rattle.std.specs.Prelude.{◌≡◌, IfErr, IfOk, IsTrue, OnErr, OnOk, filter, slice_get};
+ghost use Rattle.std.specs.Prelude.{◌≡◌, IfErr, IfOk, IsTrue, OnErr, OnOk, filter, option_map, slice_get};
 ghost use Rattle.std.specs.String.{string_bytes};
 
 use crate::sent::Sent;
 use crate::sink::{Sink, SinkFault, write_all};
 use common::OrNoMemory;
-use labels::{Pair, may_read};
+use labels::{Label, Pair, Renumbering, may_read, may_read_under};
 use modules::Module;
+use modules::laws::labels_are_those_written;
+use principals::Hierarchy;
 use std::alloc::{AllocError, Global};
 
 /// Why a view was not written to its end: memory ran out, or the sink did not take what was written.
@@ -29,31 +32,38 @@ impl From<SinkFault> for ViewFault {
     }
 }
 
-// Who looks at what a module sent, one principal or the operator, who sees all. Whether a principal may read a channel is tested
-// once for each channel: a label may be long, and there may be many pairs.
+// Who looks at what a module sent, one principal of a hierarchy or the operator, who sees all. Whether a principal may read a channel
+// is tested once for each channel: a label may be long, and there may be many pairs.
 #[derive(Drop)]
 struct Observer<'a> {
     program: &'a Module,
+    hierarchy: &'a Hierarchy,
     principal: Option<u32>,
     answers: Vec<bool>,
-    ghost known: { answers.items ≡ answers_for program.now principal },
+    ghost known: { answers.items ≡ answers_for hierarchy.now program.now principal },
 }
 
 impl<'a> Observer<'a> {
+    // An observer under the module's own hierarchy, or under another one with the numbers that the module's principals have there.
     fn of(
         alloc: Global,
         program: &'a Module,
+        hierarchy: &'a Hierarchy,
+        numbers: Option<&Renumbering>,
         principal: Option<u32>,
     ) -> Result<Observer<'a>, AllocError>
+        requires { CarriesLabels hierarchy.now program.now (option_map (λ r. r.now) numbers) }
         ensures program { IfOk result (λ observer. observer.program.now ≡ program.now) }
+        ensures hierarchy { IfOk result (λ observer. observer.hierarchy.now ≡ hierarchy.now) }
         ensures principal { IfOk result (λ observer. observer.principal ≡ principal) }
     {
         let answers = match principal {
             None => Vec::new(alloc),
-            Some(reader) => readable_channels(alloc, program, reader)?,
+            Some(reader) => readable_channels(alloc, program, hierarchy, numbers, reader)?,
         };
         Ok(Observer {
             program,
+            hierarchy,
             principal,
             answers,
         })
@@ -62,7 +72,8 @@ impl<'a> Observer<'a> {
     // Whether the observer is shown a pair.
     #[tactic(auto, using(crate::proofs::Views::readable_is))]
     fn sees(&self, pair: Pair) -> bool
-        ensures { result ≡ is_shown self.now.program.now self.now.principal pair }
+        ensures { result ≡
+            is_shown self.now.hierarchy.now self.now.program.now self.now.principal pair }
     {
         match self.principal {
             None => true,
@@ -75,15 +86,35 @@ impl<'a> Observer<'a> {
 fn readable_channels(
     alloc: Global,
     program: &Module,
+    hierarchy: &Hierarchy,
+    numbers: Option<&Renumbering>,
     principal: u32,
 ) -> Result<Vec<bool>, AllocError>
-    ensures { IfOk result (λ answers. answers.items ≡ readable program.now principal) }
+    requires { CarriesLabels hierarchy.now program.now (option_map (λ r. r.now) numbers) }
+    ensures { IfOk result (λ answers.
+        answers.items ≡ readable hierarchy.now program.now principal) }
 {
     let mut answers = Vec::new(alloc);
     for channel in program.channels() {
-        answers.push(may_read(program.hierarchy(), principal, channel.label()))?;
+        answers.push(may_read_label(hierarchy, numbers, principal, channel.label()))?;
     }
     Ok(answers)
+}
+
+// Whether a principal may read what a label guards, as it is or with its principals renumbered.
+fn may_read_label(
+    hierarchy: &Hierarchy,
+    numbers: Option<&Renumbering>,
+    principal: u32,
+    label: &Label,
+) -> bool
+    ensures { result ≡ may_read hierarchy.now principal
+        (renumbered (option_map (λ r. r.now) numbers.entry) label.now) }
+{
+    match numbers {
+        None => may_read(hierarchy, principal, label),
+        Some(there) => may_read_under(hierarchy, there, principal, label),
+    }
 }
 
 // The answer for a channel; one that is not there is for everybody.
@@ -122,12 +153,10 @@ fn write_lines<S: Sink>(
     pairs: &[Pair],
     out: &mut S,
 ) -> Result<(), ViewFault>
-    ensures accepted { OnOk result (Appends (S.taken out.old) (S.taken out.new)
-        (view_text observer.now.program.now
-        (observer_view observer.now.program.now observer.now.principal pairs.now))) }
-    ensures prefix { OnErr result (AppendsPrefix (S.taken out.old) (S.taken out.new)
-        (view_text observer.now.program.now
-        (observer_view observer.now.program.now observer.now.principal pairs.now))) }
+    ensures accepted { OnOk result (ShowsAll observer.now.hierarchy.now observer.now.program.now
+        observer.now.principal pairs.now (S.taken out.old) (S.taken out.new)) }
+    ensures prefix { OnErr result (ShowsPrefix observer.now.hierarchy.now observer.now.program.now
+        observer.now.principal pairs.now (S.taken out.old) (S.taken out.new)) }
     ensures kept { OnOk result (S.has_failed out.new ≡ S.has_failed out.old) }
     ensures rejected { IfErr result (IfRefused (λ _. IsTrue (S.has_failed out.new))) }
 {
@@ -140,8 +169,8 @@ fn write_lines<S: Sink>(
     Ok(())
 }
 
-/// Writes what an observer is shown of the pairs that a module sent, or all of them where there is no observer: a line for each,
-/// with the channel's name, a space, the number in decimal and a line feed.
+/// Writes what an observer is shown of the pairs that a module sent, under the module's own hierarchy, or all of them where there is
+/// no observer: a line for each, with the channel's name, a space, the number in decimal and a line feed.
 ///
 /// # Errors
 ///
@@ -153,21 +182,51 @@ pub fn write_view<S: Sink>(
     observer: Option<u32>,
     out: &mut S,
 ) -> Result<(), ViewFault>
-    ensures accepted { OnOk result (ShowsAll program.now observer sent.now (S.taken out.old)
-        (S.taken out.new)) }
-    ensures prefix { OnErr result (ShowsPrefix program.now observer sent.now (S.taken out.old)
-        (S.taken out.new)) }
+    ensures accepted { OnOk result (ShowsAll program.now.hierarchy program.now observer sent.now
+        (S.taken out.old) (S.taken out.new)) }
+    ensures prefix { OnErr result (ShowsPrefix program.now.hierarchy program.now observer sent.now
+        (S.taken out.old) (S.taken out.new)) }
     ensures kept { OnOk result (S.has_failed out.new ≡ S.has_failed out.old) }
     ensures rejected { IfErr result (IfRefused (λ _. IsTrue (S.has_failed out.new))) }
 {
-    let viewer = Observer::of(alloc, program, observer)?;
+    labels_are_those_written();
+    let viewer = Observer::of(alloc, program, program.hierarchy(), None, observer)?;
+    write_lines(alloc, &viewer, sent.pairs(), out)
+}
+
+/// The same under a hierarchy that contains the module's own, to which the principals of its labels are carried over by name. The
+/// observer is a principal of that hierarchy.
+///
+/// Precondition: the hierarchy contains the module's own.
+///
+/// # Errors
+///
+/// The fault of the sink where that failed, or out of memory. What went out then is a prefix of the text.
+pub fn write_view_under<S: Sink>(
+    alloc: Global,
+    sent: &Sent,
+    program: &Module,
+    larger: &Hierarchy,
+    observer: Option<u32>,
+    out: &mut S,
+) -> Result<(), ViewFault>
+    requires contains { ContainsHierarchy larger.now program.now.hierarchy }
+    ensures accepted { OnOk result (ShowsAll larger.now program.now observer sent.now
+        (S.taken out.old) (S.taken out.new)) }
+    ensures prefix { OnErr result (ShowsPrefix larger.now program.now observer sent.now
+        (S.taken out.old) (S.taken out.new)) }
+    ensures kept { OnOk result (S.has_failed out.new ≡ S.has_failed out.old) }
+    ensures rejected { IfErr result (IfRefused (λ _. IsTrue (S.has_failed out.new))) }
+{
+    let numbers = Renumbering::by_name(alloc, program.hierarchy(), larger)?;
+    let viewer = Observer::of(alloc, program, larger, Some(&numbers), observer)?;
     write_lines(alloc, &viewer, sent.pairs(), out)
 }
 
 // The pairs of a list that the observer is shown.
 fn select_pairs(alloc: Global, observer: &Observer, sent: &[Pair]) -> Result<Vec<Pair>, AllocError>
-    ensures { IfOk result (λ pairs. pairs.items ≡ filter
-        (is_shown observer.now.program.now observer.now.principal) sent.now) }
+    ensures { IfOk result (λ pairs. pairs.items ≡ filter (is_shown observer.now.hierarchy.now
+        observer.now.program.now observer.now.principal) sent.now) }
 {
     let mut pairs = Vec::new(alloc);
     for pair in sent {
@@ -186,8 +245,29 @@ pub fn pairs_for(
     program: &Module,
     principal: u32,
 ) -> Result<Vec<Pair>, AllocError>
-    ensures { IfOk result (λ pairs. pairs.items ≡ module_view program.now principal sent.now) }
+    ensures { IfOk result (λ pairs.
+        pairs.items ≡ module_view program.now.hierarchy program.now principal sent.now) }
 {
-    let observer = Observer::of(alloc, program, Some(principal))?;
+    labels_are_those_written();
+    let observer = Observer::of(alloc, program, program.hierarchy(), None, Some(principal))?;
+    select_pairs(alloc, &observer, sent.pairs())
+}
+
+/// The same under another hierarchy, to which the principals of the module's labels are carried over by name.
+///
+/// Precondition: the numbers are those that the principals of the module's hierarchy have in the other one, by their names.
+pub fn pairs_for_under(
+    alloc: Global,
+    sent: &Sent,
+    program: &Module,
+    larger: &Hierarchy,
+    numbers: &Renumbering,
+    principal: u32,
+) -> Result<Vec<Pair>, AllocError>
+    requires numbers { numbered numbers.now ≡ number_by_name program.now.hierarchy larger.now }
+    ensures { IfOk result (λ pairs.
+        pairs.items ≡ module_view larger.now program.now principal sent.now) }
+{
+    let observer = Observer::of(alloc, program, larger, Some(numbers), Some(principal))?;
     select_pairs(alloc, &observer, sent.pairs())
 }

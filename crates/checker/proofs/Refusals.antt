@@ -1,16 +1,17 @@
 -- What is refused of either text is the first fault of the two.
-use Rattle.std.proofs.Common.{◌≡◌, ℕ, List, refl, sym, subst}
+use Rattle.std.proofs.Common.{◌≡◌, ℕ, List, refl, sym, subst, arith}
 use Rattle.std.specs.Prelude.{None}
 use Rattle.principals.specs.ActsFor.{PrincipalHierarchy}
+use Rattle.principals.specs.Laws.{IsNotReadAndRefused}
 use Rattle.acceptance.specs.Accepted.{HasHierarchy}
 use Rattle.acceptance.specs.Laws.{HasOneVerdict, Accepted, Refused}
-use Rattle.acceptance.specs.Refused.{IsHierarchyRefused, IsNoText, Hierarchy, NoText, NotUtf8, Source, TooLong, Unreadable}
+use Rattle.acceptance.specs.Refused.{IsHierarchyRefused, IsNoText, Hierarchy, NoText, NotUtf8, Source, TooLong, Unreadable, Wrong}
 use Rattle.acceptance.specs.declared.cause.Cause.{Cause}
 use Rattle.acceptance.specs.declared.cause.Cause.TheVariants as causes
 use Rattle.acceptance.specs.declared.cause.Text.{Text}
 use Rattle.acceptance.specs.declared.cause.Text.TheVariants as texts
 use Rattle.checker.specs.Read.{IsUnread}
-use Rattle.checker.specs.Reported.{HasFlow, IsFirstFault, IsSourceFault, StandForNone, refusal_at}
+use Rattle.checker.specs.Reported.{HasFlow, HasNoHierarchy, IsFirstFault, IsHierarchyFault, IsSourceFault, StandForNone, refusal_at}
 use Rattle.checker.specs.declared.fault.Refusal.{Refusal}
 
 pub in_hierarchy : (hierarchy source : List ℕ) (cause : Cause) (at : ℕ) → IsHierarchyRefused hierarchy cause at →
@@ -20,6 +21,23 @@ in_hierarchy hierarchy source cause at refused = record {
   refused = Hierarchy cause at refused;
   place_of = refl;
 }
+
+-- bytes that are no text have no hierarchy
+no_text_no_hierarchy : (text : List ℕ) (cause : Cause) (at : ℕ) → IsNoText text cause at → (h : PrincipalHierarchy) → ¬ HasHierarchy text h
+no_text_no_hierarchy text _ _ (TooLong long) h has = omega (arith, long, has.hierarchy_of.has_entries.fits)
+no_text_no_hierarchy text _ _ (NotUtf8 short other) h has = other has.characters
+
+-- nor has a text that is refused
+no_hierarchy : IsNotReadAndRefused → (text : List ℕ) (cause : Cause) (at : ℕ) → IsHierarchyRefused text cause at → HasNoHierarchy text
+no_hierarchy one text _ _ (Unreadable cause at no_text) h has = no_text_no_hierarchy text cause at no_text h has
+no_hierarchy one text _ _ (Wrong is_text refusal refused) h has = one text h refusal has.hierarchy_of refused
+
+pub faulty_no_hierarchy : IsNotReadAndRefused → (text : List ℕ) (refusal : Refusal) → IsHierarchyFault text refusal → HasNoHierarchy text
+faulty_no_hierarchy one text refusal fault = no_hierarchy one text fault.cause fault.at fault.refused
+
+pub unread_fault : (text : List ℕ) (refusal : Refusal) → IsUnread texts.Hierarchy text refusal → IsHierarchyFault text refusal
+unread_fault text refusal unread =
+    record { cause = unread.cause; at = 0; refused = Unreadable unread.cause 0 unread.no_text; refusal_is = unread.refusal_is }
 
 -- bytes of a hierarchy that are no text
 pub unread_hierarchy : (hierarchy source : List ℕ) (refusal : Refusal) → IsUnread texts.Hierarchy hierarchy refusal → IsFirstFault hierarchy source refusal

@@ -1,4 +1,4 @@
--- Private: why the bytes of one of two texts are not read.
+-- Why the bytes of one of two texts are not read.
 -- Source: our own.
 use Rattle.std.specs.Prelude.{◌≡◌, ◌≢◌, ℕ, List, None}
 use Rattle.acceptance.specs.Refused.{IsNoText}

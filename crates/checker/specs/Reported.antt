@@ -1,7 +1,7 @@
 -- What a refusal reports of a source under a hierarchy, or of two texts: which text is wrong, why, and at which line and column; and
 -- of a flow that no labels allow its policy and the steps of its chain.
 -- Source: our own.
-use Rattle.std.specs.Prelude.{◌≡◌, ◌↔◌, ℕ, List, [], map, Option, Some, IsSome}
+use Rattle.std.specs.Prelude.{◌≡◌, ◌↔◌, ℕ, List, [], map, Option, Some, None, IsSome}
 use Rattle.principals.specs.ActsFor.{PrincipalHierarchy}
 use Rattle.resolved.specs.CoreOf.{program_of}
 use Rattle.resolved.specs.Program.{Program}
@@ -10,7 +10,7 @@ use Rattle.resolved.specs.Labelled.{Demand}
 use Rattle.resolved.specs.Flow.{IsProgramRefused, ReportedStep, reported_step}
 use Rattle.labels.specs.Constraints.{reported_steps}
 use Rattle.acceptance.specs.Accepted.{HasHierarchy, IsAccepted, IsResolvedFrom, StandFor}
-use Rattle.acceptance.specs.Refused.{AreTextsRefusedAt, IsSourceRefused}
+use Rattle.acceptance.specs.Refused.{AreTextsRefusedAt, IsHierarchyRefused, IsSourceRefused}
 use Rattle.acceptance.specs.declared.cause.Cause.{Cause}
 use Rattle.acceptance.specs.declared.cause.Cause.TheVariants as causes
 use Rattle.acceptance.specs.declared.cause.Text.{Text}
@@ -62,6 +62,19 @@ pub record AsksForFlow (h : PrincipalHierarchy) (source : List ℕ) (refusal : R
 -- no program is accepted of it
 abbrev pub IsNotAccepted : PrincipalHierarchy → (source : List ℕ) → Type 0
 IsNotAccepted h source = (program : Program) → ¬ IsAccepted h source program
+
+-- ---- the text of a hierarchy
+
+-- it is refused so: for the cause at a byte, at the place of that byte, and with no flow
+pub record IsHierarchyFault (text : List ℕ) (refusal : Refusal) : Type 0 where
+  pub cause : Cause
+  pub at : ℕ
+  pub refused : IsHierarchyRefused text cause at
+  pub refusal_is : refusal ≡ refusal_at texts.Hierarchy text cause at None
+
+-- it has no hierarchy
+abbrev pub HasNoHierarchy : (text : List ℕ) → Type 0
+HasNoHierarchy text = (h : PrincipalHierarchy) → ¬ HasHierarchy text h
 
 -- ---- two texts
 

@@ -15,4 +15,4 @@ pub use checked::Checked;
 pub use fault::{Fault, Refusal, RefusedFlow, Step};
 pub use phases::check;
 pub use position::{place_of, places_agree};
-pub use texts::check_texts;
+pub use texts::{check_texts, read_hierarchy};

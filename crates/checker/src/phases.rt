@@ -4,6 +4,7 @@ ghost use Rattle.checker.specs.Least.{least_label};
 ghost use Rattle.checker.specs.Reported.{AsksForFlow, HasFlow, IsNotAccepted, IsSourceFault};
 ghost use Rattle.checker.specs.Steps.{RefusesProgram};
 ghost use Rattle.common.specs.Answers.{IfRefused};
+ghost use Rattle.isolation.specs.Larger.{IsolatedUnderLarger};
 ghost use Rattle.path_map.specs.EndsOf.{AreEndsOf};
 ghost use Rattle.resolved.specs.CoreOf.{program_of};
 ghost use Rattle.resolved.specs.EndFaults.{end_faults};
@@ -17,6 +18,7 @@ use crate::checked::Checked;
 use crate::fault::{Fault, RefusedFlow, refusal_at};
 use crate::flow::flow_of;
 use crate::found::Found;
+use acceptance::laws::resolved_programs_have_names;
 use acceptance::{Cause, Text};
 use common::OrNoMemory;
 use constraints::gather;
@@ -34,10 +36,12 @@ use std::alloc::Global;
 ///
 /// The first fault of the source, at its line and column, with the flow where one is not allowed; or out of memory.
 pub fn check(alloc: Global, hierarchy: &Hierarchy, source: &str) -> Result<Checked, Fault>
-    // The source stands for the program, which is isolated; the labels of its locals and loops are the least.
+    // The source stands for the program, which is isolated, also under every hierarchy that contains its own; the labels of its
+    // locals and loops are the least.
     ensures accepted { IfOk result (λ checked.
         IsAccepted hierarchy.now source.now (program_of checked.core)) }
     ensures isolated { IfOk result (λ checked. Isolated (program_of checked.core)) }
+    ensures larger { IfOk result (λ checked. IsolatedUnderLarger (program_of checked.core)) }
     ensures least { IfOk result (λ checked.
         AreLeast (program_of checked.core) (least_label checked)) }
 
@@ -51,6 +55,10 @@ pub fn check(alloc: Global, hierarchy: &Hierarchy, source: &str) -> Result<Check
         (AsksForFlow hierarchy.now source.now refusal))) }
 {
     isolation::noninterference::labelled_programs_are_isolated();
+    isolation::noninterference::labelled_programs_stay_isolated();
+    resolved_programs_have_names();
+    // It brings that this is a hierarchy.
+    let _count = hierarchy.count();
     let analysed = match analyse(alloc, hierarchy, source) {
         Ok(analysed) => analysed,
         Err(OrNoMemory::NoMemory) => return Err(OrNoMemory::NoMemory),

@@ -3,8 +3,9 @@
 ghost use Rattle.acceptance.specs.Accepted.{HasHierarchy, IsText, StandFor};
 ghost use Rattle.checker.specs.Least.{least_label};
 ghost use Rattle.checker.specs.Read.{IsOfNoFlow, IsUnread};
-ghost use Rattle.checker.specs.Reported.{HasFlow, IsFirstFault, StandForNone, TextsAskForFlow};
+ghost use Rattle.checker.specs.Reported.{HasFlow, HasNoHierarchy, IsFirstFault, IsHierarchyFault, StandForNone, TextsAskForFlow};
 ghost use Rattle.common.specs.Answers.{IfRefused};
+ghost use Rattle.isolation.specs.Larger.{IsolatedUnderLarger};
 ghost use Rattle.resolved.specs.CoreOf.{program_of};
 ghost use Rattle.resolved.specs.Flow.{AreLeast};
 ghost use Rattle.resolved.specs.Isolated.{Isolated};
@@ -18,6 +19,7 @@ use acceptance::{Cause, Text};
 use common::OrNoMemory;
 use common::limits::MAX_TEXT;
 use principals::Hierarchy;
+use principals::laws::one_reading;
 use std::alloc::Global;
 
 /// Checks a source under a hierarchy text. The bytes of the hierarchy are read first: their length, whether they are UTF-8, and the
@@ -27,10 +29,12 @@ use std::alloc::Global;
 ///
 /// The first fault of the two texts, at its line and column, with the flow where one is not allowed; or out of memory.
 pub fn check_texts(alloc: Global, hierarchy: &[u8], source: &[u8]) -> Result<Checked, Fault>
-    // The two texts stand for the program, which is isolated; the labels of its locals and loops are the least.
+    // The two texts stand for the program, which is isolated, also under every hierarchy that contains its own; the labels of its
+    // locals and loops are the least.
     ensures accepted { IfOk result (λ checked.
         StandFor hierarchy.now source.now (program_of checked.core)) }
     ensures isolated { IfOk result (λ checked. Isolated (program_of checked.core)) }
+    ensures larger { IfOk result (λ checked. IsolatedUnderLarger (program_of checked.core)) }
     ensures least { IfOk result (λ checked.
         AreLeast (program_of checked.core) (least_label checked)) }
 
@@ -44,19 +48,26 @@ pub fn check_texts(alloc: Global, hierarchy: &[u8], source: &[u8]) -> Result<Che
         (TextsAskForFlow hierarchy.now source.now refusal))) }
 {
     one_verdict();
-    let principals = principals_of(alloc, hierarchy)?;
+    let principals = read_hierarchy(alloc, hierarchy)?;
     let text = text_of(Text::Source, source)?;
     let checked = check(alloc, &principals, text)?;
     Ok(checked)
 }
 
-// The hierarchy of a text.
-fn principals_of(alloc: Global, bytes: &[u8]) -> Result<Hierarchy, Fault>
+/// The hierarchy of a text, by its bytes, which are read as those of the first text of [`check_texts`].
+///
+/// # Errors
+///
+/// Why the text has no hierarchy, at its line and column; or out of memory.
+pub fn read_hierarchy(alloc: Global, bytes: &[u8]) -> Result<Hierarchy, Fault>
     ensures has { IfOk result (HasHierarchy bytes.now) }
+    ensures refused { IfErr result (IfRefused (IsHierarchyFault bytes.now)) }
+    ensures rejected { IfErr result (IfRefused (λ _. HasNoHierarchy bytes.now)) }
     ensures first_fault { (source : List ℕ) →
         IfErr result (IfRefused (IsFirstFault bytes.now source)) }
     ensures no_flow { IfErr result (IfRefused IsOfNoFlow) }
 {
+    one_reading();
     let text = text_of(Text::Hierarchy, bytes)?;
     match Hierarchy::read(alloc, text) {
         Ok(principals) => Ok(principals),

@@ -16,23 +16,42 @@ use Rattle.common.specs.Answers.{Answers, IfRefused}
 use Rattle.common.specs.declared.fault.OrNoMemory.{OrNoMemory}
 use Rattle.common.proofs.Casting.{refused-weaker}
 use Rattle.command_line.proofs.Only.{spelled_so}
-use Rattle.command_line.proofs.Plain.{decimal_read, met_by, observer_rows, row, steps_rows, request_taken}
+use Rattle.command_line.proofs.Plain.{decimal_read, met_by, observer_rows, row, steps_rows, under_rows, request_taken}
 
-abbrev run_rows : Text → Text → Option Text → Option ℕ → List Row
-run_rows file world observer steps = row (codes "MODULE") file ∷ row (codes "WORLD") world ∷ (observer_rows observer ++ steps_rows steps)
+abbrev run_rows : Text → Text → Option Text → Option Text → Option ℕ → List Row
+run_rows file world under observer steps =
+    row (codes "MODULE") file ∷ row (codes "WORLD") world ∷ (under_rows under ++ (observer_rows observer ++ steps_rows steps))
 
-observer_found : (file world : Text) (observer : Option Text) (steps : Option ℕ) → first_of (codes "observer") (run_rows file world observer steps) ≡ observer
-observer_found file world None None = refl
-observer_found file world None (Some steps) = refl
-observer_found file world (Some name) None = refl
-observer_found file world (Some name) (Some steps) = refl
+under_found : (file world : Text) (under observer : Option Text) (steps : Option ℕ) → first_of (codes "under") (run_rows file world under observer steps) ≡ under
+under_found file world None None None = refl
+under_found file world None None (Some steps) = refl
+under_found file world None (Some name) None = refl
+under_found file world None (Some name) (Some steps) = refl
+under_found file world (Some path) None None = refl
+under_found file world (Some path) None (Some steps) = refl
+under_found file world (Some path) (Some name) None = refl
+under_found file world (Some path) (Some name) (Some steps) = refl
 
-steps_found : (file world : Text) (observer : Option Text) (steps : Option ℕ) → IfSome steps (λ n. n ≤ 1000000000000)
-    → steps_in (run_rows file world observer steps) ≡ unwrap_or steps 1000000
-steps_found file world None None most = refl
-steps_found file world None (Some steps) most = decimal_read steps most
-steps_found file world (Some name) None most = refl
-steps_found file world (Some name) (Some steps) most = decimal_read steps most
+observer_found : (file world : Text) (under observer : Option Text) (steps : Option ℕ) → first_of (codes "observer") (run_rows file world under observer steps) ≡ observer
+observer_found file world None None None = refl
+observer_found file world None None (Some steps) = refl
+observer_found file world None (Some name) None = refl
+observer_found file world None (Some name) (Some steps) = refl
+observer_found file world (Some path) None None = refl
+observer_found file world (Some path) None (Some steps) = refl
+observer_found file world (Some path) (Some name) None = refl
+observer_found file world (Some path) (Some name) (Some steps) = refl
+
+steps_found : (file world : Text) (under observer : Option Text) (steps : Option ℕ) → IfSome steps (λ n. n ≤ 1000000000000)
+    → steps_in (run_rows file world under observer steps) ≡ unwrap_or steps 1000000
+steps_found file world None None None most = refl
+steps_found file world None None (Some steps) most = decimal_read steps most
+steps_found file world None (Some name) None most = refl
+steps_found file world None (Some name) (Some steps) most = decimal_read steps most
+steps_found file world (Some path) None None most = refl
+steps_found file world (Some path) None (Some steps) most = decimal_read steps most
+steps_found file world (Some path) (Some name) None most = refl
+steps_found file world (Some path) (Some name) (Some steps) most = decimal_read steps most
 
 -- two names that are not the same
 other_name : {X : Type 0} (a b : Text) → bytes_eq a b ≡ false → a ≡ b → X
@@ -41,31 +60,32 @@ other_name a b differ same = absurd (true≢false (sym ((bytes_eq-Decides a b).1
 grants : (request : Request) (task : Task) → IsPlainRequest request → AsksFor (met_by request).0 (met_by request).1 task → Grants request task
 grants (to_check hierarchy source) (Check h s) plain asks = check h s (ap₂ to_check (same_Some _ _ asks.1) (same_Some _ _ asks.2)) refl
 grants (to_check hierarchy source) (Build h s o) plain asks = other_name _ _ refl asks.0
-grants (to_check hierarchy source) (Run f w o n) plain asks = other_name _ _ refl asks.0
+grants (to_check hierarchy source) (Run f w u o n) plain asks = other_name _ _ refl asks.0
 grants (to_check hierarchy source) (ListModule f) plain asks = other_name _ _ refl asks.0
 grants (to_check hierarchy source) (Explain h s) plain asks = other_name _ _ refl asks.0
 grants (to_build hierarchy source out) (Check h s) plain asks = other_name _ _ refl asks.0
 grants (to_build hierarchy source out) (Build h s o) plain asks = build h s o (rw (same_Some _ _ asks.1, same_Some _ _ asks.2, same_Some _ _ asks.3) refl) refl
-grants (to_build hierarchy source out) (Run f w o n) plain asks = other_name _ _ refl asks.0
+grants (to_build hierarchy source out) (Run f w u o n) plain asks = other_name _ _ refl asks.0
 grants (to_build hierarchy source out) (ListModule f) plain asks = other_name _ _ refl asks.0
 grants (to_build hierarchy source out) (Explain h s) plain asks = other_name _ _ refl asks.0
-grants (to_run file world observer steps) (Check h s) plain asks = other_name _ _ refl asks.0
-grants (to_run file world observer steps) (Build h s o) plain asks = other_name _ _ refl asks.0
-grants (to_run file world observer steps) (Run f w o n) plain asks =
-    run f w o steps
-    (ap₂ (λ code text. to_run code text observer steps) (same_Some _ _ asks.1) (same_Some _ _ asks.2)
-    ∙ ap (λ name. to_run (string_bytes f) (string_bytes w) name steps) (sym (asks.3 ∙ observer_found file world observer steps)))
-    (ap (Run f w o) (asks.4 ∙ steps_found file world observer steps plain.3))
-grants (to_run file world observer steps) (ListModule f) plain asks = other_name _ _ refl asks.0
-grants (to_run file world observer steps) (Explain h s) plain asks = other_name _ _ refl asks.0
+grants (to_run file world under observer steps) (Check h s) plain asks = other_name _ _ refl asks.0
+grants (to_run file world under observer steps) (Build h s o) plain asks = other_name _ _ refl asks.0
+grants (to_run file world under observer steps) (Run f w u o n) plain asks =
+    run f w u o steps
+    (ap₂ (λ code text. to_run code text under observer steps) (same_Some _ _ asks.1) (same_Some _ _ asks.2)
+    ∙ ap₂ (λ path name. to_run (string_bytes f) (string_bytes w) path name steps) (sym (asks.3 ∙ under_found file world under observer steps))
+    (sym (asks.4 ∙ observer_found file world under observer steps)))
+    (ap (Run f w u o) (asks.5 ∙ steps_found file world under observer steps plain.4))
+grants (to_run file world under observer steps) (ListModule f) plain asks = other_name _ _ refl asks.0
+grants (to_run file world under observer steps) (Explain h s) plain asks = other_name _ _ refl asks.0
 grants (to_list file) (Check h s) plain asks = other_name _ _ refl asks.0
 grants (to_list file) (Build h s o) plain asks = other_name _ _ refl asks.0
-grants (to_list file) (Run f w o n) plain asks = other_name _ _ refl asks.0
+grants (to_list file) (Run f w u o n) plain asks = other_name _ _ refl asks.0
 grants (to_list file) (ListModule f) plain asks = list f (ap to_list (same_Some _ _ asks.1)) refl
 grants (to_list file) (Explain h s) plain asks = other_name _ _ refl asks.0
 grants (to_explain hierarchy source) (Check h s) plain asks = other_name _ _ refl asks.0
 grants (to_explain hierarchy source) (Build h s o) plain asks = other_name _ _ refl asks.0
-grants (to_explain hierarchy source) (Run f w o n) plain asks = other_name _ _ refl asks.0
+grants (to_explain hierarchy source) (Run f w u o n) plain asks = other_name _ _ refl asks.0
 grants (to_explain hierarchy source) (ListModule f) plain asks = other_name _ _ refl asks.0
 grants (to_explain hierarchy source) (Explain h s) plain asks = explain h s (ap₂ to_explain (same_Some _ _ asks.1) (same_Some _ _ asks.2)) refl
 

@@ -167,8 +167,11 @@ run_rules = (
     (
       any_word _ refl refl refl (inl (refl, refl)),
       (
-        record { fits = λ word e. passed_as _ _ e; written = refl; no_default = refl; action = inl (refl, refl) },
-        (any_word _ refl refl refl (inr refl), tt),
+        any_word _ refl refl refl (inl (refl, refl)),
+        (
+          record { fits = λ word e. passed_as _ _ e; written = refl; no_default = refl; action = inl (refl, refl) },
+          (any_word _ refl refl refl (inr refl), tt),
+        ),
       ),
     ),
   ),

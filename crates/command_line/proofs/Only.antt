@@ -181,7 +181,7 @@ as_run : (program : Text) (rest : List Text) → AllPlain rest → fault_of flow
 unfolding clap_on_literals
 as_run program rest plain e =
     let two = run_two rest plain (below program (codes "run") rest refl e) in
-    (program, to_run two.0 two.1 None None, (two.2, two.3, tt, tt), ap (λ words. program ∷ codes "run" ∷ words) two.4)
+    (program, to_run two.0 two.1 None None None, (two.2, two.3, tt, tt, tt), ap (λ words. program ∷ codes "run" ∷ words) two.4)
 
 as_list : (program : Text) (rest : List Text) → AllPlain rest → fault_of flowc_command (program ∷ codes "list" ∷ rest) ≡ [] → IsSpelled (program ∷ codes "list" ∷ rest)
 unfolding clap_on_literals

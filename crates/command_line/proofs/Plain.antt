@@ -24,7 +24,7 @@ use Rattle.clap.proofs.ValueTestLemmas.{Accepts-accepts}
 use Rattle.command_line.specs.Command.{flowc_command, step_numbers}
 use Rattle.clap.specs.declared.error.kind.ErrorKind.TheVariants.{ValueValidation}
 use Rattle.command_line.specs.Task.{number_of}
-use Rattle.command_line.specs.Request.{IsNoOption, IsPlainRequest, Request, observer_words, spelled, steps_words, to_build, to_check, to_explain, to_list, to_run}
+use Rattle.command_line.specs.Request.{IsNoOption, IsPlainRequest, Request, observer_words, spelled, steps_words, under_words, to_build, to_check, to_explain, to_list, to_run}
 use Rattle.command_line.proofs.Levels.{build_leaf, check_leaf, explain_leaf, list_leaf, run_leaf, texts_leaf}
 
 -- ---- a plain word
@@ -156,6 +156,10 @@ pub list_found : (file : Text) → IsNoOption file → Finds list_leaf (file ∷
 unfolding clap_on_literals
 list_found file f = found_along list_leaf _ _ (goes_plain list_leaf _ _ _ file _ _ f refl (stays list_leaf _)) refl refl refl
 
+abbrev pub under_rows : Option Text → List Row
+under_rows None = []
+under_rows (Some path) = row (codes "under") path ∷ []
+
 abbrev pub observer_rows : Option Text → List Row
 observer_rows None = []
 observer_rows (Some name) = row (codes "observer") name ∷ []
@@ -194,28 +198,42 @@ decimal_accepted n most =
 steps_settle : (word : Text) → accepts false step_numbers word ≡ true → or_else (cond (accepts false step_numbers word) [] (ValueValidation ∷ [])) [] ≡ []
 steps_settle word accepted = ap (λ b. or_else (cond b [] (ValueValidation ∷ [])) []) accepted
 
-pub run_found : (file world : Text) (observer : Option Text) (steps : Option ℕ) → IsNoOption file → IsNoOption world → IfSome observer IsNoOption → IfSome steps (λ n. n ≤ 1000000000000)
-    → Finds run_leaf (file ∷ world ∷ (observer_words observer ++ steps_words steps)) (row (codes "MODULE") file ∷ row (codes "WORLD") world ∷ (observer_rows observer ++ steps_rows steps))
+pub run_found : (file world : Text) (under observer : Option Text) (steps : Option ℕ)
+    → IsNoOption file → IsNoOption world → IfSome under IsNoOption → IfSome observer IsNoOption → IfSome steps (λ n. n ≤ 1000000000000)
+    → Finds run_leaf (file ∷ world ∷ (under_words under ++ (observer_words observer ++ steps_words steps)))
+    (row (codes "MODULE") file ∷ row (codes "WORLD") world ∷ (under_rows under ++ (observer_rows observer ++ steps_rows steps)))
 unfolding clap_on_literals
-run_found file world None None f w o n =
+run_found file world None None None f w u o n =
     found_along run_leaf _ _
     (goes_plain run_leaf _ _ _ file _ _ f refl (goes_plain run_leaf _ _ _ world _ _ w refl (stays run_leaf _)))
     refl refl refl
-run_found file world (Some name) None f w o n =
+run_found file world None None (Some steps) f w u o n =
     found_along run_leaf _ _
-    (goes_plain run_leaf _ _ _ file _ _ f refl (goes_plain run_leaf _ _ _ world _ _ w refl
-    (goes_on run_leaf _ _ (codes "--observer") _ _ refl refl (goes_plain run_leaf _ _ _ name _ _ o refl (stays run_leaf _)))))
-    refl refl refl
-run_found file world None (Some steps) f w o n =
-    found_along run_leaf _ _
-    (goes_plain run_leaf _ _ _ file _ _ f refl (goes_plain run_leaf _ _ _ world _ _ w refl
-    (goes_on run_leaf _ _ (codes "--steps") _ _ refl refl (goes_plain run_leaf _ _ _ (decimal steps) _ _ (numeral_plain _ (decimal_numeral steps n).0) refl (stays run_leaf _)))))
+    (goes_plain run_leaf _ _ _ file _ _ f refl (goes_plain run_leaf _ _ _ world _ _ w refl (goes_on run_leaf _ _ (codes "--steps") _ _ refl refl (goes_plain run_leaf _ _ _ (decimal steps) _ _ (numeral_plain _ (decimal_numeral steps n).0) refl (stays run_leaf _)))))
     (steps_settle (decimal steps) (decimal_accepted steps n)) refl refl
-run_found file world (Some name) (Some steps) f w o n =
+run_found file world None (Some name) None f w u o n =
     found_along run_leaf _ _
-    (goes_plain run_leaf _ _ _ file _ _ f refl (goes_plain run_leaf _ _ _ world _ _ w refl
-    (goes_on run_leaf _ _ (codes "--observer") _ _ refl refl (goes_plain run_leaf _ _ _ name _ _ o refl
-    (goes_on run_leaf _ _ (codes "--steps") _ _ refl refl (goes_plain run_leaf _ _ _ (decimal steps) _ _ (numeral_plain _ (decimal_numeral steps n).0) refl (stays run_leaf _)))))))
+    (goes_plain run_leaf _ _ _ file _ _ f refl (goes_plain run_leaf _ _ _ world _ _ w refl (goes_on run_leaf _ _ (codes "--observer") _ _ refl refl (goes_plain run_leaf _ _ _ name _ _ o refl (stays run_leaf _)))))
+    refl refl refl
+run_found file world None (Some name) (Some steps) f w u o n =
+    found_along run_leaf _ _
+    (goes_plain run_leaf _ _ _ file _ _ f refl (goes_plain run_leaf _ _ _ world _ _ w refl (goes_on run_leaf _ _ (codes "--observer") _ _ refl refl (goes_plain run_leaf _ _ _ name _ _ o refl (goes_on run_leaf _ _ (codes "--steps") _ _ refl refl (goes_plain run_leaf _ _ _ (decimal steps) _ _ (numeral_plain _ (decimal_numeral steps n).0) refl (stays run_leaf _)))))))
+    (steps_settle (decimal steps) (decimal_accepted steps n)) refl refl
+run_found file world (Some path) None None f w u o n =
+    found_along run_leaf _ _
+    (goes_plain run_leaf _ _ _ file _ _ f refl (goes_plain run_leaf _ _ _ world _ _ w refl (goes_on run_leaf _ _ (codes "--under") _ _ refl refl (goes_plain run_leaf _ _ _ path _ _ u refl (stays run_leaf _)))))
+    refl refl refl
+run_found file world (Some path) None (Some steps) f w u o n =
+    found_along run_leaf _ _
+    (goes_plain run_leaf _ _ _ file _ _ f refl (goes_plain run_leaf _ _ _ world _ _ w refl (goes_on run_leaf _ _ (codes "--under") _ _ refl refl (goes_plain run_leaf _ _ _ path _ _ u refl (goes_on run_leaf _ _ (codes "--steps") _ _ refl refl (goes_plain run_leaf _ _ _ (decimal steps) _ _ (numeral_plain _ (decimal_numeral steps n).0) refl (stays run_leaf _)))))))
+    (steps_settle (decimal steps) (decimal_accepted steps n)) refl refl
+run_found file world (Some path) (Some name) None f w u o n =
+    found_along run_leaf _ _
+    (goes_plain run_leaf _ _ _ file _ _ f refl (goes_plain run_leaf _ _ _ world _ _ w refl (goes_on run_leaf _ _ (codes "--under") _ _ refl refl (goes_plain run_leaf _ _ _ path _ _ u refl (goes_on run_leaf _ _ (codes "--observer") _ _ refl refl (goes_plain run_leaf _ _ _ name _ _ o refl (stays run_leaf _)))))))
+    refl refl refl
+run_found file world (Some path) (Some name) (Some steps) f w u o n =
+    found_along run_leaf _ _
+    (goes_plain run_leaf _ _ _ file _ _ f refl (goes_plain run_leaf _ _ _ world _ _ w refl (goes_on run_leaf _ _ (codes "--under") _ _ refl refl (goes_plain run_leaf _ _ _ path _ _ u refl (goes_on run_leaf _ _ (codes "--observer") _ _ refl refl (goes_plain run_leaf _ _ _ name _ _ o refl (goes_on run_leaf _ _ (codes "--steps") _ _ refl refl (goes_plain run_leaf _ _ _ (decimal steps) _ _ (numeral_plain _ (decimal_numeral steps n).0) refl (stays run_leaf _)))))))))
     (steps_settle (decimal steps) (decimal_accepted steps n)) refl refl
 
 -- ---- the whole command line
@@ -276,8 +294,8 @@ taken program name s rest rows met turned leaf found =
 abbrev pub met_by : Request → Text × List Row
 met_by (to_check hierarchy source) = (codes "check", row (codes "HIER") hierarchy ∷ row (codes "SRC") source ∷ [])
 met_by (to_build hierarchy source out) = (codes "build", row (codes "HIER") hierarchy ∷ row (codes "SRC") source ∷ row (codes "OUT") out ∷ [])
-met_by (to_run file world observer steps) =
-    (codes "run", row (codes "MODULE") file ∷ row (codes "WORLD") world ∷ (observer_rows observer ++ steps_rows steps))
+met_by (to_run file world under observer steps) =
+    (codes "run", row (codes "MODULE") file ∷ row (codes "WORLD") world ∷ (under_rows under ++ (observer_rows observer ++ steps_rows steps)))
 met_by (to_list file) = (codes "list", row (codes "MODULE") file ∷ [])
 met_by (to_explain hierarchy source) = (codes "explain", row (codes "HIER") hierarchy ∷ row (codes "SRC") source ∷ [])
 
@@ -285,7 +303,7 @@ pub request_taken : (program : Text) (request : Request) → IsPlainRequest requ
 unfolding clap_on_literals
 request_taken program (to_check hierarchy source) plain = taken program (codes "check") check_leaf _ _ refl refl refl (texts_found (codes "check") hierarchy source plain.0 plain.1)
 request_taken program (to_build hierarchy source out) plain = taken program (codes "build") build_leaf _ _ refl refl refl (build_found hierarchy source out plain.0 plain.1 plain.2)
-request_taken program (to_run file world observer steps) plain =
-    taken program (codes "run") run_leaf _ _ refl refl refl (run_found file world observer steps plain.0 plain.1 plain.2 plain.3)
+request_taken program (to_run file world under observer steps) plain =
+    taken program (codes "run") run_leaf _ _ refl refl refl (run_found file world under observer steps plain.0 plain.1 plain.2 plain.3 plain.4)
 request_taken program (to_list file) plain = taken program (codes "list") list_leaf _ _ refl refl refl (list_found file plain)
 request_taken program (to_explain hierarchy source) plain = taken program (codes "explain") explain_leaf _ _ refl refl refl (texts_found (codes "explain") hierarchy source plain.0 plain.1)

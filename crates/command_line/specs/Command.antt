@@ -20,6 +20,10 @@ option_rule name = record (new_rule name) { long = Some name; action = Some Set;
 abbrev pub step_numbers : ValueParser
 step_numbers = Unsigned 0 MAX_STEPS
 
+-- `--under HIER`
+abbrev pub under_rule : Rule
+under_rule = option_rule (codes "under")
+
 -- `--observer NAME`
 abbrev pub observer_rule : Rule
 observer_rule = option_rule (codes "observer")
@@ -47,7 +51,7 @@ build_command =
 abbrev pub run_command : App
 run_command =
     command (codes "run")
-    (file_rule (codes "MODULE") ∷ file_rule (codes "WORLD") ∷ observer_rule ∷ steps_rule ∷ [])
+    (file_rule (codes "MODULE") ∷ file_rule (codes "WORLD") ∷ under_rule ∷ observer_rule ∷ steps_rule ∷ [])
 
 -- `list MODULE`
 abbrev pub list_command : App

@@ -14,13 +14,18 @@ use Rattle.common.specs.Answers.{Answers}
 use Rattle.common.specs.declared.fault.OrNoMemory.{OrNoMemory}
 use Rattle.command_line.specs.declared.request.Task.TheVariants.{Check, Build, Run, Explain, List as ListModule}
 
--- a task in plain values; an observer and a number of steps may be left out
+-- a task in plain values; a hierarchy, an observer and a number of steps may be left out
 pub data Request : Type 0 where
   to_check : Text → Text → Request
   to_build : Text → Text → Text → Request
-  to_run : Text → Text → Option Text → Option ℕ → Request
+  to_run : Text → Text → Option Text → Option Text → Option ℕ → Request
   to_list : Text → Request
   to_explain : Text → Text → Request
+
+-- `--under HIER`, or nothing
+abbrev pub under_words : Option Text → List Text
+under_words None = []
+under_words (Some path) = codes "--under" ∷ path ∷ []
 
 -- `--observer NAME`, or nothing
 abbrev pub observer_words : Option Text → List Text
@@ -36,8 +41,8 @@ steps_words (Some steps) = codes "--steps" ∷ decimal steps ∷ []
 abbrev pub spelled : Request → List Text
 spelled (to_check hierarchy source) = codes "check" ∷ hierarchy ∷ source ∷ []
 spelled (to_build hierarchy source out) = codes "build" ∷ hierarchy ∷ source ∷ out ∷ []
-spelled (to_run file world observer steps) =
-    codes "run" ∷ file ∷ world ∷ (observer_words observer ++ steps_words steps)
+spelled (to_run file world under observer steps) =
+    codes "run" ∷ file ∷ world ∷ (under_words under ++ (observer_words observer ++ steps_words steps))
 spelled (to_list file) = codes "list" ∷ file ∷ []
 spelled (to_explain hierarchy source) = codes "explain" ∷ hierarchy ∷ source ∷ []
 
@@ -49,8 +54,8 @@ IsNoOption word = starts_with_minus word ≡ false
 abbrev pub IsPlainRequest : Request → Type 0
 IsPlainRequest (to_check hierarchy source) = IsNoOption hierarchy × IsNoOption source
 IsPlainRequest (to_build hierarchy source out) = IsNoOption hierarchy × IsNoOption source × IsNoOption out
-IsPlainRequest (to_run file world observer steps) =
-    IsNoOption file × IsNoOption world × IfSome observer IsNoOption
+IsPlainRequest (to_run file world under observer steps) =
+    IsNoOption file × IsNoOption world × IfSome under IsNoOption × IfSome observer IsNoOption
     × IfSome steps (λ n. n ≤ MAX_STEPS)
 IsPlainRequest (to_list file) = IsNoOption file
 IsPlainRequest (to_explain hierarchy source) = IsNoOption hierarchy × IsNoOption source
@@ -64,10 +69,10 @@ pub data Grants (request : Request) (task : Task) : Type 0 where
   build : (hierarchy source out : String Global)
       → request ≡ to_build (string_bytes hierarchy) (string_bytes source) (string_bytes out)
       → task ≡ Build hierarchy source out → Grants request task
-  run : (file world : String Global) (observer : Option (String Global)) (steps : Option ℕ)
+  run : (file world : String Global) (under observer : Option (String Global)) (steps : Option ℕ)
       → request
-      ≡ to_run (string_bytes file) (string_bytes world) (option_map string_bytes observer) steps
-      → task ≡ Run file world observer (unwrap_or steps DEFAULT_STEPS) → Grants request task
+      ≡ to_run (string_bytes file) (string_bytes world) (option_map string_bytes under) (option_map string_bytes observer) steps
+      → task ≡ Run file world under observer (unwrap_or steps DEFAULT_STEPS) → Grants request task
   list : (file : String Global) → request ≡ to_list (string_bytes file)
       → task ≡ ListModule file → Grants request task
   explain : (hierarchy source : String Global)

@@ -1,8 +1,9 @@
 -- What a task asks for, and which task the words of a command line stand for.
 -- Source: our own.
-use Rattle.std.specs.Prelude.{◌≡◌, ℕ, List, [], ◌∷◌, Option, Some, None, codes, option_map}
+use Rattle.std.specs.Prelude.{◌≡◌, ℕ, List, [], ◌∷◌, Option, Some, None, String, codes, option_map}
 use Rattle.std.specs.Option.{option_map_or}
 use Rattle.std.specs.String.{string_bytes}
+use Rattle.std.specs.declared.alloc.Global.{Global}
 use Rattle.std.specs.Str.Parse.{digits_value, without_leading_plus}
 use Rattle.command_line.specs.declared.request.TheConstants.{DEFAULT_STEPS}
 use Rattle.clap.specs.Words.{Row, Text, first_of}
@@ -13,15 +14,20 @@ use Rattle.command_line.specs.declared.request.Task.TheVariants.{Check, Build, R
 abbrev pub steps_of : Task → ℕ
 steps_of (Check hierarchy source) = 0
 steps_of (Build hierarchy source out) = 0
-steps_of (Run file world observer steps) = steps
+steps_of (Run file world under observer steps) = steps
 steps_of (ListModule file) = 0
 steps_of (Explain hierarchy source) = 0
 
--- the files that a task reads, in the order in which it names them
+-- the path of a file that may be left out
+abbrev pub path_if_given : Option (String Global) → List (List ℕ)
+path_if_given None = []
+path_if_given (Some path) = string_bytes path ∷ []
+
+-- the files that a task reads, in the order in which it names them; a run reads its hierarchy last, where one is named
 abbrev pub paths_of : Task → List (List ℕ)
 paths_of (Check hierarchy source) = string_bytes hierarchy ∷ string_bytes source ∷ []
 paths_of (Build hierarchy source out) = string_bytes hierarchy ∷ string_bytes source ∷ []
-paths_of (Run file world observer steps) = string_bytes file ∷ string_bytes world ∷ []
+paths_of (Run file world under observer steps) = string_bytes file ∷ string_bytes world ∷ path_if_given under
 paths_of (ListModule file) = string_bytes file ∷ []
 paths_of (Explain hierarchy source) = string_bytes hierarchy ∷ string_bytes source ∷ []
 
@@ -45,8 +51,9 @@ AsksFor name rows (Check hierarchy source) =
 AsksFor name rows (Build hierarchy source out) =
     (name ≡ codes "build") × IsWordOf rows (codes "HIER") (string_bytes hierarchy)
     × IsWordOf rows (codes "SRC") (string_bytes source) × IsWordOf rows (codes "OUT") (string_bytes out)
-AsksFor name rows (Run file world observer steps) =
+AsksFor name rows (Run file world under observer steps) =
     (name ≡ codes "run") × IsWordOf rows (codes "MODULE") (string_bytes file) × IsWordOf rows (codes "WORLD") (string_bytes world)
+    × (option_map string_bytes under ≡ first_of (codes "under") rows)
     × (option_map string_bytes observer ≡ first_of (codes "observer") rows)
     × (steps ≡ steps_in rows)
 AsksFor name rows (ListModule file) =

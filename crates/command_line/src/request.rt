@@ -22,10 +22,11 @@ pub enum Task {
         out: String,
     },
     /// Run a module on a world for at most so many steps, and show what this principal may read, or all of it where none is
-    /// named.
+    /// named. The principals are those of the hierarchy `under`, or of the module's own where none is named.
     Run {
         file: String,
         world: String,
+        under: Option<String>,
         observer: Option<String>,
         steps: u64,
     },
@@ -48,16 +49,22 @@ impl Task {
     pub fn path(&self, index: usize) -> Option<&str>
         ensures { option_map (λ path. path.now) result ≡ slice_get (paths_of self.now) index }
     {
-        let (first, second) = match self {
+        let (first, second, third) = match self {
             Task::Check { hier, src }
             | Task::Build { hier, src, .. }
-            | Task::Explain { hier, src } => (hier, Some(src)),
-            Task::Run { file, world, .. } => (file, Some(world)),
-            Task::List { file } => (file, None),
+            | Task::Explain { hier, src } => (hier, Some(src), None),
+            Task::Run {
+                file,
+                world,
+                under,
+                ..
+            } => (file, Some(world), under.as_ref()),
+            Task::List { file } => (file, None, None),
         };
         match index {
             0 => Some(first.as_str()),
             1 => second.map(|path| path.as_str()),
+            2 => third.map(|path| path.as_str()),
             _ => None,
         }
     }

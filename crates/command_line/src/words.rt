@@ -1,7 +1,7 @@
 ghost use Rattle.clap.specs.Words.{app_of, fault_of, first_of, kind_of, new_app, rule_of, subcommand_of, subcommand_rows_of};
 ghost use Rattle.clap.specs.Walk.{texts};
 ghost use Rattle.clap.specs.declared.builder.command.Command.TheViews.{out-Command};
-ghost use Rattle.command_line.specs.Command.{build_command, check_command, explain_command, file_rule, flowc_command, list_command, observer_rule, run_command, steps_rule};
+ghost use Rattle.command_line.specs.Command.{build_command, check_command, command, explain_command, file_rule, flowc_command, list_command, observer_rule, run_command, steps_rule, under_rule};
 ghost use Rattle.command_line.specs.Matched.{Enters, HasBuildWords, HasListWords, HasRunWords, HasStepsInRange, HasTextsWords, IsGiven, rows_in};
 ghost use Rattle.command_line.specs.Task.{AsksFor, IsTaskOf, IsWordOf, steps_in, steps_of};
 ghost use Rattle.command_line.specs.Request.{GrantsPlainRequests, HasNoOption, IsSpelling};
@@ -115,16 +115,27 @@ fn make_run<'a>(alloc: Global) -> Result<Command<'a>, AllocError>
     ensures shape { IfOk result (λ command. app_of command ≡ run_command) }
     ensures local { IfOk result (λ command. (out-Command command).has_globals ≡ false) }
 {
+    name_run(alloc)?
+        .arg(under(alloc))?
+        .arg(observer(alloc))?
+        .arg(steps(alloc))
+}
+
+// The subcommand `run` with its files, and no options as yet.
+fn name_run<'a>(alloc: Global) -> Result<Command<'a>, AllocError>
+    ensures shape { IfOk result (λ app. app_of app ≡ command (codes "run")
+        (file_rule (codes "MODULE") ∷ file_rule (codes "WORLD") ∷ [])) }
+    ensures local { IfOk result (λ app. (out-Command app).has_globals ≡ false) }
+{
     make_subcommand(
         alloc,
         "run",
         "Runs a module on a world, and prints what it sent",
-        "Example: flowc run payroll.flob november.txt --observer Staff --steps 1000",
+        "Example: flowc run payroll.flob november.txt --observer Staff --steps 1000\n\
+         Under a hierarchy that has grown: flowc run payroll.flob november.txt --under grown.txt --observer Dave",
     )
     .arg(module(alloc))?
-    .arg(file(alloc, "WORLD", "the file with the numbers of each input"))?
-    .arg(observer(alloc))?
-    .arg(steps(alloc))
+    .arg(file(alloc, "WORLD", "the file with the numbers of each input"))
 }
 
 fn make_list<'a>(alloc: Global) -> Result<Command<'a>, AllocError>
@@ -183,6 +194,17 @@ fn file<'a>(alloc: Global, name: &'a str, help: &'a str) -> Arg<'a>
         .required(true)
         .action(ArgAction::Set)
         .help(help)
+}
+
+fn under<'a>(alloc: Global) -> Arg<'a>
+    ensures rule { rule_of result ≡ under_rule }
+    ensures local { result.global ≡ false }
+{
+    Arg::new(alloc, "under")
+        .long("under")
+        .value_name("HIER")
+        .action(ArgAction::Set)
+        .help("the file of a hierarchy that contains the module's, whose principals observe")
 }
 
 fn observer<'a>(alloc: Global) -> Arg<'a>
@@ -252,7 +274,8 @@ fn read_run(alloc: Global, matches: &ArgMatches<'_>) -> Result<Task, AllocError>
     Ok(Task::Run {
         file: read_word(alloc, matches, "MODULE")?,
         world: read_word(alloc, matches, "WORLD")?,
-        observer: read_observer(alloc, matches)?,
+        under: read_option(alloc, matches, "under")?,
+        observer: read_option(alloc, matches, "observer")?,
         steps: read_steps(matches),
     })
 }
@@ -286,13 +309,17 @@ fn read_word(alloc: Global, matches: &ArgMatches<'_>, id: &str) -> Result<String
     String::from_str(alloc, matches.get_str(id).unwrap())
 }
 
-// The word of `--observer`, where it was given.
-fn read_observer(alloc: Global, matches: &ArgMatches<'_>) -> Result<Option<String>, AllocError>
-    ensures { IfOk result (λ observer. option_map string_bytes observer
-        ≡ first_of (codes "observer") (rows_in matches.now)) }
+// The word of an option, where it was given.
+fn read_option(
+    alloc: Global,
+    matches: &ArgMatches<'_>,
+    id: &str,
+) -> Result<Option<String>, AllocError>
+    ensures { IfOk result (λ word. option_map string_bytes word
+        ≡ first_of id.now (rows_in matches.now)) }
 {
-    match matches.get_str("observer") {
-        Some(name) => Ok(Some(String::from_str(alloc, name)?)),
+    match matches.get_str(id) {
+        Some(word) => Ok(Some(String::from_str(alloc, word)?)),
         None => Ok(None),
     }
 }

@@ -3,7 +3,7 @@ use Rattle.std.proofs.Common.{◌≡◌, ℕ, List, refl, ap, subst}
 use Rattle.principals.proofs.Closure.{ActsFor-monotone}
 use Rattle.labels.specs.Sets.{SameSet, ascending_set}
 use Rattle.labels.proofs.Ascending.{ascending_set-SameSet}
-use Rattle.resolved.specs.Isolated.{Isolated}
+use Rattle.isolation.specs.Larger.{IsolatedUnderLarger}
 use Rattle.resolved.specs.Program.{Program}
 use Rattle.modules.specs.Contents.{ModuleContents}
 use Rattle.bytecode.specs.Decoded.{refusal_of}
@@ -37,7 +37,7 @@ same-interface program = record {
 
 pub code_of_module : (program : Program) (m : ModuleContents) (code : List ℕ) → m ≡ laid_out (graph_of program) → Spells module_file m code →
     HasNoDefect (laid_out (graph_of program)) → IsNeverStuck (laid_out (graph_of program)) → SameMeaning program (after_steps (laid_out (graph_of program))) →
-    Isolated program → IsCodeOf program code
+    IsolatedUnderLarger program → IsCodeOf program code
 code_of_module program m code is spelled no_defect never_stuck kept isolated = record {
   not_refused = ap (refusal_of code) (module_again code m spelled);
   contents = laid_out (graph_of program);

@@ -1,11 +1,10 @@
 -- Who may read what in a module is who may do so in its program.
-use Rattle.std.proofs.Common.{◌≡◌, ℕ, zero, suc, ◌<◌, ◌||◌, List, [], ◌∷◌, length, map, filter, slice_get, slice_index_or, Some, refl, ap, ◌∙◌, arith}
-use Rattle.std.specs.List.{list_all, list_any}
-use Rattle.std.proofs.lemmas.Bool.Decides.{same_from_decides}
-use Rattle.principals.specs.ActsFor.{acts_for}
-use Rattle.principals.proofs.Closure.{acts_for-decides}
+use Rattle.std.proofs.Common.{◌≡◌, ℕ, zero, suc, ◌<◌, List, [], ◌∷◌, length, map, filter, slice_get, slice_index_or, Option, Some, refl, sym, ap, subst, ◌∙◌, arith}
+use Rattle.std.specs.Prelude.{Contains, option_and_then, unwrap_or}
+use Rattle.principals.specs.ActsFor.{PrincipalHierarchy, ContainsHierarchy, number_of}
 use Rattle.labels.specs.declared.sent.Pair.{Pair}
-use Rattle.labels.specs.Label.{Label, may_read}
+use Rattle.labels.specs.Carried.{carried_label, label_under}
+use Rattle.labels.specs.Label.{may_read}
 use Rattle.labels.specs.Sent.{pairs_for}
 use Rattle.common.specs.declared.direction.Direction.TheVariants as channel
 use Rattle.resolved.specs.Isolated.{Agree}
@@ -13,7 +12,7 @@ use Rattle.resolved.specs.Labelled.{channel_label}
 use Rattle.resolved.specs.Program.{Program, ChannelEntry, channel_at}
 use Rattle.resolved.specs.SourceState.{World}
 use Rattle.modules.specs.Contents.{ChannelContents, ModuleContents}
-use Rattle.modules.specs.Isolated.{label_in, channel_label as module_label, module_view, AgreeOnInputs}
+use Rattle.modules.specs.Isolated.{label_in, channel_label as module_label, channel_label_under, module_view, AgreeOnInputs}
 use Rattle.lowering.specs.Interface.{channel_contents}
 use Rattle.compiler.specs.Compiled.{HasInterfaceOf}
 
@@ -31,31 +30,39 @@ channel_there (entry ∷ channels) zero none below = refl
 channel_there (entry ∷ channels) (suc n) none below = channel_there channels n none (omega (arith, below))
 
 module _ (program : Program) (m : ModuleContents) (same : HasInterfaceOf program m) where
-  pub acts_for-module : (a b : ℕ) → acts_for m.hierarchy.pairs a b ≡ acts_for program.hierarchy.pairs a b
-  acts_for-module a b =
-      let left = acts_for-decides m.hierarchy.pairs a b in
-      let right = acts_for-decides program.hierarchy.pairs a b in
-      same_from_decides (acts_for m.hierarchy.pairs a b) (acts_for program.hierarchy.pairs a b) left ((λ t. (same.acts a b).1 (right.0 t)), (λ acts. right.1 ((same.acts a b).0 acts)))
-
-  pub may_read-module : (p : ℕ) (label : Label) → may_read m.hierarchy p label ≡ may_read program.hierarchy p label
-  may_read-module p label =
-      λ i. list_all (λ policy. acts_for-module p policy.owner i || list_any (λ reader. acts_for-module p reader i) policy.readers) label
-
   pub label-module : (n : ℕ) → module_label m n ≡ channel_label program n
   label-module n = ap (λ (all : List ChannelContents). label_in (slice_get all n)) same.channels ∙ label_at program.channels n
 
-  -- what a principal sees by the module's hierarchy and labels is what it sees by the program's
-  pub seen-module : (p : ℕ) (list : List Pair) → module_view m p list ≡ pairs_for program.hierarchy (channel_label program) p list
-  seen-module p list =
-      (λ i. filter (λ pair. may_read-module p (module_label m pair.channel) i) list)
-      ∙ (λ i. filter (λ pair. may_read program.hierarchy p (label-module pair.channel i)) list)
+  -- by its names alone a label is under another hierarchy what it is there from the program's
+  pub label_under-module : (h : PrincipalHierarchy) (n : ℕ)
+      → channel_label_under h m n ≡ label_under program.hierarchy h (channel_label program n)
+  label_under-module h n =
+      (λ i. carried_label (λ a. unwrap_or (option_and_then (λ name. number_of h name) (slice_get (same.names i) a)) 0) (module_label m n))
+      ∙ ap (label_under program.hierarchy h) (label-module n)
+
+  -- what contains the module's hierarchy contains the program's
+  pub contains-module : (h : PrincipalHierarchy) → ContainsHierarchy h m.hierarchy → ContainsHierarchy h program.hierarchy
+  contains-module h contains = record {
+    principals = λ name there. contains.principals name (subst (λ names. Contains names name) (sym same.names) there);
+    acts = λ first second acting.
+        contains.acts first second (acting.0, acting.1, ap (λ names. slice_get names acting.0) same.names ∙ acting.2, ap (λ names. slice_get names acting.1) same.names ∙ acting.3, (same.acts acting.0 acting.1).1 acting.4);
+  }
+
+  -- what a principal sees by the module's labels under a hierarchy is what it sees by the program's
+  pub seen-module : (h : PrincipalHierarchy) (p : ℕ) (list : List Pair)
+      → module_view h m p list ≡ pairs_for h (λ n. label_under program.hierarchy h (channel_label program n)) p list
+  seen-module h p list = λ i. filter (λ pair. may_read h p (label_under-module h pair.channel i)) list
 
   -- worlds that agree for a principal on the module's inputs do so on the program's
-  pub agree-module : (p : ℕ) (first second : World) → AgreeOnInputs m p first second → Agree program.hierarchy (channel_label program) program p first second
-  agree-module p first second agree n there input reads =
+  pub agree-module : (h : PrincipalHierarchy) (p : ℕ) (first second : World) → AgreeOnInputs h m p first second
+      → Agree h (λ n. label_under program.hierarchy h (channel_label program n)) program p first second
+  agree-module h p first second agree n there input reads =
       agree n (record {
         channel = channel_contents (channel_at program n);
-        there = ap (λ (all : List ChannelContents). slice_get all n) same.channels ∙ channel_there program.channels n (record { direction = channel.Output; name = []; label = [] }) there;
+        there = channel-there n there;
         input = input;
-        reads = may_read-module p (channel_label program n) ∙ reads;
+        reads = ap (λ label. may_read h p label) (sym (ap (λ (channel : Option ChannelContents). label_under m.hierarchy h (label_in channel)) (channel-there n there)) ∙ label_under-module h n) ∙ reads;
       })
+    where
+      channel-there : (k : ℕ) → k < length program.channels → slice_get m.channels k ≡ Some (channel_contents (channel_at program k))
+      channel-there k below = ap (λ (all : List ChannelContents). slice_get all k) same.channels ∙ channel_there program.channels k (record { direction = channel.Output; name = []; label = [] }) below

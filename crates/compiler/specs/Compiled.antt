@@ -8,7 +8,7 @@ use Rattle.modules.specs.Contents.{ModuleContents}
 use Rattle.bytecode.specs.Decoded.{first_refusal}
 use Rattle.modules.specs.Form.{Spells}
 use Rattle.modules.specs.Format.{module_file}
-use Rattle.modules.specs.Isolated.{IsIsolated}
+use Rattle.modules.specs.Isolated.{StaysIsolated}
 use Rattle.modules.specs.Machine.{after_steps}
 use Rattle.verifier.specs.Refusals.{HasNoDefect}
 use Rattle.verifier.specs.Safety.{IsNeverStuck}
@@ -26,7 +26,7 @@ pub record HasInterfaceOf (program : Program) (m : ModuleContents) : Type 0 wher
 
 -- bytes are code of a program: no decoder refuses them, and they spell a module; no verifier refuses it, and no run of it is ever
 -- stuck; it has the program's principals, channels and exceptions; on every world it sends what the program sends, and ends as the
--- program ends; and it is isolated
+-- program ends; and it is isolated under every hierarchy that contains its own
 pub record IsCodeOf (program : Program) (code : List ℕ) : Type 0 where
   pub not_refused : first_refusal code ≡ None
   pub contents : ModuleContents
@@ -35,7 +35,7 @@ pub record IsCodeOf (program : Program) (code : List ℕ) : Type 0 where
   pub never_stuck : IsNeverStuck contents
   pub interface : HasInterfaceOf program contents
   pub kept : SameMeaning program (after_steps contents)
-  pub isolated : IsIsolated contents
+  pub isolated : StaysIsolated contents
 
 -- bytes are what a hierarchy text and a source are compiled to: they are code of the program that the two stand for
 pub record IsCompiled (hierarchy source code : List ℕ) : Type 0 where

@@ -3,9 +3,9 @@
 ghost use Rattle.checker.specs.Reported.{HasFlow, IsFirstFault, StandForNone, TextsAskForFlow};
 ghost use Rattle.common.specs.Answers.{IfRefused};
 ghost use Rattle.compiler.specs.Compiled.{IsCodeOf, IsCompiled};
+ghost use Rattle.isolation.specs.Larger.{IsolatedUnderLarger};
 ghost use Rattle.resolved.specs.CoreOf.{program_of};
 ghost use Rattle.resolved.specs.EndFaults.{end_faults};
-ghost use Rattle.resolved.specs.Isolated.{Isolated};
 ghost use Rattle.resolved.specs.Names.{HasNames};
 ghost use Rattle.std.specs.Prelude.{IfErr, IfOk, IfSome, [], ◌≡◌};
 
@@ -24,7 +24,8 @@ use std::alloc::{AllocError, Global};
 ///
 /// The first fault of the two texts, at its line and column, with the flow where one is not allowed; or out of memory.
 pub fn compile(alloc: Global, hierarchy: &[u8], source: &[u8]) -> Result<Vec<u8>, Fault>
-    // The bytes are code of the program that the two texts stand for.
+    // The bytes are code of the program that the two texts stand for, and spell a module that stays isolated under every hierarchy
+    // that contains its own.
     ensures accepted { IfOk result (λ code. IsCompiled hierarchy.now source.now code.items) }
 
     // A refusal is the first fault of the two texts, at its line and column, and they stand for no program.
@@ -46,7 +47,7 @@ pub fn compile(alloc: Global, hierarchy: &[u8], source: &[u8]) -> Result<Vec<u8>
 fn code_of(alloc: Global, core: &Core) -> Result<Vec<u8>, AllocError>
     requires ends { end_faults (program_of core.now) ≡ [] }
     requires names { HasNames (program_of core.now) }
-    requires isolated { Isolated (program_of core.now) }
+    requires isolated { IsolatedUnderLarger (program_of core.now) }
     ensures { IfOk result (λ code. IsCodeOf (program_of core.now) code.items) }
 {
     modules_keep_meaning();

@@ -1,5 +1,5 @@
 -- What is written to standard error, from what the steps of a task report.
-use Rattle.std.proofs.Common.{◌≡◌, ◌∙◌, sym, subst, arith, refl, ℕ, List, [], Bool, true, false, IsTrue, inl, inr, Option, Result, Ok, Err, IfOk, IfErr, MatchResult}
+use Rattle.std.proofs.Common.{◌≡◌, ◌∙◌, sym, subst, arith, refl, ℕ, List, [], Bool, true, false, IsTrue, inl, inr, Option, Result, Ok, Err, IfOk, IfErr, MatchResult, Some}
 use Rattle.std.specs.String.{string_bytes}
 use Rattle.std.specs.Str.{IsUtf8}
 use Rattle.std.proofs.lemmas.Result.{err_from_is_err_and}
@@ -20,8 +20,10 @@ use Rattle.verifier.specs.Loaded.{CannotLoad}
 use Rattle.verifier.specs.declared.loading.LoadRefusal.{LoadRefusal}
 use Rattle.flowc.specs.Lines.{IsPerformFault, cannot_write, line_of_fault, module_line, no_memory, world_line}
 use Rattle.flowc.specs.Task.{fault_of_view, status_of_fault}
-use Rattle.flowc.specs.Messages.{IsEndLine, IsFaultLine, IsModuleLine, IsObserverLine, IsRefusedLine, IsRunLine, IsTextsLine, IsWorldLine, WroteLine}
-use Rattle.flowc.specs.Messages.IsRefusedLine.{of_module, of_observer, of_world}
+use Rattle.flowc.specs.Compiled.{NamedText, bytes_of}
+use Rattle.flowc.specs.Stdout.{IsViewedUnder}
+use Rattle.flowc.specs.Messages.{AreSound, IsEndLine, IsFaultLine, IsHierarchyLine, IsModuleLine, IsObserverLine, IsRefusedLine, IsRunLine, IsTextsLine, IsUnderLine, IsWorldLine, WroteLine}
+use Rattle.flowc.specs.Messages.IsRefusedLine.{of_hierarchy, of_module, of_observer, of_world}
 use Rattle.flowc.specs.Messages.IsWorldLine.{wrong}
 use Rattle.flowc.specs.declared.ended.Ended.{Ended}
 use Rattle.flowc.specs.declared.fault.PerformFault.{PerformFault}
@@ -39,37 +41,54 @@ passed_on outcome P Q failed fault also is message =
     let same = err_from_is_err_and outcome is in
     rw (same.1, same.2) (as_other P Q failed fault also message)
 
--- what is reported of the module, of the world and of the observer is reported of the run
-pub module_message : {X : Type 0} (outcome : Result X PerformFault) (code_path text_path code text : List ℕ) (fault : PerformFault)
-    → IsErrAnd outcome (λ other. other ≡ fault) → IsPerformFault (IsModuleLine code_path code) false fault
-    → IfErr outcome (IsPerformFault (λ line. (observer : Option (List ℕ)) → IsRefusedLine code_path text_path code text observer line) false)
-module_message outcome code_path text_path code text fault =
-    passed_on outcome (IsModuleLine code_path code) (λ line. (observer : Option (List ℕ)) → IsRefusedLine code_path text_path code text observer line) false fault
-    (λ line wrong observer. of_module wrong)
+-- what is reported of the module, of the world, of the hierarchy and of the observer is reported of the run
+abbrev AnyRefusedLine : (code world : NamedText) → List ℕ → Type 0
+AnyRefusedLine code world line = (under : Option NamedText) (observer : Option (List ℕ)) → IsRefusedLine code world under observer line
 
-pub world_message : {X : Type 0} (outcome : Result X PerformFault) (m lent : ModuleContents) (code_path text_path code text : List ℕ) (fault : PerformFault)
-    → Spells module_file m code → HasNoDefect m → lent ≡ m
-    → IsErrAnd outcome (λ other. other ≡ fault) → IsPerformFault (IsWorldLine lent text_path text) false fault
-    → IfErr outcome (IsPerformFault (λ line. (observer : Option (List ℕ)) → IsRefusedLine code_path text_path code text observer line) false)
-world_message outcome m lent code_path text_path code text fault spelled no_defect is =
-    passed_on outcome (IsWorldLine lent text_path text) (λ line. (observer : Option (List ℕ)) → IsRefusedLine code_path text_path code text observer line) false fault
-    (λ line wrong observer. of_world m spelled no_defect (subst (λ (w : ModuleContents). IsWorldLine w text_path text line) is wrong))
+pub module_message : {X : Type 0} (outcome : Result X PerformFault) (code world : NamedText) (fault : PerformFault)
+    → IsErrAnd outcome (λ other. other ≡ fault) → IsPerformFault (IsModuleLine code.path code.bytes) false fault
+    → IfErr outcome (IsPerformFault (AnyRefusedLine code world) false)
+module_message outcome code world fault =
+    passed_on outcome (IsModuleLine code.path code.bytes) (AnyRefusedLine code world) false fault (λ line wrong under observer. of_module wrong)
 
-pub start_message : {X : Type 0} (outcome : Result X PerformFault) (code_path text_path code text : List ℕ) (observer : Option (List ℕ)) (failed : Bool) (fault : PerformFault)
-    → IsErrAnd outcome (λ other. other ≡ fault)
-    → IsPerformFault (λ line. (name : Option (List ℕ)) → IsRefusedLine code_path text_path code text name line) false fault
-    → IfErr outcome (IsPerformFault (IsRefusedLine code_path text_path code text observer) failed)
-start_message outcome code_path text_path code text observer failed fault =
-    passed_on outcome (λ line. (name : Option (List ℕ)) → IsRefusedLine code_path text_path code text name line) (IsRefusedLine code_path text_path code text observer) failed fault
-    (λ line wrong. wrong observer)
+pub world_message : {X : Type 0} (outcome : Result X PerformFault) (m lent : ModuleContents) (code world : NamedText) (fault : PerformFault)
+    → Spells module_file m code.bytes → HasNoDefect m → lent ≡ m
+    → IsErrAnd outcome (λ other. other ≡ fault) → IsPerformFault (IsWorldLine lent world.path world.bytes) false fault
+    → IfErr outcome (IsPerformFault (AnyRefusedLine code world) false)
+world_message outcome m lent code world fault spelled no_defect is =
+    passed_on outcome (IsWorldLine lent world.path world.bytes) (AnyRefusedLine code world) false fault
+    (λ line wrong under observer. of_world m spelled no_defect (subst (λ (w : ModuleContents). IsWorldLine w world.path world.bytes line) is wrong))
 
-pub observer_message : {X : Type 0} (outcome : Result X PerformFault) (m : ModuleContents) (h : PrincipalHierarchy) (code_path text_path code text : List ℕ) (observer : Option (List ℕ))
-    (failed : Bool) (fault : PerformFault) → Spells module_file m code → HasNoDefect m → IsUtf8 text → IsWorldText (input_names m) (lines_of text) → h ≡ m.hierarchy
+pub start_message : {X : Type 0} (outcome : Result X PerformFault) (code world : NamedText) (under : Option NamedText) (observer : Option (List ℕ)) (failed : Bool)
+    (fault : PerformFault) → IsErrAnd outcome (λ other. other ≡ fault)
+    → IsPerformFault (λ line. (file : Option NamedText) (name : Option (List ℕ)) → IsRefusedLine code world file name line) false fault
+    → IfErr outcome (IsPerformFault (IsRefusedLine code world under observer) failed)
+start_message outcome code world under observer failed fault =
+    passed_on outcome (λ line. (file : Option NamedText) (name : Option (List ℕ)) → IsRefusedLine code world file name line) (IsRefusedLine code world under observer) failed fault
+    (λ line wrong. wrong under observer)
+
+pub under_message : {X : Type 0} (outcome : Result X PerformFault) (m lent : ModuleContents) (code world : NamedText) (under : Option NamedText) (observer : Option (List ℕ))
+    (failed : Bool) (fault : PerformFault) → AreSound code.bytes world.bytes m → lent ≡ m
+    → IsErrAnd outcome (λ other. other ≡ fault) → IsPerformFault (IsUnderLine lent under) false fault
+    → IfErr outcome (IsPerformFault (IsRefusedLine code world under observer) failed)
+under_message outcome m lent code world under observer failed fault sound is =
+    passed_on outcome (IsUnderLine lent under) (IsRefusedLine code world under observer) failed fault
+    (λ line wrong. of_hierarchy m sound (subst (λ (w : ModuleContents). IsUnderLine w under line) is wrong))
+
+-- what is reported of the hierarchy of a file is reported of one that is named
+pub named_message : {X : Type 0} (outcome : Result X PerformFault) (m : ModuleContents) (file : NamedText) (under : Option NamedText) (fault : PerformFault)
+    → under ≡ Some file → IsErrAnd outcome (λ other. other ≡ fault) → IsPerformFault (IsHierarchyLine m file) false fault
+    → IfErr outcome (IsPerformFault (IsUnderLine m under) false)
+named_message outcome m file under fault named =
+    passed_on outcome (IsHierarchyLine m file) (IsUnderLine m under) false fault (λ line wrong. (file, named, wrong))
+
+pub observer_message : {X : Type 0} (outcome : Result X PerformFault) (m : ModuleContents) (h : PrincipalHierarchy) (code world : NamedText) (under : Option NamedText)
+    (observer : Option (List ℕ)) (failed : Bool) (fault : PerformFault) → AreSound code.bytes world.bytes m → IsViewedUnder m (bytes_of under) h
     → IsErrAnd outcome (λ other. other ≡ fault) → IsPerformFault (IsObserverLine h observer) false fault
-    → IfErr outcome (IsPerformFault (IsRefusedLine code_path text_path code text observer) failed)
-observer_message outcome m h code_path text_path code text observer failed fault spelled no_defect encoded right is =
-    passed_on outcome (IsObserverLine h observer) (IsRefusedLine code_path text_path code text observer) failed fault
-    (λ line unknown. of_observer m spelled no_defect encoded right (subst (λ (hierarchy : PrincipalHierarchy). IsObserverLine hierarchy observer line) is unknown))
+    → IfErr outcome (IsPerformFault (IsRefusedLine code world under observer) failed)
+observer_message outcome m h code world under observer failed fault sound viewed =
+    passed_on outcome (IsObserverLine h observer) (IsRefusedLine code world under observer) failed fault
+    (λ line unknown. of_observer m sound h viewed unknown)
 
 -- ---- refusals
 
@@ -113,6 +132,17 @@ unwritten_status outcome P given is =
     let same = err_from_is_err_and outcome is in
     rw (same.1, same.2) (λ one. absurd (view_status given one))
 
+-- where memory ran out nothing is refused
+pub memory_message : {X : Type 0} (outcome : Result X PerformFault) (P : List ℕ → Type 0) (failed : Bool) → IfErr outcome (λ fault. fault ≡ NoMemory)
+    → IfErr outcome (IsPerformFault P failed)
+memory_message (Ok x) P failed is = tt
+memory_message (Err fault) P failed is = rw is tt
+
+pub memory_status : {X : Type 0} (outcome : Result X PerformFault) (P : Type 0) → IfErr outcome (λ fault. fault ≡ NoMemory)
+    → IfErr outcome (λ fault. status_of_fault fault ≡ 1 → P)
+memory_status (Ok x) P is = tt
+memory_status (Err fault) P is = rw is (λ one. absurd (omega (arith, one)))
+
 -- ---- tasks
 
 -- what a task reports that is silent where all is well
@@ -142,21 +172,21 @@ pub module_named : (path code path' code' : List ℕ) → path' ≡ path → cod
 module_named path code path' code' p e line message = rw (sym p, sym e) message
 
 -- what a run reports
-pub run_message : (outcome : Result Ended PerformFault) (code_path text_path code text code_path' text_path' code' text' : List ℕ)
+pub run_message : (outcome : Result Ended PerformFault) (code world code' world' : NamedText) (under under' : Option NamedText)
     (name name' : Option (List ℕ)) (steps status : ℕ) (out_failed : Bool) (old new : Option (List ℕ)) (failed : Bool)
-    → IfOk outcome (λ ended. IsEndLine code' text' name' steps ended.status (string_bytes ended.line))
-    → IfErr outcome (IsPerformFault (IsRefusedLine code_path' text_path' code' text' name') out_failed)
+    → IfOk outcome (λ ended. IsEndLine code'.bytes world'.bytes (bytes_of under') name' steps ended.status (string_bytes ended.line))
+    → IfErr outcome (IsPerformFault (IsRefusedLine code' world' under' name') out_failed)
     → MatchResult outcome (λ ended. status ≡ ended.status) (λ fault. status ≡ status_of_fault fault)
     → MatchResult outcome (λ ended. WroteLine (string_bytes ended.line) old new failed) (λ fault. WroteLine (line_of_fault fault) old new failed)
-    → code_path' ≡ code_path → text_path' ≡ text_path → code' ≡ code → text' ≡ text → name' ≡ name
-    → (line : List ℕ) × IsRunLine code_path text_path code text name steps status out_failed line × WroteLine line old new failed
-run_message (Ok ended) cp tp c t cp' tp' c' t' n n' steps status out_failed old new failed end message is out p q e f g =
-    (string_bytes ended.line, inr (inr (rw (is, sym e, sym f, sym g) end)), out)
-run_message (Err (Refused line)) cp tp c t cp' tp' c' t' n n' steps status out_failed old new failed end message is out p q e f g =
-    (string_bytes line, inl (is, rw (sym p, sym q, sym e, sym f, sym g) message), out)
-run_message (Err CannotWrite) cp tp c t cp' tp' c' t' n n' steps status out_failed old new failed end message is out p q e f g =
+    → code' ≡ code → world' ≡ world → under' ≡ under → name' ≡ name
+    → (line : List ℕ) × IsRunLine code world under name steps status out_failed line × WroteLine line old new failed
+run_message (Ok ended) c w c' w' u u' n n' steps status out_failed old new failed end message is out e f g h =
+    (string_bytes ended.line, inr (inr (rw (is, sym e, sym f, sym g, sym h) end)), out)
+run_message (Err (Refused line)) c w c' w' u u' n n' steps status out_failed old new failed end message is out e f g h =
+    (string_bytes line, inl (is, rw (sym e, sym f, sym g, sym h) message), out)
+run_message (Err CannotWrite) c w c' w' u u' n n' steps status out_failed old new failed end message is out e f g h =
     (cannot_write, inr (inl (is, inl (message, refl))), out)
-run_message (Err NoMemory) cp tp c t cp' tp' c' t' n n' steps status out_failed old new failed end message is out p q e f g =
+run_message (Err NoMemory) c w c' w' u u' n n' steps status out_failed old new failed end message is out e f g h =
     (no_memory, inr (inl (is, inr refl)), out)
 
 -- bytes that are left for a file come with no line

@@ -1,5 +1,6 @@
 -- A session of bytes that can be opened, by a host with one place, which shows what the bytes send within so many steps.
-use Rattle.std.proofs.Common.{◌≡◌, ℕ, zero, suc, ◌≤◌, ◌<◌, ◌⊎◌, List, [], ◌∷◌, length, Some, refl, sym, ap, ◌∙◌, subst, inl, inr, ⊎_elim, arith}
+use Rattle.std.proofs.Common.{◌≡◌, ℕ, zero, suc, ◌≤◌, ◌<◌, ◌⊎◌, List, [], ◌∷◌, length, Option, Some, refl, sym, ap, ◌∙◌, subst, inl, inr, ⊎_elim, arith}
+use Rattle.principals.specs.ActsFor.{PrincipalHierarchy}
 use Rattle.labels.specs.declared.sent.Pair.{Pair}
 use Rattle.modules.specs.Contents.{ModuleContents}
 use Rattle.modules.specs.Isolated.{module_view}
@@ -11,7 +12,7 @@ use Rattle.machine.specs.Run.{IsRunning, ReportsStatus, WasRunning}
 use Rattle.machine.specs.declared.status.Status.{Status}
 use Rattle.machine.specs.declared.status.Status.TheVariants as status
 use Rattle.host.specs.Laws.{Shows, ending_of}
-use Rattle.host.specs.Meaning.{Answered, CanOpen, HostAnswer, HostContents, HostEvent, Open, Opened, SessionContents, Turn, Turned, View, Viewed, first_machine, session_view, with_opened}
+use Rattle.host.specs.Meaning.{Answered, CanOpen, HostAnswer, HostContents, HostEvent, Open, Opened, SessionContents, Turn, Turned, View, Viewed, first_machine, first_session, hierarchy_under, session_view, with_opened}
 use Rattle.flowc.specs.Promises.{HasRun}
 
 -- ---- a run for at most so many steps
@@ -99,15 +100,15 @@ stop p (suc n) from rows running = by (step p from) refl (λ live. stop p n (ste
 -- ---- the session
 
 -- a session that has taken so many steps or has answered that its run has ended, and what it shows
-pub record Session (code : List ℕ) (world : List InputNumbers) (m : ModuleContents) (p steps : ℕ) : Type 0 where
+pub record Session (code : List ℕ) (world : List InputNumbers) (under : Option PrincipalHierarchy) (m : ModuleContents) (p steps : ℕ) : Type 0 where
   pub pairs : List Pair
-  pub shows : Shows code world p pairs
+  pub shows : Shows code world under p pairs
   pub has_run : HasRun shows steps
   pub taken : ℕ
-  pub sees : pairs ≡ module_view m p (sent_after m (numbers_of_channel m world) taken)
+  pub sees : pairs ≡ module_view (hierarchy_under under m) m p (sent_after m (numbers_of_channel m world) taken)
 
-module _ (code : List ℕ) (world : List InputNumbers) (m : ModuleContents) (can : CanOpen code world m) (never_stuck : IsNeverStuck m)
-    (p : ℕ) (there : p < length m.hierarchy.names) (n : ℕ) where
+module _ (code : List ℕ) (world : List InputNumbers) (under : Option PrincipalHierarchy) (m : ModuleContents) (can : CanOpen code world under m)
+    (never_stuck : IsNeverStuck m) (p : ℕ) (there : p < length (hierarchy_under under m).names) (n : ℕ) where
   run : Stop (machine_code m) n (first_machine m world)
   run = stop (machine_code m) n (first_machine m world) (never_stuck (numbers_of_channel m world)) tt
 
@@ -115,22 +116,22 @@ module _ (code : List ℕ) (world : List InputNumbers) (m : ModuleContents) (can
   empty = record { next = 0; sessions = [] }
 
   abbrev fresh : SessionContents
-  fresh = record { id = 0; program = m; machine = first_machine m world }
+  fresh = first_session 0 m world under
 
   after : Machine
   after = exec (machine_code m) run.taken (first_machine m world)
 
   abbrev moved : SessionContents
-  moved = record { id = 0; program = m; machine = after }
+  moved = record { id = 0; program = m; hierarchy = hierarchy_under under m; machine = after }
 
   abbrev opened : HostContents
-  opened = with_opened empty m world
+  opened = with_opened empty m world under
 
   abbrev turned : HostContents
   turned = record opened { sessions = moved ∷ [] }
 
   abbrev events : List HostEvent
-  events = Open code world ∷ Turn 0 n ∷ View 0 p ∷ []
+  events = Open code world under ∷ Turn 0 n ∷ View 0 p ∷ []
 
   abbrev answers : List HostAnswer
   answers = Opened 0 ∷ Turned run.taken run.stands ∷ Viewed (session_view moved p) ∷ []
@@ -147,7 +148,7 @@ module _ (code : List ℕ) (world : List InputNumbers) (m : ModuleContents) (can
     ),
   )
 
-  shows : Shows code world p (session_view moved p)
+  shows : Shows code world under p (session_view moved p)
   shows = record {
     limit = 1;
     old = empty;
@@ -186,6 +187,6 @@ module _ (code : List ℕ) (world : List InputNumbers) (m : ModuleContents) (can
       ))
       run.far
 
-  pub opened_for : Session code world m p n
+  pub opened_for : Session code world under m p n
   unfolding after
   opened_for = record { pairs = session_view moved p; shows = shows; has_run = has_run; taken = run.taken; sees = refl }

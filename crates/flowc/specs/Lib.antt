@@ -1,5 +1,6 @@
 pub mod Compiled
 pub mod Explained
+pub mod Given
 pub mod Lines
 pub mod Messages
 pub mod Promises

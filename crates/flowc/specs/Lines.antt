@@ -15,6 +15,8 @@ use Rattle.machine.specs.declared.status.Status.TheVariants as status
 use Rattle.verifier.specs.Defects.{code_defect_number, code_defect_words}
 use Rattle.verifier.specs.declared.loading.LoadRefusal.{LoadRefusal}
 use Rattle.verifier.specs.declared.loading.LoadRefusal.TheVariants.{Bytes, Code}
+use Rattle.host.specs.Defects.{refusal_number, refusal_words}
+use Rattle.host.specs.declared.fault.HostRefusal.TheVariants.{NotContained}
 use Rattle.flowc.specs.declared.fault.PerformFault.{PerformFault}
 use Rattle.flowc.specs.declared.fault.PerformFault.TheVariants.{Refused, CannotWrite, NoMemory}
 use Rattle.principals.specs.declared.fault.TheConstants.{UNKNOWN_PRINCIPAL, UNKNOWN_PRINCIPAL_WORDS}
@@ -52,7 +54,11 @@ abbrev pub text_line : (path : List ℕ) → Refusal → List ℕ
 text_line path refusal =
     at_two path refusal.at.line refusal.at.column (saying (cause_number refusal.cause) (cause_words refusal.cause))
 
--- no principal of a module has the name of an observer
+-- the hierarchy of a text does not contain that of a module
+abbrev pub not_contained_line : (path : List ℕ) → List ℕ
+not_contained_line path = at_two path 1 1 (saying (refusal_number NotContained) (refusal_words NotContained))
+
+-- no principal of a hierarchy has the name of an observer
 abbrev pub observer_line : (name : List ℕ) → List ℕ
 observer_line name = name ++ saying UNKNOWN_PRINCIPAL UNKNOWN_PRINCIPAL_WORDS.now
 

@@ -5,7 +5,8 @@ use Rattle.std.specs.Io.KnownBytes.{Appends}
 use Rattle.std.specs.String.{string_bytes}
 use Rattle.std.specs.declared.alloc.Global.{Global}
 use Rattle.std.specs.declared.vec.Vec.{Vec}
-use Rattle.principals.specs.ActsFor.{PrincipalHierarchy, HasName}
+use Rattle.principals.specs.ActsFor.{PrincipalHierarchy, ContainsHierarchy, HasName}
+use Rattle.acceptance.specs.Accepted.{HasHierarchy}
 use Rattle.modules.specs.Contents.{ModuleContents}
 use Rattle.modules.specs.Form.{Spells}
 use Rattle.modules.specs.Format.{module_file}
@@ -14,7 +15,7 @@ use Rattle.channels.specs.Sink.{AppendsPrefix}
 use Rattle.channels.specs.World.{input_names}
 use Rattle.channels.specs.WorldText.{IsWorldRefusal, IsWorldText, lines_of}
 use Rattle.channels.specs.declared.defect.WorldRefusal.{WorldRefusal}
-use Rattle.checker.specs.Reported.{IsFirstFault, text_among}
+use Rattle.checker.specs.Reported.{IsFirstFault, IsHierarchyFault, text_among}
 use Rattle.checker.specs.declared.fault.Refusal.{Refusal}
 use Rattle.machine.specs.Run.{ReportsStatus}
 use Rattle.machine.specs.declared.status.Status.{Status}
@@ -23,9 +24,9 @@ use Rattle.verifier.specs.Loaded.{CannotLoad}
 use Rattle.verifier.specs.declared.loading.LoadRefusal.{LoadRefusal}
 use Rattle.command_line.specs.declared.request.Task.{Task}
 use Rattle.command_line.specs.declared.request.Task.TheVariants.{Check, Build, Run, Explain, List as ListModule}
-use Rattle.flowc.specs.Compiled.{bytes_at}
-use Rattle.flowc.specs.Lines.{cannot_write, encoding_line, end_line, module_line, no_memory, observer_line, text_line, world_line}
-use Rattle.flowc.specs.Stdout.{CanRun, numbers_in}
+use Rattle.flowc.specs.Compiled.{NamedText, bytes_at, bytes_of, text_at}
+use Rattle.flowc.specs.Lines.{cannot_write, encoding_line, end_line, module_line, no_memory, not_contained_line, observer_line, text_line, world_line}
+use Rattle.flowc.specs.Stdout.{CanRun, IsViewedUnder, numbers_in}
 use Rattle.flowc.specs.Task.{reported_status}
 
 -- a line was written: all of it, or a prefix of it where the stream failed
@@ -52,6 +53,17 @@ pub data IsWorldLine (program : ModuleContents) (path text line : List ℕ) : Ty
   no_text : ¬ IsUtf8 text → line ≡ encoding_line path → IsWorldLine program path text line
   wrong : (refusal : WorldRefusal) → IsUtf8 text → IsWorldRefusal (input_names program) (lines_of text) refusal → line ≡ world_line path refusal → IsWorldLine program path text line
 
+-- the line reports why a text has no hierarchy, or says that its hierarchy does not contain that of a module
+pub data IsHierarchyLine (program : ModuleContents) (file : NamedText) (line : List ℕ) : Type 0 where
+  no_hierarchy : (refusal : Refusal) → IsHierarchyFault file.bytes refusal → line ≡ text_line file.path refusal
+      → IsHierarchyLine program file line
+  not_contained : (hierarchy : PrincipalHierarchy) → HasHierarchy file.bytes hierarchy
+      → ¬ ContainsHierarchy hierarchy program.hierarchy → line ≡ not_contained_line file.path → IsHierarchyLine program file line
+
+-- the same of a hierarchy that is named
+abbrev pub IsUnderLine : ModuleContents → (under : Option NamedText) → (line : List ℕ) → Type 0
+IsUnderLine program under line = (file : NamedText) × (under ≡ Some file) × IsHierarchyLine program file line
+
 -- the line says that no principal has the name of the observer
 pub record IsObserverLine (hierarchy : PrincipalHierarchy) (observer : Option (List ℕ)) (line : List ℕ) : Type 0 where
   pub name : List ℕ
@@ -59,12 +71,24 @@ pub record IsObserverLine (hierarchy : PrincipalHierarchy) (observer : Option (L
   pub unknown : (principal : ℕ) → ¬ HasName hierarchy principal name
   pub says : line ≡ observer_line name
 
--- the line says why nothing can be run: the module is wrong; or it is right, and the world is wrong for it; or both are right,
--- and the observer is none of its principals
-pub data IsRefusedLine (code_path text_path code text : List ℕ) (observer : Option (List ℕ)) (line : List ℕ) : Type 0 where
-  of_module : IsModuleLine code_path code line → IsRefusedLine code_path text_path code text observer line
-  of_world : (program : ModuleContents) → Spells module_file program code → HasNoDefect program → IsWorldLine program text_path text line → IsRefusedLine code_path text_path code text observer line
-  of_observer : (program : ModuleContents) → Spells module_file program code → HasNoDefect program → IsUtf8 text → IsWorldText (input_names program) (lines_of text) → IsObserverLine program.hierarchy observer line → IsRefusedLine code_path text_path code text observer line
+-- a module and a world for it
+pub record AreSound (code text : List ℕ) (program : ModuleContents) : Type 0 where
+  pub spelled : Spells module_file program code
+  pub no_defect : HasNoDefect program
+  pub encoded : IsUtf8 text
+  pub right : IsWorldText (input_names program) (lines_of text)
+
+-- the line says why nothing can be run: the module is wrong; or it is right, and the world is wrong for it; or both are right, and
+-- the hierarchy that is named is wrong for the module; or all are right, and the observer is none of the hierarchy's principals
+pub data IsRefusedLine (code world : NamedText) (under : Option NamedText) (observer : Option (List ℕ)) (line : List ℕ) : Type 0 where
+  of_module : IsModuleLine code.path code.bytes line → IsRefusedLine code world under observer line
+  of_world : (program : ModuleContents) → Spells module_file program code.bytes → HasNoDefect program
+      → IsWorldLine program world.path world.bytes line → IsRefusedLine code world under observer line
+  of_hierarchy : (program : ModuleContents) → AreSound code.bytes world.bytes program → IsUnderLine program under line
+      → IsRefusedLine code world under observer line
+  of_observer : (program : ModuleContents) → AreSound code.bytes world.bytes program → (hierarchy : PrincipalHierarchy)
+      → IsViewedUnder program (bytes_of under) hierarchy → IsObserverLine hierarchy observer line
+      → IsRefusedLine code world under observer line
 
 -- ---- other lines
 
@@ -78,11 +102,12 @@ reported_line program None end = end_line program.exceptions end
 reported_line program (Some principal) end = []
 
 -- the line reports the end that a run had come to after at most so many steps, and to an observer nothing
-pub record IsEndLine (code text : List ℕ) (observer : Option (List ℕ)) (steps status : ℕ) (line : List ℕ) : Type 0 where
+pub record IsEndLine (code text : List ℕ) (under observer : Option (List ℕ)) (steps status : ℕ) (line : List ℕ) : Type 0 where
   pub program : ModuleContents
+  pub hierarchy : PrincipalHierarchy
   pub principal : Option ℕ
   pub taken : ℕ
-  pub can_run : CanRun code text observer program principal
+  pub can_run : CanRun code text under observer program hierarchy principal
   pub within : taken ≤ steps
   pub end : Status
   pub ended : ReportsStatus (machine_code program) steps taken end (after_steps program (numbers_in program text) taken)
@@ -104,10 +129,11 @@ IsCompilingLine hierarchy_path source_path hierarchy source =
     IsFaultLine (IsTextsLine hierarchy_path source_path hierarchy source)
 
 -- the line of a run: with status 1 that of a refusal, else that of its end or that it was not done
-abbrev pub IsRunLine : (code_path text_path code text : List ℕ) → (observer : Option (List ℕ)) → (steps status : ℕ) → (out_failed : Bool) → (line : List ℕ) → Type 0
-IsRunLine code_path text_path code text observer steps status out_failed line =
-    ((status ≡ 1) × IsRefusedLine code_path text_path code text observer line)
-    ⊎ (IsFailureLine status out_failed line ⊎ IsEndLine code text observer steps status line)
+abbrev pub IsRunLine : (code world : NamedText) (under : Option NamedText) (observer : Option (List ℕ)) → (steps status : ℕ)
+    → (out_failed : Bool) → (line : List ℕ) → Type 0
+IsRunLine code world under observer steps status out_failed line =
+    ((status ≡ 1) × IsRefusedLine code world under observer line)
+    ⊎ (IsFailureLine status out_failed line ⊎ IsEndLine code.bytes world.bytes (bytes_of under) observer steps status line)
 
 -- the line with which a task ends with this status; a build writes nothing to standard output that could fail
 abbrev pub IsTaskLine : Task → List (Vec ℕ Global) → (status : ℕ) → (out_failed : Bool) → (line : List ℕ) → Type 0
@@ -115,8 +141,9 @@ IsTaskLine (Check hierarchy source) files status out_failed line =
     IsCompilingLine (string_bytes hierarchy) (string_bytes source) (bytes_at files 0) (bytes_at files 1) status out_failed line
 IsTaskLine (Build hierarchy source out) files status out_failed line =
     IsCompilingLine (string_bytes hierarchy) (string_bytes source) (bytes_at files 0) (bytes_at files 1) status false line
-IsTaskLine (Run file world observer steps) files status out_failed line =
-    IsRunLine (string_bytes file) (string_bytes world) (bytes_at files 0) (bytes_at files 1) (option_map string_bytes observer) steps status out_failed line
+IsTaskLine (Run file world under observer steps) files status out_failed line =
+    IsRunLine (text_at file files 0) (text_at world files 1) (option_map (λ path. text_at path files 2) under)
+    (option_map string_bytes observer) steps status out_failed line
 IsTaskLine (ListModule file) files status out_failed line =
     IsFaultLine (IsModuleLine (string_bytes file) (bytes_at files 0)) status out_failed line
 IsTaskLine (Explain hierarchy source) files status out_failed line =

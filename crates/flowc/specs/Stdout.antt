@@ -1,10 +1,12 @@
 -- What a task shows on standard output, and with which status it ends.
 -- Source: our own.
-use Rattle.std.specs.Prelude.{◌≡◌, ◌≤◌, ◌⊎◌, ℕ, ℤ, List, Option, option_map, codes, IsUtf8}
+use Rattle.std.specs.Prelude.{◌≡◌, ◌≤◌, ◌⊎◌, ℕ, ℤ, List, Option, Some, None, option_map, codes, IsUtf8}
 use Rattle.std.specs.Io.KnownBytes.{Appends}
 use Rattle.std.specs.String.{string_bytes}
 use Rattle.std.specs.declared.alloc.Global.{Global}
 use Rattle.std.specs.declared.vec.Vec.{Vec}
+use Rattle.principals.specs.ActsFor.{PrincipalHierarchy, ContainsHierarchy}
+use Rattle.acceptance.specs.Accepted.{HasHierarchy}
 use Rattle.labels.specs.Sent.{IsPrefix}
 use Rattle.modules.specs.Contents.{ModuleContents}
 use Rattle.modules.specs.Form.{Spells}
@@ -19,7 +21,7 @@ use Rattle.machine.specs.Run.{ReportsStatus}
 use Rattle.machine.specs.declared.status.Status.{Status}
 use Rattle.command_line.specs.declared.request.Task.{Task}
 use Rattle.command_line.specs.declared.request.Task.TheVariants.{Check, Build, Run, Explain, List as ListModule}
-use Rattle.flowc.specs.Compiled.{bytes_at}
+use Rattle.flowc.specs.Compiled.{bytes_at, bytes_of, text_at}
 use Rattle.flowc.specs.Explained.{Explains, ExplainsRefusal, ExplainsSome}
 use Rattle.flowc.specs.Task.{reported_status}
 use Rattle.flowc.specs.View.{IsObserver, observer_view, view_text}
@@ -28,49 +30,61 @@ use Rattle.flowc.specs.View.{IsObserver, observer_view, view_text}
 abbrev pub numbers_in : ModuleContents → List ℕ → ℕ → List ℤ
 numbers_in program text = numbers_of_channel program (world_of (input_names program) (lines_of text))
 
--- the text of what is shown of a run on the world of a text after so many steps
-abbrev pub text_shown : ModuleContents → (world : List ℕ) → (principal : Option ℕ) → (taken : ℕ) → List ℕ
-text_shown program world principal taken = view_text program (observer_view program principal (sent_after program (numbers_in program world) taken))
+-- the text of what is shown under a hierarchy of a run on the world of a text after so many steps
+abbrev pub text_shown : PrincipalHierarchy → ModuleContents → (world : List ℕ) → (principal : Option ℕ) → (taken : ℕ) → List ℕ
+text_shown hierarchy program world principal taken =
+    view_text program (observer_view hierarchy program principal (sent_after program (numbers_in program world) taken))
 
--- what can be run for an observer: the bytes of a module without a defect, a world for it, and one of its principals
-pub record CanRun (code text : List ℕ) (observer : Option (List ℕ)) (program : ModuleContents) (principal : Option ℕ) : Type 0 where
+-- the hierarchy whose principals view a run: the module's own, or that of a text, which contains the module's
+abbrev pub IsViewedUnder : ModuleContents → (under : Option (List ℕ)) → PrincipalHierarchy → Type 0
+IsViewedUnder program None hierarchy = hierarchy ≡ program.hierarchy
+IsViewedUnder program (Some text) hierarchy = HasHierarchy text hierarchy × ContainsHierarchy hierarchy program.hierarchy
+
+-- what can be run for an observer: the bytes of a module without a defect, a world for it, a hierarchy that contains its own where
+-- one is named, and a principal of the hierarchy
+pub record CanRun (code text : List ℕ) (under observer : Option (List ℕ)) (program : ModuleContents) (hierarchy : PrincipalHierarchy)
+    (principal : Option ℕ) : Type 0 where
   pub spelled : Spells module_file program code
   pub no_defect : HasNoDefect program
   pub encoded : IsUtf8 text
   pub right : IsWorldText (input_names program) (lines_of text)
-  pub observed : IsObserver program.hierarchy observer principal
+  pub viewed : IsViewedUnder program under hierarchy
+  pub observed : IsObserver hierarchy observer principal
 
 -- nothing can be run
-abbrev pub CannotRun : List ℕ → List ℕ → Option (List ℕ) → Type 0
-CannotRun code text observer =
-    (program : ModuleContents) (principal : Option ℕ) → ¬ CanRun code text observer program principal
+abbrev pub CannotRun : (code text : List ℕ) (under observer : Option (List ℕ)) → Type 0
+CannotRun code text under observer =
+    (program : ModuleContents) (hierarchy : PrincipalHierarchy) (principal : Option ℕ)
+    → ¬ CanRun code text under observer program hierarchy principal
 
 -- a run was shown: at most so many steps were taken, and what was written is the view that the observer has of what was sent by
 -- then; the status reports the end, but not to an observer
-pub record ShowsRun (code text : List ℕ) (observer : Option (List ℕ)) (steps status : ℕ) (old new : Option (List ℕ)) : Type 0 where
+pub record ShowsRun (code text : List ℕ) (under observer : Option (List ℕ)) (steps status : ℕ) (old new : Option (List ℕ)) : Type 0 where
   pub program : ModuleContents
+  pub hierarchy : PrincipalHierarchy
   pub principal : Option ℕ
   pub taken : ℕ
-  pub can_run : CanRun code text observer program principal
+  pub can_run : CanRun code text under observer program hierarchy principal
   pub within : taken ≤ steps
-  pub view : Appends old new (text_shown program text principal taken)
+  pub view : Appends old new (text_shown hierarchy program text principal taken)
   pub end : Status
   pub ended : ReportsStatus (machine_code program) steps taken end (after_steps program (numbers_in program text) taken)
   pub reported : status ≡ reported_status principal end
 
 -- a text shows nothing else than a run on the world: it is a prefix of what is shown of the run after at most so many steps
-pub record IsShown (code text : List ℕ) (observer : Option (List ℕ)) (steps : ℕ) (out : List ℕ) : Type 0 where
+pub record IsShown (code text : List ℕ) (under observer : Option (List ℕ)) (steps : ℕ) (out : List ℕ) : Type 0 where
   pub program : ModuleContents
+  pub hierarchy : PrincipalHierarchy
   pub principal : Option ℕ
   pub taken : ℕ
-  pub can_run : CanRun code text observer program principal
+  pub can_run : CanRun code text under observer program hierarchy principal
   pub within : taken ≤ steps
-  pub prefix : IsPrefix out (text_shown program text principal taken)
+  pub prefix : IsPrefix out (text_shown hierarchy program text principal taken)
 
 -- where a stream failed or memory ran out, nothing was written, or a text that shows nothing else than the run
-abbrev pub ShowsSome : (code text : List ℕ) (observer : Option (List ℕ)) (steps : ℕ) (old new : Option (List ℕ)) → Type 0
-ShowsSome code text observer steps old new =
-    (old ≡ new) ⊎ ((out : List ℕ) × IsShown code text observer steps out × Appends old new out)
+abbrev pub ShowsSome : (code text : List ℕ) (under observer : Option (List ℕ)) (steps : ℕ) (old new : Option (List ℕ)) → Type 0
+ShowsSome code text under observer steps old new =
+    (old ≡ new) ⊎ ((out : List ℕ) × IsShown code text under observer steps out × Appends old new out)
 
 -- what can be listed: the bytes of a module without a defect
 pub record CanList (code : List ℕ) (program : ModuleContents) : Type 0 where
@@ -100,12 +114,14 @@ WritesStdout (Check hierarchy source) files status old new =
     ((status ≡ 1) × (old ≡ new))
     ⊎ (((status ≡ 3) × AppendsPrefix old new (codes "ok\n")) ⊎ ((status ≡ 0) × Appends old new (codes "ok\n")))
 WritesStdout (Build hierarchy source out) files status old new = old ≡ new
-WritesStdout (Run file world observer steps) files status old new =
+WritesStdout (Run file world under observer steps) files status old new =
     let code = bytes_at files 0 in
     let text = bytes_at files 1 in
+    let hierarchy = bytes_of (option_map (λ path. text_at path files 2) under) in
     let name = option_map string_bytes observer in
-    ((status ≡ 1) × (old ≡ new) × CannotRun code text name)
-    ⊎ (((status ≡ 3) × ShowsSome code text name steps old new) ⊎ ShowsRun code text name steps status old new)
+    ((status ≡ 1) × (old ≡ new) × CannotRun code text hierarchy name)
+    ⊎ (((status ≡ 3) × ShowsSome code text hierarchy name steps old new)
+    ⊎ ShowsRun code text hierarchy name steps status old new)
 WritesStdout (ListModule file) files status old new =
     let code = bytes_at files 0 in
     ((status ≡ 1) × (old ≡ new) × CannotList code)

@@ -20,7 +20,7 @@ files_of task = length (paths_of task)
 abbrev pub makes_file : Task → Bool
 makes_file (Check hierarchy source) = false
 makes_file (Build hierarchy source out) = true
-makes_file (Run file world observer steps) = false
+makes_file (Run file world under observer steps) = false
 makes_file (ListModule file) = false
 makes_file (Explain hierarchy source) = false
 
@@ -28,7 +28,7 @@ makes_file (Explain hierarchy source) = false
 abbrev pub reads_source : Task → Bool
 reads_source (Check hierarchy source) = true
 reads_source (Build hierarchy source out) = true
-reads_source (Run file world observer steps) = false
+reads_source (Run file world under observer steps) = false
 reads_source (ListModule file) = false
 reads_source (Explain hierarchy source) = true
 
@@ -67,7 +67,7 @@ is_end_status status = (status == 4) || ((status == 5) || (status == 6))
 abbrev pub may_end : Task → ℕ → Bool
 may_end (Check hierarchy source) status = is_plain_status status
 may_end (Build hierarchy source out) status = is_plain_status status
-may_end (Run file world None steps) status = is_plain_status status || is_end_status status
-may_end (Run file world (Some observer) steps) status = is_plain_status status
+may_end (Run file world under None steps) status = is_plain_status status || is_end_status status
+may_end (Run file world under (Some observer) steps) status = is_plain_status status
 may_end (ListModule file) status = is_plain_status status
 may_end (Explain hierarchy source) status = is_plain_status status

@@ -30,7 +30,9 @@ pub fn silent_modules_show_less()
 pub fn sessions_are_isolated()
     ensures { SessionsAreIsolated }
 {
+    bytecode::laws::one_spelling();
     host::laws::sessions_are_isolated();
+    host::laws::sessions_are_fresh_runs();
 }
 
 /// What the program shows an observer. On standard output: where compiled bytes are run twice for it, on worlds that agree for it,
@@ -45,6 +47,7 @@ pub fn runs_are_isolated()
 {
     bytecode::laws::one_spelling();
     bytecode::laws::spellings_are_not_refused();
+    principals::laws::one_reading();
 }
 
 /// What the program says of the end of a run of compiled bytes, without an observer, is true of the source: the line has the

@@ -8,6 +8,7 @@ use acceptance::Cause;
 use bytecode::FormatRefusal;
 use channels::WorldRefusal;
 use checker::Refusal;
+use host::HostRefusal;
 use principals::{UNKNOWN_PRINCIPAL, UNKNOWN_PRINCIPAL_WORDS};
 use std::alloc::{AllocError, Global};
 use verifier::{CodeRefusal, LoadRefusal};
@@ -87,7 +88,15 @@ pub fn text_line(alloc: Global, path: &str, refusal: &Refusal) -> Result<String,
     line_at_two(alloc, path, at.line, at.column, number, words)
 }
 
-/// The line that says that no principal of a module has the name of an observer.
+/// The line that says that the hierarchy of a text does not contain that of a module.
+pub fn not_contained_line(alloc: Global, path: &str) -> Result<String, AllocError>
+    ensures { IfOk result (λ line. string_bytes line ≡ lines.not_contained_line path.now) }
+{
+    let refusal = HostRefusal::NotContained;
+    line_at_two(alloc, path, 1, 1, refusal.number(), refusal.words())
+}
+
+/// The line that says that no principal of a hierarchy has the name of an observer.
 pub fn observer_line(alloc: Global, name: &str) -> Result<String, AllocError>
     ensures { IfOk result (λ line. string_bytes line ≡ lines.observer_line name.now) }
 {

@@ -3,66 +3,173 @@
 ghost use Rattle.modules.specs.Contents.{ModuleContents};
 ghost use Rattle.modules.specs.Form.{Spells};
 ghost use Rattle.modules.specs.Format.{module_file};
-ghost use Rattle.modules.specs.Machine.{Running, first_state};
+ghost use Rattle.modules.specs.Machine.{Running, first_state, sent_of};
 ghost use Rattle.channels.specs.World.{input_names};
 ghost use Rattle.channels.specs.WorldText.{IsWorldText, lines_of};
+ghost use Rattle.channels.specs.View.{ShowsAll, ShowsPrefix};
+ghost use Rattle.common.specs.Answers.{IfRefused};
+ghost use Rattle.flowc.specs.Compiled.{NamedText, bytes_of};
+ghost use Rattle.flowc.specs.Given.{text_of};
 ghost use Rattle.flowc.specs.Lines.{IsPerformFault};
-ghost use Rattle.flowc.specs.Stdout.{CannotRun, ShowsRun, ShowsSome, numbers_in};
-ghost use Rattle.flowc.specs.Messages.{IsEndLine, IsObserverLine, IsRefusedLine, reported_line};
+ghost use Rattle.flowc.specs.Stdout.{CannotRun, IsViewedUnder, ShowsRun, ShowsSome, numbers_in};
+ghost use Rattle.flowc.specs.Messages.{IsEndLine, IsHierarchyLine, IsObserverLine, IsRefusedLine, IsUnderLine, reported_line};
 ghost use Rattle.flowc.specs.Task.{reported_status, status_of_fault};
 ghost use Rattle.flowc.specs.View.{IsObserver};
 ghost use Rattle.flowc.specs.declared.fault.PerformFault.TheVariants.{NoMemory};
+ghost use Rattle.host.specs.Meaning.{IsContained, hierarchy_under};
 ghost use Rattle.machine.specs.Run.{machine_of};
-ghost use Rattle.std.specs.Prelude.{◌≡◌, IfErr, IfOk, IsUtf8, List, ℕ, OnErr, OnOk, Option, false, option_map};
+ghost use Rattle.principals.specs.ActsFor.{PrincipalHierarchy};
+ghost use Rattle.std.specs.Prelude.{◌≡◌, IfErr, IfOk, IsTrue, IsUtf8, List, ℕ, OnErr, OnOk, Option, Some, false, option_map};
 ghost use Rattle.std.specs.String.{string_bytes};
 ghost use Rattle.verifier.specs.Refusals.{HasNoDefect};
 ghost use Rattle.verifier.specs.Loaded.{IsLoaded};
 
 use crate::ended::Ended;
 use crate::fault::PerformFault;
-use crate::messages::observer_line;
+use crate::messages::{not_contained_line, observer_line, text_line};
 use crate::reading::{File, read_module, read_world};
-use channels::{Sink, write_view};
+use channels::{Sink, ViewFault, write_view, write_view_under};
+use checker::read_hierarchy;
 use common::OrNoMemory;
 use machine::{Machine, NewRefusal, Status};
 use modules::Module;
 use principals::Hierarchy;
+use principals::laws::one_reading;
 use resolved::exceptions::exception_name;
 use std::alloc::Global;
 
-/// Runs a module on a world for at most so many steps, and writes what it sent: all of it, or what the observer may read.
+/// What a run reads: the files of a module and of a world, and of a hierarchy where one is named.
+#[derive(Clone, Copy)]
+pub struct RunFiles<'a> {
+    pub code: File<'a>,
+    pub world: File<'a>,
+    pub under: Option<File<'a>>,
+}
+
+/// Runs a module on a world for at most so many steps, and writes what it sent: all of it, or what the observer may read, who is a
+/// principal of the module's hierarchy, or of the one that is named, which contains it.
 pub fn run<O: Sink>(
     alloc: Global,
-    code: File<'_>,
-    world: File<'_>,
+    files: RunFiles<'_>,
     observer: Option<&str>,
     steps: u64,
     out: &mut O,
 ) -> Result<Ended, PerformFault>
     ensures stdout { IfOk result (λ ended. ShowsRun
-        code.entry.bytes.now world.entry.bytes.now (option_map (λ name. name.now) observer.entry)
+        files.entry.code.bytes.now files.entry.world.bytes.now
+        (bytes_of (option_map text_of files.entry.under))
+        (option_map (λ name. name.now) observer.entry)
         steps ended.status (O.taken out.old) (O.taken out.new)) }
     ensures prefix { OnErr result (ShowsSome
-        code.entry.bytes.now world.entry.bytes.now (option_map (λ name. name.now) observer.entry)
+        files.entry.code.bytes.now files.entry.world.bytes.now
+        (bytes_of (option_map text_of files.entry.under))
+        (option_map (λ name. name.now) observer.entry)
         steps (O.taken out.old) (O.taken out.new)) }
     ensures rejected { IfErr result (λ fault. status_of_fault fault ≡ 1 → CannotRun
-        code.entry.bytes.now world.entry.bytes.now
+        files.entry.code.bytes.now files.entry.world.bytes.now
+        (bytes_of (option_map text_of files.entry.under))
         (option_map (λ name. name.now) observer.entry)) }
     ensures unchanged { IfErr result (λ fault. status_of_fault fault ≡ 1 →
         O.taken out.old ≡ O.taken out.new) }
     ensures end { IfOk result (λ ended. IsEndLine
-        code.entry.bytes.now world.entry.bytes.now (option_map (λ name. name.now) observer.entry)
+        files.entry.code.bytes.now files.entry.world.bytes.now
+        (bytes_of (option_map text_of files.entry.under))
+        (option_map (λ name. name.now) observer.entry)
         steps ended.status (string_bytes ended.line)) }
     ensures message { IfErr result (IsPerformFault (IsRefusedLine
-        code.entry.path.now world.entry.path.now code.entry.bytes.now world.entry.bytes.now
-        (option_map (λ name. name.now) observer.entry)) (O.has_failed out.new)) }
+        (text_of files.entry.code) (text_of files.entry.world)
+        (option_map text_of files.entry.under) (option_map (λ name. name.now) observer.entry))
+        (O.has_failed out.new)) }
 {
-    let mut machine = start(alloc, code, world)?;
-    let principal = principal_of(alloc, machine.module().hierarchy(), observer)?;
+    one_reading();
+    let mut machine = start(alloc, files.code, files.world)?;
+    let larger = read_under(alloc, machine.module(), files.under)?;
+    let principal = principal_of(alloc, machine.module(), &larger, observer)?;
     let (_, status) = machine.run(steps);
-    let program = machine.module();
-    write_view(alloc, machine.sent(), program, principal, out)?;
-    report_end(alloc, program, principal, status)
+    show(alloc, &machine, &larger, principal, out)?;
+    report_end(alloc, machine.module(), principal, status)
+}
+
+// The hierarchy of a file, if one is named, which has to contain that of a module.
+fn read_under(
+    alloc: Global,
+    program: &Module,
+    under: Option<File<'_>>,
+) -> Result<Option<Hierarchy>, PerformFault>
+    ensures accepted { IfOk result (λ larger. IsViewedUnder program.now
+        (bytes_of (option_map text_of under.entry)) (hierarchy_under larger program.now)) }
+    ensures contained { IfOk result (IsContained program.now) }
+    ensures rejected { IfErr result (λ fault. status_of_fault fault ≡ 1 →
+        (hierarchy : PrincipalHierarchy) →
+        ¬ IsViewedUnder program.now (bytes_of (option_map text_of under.entry)) hierarchy) }
+    ensures message { IfErr result (IsPerformFault
+        (IsUnderLine program.now (option_map text_of under.entry)) false) }
+{
+    match under {
+        Some(file) => Ok(Some(read_larger(alloc, program, file)?)),
+        None => Ok(None),
+    }
+}
+
+// The hierarchy of a file, which has to contain that of a module.
+fn read_larger(alloc: Global, program: &Module, file: File<'_>) -> Result<Hierarchy, PerformFault>
+    ensures accepted { IfOk result
+        (IsViewedUnder program.now (Some file.entry.bytes.now)) }
+    ensures rejected { IfErr result (λ fault. status_of_fault fault ≡ 1 →
+        (hierarchy : PrincipalHierarchy) →
+        ¬ IsViewedUnder program.now (Some file.entry.bytes.now) hierarchy) }
+    ensures message { IfErr result (IsPerformFault
+        (IsHierarchyLine program.now (text_of file.entry)) false) }
+{
+    one_reading();
+    let path = file.path;
+    match read_hierarchy(alloc, file.bytes) {
+        Ok(hierarchy) => {
+            if hierarchy.contains(program.hierarchy()) {
+                Ok(hierarchy)
+            } else {
+                Err(PerformFault::Refused(not_contained_line(alloc, path)?))
+            }
+        }
+        Err(OrNoMemory::NoMemory) => Err(PerformFault::NoMemory),
+        Err(OrNoMemory::Refused(refusal)) => {
+            Err(PerformFault::Refused(text_line(alloc, path, &refusal)?))
+        }
+    }
+}
+
+// The hierarchy whose principals view a run of a module: the one that is given, or else the module's own.
+fn viewing<'a>(program: &'a Module, larger: &'a Option<Hierarchy>) -> &'a Hierarchy
+    ensures { result.now ≡ hierarchy_under larger.now program.now }
+{
+    match larger {
+        Some(hierarchy) => hierarchy,
+        None => program.hierarchy(),
+    }
+}
+
+// Writes what a machine has sent so far: all of it, or what a principal of the viewing hierarchy may read.
+fn show<O: Sink>(
+    alloc: Global,
+    machine: &Machine,
+    larger: &Option<Hierarchy>,
+    principal: Option<u32>,
+    out: &mut O,
+) -> Result<(), ViewFault>
+    requires contained { IsContained machine.now.program larger.now }
+    ensures accepted { OnOk result (ShowsAll (hierarchy_under larger.now machine.now.program)
+        machine.now.program principal (sent_of (machine_of machine.now))
+        (O.taken out.old) (O.taken out.new)) }
+    ensures prefix { OnErr result (ShowsPrefix (hierarchy_under larger.now machine.now.program)
+        machine.now.program principal (sent_of (machine_of machine.now))
+        (O.taken out.old) (O.taken out.new)) }
+    ensures rejected { IfErr result (IfRefused (λ _. IsTrue (O.has_failed out.new))) }
+{
+    let (sent, program) = (machine.sent(), machine.module());
+    match larger {
+        Some(hierarchy) => write_view_under(alloc, sent, program, hierarchy, principal, out),
+        None => write_view(alloc, sent, program, principal, out),
+    }
 }
 
 // The machine of a file's module at its start on the world of another file.
@@ -73,9 +180,9 @@ fn start(alloc: Global, code: File<'_>, world: File<'_>) -> Result<Machine, Perf
         (program : ModuleContents) → Spells module_file program code.entry.bytes.now →
         HasNoDefect program → IsUtf8 world.entry.bytes.now → ¬ IsWorldText (input_names program)
         (lines_of world.entry.bytes.now)) }
-    ensures message { IfErr result (IsPerformFault (λ line. (observer : Option (List ℕ)) →
-        IsRefusedLine code.entry.path.now world.entry.path.now code.entry.bytes.now
-        world.entry.bytes.now observer line) false) }
+    ensures message { IfErr result (IsPerformFault (λ line.
+        (under : Option NamedText) (observer : Option (List ℕ)) →
+        IsRefusedLine (text_of code.entry) (text_of world.entry) under observer line) false) }
     ensures right { IfOk result (λ machine. IsWorldText (input_names machine.program)
         (lines_of world.entry.bytes.now)) }
     ensures first { IfOk result (λ machine. machine_of machine
@@ -92,23 +199,26 @@ fn start(alloc: Global, code: File<'_>, world: File<'_>) -> Result<Machine, Perf
     }
 }
 
-// The number of the principal who observes, if one is named.
+// The number of the principal who observes a run of a module, if one is named.
 fn principal_of(
     alloc: Global,
-    hierarchy: &Hierarchy,
+    program: &Module,
+    larger: &Option<Hierarchy>,
     observer: Option<&str>,
 ) -> Result<Option<u32>, PerformFault>
-    ensures found { IfOk result (λ principal. IsObserver hierarchy.now
+    ensures found { IfOk result (λ principal. IsObserver (hierarchy_under larger.now program.now)
         (option_map (λ name. name.now) observer.entry) principal) }
     ensures rejected { IfErr result (λ fault. status_of_fault fault ≡ 1 → (principal : Option ℕ) →
-        ¬ IsObserver hierarchy.now (option_map (λ name. name.now) observer.entry) principal) }
+        ¬ IsObserver (hierarchy_under larger.now program.now)
+        (option_map (λ name. name.now) observer.entry) principal) }
     ensures message { IfErr result (IsPerformFault
-        (IsObserverLine hierarchy.now (option_map (λ name. name.now) observer.entry)) false) }
+        (IsObserverLine (hierarchy_under larger.now program.now)
+        (option_map (λ name. name.now) observer.entry)) false) }
 {
     let Some(name) = observer else {
         return Ok(None);
     };
-    match hierarchy.find(name) {
+    match viewing(program, larger).find(name) {
         Some(number) => Ok(Some(number)),
         None => Err(PerformFault::Refused(observer_line(alloc, name)?)),
     }

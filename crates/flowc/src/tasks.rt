@@ -1,9 +1,11 @@
-ghost use Rattle.flowc.specs.Compiled.{HoldsProgram, IsBuilt, bytes_at};
+ghost use Rattle.command_line.specs.Task.{path_if_given};
+ghost use Rattle.flowc.specs.Compiled.{HoldsProgram, IsBuilt, bytes_at, text_at};
+ghost use Rattle.flowc.specs.Given.{text_of};
 ghost use Rattle.flowc.specs.Lines.{line_of_fault};
 ghost use Rattle.flowc.specs.Messages.{WritesMessage, WroteLine};
 ghost use Rattle.flowc.specs.Stdout.{WritesStdout};
 ghost use Rattle.flowc.specs.Task.{files_of, makes_file, may_end, reads_source, status_of_fault};
-ghost use Rattle.std.specs.Prelude.{[], ◌≡◌, ◌≤◌, ◌<◌, ◌↔◌, IfSome, IsSome, IsTrue, MatchResult, None, length, option_map};
+ghost use Rattle.std.specs.Prelude.{[], ◌≡◌, ◌+◌, ◌≤◌, ◌<◌, ◌↔◌, IfSome, IsSome, IsTrue, MatchResult, None, length, option_map};
 ghost use Rattle.std.specs.String.{string_bytes};
 
 use crate::ended::Ended;
@@ -11,7 +13,7 @@ use crate::explain::explain;
 use crate::fault::PerformFault;
 use crate::list::list_module;
 use crate::reading::File;
-use crate::running::run;
+use crate::running::{RunFiles, run};
 use crate::texts::{build, check};
 use channels::{Sink, write_all};
 use command_line::Task;
@@ -63,11 +65,12 @@ pub fn perform<O: Sink, E: Sink>(
         Task::Run {
             file,
             world,
+            under,
             observer,
             steps,
         } => {
-            let (code, world) = (file_at(file, files, 0), file_at(world, files, 1));
-            finish(run(alloc, code, world, name_of(observer), *steps, out), err)
+            let read = run_files(file, world, under, files);
+            finish(run(alloc, read, name_of(observer), *steps, out), err)
         }
         Task::List { file } => finish(list_module(alloc, file_at(file, files, 0), out), err),
         Task::Explain { hier, src } => {
@@ -93,6 +96,29 @@ fn file_at<'a>(path: &'a String, files: &'a [Vec<u8>], index: usize) -> File<'a>
     File {
         path: path.as_str(),
         bytes: files[index].as_slice(),
+    }
+}
+
+// The files that a run reads, by their paths.
+fn run_files<'a>(
+    file: &'a String,
+    world: &'a String,
+    under: &'a Option<String>,
+    files: &'a [Vec<u8>],
+) -> RunFiles<'a>
+    requires { length files.now ≡ 2 + length (path_if_given under.now) }
+    ensures code { text_of result.code ≡ text_at file.now files.now 0 }
+    ensures world { text_of result.world ≡ text_at world.now files.now 1 }
+    ensures under { option_map text_of result.under
+        ≡ option_map (λ path. text_at path files.now 2) under.now }
+{
+    RunFiles {
+        code: file_at(file, files, 0),
+        world: file_at(world, files, 1),
+        under: match under {
+            Some(path) => Some(file_at(path, files, 2)),
+            None => None,
+        },
     }
 }
 

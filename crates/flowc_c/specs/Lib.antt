@@ -1,3 +1,5 @@
 pub mod Place
 pub mod Outcome
 pub mod Results
+pub mod Hosts
+pub mod Opening

@@ -4,8 +4,13 @@
 //! written, and the answer says how long it is.
 #![tactic(auto)]
 
+pub mod hosts_c;
 pub mod modules_c;
+pub mod opening;
+pub mod opening_c;
 pub mod outcome;
 mod place;
+pub mod reply;
 pub mod texts_c;
 pub mod version_c;
+pub mod views_c;

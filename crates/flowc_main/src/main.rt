@@ -71,7 +71,7 @@ fn perform_words(rt: &HostRuntime) -> Result<u8, ProgramFault> {
     Ok(outcome.status)
 }
 
-// The bytes of each file that the task reads, one or two, in the order in which it names them.
+// The bytes of each file that the task reads, at most three, in the order in which it names them.
 fn read_files(rt: &HostRuntime, asked: &Task) -> Result<Vec<Vec<u8>>, ProgramFault>
     ensures { IfOk result (λ files. length files.items ≡ files_of asked.now) }
 {
@@ -82,11 +82,15 @@ fn read_files(rt: &HostRuntime, asked: &Task) -> Result<Vec<Vec<u8>>, ProgramFau
     if let Some(path) = asked.path(1) {
         files.push(read_file(rt, asked, path)?)?;
     }
+    // The third file is the hierarchy of a run.
+    if let Some(path) = asked.path(2) {
+        files.push(read_start(rt, path)?)?;
+    }
     Ok(files)
 }
 
-// The bytes of a file that the task reads. A hierarchy and a source are read no further than it takes to see that they are too
-// long; a module and a world have no such limit.
+// The bytes of one of the first two files that the task reads. A hierarchy and a source are read no further than it takes to see
+// that they are too long; a module and a world have no such limit.
 fn read_file(rt: &HostRuntime, asked: &Task, path: &str) -> Result<Vec<u8>, ProgramFault> {
     match asked {
         Task::Check { .. } | Task::Build { .. } | Task::Explain { .. } => read_start(rt, path),

@@ -1,7 +1,8 @@
 -- What becomes of a session while a host answers events.
-use Rattle.std.proofs.Common.{◌≡◌, ℕ, zero, suc, ◌+◌, ◌<◌, ◌≤◌, ◌⊎◌, ◌==◌, Bool, true, false, not, cond, List, [], ◌∷◌, ◌++◌, take, drop, None, Some, refl, sym, ap, ◌∙◌, subst, inl, inr, ⊎_elim, arith, eq-eqb, eqb-true, ne_eqb}
+use Rattle.std.proofs.Common.{◌≡◌, ℕ, zero, suc, ◌+◌, ◌<◌, ◌≤◌, ◌⊎◌, ◌==◌, Bool, true, false, not, cond, List, [], ◌∷◌, ◌++◌, take, drop, Option, None, Some, refl, sym, ap, ◌∙◌, subst, inl, inr, ⊎_elim, arith, eq-eqb, eqb-true, ne_eqb}
 use Rattle.std.specs.Prelude.{slice_get}
 use Rattle.std.proofs.lemmas.Option.{none-some, same_Some}
+use Rattle.principals.specs.ActsFor.{PrincipalHierarchy}
 use Rattle.labels.specs.declared.sent.Pair.{Pair}
 use Rattle.modules.specs.Contents.{ModuleContents}
 use Rattle.modules.specs.Form.{Spells}
@@ -10,7 +11,7 @@ use Rattle.modules.specs.Machine.{Machine, Ending, exec, machine_code, sent_of}
 use Rattle.channels.specs.World.{InputNumbers}
 use Rattle.modules.specs.Isolated.{module_view}
 use Rattle.modules.proofs.Executing.{exec_more}
-use Rattle.host.specs.Meaning.{SessionContents, HostContents, HostEvent, Open, Turn, View, Close, HostAnswer, Opened, Turned, Viewed, Closed, Refused, MayAnswer, Answered, session_of, with_machine, without, IsOpen, IsNotOpen, first_machine, with_opened}
+use Rattle.host.specs.Meaning.{SessionContents, HostContents, HostEvent, Open, Turn, View, Close, HostAnswer, Opened, Turned, Viewed, Closed, Refused, CanOpen, MayAnswer, Answered, session_of, with_machine, without, IsOpen, IsNotOpen, first_machine, first_session, hierarchy_under, with_opened}
 use Rattle.machine.specs.Run.{HasEnded}
 use Rattle.machine.specs.declared.status.Status.{Status}
 use Rattle.host.specs.Laws.{ending_of, moved_by, reported_of, steps_reported}
@@ -95,12 +96,12 @@ one_session host id other first second e h k =
 live_event : (limit id : ℕ) (s : SessionContents) (old new : HostContents) (event : HostEvent) (answer : HostAnswer)
     → MayAnswer limit old event answer new → IsLive id s old
     → IsLive id (moved_by s (reported_of id event answer)) new ⊎ IsClosed id new
-live_event limit id s old new (Open bytes world) (Opened n) by live =
+live_event limit id s old new (Open bytes world under) (Opened n) by live =
     inl (subst (λ h. IsLive id s h) (sym by.2.2) (record {
       given = omega (arith, live.given);
-      is_open = ap (λ b. cond b (Some (record { id = old.next; program = by.2.0; machine = first_machine by.2.0 world })) (session_of id old.sessions)) (is_older id old.next live.given) ∙ live.is_open;
+      is_open = ap (λ b. cond b (Some (first_session old.next by.2.0 world under)) (session_of id old.sessions)) (is_older id old.next live.given) ∙ live.is_open;
     }))
-live_event limit id s old new (Open bytes world) (Refused fault) by live = inl (subst (λ h. IsLive id s h) (sym by.1) live)
+live_event limit id s old new (Open bytes world under) (Refused fault) by live = inl (subst (λ h. IsLive id s h) (sym by.1) live)
 live_event limit id s old new (Turn other n) (Turned taken status) by live = go (other == id) refl
   where
     go : (b : Bool) → (other == id) ≡ b → IsLive id (moved_by s (cond b taken 0)) new ⊎ IsClosed id new
@@ -139,12 +140,12 @@ live_event limit id s old new event answer by live = absurd by
 
 closed_event : (limit id : ℕ) (old new : HostContents) (event : HostEvent) (answer : HostAnswer)
     → MayAnswer limit old event answer new → IsClosed id old → IsClosed id new
-closed_event limit id old new (Open bytes world) (Opened n) by closed =
+closed_event limit id old new (Open bytes world under) (Opened n) by closed =
     subst (λ h. IsClosed id h) (sym by.2.2) (record {
       given = omega (arith, closed.given);
-      is_shut = ap (λ b. cond b (Some (record { id = old.next; program = by.2.0; machine = first_machine by.2.0 world })) (session_of id old.sessions)) (is_older id old.next closed.given) ∙ closed.is_shut;
+      is_shut = ap (λ b. cond b (Some (first_session old.next by.2.0 world under)) (session_of id old.sessions)) (is_older id old.next closed.given) ∙ closed.is_shut;
     })
-closed_event limit id old new (Open bytes world) (Refused fault) by closed = subst (λ h. IsClosed id h) (sym by.1) closed
+closed_event limit id old new (Open bytes world under) (Refused fault) by closed = subst (λ h. IsClosed id h) (sym by.1) closed
 closed_event limit id old new (Turn other n) (Turned taken status) by closed = go (other == id) refl
   where
     go : (b : Bool) → (other == id) ≡ b → IsClosed id new
@@ -198,18 +199,18 @@ module _ (limit id p : ℕ) (pairs : List Pair) where
   shown_moved : (events : List HostEvent) (answers : List HostAnswer) (old new : HostContents) (s : SessionContents)
       → Answered limit old events answers new → IsLive id s old
       → (k : ℕ) → slice_get events k ≡ Some (View id p) → slice_get answers k ≡ Some (Viewed pairs)
-      → pairs ≡ module_view s.program p (sent_of (exec (machine_code s.program) (steps_reported id (take k events) (take k answers)) s.machine))
+      → pairs ≡ module_view s.hierarchy s.program p (sent_of (exec (machine_code s.program) (steps_reported id (take k events) (take k answers)) s.machine))
   shown_moved [] answers old new s by live k asked reported = absurd (none-some (View id p) asked)
   shown_moved (event ∷ events) [] old new s by live k asked reported = absurd by
   shown_moved (event ∷ events) (answer ∷ answers) old new s by live zero asked reported =
       let shown = known limit old by.0 event (View id p) answer (Viewed pairs) asked reported by.1 in
       let same = one_session old id id shown.0 s refl shown.1 live.is_open in
-      shown.3 ∙ ap (λ (x : SessionContents). module_view x.program p (sent_of x.machine)) same
+      shown.3 ∙ ap (λ (x : SessionContents). module_view x.hierarchy x.program p (sent_of x.machine)) same
   shown_moved (event ∷ events) (answer ∷ answers) old new s by live (suc k) asked reported =
       ⊎_elim
       (λ next.
       shown_moved events answers by.0 new (moved_by s (reported_of id event answer)) by.2 next k asked reported
-      ∙ ap (λ m. module_view s.program p (sent_of m)) (steps_join s (reported_of id event answer) (steps_reported id (take k events) (take k answers))))
+      ∙ ap (λ m. module_view s.hierarchy s.program p (sent_of m)) (steps_join s (reported_of id event answer) (steps_reported id (take k events) (take k answers))))
       (λ closed. absurd (never_shown events answers by.0 new by.2 closed k asked reported))
       (live_event limit id s old by.0 event answer by.1 live)
 
@@ -267,61 +268,73 @@ module _ (limit id steps taken : ℕ) (reported : Status) (ending : Ending) (end
 
 -- ---- from its opening on
 
-opened_live : (id : ℕ) (old : HostContents) (m : ModuleContents) (world : List InputNumbers) → id ≡ old.next
-    → IsLive id (record { id = old.next; program = m; machine = first_machine m world }) (with_opened old m world)
-opened_live id old m world e = record {
+opened_live : (id : ℕ) (old : HostContents) (m : ModuleContents) (world : List InputNumbers) (under : Option PrincipalHierarchy) → id ≡ old.next
+    → IsLive id (first_session old.next m world under) (with_opened old m world under)
+opened_live id old m world under e = record {
   given = omega (arith, e);
   is_open =
-      ap (λ b. cond b (Some (record { id = old.next; program = m; machine = first_machine m world })) (session_of id old.sessions))
+      ap (λ b. cond b (Some (first_session old.next m world under)) (session_of id old.sessions))
       (eq-eqb old.next id (sym e));
 }
 
-module _ (limit id p : ℕ) (pairs : List Pair) (bytes : List ℕ) (world : List InputNumbers) (m : ModuleContents)
+module _ (limit id p : ℕ) (pairs : List Pair) (bytes : List ℕ) (world : List InputNumbers) (under : Option PrincipalHierarchy) (m : ModuleContents)
     (unique : (n : ModuleContents) → Spells module_file n bytes → n ≡ m) where
   pub shown_fresh : (events : List HostEvent) (answers : List HostAnswer) (old new : HostContents) → Answered limit old events answers new
       → (i j : ℕ) → i < j
-      → slice_get events i ≡ Some (Open bytes world) → slice_get answers i ≡ Some (Opened id)
+      → slice_get events i ≡ Some (Open bytes world under) → slice_get answers i ≡ Some (Opened id)
       → slice_get events j ≡ Some (View id p) → slice_get answers j ≡ Some (Viewed pairs)
-      → pairs ≡ module_view m p (sent_of (exec (machine_code m) (steps_reported id (drop i (take j events)) (drop i (take j answers))) (first_machine m world)))
+      → pairs ≡ module_view (hierarchy_under under m) m p (sent_of (exec (machine_code m) (steps_reported id (drop i (take j events)) (drop i (take j answers))) (first_machine m world)))
   shown_fresh events answers old new by i zero later opens opened views viewed = absurd (omega arith)
-  shown_fresh [] answers old new by i (suc j) later opens opened views viewed = absurd (none-some (Open bytes world) opens)
+  shown_fresh [] answers old new by i (suc j) later opens opened views viewed = absurd (none-some (Open bytes world under) opens)
   shown_fresh (event ∷ events) [] old new by i (suc j) later opens opened views viewed = absurd by
   shown_fresh (event ∷ events) (answer ∷ answers) old new by zero (suc j) later opens opened views viewed =
-      let at = known limit old by.0 event (Open bytes world) answer (Opened id) opens opened by.1 in
+      let at = known limit old by.0 event (Open bytes world under) answer (Opened id) opens opened by.1 in
       let n : ModuleContents = at.2.0 in
-      let live = subst (λ h. IsLive id (record { id = old.next; program = n; machine = first_machine n world }) h) (sym at.2.2) (opened_live id old n world at.1) in
-      let first : reported_of id event answer ≡ 0 = ap (λ e. reported_of id e answer) (same_Some event (Open bytes world) opens) ∙ ap (reported_of id (Open bytes world)) (same_Some answer (Opened id) opened) in
+      let live = subst (λ h. IsLive id (first_session old.next n world under) h) (sym at.2.2) (opened_live id old n world under at.1) in
+      let first : reported_of id event answer ≡ 0 = ap (λ e. reported_of id e answer) (same_Some event (Open bytes world under) opens) ∙ ap (reported_of id (Open bytes world under)) (same_Some answer (Opened id) opened) in
       let steps : steps_reported id (take j events) (take j answers) ≡ reported_of id event answer + steps_reported id (take j events) (take j answers) = omega (arith, first) in
-      shown_moved limit id p pairs events answers by.0 new (record { id = old.next; program = n; machine = first_machine n world }) by.2 live j views viewed
-      ∙ ap (λ (x : ModuleContents). module_view x p (sent_of (exec (machine_code x) (steps_reported id (take j events) (take j answers)) (first_machine x world)))) (unique n at.2.1.spelled)
-      ∙ ap (λ k. module_view m p (sent_of (exec (machine_code m) k (first_machine m world)))) steps
+      shown_moved limit id p pairs events answers by.0 new (first_session old.next n world under) by.2 live j views viewed
+      ∙ ap (λ (x : ModuleContents). module_view (hierarchy_under under x) x p (sent_of (exec (machine_code x) (steps_reported id (take j events) (take j answers)) (first_machine x world)))) (unique n at.2.1.spelled)
+      ∙ ap (λ k. module_view (hierarchy_under under m) m p (sent_of (exec (machine_code m) k (first_machine m world)))) steps
   shown_fresh (event ∷ events) (answer ∷ answers) old new by (suc i) (suc j) later opens opened views viewed =
       shown_fresh events answers by.0 new by.2 i j (omega arith) opens opened views viewed
 
 module _ (limit id steps taken : ℕ) (reported : Status) (ending : Ending) (ends : ending_of reported ≡ Some ending)
-    (bytes : List ℕ) (world : List InputNumbers) (m : ModuleContents) (unique : (n : ModuleContents) → Spells module_file n bytes → n ≡ m) where
+    (bytes : List ℕ) (world : List InputNumbers) (under : Option PrincipalHierarchy) (m : ModuleContents) (unique : (n : ModuleContents) → Spells module_file n bytes → n ≡ m) where
   pub ended_fresh : (events : List HostEvent) (answers : List HostAnswer) (old new : HostContents) → Answered limit old events answers new
       → (i k j : ℕ) → i < k → k < j
-      → slice_get events i ≡ Some (Open bytes world) → slice_get answers i ≡ Some (Opened id)
+      → slice_get events i ≡ Some (Open bytes world under) → slice_get answers i ≡ Some (Opened id)
       → slice_get events k ≡ Some (Turn id steps) → slice_get answers k ≡ Some (Turned taken reported)
       → HasEnded ending (exec (machine_code m) (steps_reported id (drop i (take j events)) (drop i (take j answers))) (first_machine m world))
   ended_fresh events answers old new by i k zero later before opens opened asked said = absurd (omega (arith, before))
   ended_fresh events answers old new by i zero (suc j) later before opens opened asked said = absurd (omega (arith, later))
-  ended_fresh [] answers old new by i (suc k) (suc j) later before opens opened asked said = absurd (none-some (Open bytes world) opens)
+  ended_fresh [] answers old new by i (suc k) (suc j) later before opens opened asked said = absurd (none-some (Open bytes world under) opens)
   ended_fresh (event ∷ events) [] old new by i (suc k) (suc j) later before opens opened asked said = absurd by
   ended_fresh (event ∷ events) (answer ∷ answers) old new by zero (suc k) (suc j) later before opens opened asked said =
-      let at = known limit old by.0 event (Open bytes world) answer (Opened id) opens opened by.1 in
+      let at = known limit old by.0 event (Open bytes world under) answer (Opened id) opens opened by.1 in
       let n : ModuleContents = at.2.0 in
-      let live = subst (λ h. IsLive id (record { id = old.next; program = n; machine = first_machine n world }) h) (sym at.2.2) (opened_live id old n world at.1) in
-      let first : reported_of id event answer ≡ 0 = ap (λ e. reported_of id e answer) (same_Some event (Open bytes world) opens) ∙ ap (reported_of id (Open bytes world)) (same_Some answer (Opened id) opened) in
+      let live = subst (λ h. IsLive id (first_session old.next n world under) h) (sym at.2.2) (opened_live id old n world under at.1) in
+      let first : reported_of id event answer ≡ 0 = ap (λ e. reported_of id e answer) (same_Some event (Open bytes world under) opens) ∙ ap (reported_of id (Open bytes world under)) (same_Some answer (Opened id) opened) in
       let total : steps_reported id (take j events) (take j answers) ≡ reported_of id event answer + steps_reported id (take j events) (take j answers) = omega (arith, first) in
-      let ended = ended_moved limit id steps taken reported ending ends events answers by.0 new (record { id = old.next; program = n; machine = first_machine n world }) by.2 live k asked said in
+      let ended = ended_moved limit id steps taken reported ending ends events answers by.0 new (first_session old.next n world under) by.2 live k asked said in
       let grown = still_ended_at (machine_code n) (steps_reported id (take (suc k) events) (take (suc k) answers)) (steps_reported id (take j events) (take j answers)) ending
       (first_machine n world) (steps_grow id events answers (suc k) j (omega (arith, before))) ended in
       subst (λ t. HasEnded ending (exec (machine_code m) t (first_machine m world))) total
       (subst (λ (x : ModuleContents). HasEnded ending (exec (machine_code x) (steps_reported id (take j events) (take j answers)) (first_machine x world))) (unique n at.2.1.spelled) grown)
   ended_fresh (event ∷ events) (answer ∷ answers) old new by (suc i) (suc k) (suc j) later before opens opened asked said =
       ended_fresh events answers by.0 new by.2 i k j (omega (arith, later)) (omega (arith, before)) opens opened asked said
+
+-- what was opened can be
+pub opened_can : (limit : ℕ) (bytes : List ℕ) (world : List InputNumbers) (under : Option PrincipalHierarchy) (id : ℕ) (events : List HostEvent) (answers : List HostAnswer)
+    (old new : HostContents) → Answered limit old events answers new
+    → (i : ℕ) → slice_get events i ≡ Some (Open bytes world under) → slice_get answers i ≡ Some (Opened id) → (m : ModuleContents) × CanOpen bytes world under m
+opened_can limit bytes world under id [] answers old new by i opens opened = absurd (none-some (Open bytes world under) opens)
+opened_can limit bytes world under id (event ∷ events) [] old new by i opens opened = absurd by
+opened_can limit bytes world under id (event ∷ events) (answer ∷ answers) old new by zero opens opened =
+    let at = known limit old by.0 event (Open bytes world under) answer (Opened id) opens opened by.1 in
+    (at.2.0, at.2.1)
+opened_can limit bytes world under id (event ∷ events) (answer ∷ answers) old new by (suc i) opens opened =
+    opened_can limit bytes world under id events answers by.0 new by.2 i opens opened
 
 -- ---- to the end of the list
 
@@ -349,27 +362,27 @@ module _ (limit id : ℕ) where
       (λ closed. inr (still_closed events answers by.0 new by.2 closed))
       (live_event limit id s old by.0 event answer by.1 live)
 
-module _ (limit id : ℕ) (bytes : List ℕ) (world : List InputNumbers) (m : ModuleContents)
+module _ (limit id : ℕ) (bytes : List ℕ) (world : List InputNumbers) (under : Option PrincipalHierarchy) (m : ModuleContents)
     (unique : (n : ModuleContents) → Spells module_file n bytes → n ≡ m) where
   pub stands : (events : List HostEvent) (answers : List HostAnswer) (old new : HostContents) → Answered limit old events answers new
-      → (i : ℕ) → slice_get events i ≡ Some (Open bytes world) → slice_get answers i ≡ Some (Opened id)
+      → (i : ℕ) → slice_get events i ≡ Some (Open bytes world under) → slice_get answers i ≡ Some (Opened id)
       → (session : SessionContents) → IsOpen new id session
-      → session ≡ record { id = id; program = m; machine = exec (machine_code m) (steps_reported id (drop i events) (drop i answers)) (first_machine m world) }
-  stands [] answers old new by i opens opened session there = absurd (none-some (Open bytes world) opens)
+      → session ≡ record { id = id; program = m; hierarchy = hierarchy_under under m; machine = exec (machine_code m) (steps_reported id (drop i events) (drop i answers)) (first_machine m world) }
+  stands [] answers old new by i opens opened session there = absurd (none-some (Open bytes world under) opens)
   stands (event ∷ events) [] old new by i opens opened session there = absurd by
   stands (event ∷ events) (answer ∷ answers) old new by zero opens opened session there =
-      let at = known limit old by.0 event (Open bytes world) answer (Opened id) opens opened by.1 in
+      let at = known limit old by.0 event (Open bytes world under) answer (Opened id) opens opened by.1 in
       let n : ModuleContents = at.2.0 in
-      let live = subst (λ h. IsLive id (record { id = old.next; program = n; machine = first_machine n world }) h) (sym at.2.2) (opened_live id old n world at.1) in
-      let first : reported_of id event answer ≡ 0 = ap (λ e. reported_of id e answer) (same_Some event (Open bytes world) opens) ∙ ap (reported_of id (Open bytes world)) (same_Some answer (Opened id) opened) in
+      let live = subst (λ h. IsLive id (first_session old.next n world under) h) (sym at.2.2) (opened_live id old n world under at.1) in
+      let first : reported_of id event answer ≡ 0 = ap (λ e. reported_of id e answer) (same_Some event (Open bytes world under) opens) ∙ ap (reported_of id (Open bytes world under)) (same_Some answer (Opened id) opened) in
       let steps : steps_reported id events answers ≡ reported_of id event answer + steps_reported id events answers = omega (arith, first) in
       let same = unique n at.2.1.spelled in
       ⊎_elim
       (λ l.
-      one_session new id id session (moved_by (record { id = old.next; program = n; machine = first_machine n world }) (steps_reported id events answers)) refl there l.is_open
-      ∙ (λ i. record { id = sym at.1 i; program = same i; machine = exec (machine_code (same i)) (steps i) (first_machine (same i) world) }))
+      one_session new id id session (moved_by (first_session old.next n world under) (steps_reported id events answers)) refl there l.is_open
+      ∙ (λ i. record { id = sym at.1 i; program = same i; hierarchy = hierarchy_under under (same i); machine = exec (machine_code (same i)) (steps i) (first_machine (same i) world) }))
       (λ g. absurd (none-some session (sym g.is_shut ∙ there)))
-      (still_moved limit id events answers by.0 new (record { id = old.next; program = n; machine = first_machine n world }) by.2 live)
+      (still_moved limit id events answers by.0 new (first_session old.next n world under) by.2 live)
   stands (event ∷ events) (answer ∷ answers) old new by (suc i) opens opened session there =
       stands events answers by.0 new by.2 i opens opened session there
 
@@ -385,7 +398,7 @@ module _ (limit : ℕ) (events : List HostEvent) (answers : List HostAnswer) (ol
       (still_moved limit id events answers old new s by (record { given = given; is_open = is_open }))
 
   pub shows_on : (k p : ℕ) (pairs : List Pair) → slice_get events k ≡ Some (View id p) → slice_get answers k ≡ Some (Viewed pairs)
-      → pairs ≡ module_view s.program p (sent_of (exec (machine_code s.program) (steps_reported id (take k events) (take k answers)) s.machine))
+      → pairs ≡ module_view s.hierarchy s.program p (sent_of (exec (machine_code s.program) (steps_reported id (take k events) (take k answers)) s.machine))
   shows_on k p pairs views viewed =
       shown_moved limit id p pairs events answers old new s by (record { given = given; is_open = is_open }) k views viewed
 
@@ -414,7 +427,7 @@ steps_add_up limit (event ∷ events) more (answer ∷ answers) others old middl
 
 opened_next : (limit : ℕ) (old new : HostContents) (event : HostEvent) (n : ℕ) → MayAnswer limit old event (Opened n) new
     → (n ≡ old.next) × (new.next ≡ old.next + 1)
-opened_next limit old new (Open bytes world) n by = (by.1, ap (λ (h : HostContents). h.next) by.2.2)
+opened_next limit old new (Open bytes world under) n by = (by.1, ap (λ (h : HostContents). h.next) by.2.2)
 opened_next limit old new event n by = absurd by
 
 same_next : (old new : HostContents) → new ≡ old → old.next ≤ new.next
@@ -423,10 +436,10 @@ same_next old new e =
     omega arith
 
 next_grows : (limit : ℕ) (old new : HostContents) (event : HostEvent) (answer : HostAnswer) → MayAnswer limit old event answer new → old.next ≤ new.next
-next_grows limit old new (Open bytes world) (Opened n) by =
+next_grows limit old new (Open bytes world under) (Opened n) by =
     let next = ap (λ (h : HostContents). h.next) by.2.2 in
     omega arith
-next_grows limit old new (Open bytes world) (Refused fault) by = same_next old new by.1
+next_grows limit old new (Open bytes world under) (Refused fault) by = same_next old new by.1
 next_grows limit old new (Turn id n) (Turned taken status) by =
     let next = ap (λ (h : HostContents). h.next) by.2.2 in
     omega arith

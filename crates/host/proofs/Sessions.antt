@@ -4,6 +4,7 @@ use Rattle.std.specs.Prelude.{◌↔◌, ◌≢◌, filter, position, option_map
 use Rattle.std.specs.List.{find, insert, position_or_len}
 use Rattle.std.specs.Option.{SomeIff}
 use Rattle.std.proofs.lemmas.List.{length-map}
+use Rattle.principals.specs.ActsFor.{PrincipalHierarchy}
 use Rattle.channels.specs.World.{InputNumbers, input_names}
 use Rattle.std.proofs.lemmas.Grind.{common_steps}
 use Rattle.std.proofs.lemmas.List.Folds.{find_at}
@@ -18,10 +19,10 @@ use Rattle.verifier.specs.Loaded.{IsLoaded}
 use Rattle.common.specs.Answers.{IfRefused}
 use Rattle.common.specs.declared.fault.OrNoMemory.{OrNoMemory}
 use Rattle.common.specs.declared.fault.OrNoMemory.TheVariants.{NoMemory, Refused}
-use Rattle.host.specs.Meaning.{SessionContents, HostContents, IsOpen, IsNotOpen, session_of, with_machine, without, HasRoom, CannotOpen, OpenRefused, ReportsFault, first_machine, with_opened}
+use Rattle.host.specs.Meaning.{SessionContents, HostContents, IsOpen, IsNotOpen, session_of, with_machine, without, HasRoom, CannotOpen, OpenRefused, CanOpen, IsContained, ReportsFault, first_machine, first_session, hierarchy_under, with_opened}
 use Rattle.host.specs.Next.{next_of}
 use Rattle.host.specs.declared.fault.HostRefusal.{HostRefusal}
-use Rattle.host.specs.declared.fault.HostRefusal.TheVariants.{Full, UnknownId, UnknownPrincipal, Load, New}
+use Rattle.host.specs.declared.fault.HostRefusal.TheVariants.{Full, UnknownId, UnknownPrincipal, Load, New, NotContained}
 use Rattle.host.specs.Values.{SessionRun, HostRuns, contents_of, host_of}
 
 abbrev has_id : ℕ → SessionRun → Bool
@@ -94,11 +95,16 @@ changed id xs place d new e machine same =
 
 -- the session of an id is another one with the same id and module
 pub turned : (id : ℕ) (xs : List SessionRun) (place : ℕ) (old new : SessionRun) → position (has_id id) xs ≡ Some place
-    → old ≡ get_or xs place old → new.id ≡ old.id → new.run.program ≡ old.run.program
+    → old ≡ get_or xs place old → new.id ≡ old.id → new.run.program ≡ old.run.program → new.under ≡ old.under
     → map contents_of (set xs place new) ≡ with_machine id (machine_of new.run) (map contents_of xs)
-turned id xs place old new e at same_id same_program =
+turned id xs place old new e at same_id same_program same_under =
     changed id xs place old new e (machine_of new.run)
-    (λ i. record { id = (same_id ∙ ap (λ (s : SessionRun). s.id) at) i; program = (same_program ∙ ap (λ (s : SessionRun). s.run.program) at) i; machine = machine_of new.run })
+    (λ i. record {
+      id = (same_id ∙ ap (λ (s : SessionRun). s.id) at) i;
+      program = (same_program ∙ ap (λ (s : SessionRun). s.run.program) at) i;
+      hierarchy = hierarchy_under ((same_under ∙ ap (λ (s : SessionRun). s.under) at) i) ((same_program ∙ ap (λ (s : SessionRun). s.run.program) at) i);
+      machine = machine_of new.run;
+    })
 
 pub filtered : (id : ℕ) (xs : List SessionRun) → map contents_of (filter (λ session. not (session.id == id)) xs) ≡ without id (map contents_of xs)
 filtered id [] = refl
@@ -146,18 +152,39 @@ has_room limit host next xs is id e below inside =
     record { room_left = rw length-map inside; id_left = omega (arith, first) } in
     subst (λ h. HasRoom limit (host_of h)) is kept
 
-pub refused_with_room : (limit : ℕ) (host : HostContents) (bytes : List ℕ) (world : List InputNumbers) (fault : OrNoMemory HostRefusal)
-    → HasRoom limit host → IfRefused (CannotOpen bytes world) fault → ReportsFault (HasRoom limit host) (OpenRefused limit host bytes world) fault
-refused_with_room limit host bytes world NoMemory room cannot = room
-refused_with_room limit host bytes world (Refused (Load refusal)) room cannot = (room, cannot)
-refused_with_room limit host bytes world (Refused (New refusal)) room cannot = (room, cannot)
-refused_with_room limit host bytes world (Refused Full) room cannot = absurd cannot
-refused_with_room limit host bytes world (Refused UnknownId) room cannot = absurd cannot
-refused_with_room limit host bytes world (Refused UnknownPrincipal) room cannot = absurd cannot
+pub refused_with_room : (limit : ℕ) (host : HostContents) (bytes : List ℕ) (world : List InputNumbers) (under : Option PrincipalHierarchy)
+    (fault : OrNoMemory HostRefusal)
+    → HasRoom limit host → IfRefused (CannotOpen bytes world under) fault → ReportsFault (HasRoom limit host) (OpenRefused limit host bytes world under) fault
+refused_with_room limit host bytes world under NoMemory room cannot = room
+refused_with_room limit host bytes world under (Refused (Load refusal)) room cannot = (room, cannot)
+refused_with_room limit host bytes world under (Refused (New refusal)) room cannot = (room, cannot)
+refused_with_room limit host bytes world under (Refused NotContained) room cannot = (room, cannot)
+refused_with_room limit host bytes world under (Refused Full) room cannot = absurd cannot
+refused_with_room limit host bytes world under (Refused UnknownId) room cannot = absurd cannot
+refused_with_room limit host bytes world under (Refused UnknownPrincipal) room cannot = absurd cannot
+
+-- what is refused under the module's own hierarchy is refused so under every one
+pub refused_under_any : (bytes : List ℕ) (world : List InputNumbers) (under : Option PrincipalHierarchy) (fault : OrNoMemory HostRefusal)
+    → IfRefused (CannotOpen bytes world None) fault → IfRefused (CannotOpen bytes world under) fault
+refused_under_any bytes world under NoMemory cannot = tt
+refused_under_any bytes world under (Refused (Load refusal)) cannot = cannot
+refused_under_any bytes world under (Refused (New UnknownChannel)) cannot = cannot
+refused_under_any bytes world under (Refused NotContained) cannot = absurd (cannot.4 tt)
+refused_under_any bytes world under (Refused Full) cannot = absurd cannot
+refused_under_any bytes world under (Refused UnknownId) cannot = absurd cannot
+refused_under_any bytes world under (Refused UnknownPrincipal) cannot = absurd cannot
+
+-- a hierarchy that does not contain that of a module that can be opened
+pub refused_larger : (bytes : List ℕ) (world : List InputNumbers) (under : Option PrincipalHierarchy) (m program : ModuleContents) (fault : OrNoMemory HostRefusal)
+    → program ≡ m → CanOpen bytes world None m → IfRefused (λ refusal. (refusal ≡ NotContained) × ¬ IsContained program under) fault
+    → IfRefused (CannotOpen bytes world under) fault
+refused_larger bytes world under m program NoMemory is can refused = tt
+refused_larger bytes world under m program (Refused refusal) is can refused =
+    rw (refused.0) (m, can.spelled, can.no_defect, can.named, subst (λ (w : ModuleContents). ¬ IsContained w under) is refused.1)
 
 -- what a machine refuses of a module that was loaded
 pub not_made : {T : Type 0} (bytes : List ℕ) (world : List InputNumbers) (m : ModuleContents) (made : Result T (OrNoMemory NewRefusal)) → IsLoaded bytes m
-    → IsErrOf made (Refused UnknownChannel) ↔ (names_of world ≢ input_names m) → IfErr made (IfRefused (λ refusal. CannotOpen bytes world (New refusal)))
+    → IsErrOf made (Refused UnknownChannel) ↔ (names_of world ≢ input_names m) → IfErr made (IfRefused (λ refusal. CannotOpen bytes world None (New refusal)))
 not_made bytes world m (Ok machine) loaded unknown = tt
 not_made bytes world m (Err NoMemory) loaded unknown = tt
 not_made bytes world m (Err (Refused UnknownChannel)) loaded unknown = (m, loaded.spelled, loaded.no_defect, unknown.0 refl)
@@ -169,12 +196,12 @@ next_after id below (Some next) some = some.1
 pub opened_as : (host : HostRuns) (next after : Option ℕ) (xs ys : List SessionRun)
     → ◌≡◌ {A = HostRuns} (record { next = next_of next; sessions = xs }) host
     → (id : ℕ) → next ≡ Some id → next_of after ≡ id + 1
-    → (new : SessionRun) → ys ≡ insert xs 0 new → (world : List InputNumbers) → new.id ≡ id
-    → machine_of new.run ≡ first_machine new.run.program world
-    → host_of (record { next = next_of after; sessions = ys }) ≡ with_opened (host_of host) new.run.program world
-opened_as host next after xs ys is id e sum new inserted world same first =
+    → (new : SessionRun) → ys ≡ insert xs 0 new → (world : List InputNumbers) (under : Option PrincipalHierarchy)
+    → contents_of new ≡ first_session id new.run.program world under
+    → host_of (record { next = next_of after; sessions = ys }) ≡ with_opened (host_of host) new.run.program world under
+opened_as host next after xs ys is id e sum new inserted world under first =
     let number : id ≡ host.next = sym (ap next_of e) ∙ ap (λ (h : HostRuns). h.next) is in
-    of_parts (next_of after) (host.next + 1) (map contents_of ys) (record { id = host.next; program = new.run.program; machine = first_machine new.run.program world } ∷ map contents_of host.sessions)
+    of_parts (next_of after) (host.next + 1) (map contents_of ys) (first_session host.next new.run.program world under ∷ map contents_of host.sessions)
     (sum ∙ ap (λ n. n + 1) number)
     (ap (map contents_of) (inserted)
-    ∙ (λ i. record { id = (same ∙ number) i; program = new.run.program; machine = first i } ∷ map contents_of (is i).sessions))
+    ∙ (λ i. (first ∙ ap (λ n. first_session n new.run.program world under) number) i ∷ map contents_of (is i).sessions))

@@ -3,3 +3,4 @@ pub mod Values
 pub mod Laws
 pub mod Next
 pub mod Defects
+pub mod Numbered

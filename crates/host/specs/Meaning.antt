@@ -1,7 +1,8 @@
 -- The meaning of a host: how it may answer each event and what it then is. A relation, since memory may run out, and since
 -- of several refusals of one module any may be reported that the verifier may report.
 -- Source: our own.
-use Rattle.std.specs.Prelude.{◌≡◌, ◌≢◌, ℕ, ◌+◌, ◌<◌, ◌≤◌, ◌^◌, ◌==◌, not, if◌then◌else◌, List, [], ◌∷◌, length, filter, Option, Some, None}
+use Rattle.std.specs.Prelude.{◌≡◌, ◌≢◌, ℕ, ◌+◌, ◌<◌, ◌≤◌, ◌^◌, ◌==◌, not, if◌then◌else◌, List, [], ◌∷◌, length, filter, Option, Some, None, IfSome}
+use Rattle.principals.specs.ActsFor.{PrincipalHierarchy, ContainsHierarchy}
 use Rattle.labels.specs.declared.sent.Pair.{Pair}
 use Rattle.modules.specs.Contents.{ModuleContents}
 use Rattle.modules.specs.Form.{Spells}
@@ -17,14 +18,16 @@ use Rattle.modules.specs.Isolated.{module_view}
 use Rattle.common.specs.declared.fault.OrNoMemory.{OrNoMemory}
 use Rattle.common.specs.declared.fault.OrNoMemory.TheVariants as faults
 use Rattle.host.specs.declared.fault.HostRefusal.{HostRefusal}
-use Rattle.host.specs.declared.fault.HostRefusal.TheVariants.{Full, UnknownId, UnknownPrincipal, Load, New}
+use Rattle.host.specs.declared.fault.HostRefusal.TheVariants.{Full, UnknownId, UnknownPrincipal, Load, New, NotContained}
 
 -- ---- hosts
 
--- an open session: its id, what its module contains, and the machine of its run, the run's end included
+-- an open session: its id, what its module contains, the hierarchy whose principals view it, and the machine of its run, the
+-- run's end included
 pub record SessionContents : Type 0 where
   pub id : ℕ
   pub program : ModuleContents
+  pub hierarchy : PrincipalHierarchy
   pub machine : Machine
 
 -- a host: the least id that was never given, and the open sessions, the newest first
@@ -62,10 +65,10 @@ pub record HasRoom (limit : ℕ) (host : HostContents) : Type 0 where
 
 -- ---- events and answers
 
--- what a host is asked: to open a session of bytes on a world, to let the session of an id take at most so many steps, to show
--- what a principal sees of it, or to close it
+-- what a host is asked: to open a session of bytes on a world, under a hierarchy or under the module's own, to let the session of
+-- an id take at most so many steps, to show what a principal sees of it, or to close it
 pub data HostEvent : Type 0 where
-  Open : List ℕ → List InputNumbers → HostEvent
+  Open : List ℕ → List InputNumbers → Option PrincipalHierarchy → HostEvent
   Turn : ℕ → ℕ → HostEvent
   View : ℕ → ℕ → HostEvent
   Close : ℕ → HostEvent
@@ -84,37 +87,55 @@ ReportsFault Asks P (faults.Refused refusal) = P refusal
 
 -- ---- opening
 
--- bytes can be opened on a world as this module: they spell it, its code has no defect, and the world is for its inputs
-pub record CanOpen (bytes : List ℕ) (world : List InputNumbers) (m : ModuleContents) : Type 0 where
+-- the hierarchy of a session of a module: the one that is given, or else the module's own
+abbrev pub hierarchy_under : Option PrincipalHierarchy → ModuleContents → PrincipalHierarchy
+hierarchy_under None m = m.hierarchy
+hierarchy_under (Some larger) m = larger
+
+-- a hierarchy that is given contains the module's
+abbrev pub IsContained : ModuleContents → Option PrincipalHierarchy → Type 0
+IsContained m under = IfSome under (λ larger. ContainsHierarchy larger m.hierarchy)
+
+-- bytes can be opened on a world as this module: they spell it, its code has no defect, the world is for its inputs, and a hierarchy
+-- that is given contains its own
+pub record CanOpen (bytes : List ℕ) (world : List InputNumbers) (under : Option PrincipalHierarchy) (m : ModuleContents) : Type 0 where
   pub spelled : Spells module_file m bytes
   pub no_defect : HasNoDefect m
   pub named : names_of world ≡ input_names m
+  pub contained : IsContained m under
 
 -- a module on a world before its first step
 abbrev pub first_machine : ModuleContents → List InputNumbers → Machine
 first_machine m world = after_steps m (numbers_of_channel m world) 0
 
+-- a session before its first step
+abbrev pub first_session : (id : ℕ) → ModuleContents → List InputNumbers → Option PrincipalHierarchy → SessionContents
+first_session id m world under =
+    record { id = id; program = m; hierarchy = hierarchy_under under m; machine = first_machine m world }
+
 -- a host with one more session, of the next id
-abbrev pub with_opened : HostContents → ModuleContents → List InputNumbers → HostContents
-with_opened host m world = record {
+abbrev pub with_opened : HostContents → ModuleContents → List InputNumbers → Option PrincipalHierarchy → HostContents
+with_opened host m world under = record {
   next = host.next + 1;
-  sessions = record { id = host.next; program = m; machine = first_machine m world } ∷ host.sessions;
+  sessions = first_session host.next m world under ∷ host.sessions;
 }
 
 -- why bytes are not opened on a world where there is room. The first of these in this order that applies is reported: a refusal
--- of the bytes, a refusal of the code, a world for other inputs
-abbrev pub CannotOpen : List ℕ → List InputNumbers → HostRefusal → Type 0
-CannotOpen bytes world (Load refusal) = CannotLoad bytes refusal
-CannotOpen bytes world (New UnknownChannel) =
+-- of the bytes, a refusal of the code, a world for other inputs, a hierarchy that does not contain the module's
+abbrev pub CannotOpen : List ℕ → List InputNumbers → Option PrincipalHierarchy → HostRefusal → Type 0
+CannotOpen bytes world under (Load refusal) = CannotLoad bytes refusal
+CannotOpen bytes world under (New UnknownChannel) =
     (m : ModuleContents) × Spells module_file m bytes × HasNoDefect m × (names_of world ≢ input_names m)
-CannotOpen bytes world Full = ⊥
-CannotOpen bytes world UnknownId = ⊥
-CannotOpen bytes world UnknownPrincipal = ⊥
+CannotOpen bytes world under NotContained =
+    (m : ModuleContents) × Spells module_file m bytes × HasNoDefect m × (names_of world ≡ input_names m) × ¬ IsContained m under
+CannotOpen bytes world under Full = ⊥
+CannotOpen bytes world under UnknownId = ⊥
+CannotOpen bytes world under UnknownPrincipal = ⊥
 
 -- a full host is reported before all else
-abbrev pub OpenRefused : ℕ → HostContents → List ℕ → List InputNumbers → HostRefusal → Type 0
-OpenRefused limit host bytes world Full = HasRoom limit host → ⊥
-OpenRefused limit host bytes world refusal = HasRoom limit host × CannotOpen bytes world refusal
+abbrev pub OpenRefused : ℕ → HostContents → List ℕ → List InputNumbers → Option PrincipalHierarchy → HostRefusal → Type 0
+OpenRefused limit host bytes world under Full = HasRoom limit host → ⊥
+OpenRefused limit host bytes world under refusal = HasRoom limit host × CannotOpen bytes world under refusal
 
 -- ---- turns and views
 
@@ -129,17 +150,21 @@ pub record Takes (session : SessionContents) (n taken : ℕ) (status : Status) (
   pub machine : after ≡ exec (machine_code session.program) taken session.machine
   pub reported : ReportsStatus (machine_code session.program) n taken status after
 
--- a number is that of a principal of a session's module
+-- a number is that of a principal of a session's hierarchy
 abbrev pub IsPrincipal : SessionContents → ℕ → Type 0
-IsPrincipal session p = p < length session.program.hierarchy.names
+IsPrincipal session p = p < length session.hierarchy.names
 
 -- what a principal sees of a session
 abbrev pub session_view : SessionContents → ℕ → List Pair
-session_view session p = module_view session.program p (sent_of session.machine)
+session_view session p = module_view session.hierarchy session.program p (sent_of session.machine)
 
--- a principal of a session's module can be shown what it sees
+-- a principal of a session's hierarchy can be shown what it sees
 abbrev pub CanView : HostContents → ℕ → ℕ → Type 0
 CanView host id p = (session : SessionContents) × IsOpen host id session × IsPrincipal session p
+
+-- the session of an id is open, and has sent these pairs
+abbrev pub HasSent : HostContents → (id : ℕ) → List Pair → Type 0
+HasSent host id sent = (session : SessionContents) × IsOpen host id session × (sent ≡ sent_of session.machine)
 
 -- why a view is refused
 abbrev pub ViewRefused : HostContents → ℕ → ℕ → HostRefusal → Type 0
@@ -148,16 +173,18 @@ ViewRefused host id p UnknownPrincipal = (session : SessionContents) × IsOpen h
 ViewRefused host id p Full = ⊥
 ViewRefused host id p (Load refusal) = ⊥
 ViewRefused host id p (New refusal) = ⊥
+ViewRefused host id p NotContained = ⊥
 
 -- ---- the meaning
 
 -- a host with room for so many sessions may answer an event so, and then is so
 abbrev pub MayAnswer : (limit : ℕ) (old : HostContents) → HostEvent → HostAnswer → (new : HostContents) → Type 0
 -- a session of the next id is opened
-MayAnswer limit old (Open bytes world) (Opened id) new =
-    HasRoom limit old × (id ≡ old.next) × ((m : ModuleContents) × CanOpen bytes world m × (new ≡ with_opened old m world))
-MayAnswer limit old (Open bytes world) (Refused fault) new =
-    ReportsFault (HasRoom limit old) (OpenRefused limit old bytes world) fault × (new ≡ old)
+MayAnswer limit old (Open bytes world under) (Opened id) new =
+    HasRoom limit old × (id ≡ old.next)
+    × ((m : ModuleContents) × CanOpen bytes world under m × (new ≡ with_opened old m world under))
+MayAnswer limit old (Open bytes world under) (Refused fault) new =
+    ReportsFault (HasRoom limit old) (OpenRefused limit old bytes world under) fault × (new ≡ old)
 -- the session of the id, and no other, goes on by the steps that are reported
 MayAnswer limit old (Turn id n) (Turned taken status) new =
     (session : SessionContents) × IsOpen old id session

@@ -1,23 +1,25 @@
 -- The hosts, events, answers and results of the code as those of the meaning.
 -- Source: our own.
-use Rattle.std.specs.Prelude.{ℕ, List, Result, Ok, Err, map}
+use Rattle.std.specs.Prelude.{ℕ, List, Option, Some, None, Result, Ok, Err, map}
 use Rattle.std.specs.Global.{Vec}
+use Rattle.principals.specs.ActsFor.{PrincipalHierarchy}
 use Rattle.labels.specs.declared.sent.Pair.{Pair}
 use Rattle.machine.specs.Run.{RunContents, machine_of}
 use Rattle.machine.specs.declared.status.Status.{Status}
 use Rattle.host.specs.Meaning as meaning
-use Rattle.host.specs.Meaning.{SessionContents, HostContents, HostEvent, HostAnswer}
+use Rattle.host.specs.Meaning.{SessionContents, HostContents, HostEvent, HostAnswer, hierarchy_under}
 use Rattle.common.specs.declared.fault.OrNoMemory.{OrNoMemory}
 use Rattle.host.specs.declared.fault.HostRefusal.{HostRefusal}
 use Rattle.host.specs.declared.event.Event.{Event}
-use Rattle.host.specs.declared.event.Event.TheVariants.{Open, Turn, View, Close}
+use Rattle.host.specs.declared.event.Event.TheVariants.{Open, OpenUnder, Turn, View, Close}
 use Rattle.host.specs.declared.event.Answer.{Answer}
 use Rattle.host.specs.declared.event.Answer.TheVariants.{Opened, Turned, Viewed, Closed, Refused}
 
--- an open session: its id, and the run of its machine
+-- an open session: its id, the run of its machine, and the hierarchy under which it was opened, if one was given
 pub record SessionRun : Type 0 where
   pub id : ℕ
   pub run : RunContents
+  pub under : Option PrincipalHierarchy
 
 -- a host by the runs of its sessions
 pub record HostRuns : Type 0 where
@@ -25,7 +27,12 @@ pub record HostRuns : Type 0 where
   pub sessions : List SessionRun
 
 abbrev pub contents_of : SessionRun → SessionContents
-contents_of session = record { id = session.id; program = session.run.program; machine = machine_of session.run }
+contents_of session = record {
+  id = session.id;
+  program = session.run.program;
+  hierarchy = hierarchy_under session.under session.run.program;
+  machine = machine_of session.run;
+}
 
 -- such a host as one of the meaning
 abbrev pub host_of : HostRuns → HostContents
@@ -33,7 +40,8 @@ host_of host = record { next = host.next; sessions = map contents_of host.sessio
 
 -- an event and an answer as those of the meaning
 abbrev pub event_of : Event → HostEvent
-event_of (Open bytes world) = meaning.Open bytes.items world
+event_of (Open bytes world) = meaning.Open bytes.items world None
+event_of (OpenUnder bytes world hierarchy) = meaning.Open bytes.items world (Some hierarchy)
 event_of (Turn id n) = meaning.Turn id n
 event_of (View id p) = meaning.View id p
 event_of (Close id) = meaning.Close id

@@ -1,6 +1,7 @@
 use crate::fault::HostFault;
 use channels::{Pair, World};
 use machine::Status;
+use principals::Hierarchy;
 
 /// The number of a session. The sessions that a host opens get 0, 1, 2 and so on, and no number is given twice.
 pub type Id = u64;
@@ -10,6 +11,8 @@ pub type Id = u64;
 pub enum Event {
     /// To open a session of the module that these bytes spell, on this world.
     Open(Vec<u8>, World),
+    /// The same under this hierarchy, whose principals then view the session.
+    OpenUnder(Vec<u8>, World, Hierarchy),
     /// To let the session take at most so many steps.
     Turn(Id, u64),
     /// To show what the principal of this number sees of the session.

@@ -16,12 +16,14 @@ pub enum HostRefusal {
     Full,
     /// 902: no open session has this id.
     UnknownId,
-    /// 153: no principal of the session's module has this number.
+    /// 153: no principal of the session's hierarchy has this number.
     UnknownPrincipal,
     /// 801 to 806, or 811 to 815: the bytes spell no module, or one with a defect in its code.
     Load(LoadRefusal),
     /// 852: the names of the world's inputs are not those of the module's inputs, in order.
     New(NewRefusal),
+    /// 903: the hierarchy that the session was to be opened under does not contain the module's.
+    NotContained,
 }
 
 /// Why an event was not carried out.
@@ -54,6 +56,7 @@ impl HostRefusal {
             HostRefusal::UnknownPrincipal => UNKNOWN_PRINCIPAL,
             HostRefusal::Load(refusal) => refusal.number(),
             HostRefusal::New(refusal) => refusal.number(),
+            HostRefusal::NotContained => 903,
         }
     }
 
@@ -67,6 +70,7 @@ impl HostRefusal {
             HostRefusal::UnknownPrincipal => UNKNOWN_PRINCIPAL_WORDS,
             HostRefusal::Load(refusal) => refusal.words(),
             HostRefusal::New(refusal) => refusal.words(),
+            HostRefusal::NotContained => "hierarchy not contained",
         }
     }
 }

@@ -1,14 +1,17 @@
-ghost use Rattle.host.specs.Meaning.{Answered, Close, MayAnswer, Open, Turn, View};
+ghost use Rattle.common.specs.declared.fault.OrNoMemory.TheVariants as faults;
+ghost use Rattle.host.specs.Meaning.{Answered, Close, HasSent, IsNotOpen, MayAnswer, Open, Turn, View};
 ghost use Rattle.host.specs.Values.{answer_of, closed_or, event_of, host_of, opened_or, turned_or, viewed_or};
 ghost use Rattle.host.specs.Next.{next_of};
-ghost use Rattle.std.specs.Prelude.{[], ◌≡◌, ◌+◌, ◌<◌, ◌^◌, IfOk, OnErr, map};
+ghost use Rattle.host.specs.declared.fault.HostRefusal.TheVariants.{UnknownId};
+ghost use Rattle.std.specs.Prelude.{[], ◌≡◌, ◌+◌, ◌<◌, ◌^◌, IfErr, IfOk, None, OnErr, Some, map};
 
 use crate::event::{Answer, Event, Id};
 use crate::fault::{HostFault, HostRefusal};
-use crate::session::{Session, find, first_run, remove};
-use channels::{Pair, World, pairs_for};
+use crate::session::{Session, find, first_session, remove};
+use channels::{Pair, Sent, World};
 use common::OrNoMemory;
 use machine::Status;
+use principals::Hierarchy;
 use std::alloc::{AllocError, Global};
 use std::marker::Model;
 
@@ -49,7 +52,8 @@ impl Host {
         }
     }
 
-    /// Opens a session of the module that the bytes spell, on a world, and answers its id.
+    /// Opens a session of the module that the bytes spell, on a world, and answers its id. The principals of the
+    /// module's own hierarchy view it.
     ///
     /// # Errors
     ///
@@ -57,7 +61,39 @@ impl Host {
     /// code; the names of the world's inputs are not those of the module's inputs. Out of memory may be answered
     /// in place of all but the first.
     pub fn open(&mut self, bytes: &[u8], world: World) -> Result<Id, HostFault>
-        ensures { MayAnswer MAX_SESSIONS (host_of self.old) (Open bytes.now world)
+        ensures { MayAnswer MAX_SESSIONS (host_of self.old) (Open bytes.now world None)
+            (opened_or result) (host_of self.new) }
+    {
+        self.open_session(bytes, world, None)
+    }
+
+    /// Opens a session as [`Host::open`] does, under a hierarchy that contains the module's: each principal and each
+    /// acts-for of the module's is there by name. The principals of this hierarchy view the session, and its labels
+    /// are carried over to it by name.
+    ///
+    /// # Errors
+    ///
+    /// As [`Host::open`], and last: the hierarchy does not contain the module's.
+    pub fn open_under(
+        &mut self,
+        bytes: &[u8],
+        world: World,
+        hierarchy: Hierarchy,
+    ) -> Result<Id, HostFault>
+        ensures { MayAnswer MAX_SESSIONS (host_of self.old) (Open bytes.now world (Some hierarchy))
+            (opened_or result) (host_of self.new) }
+    {
+        self.open_session(bytes, world, Some(hierarchy))
+    }
+
+    // Opens a session under a hierarchy that is given, or under the module's own.
+    fn open_session(
+        &mut self,
+        bytes: &[u8],
+        world: World,
+        under: Option<Hierarchy>,
+    ) -> Result<Id, HostFault>
+        ensures { MayAnswer MAX_SESSIONS (host_of self.old) (Open bytes.now world under)
             (opened_or result) (host_of self.new) }
     {
         let Some(id) = self.next else {
@@ -67,8 +103,8 @@ impl Host {
             return Err(OrNoMemory::Refused(HostRefusal::Full));
         }
         let after = next_id(id);
-        let run = first_run(self.alloc, bytes, world)?;
-        self.sessions.insert(0, Session::new(id, run))?;
+        let session = first_session(self.alloc, id, bytes, world, under)?;
+        self.sessions.insert(0, session)?;
         self.next = after;
         Ok(id)
     }
@@ -89,12 +125,12 @@ impl Host {
         Ok(session.turn(steps))
     }
 
-    /// What a principal sees of what a session has sent so far: the pairs on channels whose labels it may read, in
-    /// order.
+    /// What a principal of a session's hierarchy sees of what the session has sent so far: the pairs on channels whose
+    /// labels it may read, in order.
     ///
     /// # Errors
     ///
-    /// No open session has the id, else its module has no principal of this number, else out of memory. The first
+    /// No open session has the id, else its hierarchy has no principal of this number, else out of memory. The first
     /// two take no memory.
     pub fn view(&self, id: Id, principal: u32) -> Result<Vec<Pair>, HostFault>
         ensures { MayAnswer MAX_SESSIONS (host_of self.now) (View id principal) (viewed_or result)
@@ -104,12 +140,28 @@ impl Host {
             return Err(OrNoMemory::Refused(HostRefusal::UnknownId));
         };
         let session = &self.sessions[place];
-        let program = session.module();
-        if principal >= program.hierarchy().count() {
+        if principal >= session.hierarchy().count() {
             return Err(OrNoMemory::Refused(HostRefusal::UnknownPrincipal));
         }
-        let pairs = pairs_for(self.alloc, session.sent(), program, principal)?;
+        let pairs = session.view(self.alloc, principal)?;
         Ok(pairs)
+    }
+
+    /// All that a session has sent so far, for the operator. It takes no memory.
+    ///
+    /// # Errors
+    ///
+    /// No open session has the id.
+    pub fn sent(&self, id: Id) -> Result<&Sent, HostFault>
+        ensures sent { IfOk result (λ sent. HasSent (host_of self.now) id sent.now) }
+        ensures rejected { IfErr result (λ fault. (fault ≡ faults.Refused UnknownId)
+            × IsNotOpen (host_of self.now) id) }
+    {
+        let Some(place) = find(&self.sessions, id) else {
+            return Err(OrNoMemory::Refused(HostRefusal::UnknownId));
+        };
+        let session = &self.sessions[place];
+        Ok(session.sent())
     }
 
     /// Closes a session. Its id is not given again. It takes no memory.
@@ -156,6 +208,12 @@ impl Host {
                 Ok(id) => Answer::Opened(id),
                 Err(fault) => Answer::Refused(fault),
             },
+            Event::OpenUnder(bytes, world, hierarchy) => {
+                match self.open_under(&bytes, world, hierarchy) {
+                    Ok(id) => Answer::Opened(id),
+                    Err(fault) => Answer::Refused(fault),
+                }
+            }
             Event::Turn(id, steps) => match self.turn(id, steps) {
                 Ok((taken, status)) => Answer::Turned(taken, status),
                 Err(fault) => Answer::Refused(fault),

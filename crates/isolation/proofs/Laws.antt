@@ -11,7 +11,8 @@ use Rattle.resolved.specs.Labelled.{Scope, here, Labelling, ExitLabels, Labelled
 use Rattle.resolved.specs.Isolated.{Isolated}
 use Rattle.isolation.specs.Confinement.{SameFor, UnreadEnd, StatementsAreConfined, PossibleEndsAreUnread}
 use Rattle.isolation.specs.TwoRuns.{OutcomesAgree, StatementsAgree}
-use Rattle.isolation.specs.Larger.{KeepsActsFor, IsolatedCarried}
+use Rattle.isolation.specs.Larger.{IsolatedCarried}
+use Rattle.labels.specs.Carried.{KeepsActsFor}
 use Rattle.isolation.proofs.Among.{statement-among}
 use Rattle.isolation.proofs.Declared.{ends-as-declared}
 use Rattle.isolation.proofs.Observer.{under, view_of, AgreeFor, agree-back}

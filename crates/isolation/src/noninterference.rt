@@ -1,8 +1,9 @@
 //! Isolation: what a principal sees of the outputs does not depend on the inputs that it may not read.
 
 ghost use Rattle.isolation.specs.TwoRuns.{StatementsAgree};
-ghost use Rattle.isolation.specs.Larger.{FlowsAreKept, FlowsStayByName, IsolatedCarried, KeepsActsFor, NamesKeepActsFor, number_by_name};
-ghost use Rattle.principals.specs.ActsFor.{ContainsHierarchy, IsHierarchy, PrincipalHierarchy};
+ghost use Rattle.isolation.specs.Larger.{IsolatedCarried, IsolatedUnderLarger};
+ghost use Rattle.labels.specs.Carried.{KeepsActsFor};
+ghost use Rattle.principals.specs.ActsFor.{IsHierarchy, PrincipalHierarchy};
 ghost use Rattle.resolved.specs.EndFaults.{end_faults};
 ghost use Rattle.resolved.specs.Isolated.{Isolated};
 ghost use Rattle.resolved.specs.Labelled.{Labelled, Labelling, Scope};
@@ -29,18 +30,6 @@ pub fn labelled_programs_stay_isolated()
     ensures renumbered { (program : Program) (larger : PrincipalHierarchy) (carry : ℕ → ℕ) →
         end_faults program ≡ [] → Labelled program → KeepsActsFor program.hierarchy larger carry →
         IsolatedCarried program larger carry }
-    ensures by_name { (program : Program) (larger : PrincipalHierarchy) →
-        end_faults program ≡ [] → Labelled program →
-        IsHierarchy program.hierarchy → IsHierarchy larger →
-        ContainsHierarchy larger program.hierarchy →
-        IsolatedCarried program larger (number_by_name program.hierarchy larger) }
-{}
-
-/// A flow that holds under a hierarchy holds under each one that keeps its acts-for. A hierarchy that contains another one keeps
-/// its acts-for by name, and so its flows.
-pub fn flows_are_kept()
-    ensures renumbered { (smaller larger : PrincipalHierarchy) (carry : ℕ → ℕ) →
-        FlowsAreKept smaller larger carry }
-    ensures names { (smaller larger : PrincipalHierarchy) → NamesKeepActsFor smaller larger }
-    ensures by_name { (smaller larger : PrincipalHierarchy) → FlowsStayByName smaller larger }
+    ensures by_name { (program : Program) → end_faults program ≡ [] → Labelled program →
+        IsHierarchy program.hierarchy → IsolatedUnderLarger program }
 {}

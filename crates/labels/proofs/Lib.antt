@@ -1,4 +1,5 @@
 pub mod Ascending
+pub mod Carried
 pub mod Elements
 pub mod Flow
 pub mod FlowTests

@@ -1,4 +1,5 @@
 pub mod Canonical
+pub mod Carried
 pub mod Constraints
 pub mod Inside
 pub mod Label

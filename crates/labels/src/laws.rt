@@ -1,6 +1,7 @@
 //! Laws of reading and of flow, over all hierarchies and all labels: each stated of the relations and of the tests.
 
 ghost use Rattle.labels.specs.Canonical.{IsCanonicalLabel, IsCanonicalPolicy, joined, written_label, written_policy};
+ghost use Rattle.labels.specs.Carried.{FlowsAreKept, FlowsStayByName, LabelsStayThemselves, NamesKeepActsFor};
 ghost use Rattle.labels.specs.Label.{Covers, FlowsTo, Label, MayRead, PolicyAllows, PolicyFlowsTo, ReaderPolicy, covers, flows, may_read, policy_allows, policy_flows};
 ghost use Rattle.labels.specs.Lattice.{IsLattice};
 ghost use Rattle.labels.specs.Sets.{SameSet};
@@ -87,4 +88,18 @@ pub fn written_label_keeps_its_policies()
     ensures canonical { (policies : List ReaderPolicy) → All IsCanonicalPolicy policies →
         IsCanonicalLabel (written_label policies) }
     ensures unique { (a b : Label) → IsCanonicalLabel a → IsCanonicalLabel b → SameSet a b → a ≡ b }
+{}
+
+/// A flow that holds under a hierarchy holds under each one that keeps its acts-for. A hierarchy that contains another one keeps
+/// its acts-for by name, and so its flows.
+pub fn flows_are_kept()
+    ensures renumbered { (smaller larger : PrincipalHierarchy) (carry : ℕ → ℕ) →
+        FlowsAreKept smaller larger carry }
+    ensures names { (smaller larger : PrincipalHierarchy) → NamesKeepActsFor smaller larger }
+    ensures by_name { (smaller larger : PrincipalHierarchy) → FlowsStayByName smaller larger }
+{}
+
+/// Carried over by name to the hierarchy that it is of, a label stays what it is.
+pub fn labels_stay_themselves()
+    ensures { (h : PrincipalHierarchy) → LabelsStayThemselves h }
 {}

@@ -2,3 +2,4 @@ pub mod Spelling
 mod Operands
 pub mod Widths
 pub mod Executing
+pub mod Own

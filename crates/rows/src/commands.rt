@@ -40,7 +40,7 @@ fn answer_task(texts: &mut Texts, asked: &Task, answer: &mut Vec<u8>) -> Result<
     keep(texts, asked, outcome)
 }
 
-// The texts that stand in for the files that the task reads, one or two, in the order in which it names them.
+// The texts that stand in for the files that the task reads, at most three, in the order in which it names them.
 fn copy_texts(texts: &Texts, asked: &Task) -> Result<Vec<Vec<u8>>, LineFault>
     ensures { IfOk result (λ files. length files.items ≡ files_of asked.now) }
 {
@@ -49,6 +49,9 @@ fn copy_texts(texts: &Texts, asked: &Task) -> Result<Vec<Vec<u8>>, LineFault>
         files.push(texts.copy(name)?)?;
     }
     if let Some(name) = asked.path(1) {
+        files.push(texts.copy(name)?)?;
+    }
+    if let Some(name) = asked.path(2) {
         files.push(texts.copy(name)?)?;
     }
     Ok(files)

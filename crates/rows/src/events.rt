@@ -9,15 +9,20 @@ use channels::{Pair, World};
 use common::OrNoMemory;
 use flowc::{Answer, Event, HostFault, HostRefusal, LoadRefusal};
 use machine::Status;
+use principals::Hierarchy;
 use std::alloc::{AllocError, Global};
 
 /// The event that words ask for: `open MODULE WORLD`, `open MODULE WORLD OTHER` with a world of the inputs of another module,
-/// `turn ID STEPS`, `view ID PRINCIPAL`, or `close ID`.
+/// `open_under MODULE WORLD HIER`, `open_under MODULE WORLD HIER OTHER`, `turn ID STEPS`, `view ID PRINCIPAL`, or `close ID`.
 pub fn event_of(texts: &Texts, words: &str) -> Result<Event, LineFault> {
     let words = words_of(texts.alloc(), words)?;
     match words.as_slice() {
         ["open", module, world] => open(texts, module, world, module),
         ["open", module, world, other] => open(texts, module, world, other),
+        ["open_under", module, world, hier] => open_under(texts, module, world, hier, module),
+        ["open_under", module, world, hier, other] => {
+            open_under(texts, module, world, hier, other)
+        }
         ["turn", id, steps] => Ok(Event::Turn(number_of(id)?, number_of(steps)?)),
         ["view", id, principal] => Ok(Event::View(number_of(id)?, principal_of(principal)?)),
         ["close", id] => Ok(Event::Close(number_of(id)?)),
@@ -36,6 +41,31 @@ fn open(texts: &Texts, module: &str, world: &str, other: &str) -> Result<Event, 
     let bytes = texts.copy(module)?;
     let world = world_of(texts.alloc(), texts.get(other)?, texts.get(world)?)?;
     Ok(Event::Open(bytes, world))
+}
+
+fn open_under(
+    texts: &Texts,
+    module: &str,
+    world: &str,
+    hier: &str,
+    other: &str,
+) -> Result<Event, LineFault> {
+    let bytes = texts.copy(module)?;
+    let world = world_of(texts.alloc(), texts.get(other)?, texts.get(world)?)?;
+    let hierarchy = hierarchy_of(texts.alloc(), texts.get(hier)?)?;
+    Ok(Event::OpenUnder(bytes, world, hierarchy))
+}
+
+// The hierarchy that a text is.
+fn hierarchy_of(alloc: Global, text: &[u8]) -> Result<Hierarchy, LineFault> {
+    let Ok(text) = str::from_utf8(text) else {
+        return Err(OrNoMemory::Refused(LineRefusal::NoHierarchy));
+    };
+    match Hierarchy::read(alloc, text) {
+        Ok(hierarchy) => Ok(hierarchy),
+        Err(OrNoMemory::NoMemory) => Err(OrNoMemory::NoMemory),
+        Err(OrNoMemory::Refused(_)) => Err(OrNoMemory::Refused(LineRefusal::NoHierarchy)),
+    }
 }
 
 // The world of a module's inputs that a text is.
@@ -122,6 +152,7 @@ fn line_of(alloc: Global, refusal: HostRefusal) -> Result<String, AllocError> {
         HostRefusal::Full
         | HostRefusal::UnknownId
         | HostRefusal::UnknownPrincipal
-        | HostRefusal::New(_) => format!(in alloc; "{number} {words}\n"),
+        | HostRefusal::New(_)
+        | HostRefusal::NotContained => format!(in alloc; "{number} {words}\n"),
     }
 }

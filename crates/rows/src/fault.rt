@@ -25,6 +25,8 @@ pub enum LineRefusal {
     NoModule,
     /// The text is no world of the module.
     NoWorld,
+    /// The text has no hierarchy.
+    NoHierarchy,
 }
 
 /// Why a line of a data file was not done.
@@ -43,6 +45,7 @@ impl fmt::Display for LineRefusal {
             LineRefusal::NotOnce => "not once in the text",
             LineRefusal::NoModule => "no module",
             LineRefusal::NoWorld => "no world of the module",
+            LineRefusal::NoHierarchy => "no hierarchy",
         })
     }
 }

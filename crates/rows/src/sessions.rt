@@ -89,6 +89,12 @@ fn call(host: &mut Host, event: Event) -> Answer {
             Ok(id) => Answer::Opened(id),
             Err(fault) => Answer::Refused(fault),
         },
+        Event::OpenUnder(bytes, world, hierarchy) => {
+            match host.open_under(&bytes, world, hierarchy) {
+                Ok(id) => Answer::Opened(id),
+                Err(fault) => Answer::Refused(fault),
+            }
+        }
         Event::Turn(id, steps) => match host.turn(id, steps) {
             Ok((taken, status)) => Answer::Turned(taken, status),
             Err(fault) => Answer::Refused(fault),

@@ -274,6 +274,8 @@ fn the_laws_are_called(rt: HostRuntime) {
     laws::only_the_set_of_policies_counts();
     laws::written_policy_keeps_its_meaning();
     laws::written_label_keeps_its_policies();
+    laws::flows_are_kept();
+    laws::labels_stay_themselves();
     let pair = |number| Pair { channel: 1, number };
     assert!(rt; pair(7) == pair(7) && pair(7) != pair(8));
 }

@@ -81,6 +81,7 @@ fn refusals_of_a_host(rt: HostRuntime) -> Result<(), Fail> {
         (HostRefusal::Full, 901, "full"),
         (HostRefusal::UnknownId, 902, "unknown id"),
         (HostRefusal::UnknownPrincipal, 153, "unknown principal"),
+        (HostRefusal::NotContained, 903, "hierarchy not contained"),
         (
             HostRefusal::Load(LoadRefusal::Bytes(in_bytes)),
             806,

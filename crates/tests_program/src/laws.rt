@@ -21,7 +21,6 @@ fn laws_of_isolation(_rt: HostRuntime) {
     noninterference::two_runs_agree();
     noninterference::labelled_programs_are_isolated();
     noninterference::labelled_programs_stay_isolated();
-    noninterference::flows_are_kept();
     examples::a_label_decides();
     examples::lists_may_differ_in_length();
     acceptance::laws::one_verdict();

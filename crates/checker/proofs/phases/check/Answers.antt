@@ -1,5 +1,6 @@
-use Rattle.std.proofs.Common.{subst}
+use Rattle.std.proofs.Common.{subst, sym}
 use Rattle.common.specs.Answers.{IfRefused}
+use Rattle.principals.specs.ActsFor.{IsHierarchy}
 use Rattle.resolved.specs.CoreOf.{program_of}
 use Rattle.acceptance.proofs.Phases.{accepted_refused}
 use Rattle.acceptance.specs.Accepted.{IsAccepted}
@@ -20,6 +21,16 @@ returns-in-Ok-find_labels-clause-isolated c =
     accepted-from c.args.hierarchy.now c.args.source.now c.in-Ok.analysed.core kept c.in-Ok-find_labels.ensures.core c.in-Ok.ensures.resolved c.in-Ok.ensures.ended
     c.in-Ok-find_labels.ensures.labelled in
     c.labelled_programs_are_isolated.ensures (program_of kept) accepted.ended c.in-Ok-find_labels.ensures.labelled
+
+pub returns-in-Ok-find_labels-clause-larger : goal.returns-in-Ok-find_labels-clause-larger
+returns-in-Ok-find_labels-clause-larger c =
+    let kept = c.in-Ok-find_labels.checked.core in
+    let accepted : IsAccepted c.args.hierarchy.now c.args.source.now (program_of kept) =
+    accepted-from c.args.hierarchy.now c.args.source.now c.in-Ok.analysed.core kept c.in-Ok-find_labels.ensures.core c.in-Ok.ensures.resolved c.in-Ok.ensures.ended
+    c.in-Ok-find_labels.ensures.labelled in
+    let same = c.resolved_programs_have_names.ensures.hierarchy c.args.source.now c.args.hierarchy.now (program_of kept) accepted.resolved in
+    c.labelled_programs_stay_isolated.ensures.by_name (program_of kept) accepted.ended c.in-Ok-find_labels.ensures.labelled
+    (subst IsHierarchy (sym same) c.count-count.ensures.kept)
 
 pub returns-clause-first_fault : goal.returns-clause-first_fault
 returns-clause-first_fault c =

@@ -9,4 +9,4 @@ code_of-requires-clause-names c =
     stand.accepted.resolved
 
 pub code_of-requires-clause-isolated : goal.code_of-requires-clause-isolated
-code_of-requires-clause-isolated c = c.in_ok-checked.ensures.isolated
+code_of-requires-clause-isolated c = c.in_ok-checked.ensures.larger

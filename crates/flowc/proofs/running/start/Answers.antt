@@ -1,4 +1,5 @@
 use Rattle.channels.specs.WorldText.{lines_of}
+use Rattle.flowc.specs.Given.{text_of}
 use Rattle.flowc.proofs.Refusals.{named_world, unknown_channel}
 use Rattle.flowc.proofs.Reporting.{module_message, world_message}
 use Rattle.flowc.proofs.running.start.Goals as goal
@@ -10,10 +11,10 @@ unreachable-requires c =
 
 pub returns-in_err-verified-clause-message : goal.returns-in_err-verified-clause-message
 returns-in_err-verified-clause-message c =
-    module_message c.from_residual.result _ _ _ _ _ c.from_residual.ensures.1 c.in_err-verified.ensures.message
+    module_message c.from_residual.result (text_of c.args.code) (text_of c.args.world) _ c.from_residual.ensures.1 c.in_err-verified.ensures.message
 
 pub returns-in_err-numbers-clause-message : goal.returns-in_err-numbers-clause-message
 returns-in_err-numbers-clause-message c =
-    world_message c.from_residual-in_err-numbers.result c.in_ok-verified.verified c.module.result.now _ _ _ _ _
+    world_message c.from_residual-in_err-numbers.result c.in_ok-verified.verified c.module.result.now (text_of c.args.code) (text_of c.args.world) _
     c.in_ok-verified.ensures.accepted.spelled c.in_ok-verified.ensures.accepted.no_defect c.module.ensures.value
     c.from_residual-in_err-numbers.ensures.1 c.in_err-numbers.ensures.message

@@ -1,4 +1,6 @@
-use Rattle.std.proofs.Common.{[], sym}
+use Rattle.std.proofs.Common.{[], ap, option_map, sym}
+use Rattle.flowc.specs.Compiled.{NamedText, bytes_of}
+use Rattle.flowc.specs.Given.{text_of}
 use Rattle.flowc.specs.declared.ended.Ended.{Ended}
 use Rattle.flowc.proofs.Explaining.{explain_shows}
 use Rattle.flowc.proofs.Refusals.{run_shows}
@@ -9,8 +11,9 @@ use Rattle.flowc.proofs.tasks.perform.Goals as goal
 
 pub returns-in-Run-clause-stdout : goal.returns-in-Run-clause-stdout
 returns-in-Run-clause-stdout g c = rw c.in-Run.is
-    (run_shows _ _ _ _ _ _ _ _ _ _ c.run.result c.run.ensures.stdout c.run.ensures.rejected c.run.ensures.unchanged c.run.ensures.prefix
-    c.finish-in-Run.ensures.status c.file_at-code.ensures.bytes c.file_at-world.ensures.bytes c.name_of.ensures)
+    (run_shows _ _ _ _ _ _ _ _ _ _ _ _ c.run.result c.run.ensures.stdout c.run.ensures.rejected c.run.ensures.unchanged c.run.ensures.prefix
+    c.finish-in-Run.ensures.status (ap (λ (t : NamedText). t.bytes) c.run_files-read.ensures.code) (ap (λ (t : NamedText). t.bytes) c.run_files-read.ensures.world)
+    (ap bytes_of c.run_files-read.ensures.under) c.name_of.ensures)
 
 pub returns-in-Check-clause-accepted : goal.returns-in-Check-clause-accepted
 returns-in-Check-clause-accepted g c = λ source zero.
@@ -38,8 +41,9 @@ returns-in-Build-clause-rejected g c = λ source one holds.
 
 pub returns-in-Run-clause-message : goal.returns-in-Run-clause-message
 returns-in-Run-clause-message g c = rw c.in-Run.is
-    (run_message c.run.result _ _ _ _ _ _ _ _ _ _ _ _ _ _ _ _ c.run.ensures.end c.run.ensures.message c.finish-in-Run.ensures.status c.finish-in-Run.ensures.message
-    c.file_at-code.ensures.path c.file_at-world.ensures.path c.file_at-code.ensures.bytes c.file_at-world.ensures.bytes c.name_of.ensures)
+    (run_message c.run.result _ _ (text_of c.run_files-read.result.code) (text_of c.run_files-read.result.world) _ (option_map text_of c.run_files-read.result.under) _ _ _ _ _ _ _ _
+    c.run.ensures.end c.run.ensures.message c.finish-in-Run.ensures.status c.finish-in-Run.ensures.message
+    c.run_files-read.ensures.code c.run_files-read.ensures.world c.run_files-read.ensures.under c.name_of.ensures)
 
 pub returns-in-Check-clause-message : goal.returns-in-Check-clause-message
 returns-in-Check-clause-message g c = rw c.in-Check.is

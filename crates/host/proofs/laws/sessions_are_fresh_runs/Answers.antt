@@ -1,4 +1,4 @@
-use Rattle.host.proofs.Isolation.{end_as_reported, fresh_runs, stand_as_reported}
+use Rattle.host.proofs.Isolation.{can_be_opened, end_as_reported, fresh_runs, stand_as_reported}
 use Rattle.host.proofs.laws.sessions_are_fresh_runs.Goals as goal
 
 pub returns-clause-views : goal.returns-clause-views
@@ -9,3 +9,6 @@ returns-clause-stands c = stand_as_reported c.one_spelling.ensures.contents
 
 pub returns-clause-ended : goal.returns-clause-ended
 returns-clause-ended c = end_as_reported c.one_spelling.ensures.contents
+
+pub returns-clause-opened : goal.returns-clause-opened
+returns-clause-opened c = can_be_opened c.one_spelling.ensures.contents

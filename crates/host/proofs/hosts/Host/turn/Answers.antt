@@ -27,7 +27,7 @@ returns c =
         c.turn.ensures.takes,
         of_parts (next_of c.self.inside.next) c.args.self.now.next (map contents_of (set kept c.in-Some.place new)) (with_machine c.args.id (machine_of new.run) (map contents_of c.args.self.now.sessions))
             (ap (λ (h : HostRuns). h.next) c.self.view_is)
-            (turned c.args.id kept c.in-Some.place old new (sym found ∙ c.in-Some.is) at c.turn.ensures.id c.turn.ensures.program
+            (turned c.args.id kept c.in-Some.place old new (sym found ∙ c.in-Some.is) at c.turn.ensures.id c.turn.ensures.program c.turn.ensures.under
             ∙ ap (λ (h : HostRuns). with_machine c.args.id (machine_of new.run) (map contents_of h.sessions)) c.self.view_is),
       ),
     )

@@ -2,24 +2,20 @@ use Rattle.std.proofs.Common.{◌≡◌, ◌<◌, ◌==◌, List, length, refl, 
 use Rattle.std.specs.Prelude.{position}
 use Rattle.std.proofs.lemmas.Result.{err_from_is_err_and}
 use Rattle.principals.specs.ActsFor.{PrincipalHierarchy}
-use Rattle.modules.specs.Contents.{ModuleContents}
-use Rattle.modules.specs.Isolated.{module_view}
 use Rattle.host.specs.Meaning.{IsOpen}
 use Rattle.host.specs.Values.{HostRuns, SessionRun, contents_of, host_of}
 use Rattle.host.proofs.Sessions.{is_not_open, is_open}
 use Rattle.host.proofs.hosts.Host.view.Goals as goal
 use Rattle.host.proofs.hosts.Host.view.Goals.{After-count}
 
--- the session that was found, and how many principals its module has
+-- the session that was found, and how many principals its hierarchy has
 found : (c : After-count) → IsOpen (host_of c.args.self.now) c.args.id (contents_of c.index-session.result.now)
 found c =
     let place = c.find.ensures ∙ ap (λ (l : List SessionRun). position (λ session. session.id == c.args.id) l) c.deref.ensures.value in
     is_open c.args.self.now c.self.inside.sessions.items (ap (λ (h : HostRuns). h.sessions) c.self.view_is) c.args.id c.find.result c.in-Some.place c.index-session.result.now place c.in-Some.is c.index-session.ensures
 
-counted : (c : After-count) → c.count.result ≡ length c.index-session.result.now.run.program.hierarchy.names
-counted c =
-    c.count.ensures.count
-    ∙ ap (λ (h : PrincipalHierarchy). length h.names) (c.hierarchy.ensures.hierarchy ∙ ap (λ (m : ModuleContents). m.hierarchy) c.module-program.ensures)
+counted : (c : After-count) → c.count.result ≡ length (contents_of c.index-session.result.now).hierarchy.names
+counted c = c.count.ensures.count ∙ ap (λ (h : PrincipalHierarchy). length h.names) c.hierarchy.ensures
 
 pub returns-in_default : goal.returns-in_default
 returns-in_default c =
@@ -47,6 +43,6 @@ returns c =
       contents_of c.index-session.result.now,
       found after,
       subst (λ n. c.args.principal < n) count c.if-principal-count.false,
-      c.in_ok-pairs.ensures ∙ (λ i. module_view (c.module-program.ensures i) c.args.principal (c.sent.ensures i)),
+      c.in_ok-pairs.ensures,
       refl,
     )
