@@ -210,6 +210,19 @@ def exceptions_handed_on(size):
     return flat(2), first + joined(rest) + "void main() { }\n"
 
 
+def exceptions_of_many_callees(size):
+    """As many procedures as exceptions, each of which declares all of them, all called in tries that each catch half of them."""
+    count = int((size / 12) ** 0.5)
+    names = [f"e{n}" for n in range(count)]
+    thrown = ", ".join(f"{name}{{}}" for name in names)
+    head = "".join(f"exception {name};\n" for name in names)
+    head += "".join(f"void f{n}() throws ({thrown}) {{ }}\n" for n in range(count))
+    calls = " ".join(f"f{n}();" for n in range(count))
+    caught = " ".join(f"catch ({name}) {{ }}" for name in names[::2])
+    tries = f"try {{ {calls} }} {caught}\n" * (count // 4)
+    return flat(2), head + f"void main() throws ({thrown}) {{\n{tries}}}\n"
+
+
 # Each shape, with the most that it may take of the benign source's time at 1 MiB.
 SHAPES = [
     (one_long_label, 5),
@@ -229,6 +242,7 @@ SHAPES = [
     (exceptions_of_calls_at_many_labels, 20),
     (exceptions_of_calls_in_tries, 20),
     (exceptions_handed_on, 20),
+    (exceptions_of_many_callees, 20),
 ]
 
 

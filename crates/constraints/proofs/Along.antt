@@ -17,13 +17,14 @@ use Rattle.gathering.specs.Names.{NamedAtom, NamedConstraint}
 use Rattle.gathering.specs.Walk as walk
 use Rattle.gathering.specs.Walk.{block_constraints, handlers_constraints, inner_atom, inner_block, made_by_block, made_by_handlers, made_by_statement, onward_pc, single, statement_constraints, with_normal, within_single}
 use Rattle.solver.specs.declared.constraints.Atom.{Atom}
-use Rattle.constraints.specs.Added.{AreAdded, IsPart, Stored}
+use Rattle.constraints.specs.Added.{IsPart}
 use Rattle.constraints.specs.LeftSides.{scope_of}
 use Rattle.constraints.specs.Takers.{AreLevelled, takers_of}
+use Rattle.constraints.specs.Thinned.{Thinned}
 use Rattle.constraints.specs.Walked.{AreHandlersWalked, AreStatementsWalked, HasPassed, IsBlockWalked, IsStatementWalked, IsWalked, step_constraints}
 use Rattle.constraints.specs.declared.progress.Progress.{Progress}
 use Rattle.constraints.specs.declared.takers.Takers.{Takers}
-use Rattle.constraints.proofs.Added.{added-none, added-same, added-then}
+use Rattle.constraints.proofs.Thinned.{walks-none, walks-same, walks-then}
 use Rattle.constraints.proofs.Formed.{block-at}
 use Rattle.constraints.proofs.Passed.{passed-from, paths-then, walked-on}
 
@@ -31,9 +32,9 @@ use Rattle.constraints.proofs.Passed.{passed-from, paths-then, walked-on}
 pub record Adds (core : Core) (table : List Label) (procedure : ℕ) (takers : walk.Takers) (named : NamedAtom) (block : Block) (old : Progress) (rest : Block) (reached : Bool) (pc : Atom) (now : Progress) : Type 0 where
   pub here : NamedAtom
   pub stands : IsPart core table here pc
-  pub added : (last : List Stored)
-      → AreAdded core table (block_constraints (scope_of core procedure) reached here takers now.number rest) now.constraints.items last
-      → AreAdded core table (block_constraints (scope_of core procedure) true named takers old.number block) old.constraints.items last
+  pub added : (last : Progress)
+      → Thinned core table (block_constraints (scope_of core procedure) reached here takers now.number rest) now last
+      → Thinned core table (block_constraints (scope_of core procedure) true named takers old.number block) old last
 
 -- what a walk has come to, with these statements of the block left
 pub record Comes (core : Core) (table : List Label) (entries : List Exits) (procedure : ℕ) (pc : Atom) (takers : Takers) (block : Block) (left : List Exits) (old : Progress) (rest : Block) (reached : Bool) (onward : Atom) (now : Progress) : Type 0 where
@@ -52,9 +53,9 @@ pub record Handles (core : Core) (table : List Label) (entries : List Exits) (pr
   pub entries_left : drop now.index entries ≡ map exits_of (handlers_paths (program_of core) rest) ++ left
   pub number_is : now.number + made_by_handlers rest ≡ old.number + made_by_handlers handlers
   pub thrown_is : now.thrown.items ≡ old.thrown.items
-  pub added : (last : List Stored)
-      → AreAdded core table (handlers_constraints (scope_of core procedure) number (takers_of takers old.thrown.items) now.number rest) now.constraints.items last
-      → AreAdded core table (handlers_constraints (scope_of core procedure) number (takers_of takers old.thrown.items) old.number handlers) old.constraints.items last
+  pub added : (last : Progress)
+      → Thinned core table (handlers_constraints (scope_of core procedure) number (takers_of takers old.thrown.items) now.number rest) now last
+      → Thinned core table (handlers_constraints (scope_of core procedure) number (takers_of takers old.thrown.items) old.number handlers) old last
 
 abbrev pub Handling : Core → (table : List Label) → (entries : List Exits) → (procedure : ℕ) → (number : ℕ → ℕ) → Takers → (handlers : Handlers) → (old : Progress) → (rest : Handlers) → (now : Progress) → Type 0
 Handling core table entries procedure number takers handlers old rest now =
@@ -107,14 +108,14 @@ module _ (core : Core) (table : List Label) (entries : List Exits) (procedure : 
               here = onward_pc (one_end ends) adds.here number;
               stands = goes ends adds.here kept adds.stands;
               added = λ last added. adds.added last
-                  (added-same core table (block_constraints scope reached adds.here t now.number (Then statement rest)) (step number adds.here ++ tail exits.normal number new.number) now.constraints.items last
+                  (walks-same core table (block_constraints scope reached adds.here t now.number (Then statement rest)) (step number adds.here ++ tail exits.normal number new.number) now last
                   (sym (append_assoc (single (one_end ends) adds.here (with_normal None t) ends)
                   (statement_constraints scope adds.here (within_single (one_end ends) (with_normal (Some now.number) t)) (suc now.number) statement)
                   (tail (has_end ends Normal) now.number (suc now.number + made_by_statement statement)))
                   ∙ ap (λ k. step k adds.here ++ tail (has_end ends Normal) k (suc now.number + made_by_statement statement)) (sym number_is)
                   ∙ ap (λ b. step number adds.here ++ tail b number (suc now.number + made_by_statement statement)) (sym (ap (λ (x : Exits). x.normal) kept))
                   ∙ ap (λ m. step number adds.here ++ tail exits.normal number m) (omega (arith, from.number_is)))
-                  (added-then core table (step number adds.here) (tail exits.normal number new.number) now.constraints.items new.constraints.items last
+                  (walks-then core table (step number adds.here) (tail exits.normal number new.number) now new last
                   (from.added adds.here adds.stands) added));
             };
       }
@@ -133,7 +134,7 @@ module _ (core : Core) (table : List Label) (entries : List Exits) (procedure : 
       record {
         added = λ named stands.
             let adds : Adds core table procedure (takers_of takers old.thrown.items) named block old Empty reached onward now = comes.adds named stands in
-            adds.added new.constraints.items (passed.added adds.here adds.stands);
+            adds.added new (passed.added adds.here adds.stands);
         entries_left = passed.entries_left;
         number_is = omega (arith, passed.number_is, sum);
         thrown_is = passed.thrown_is ∙ comes.thrown_is;
@@ -170,9 +171,9 @@ module _ (core : Core) (table : List Label) (entries : List Exits) (procedure : 
         number_is = omega (arith, sum, passed.number_is);
         thrown_is = passed.thrown_is ∙ comes.thrown_is;
         added = λ last added. comes.added last
-            (added-same core table (inside ++ tail (now.number + made_by_block body)) (inside ++ tail new.number) now.constraints.items last
+            (walks-same core table (inside ++ tail (now.number + made_by_block body)) (inside ++ tail new.number) now last
             (ap (λ k. inside ++ tail k) (sym passed.number_is))
-            (added-then core table inside (tail new.number) now.constraints.items new.constraints.items last (passed.added (inner_atom (number handled)) part) added));
+            (walks-then core table inside (tail new.number) now new last (passed.added (inner_atom (number handled)) part) added));
       }
 
   pub handling-end : (number : ℕ → ℕ) (takers : Takers) (handlers : Handlers) (old now : Progress) (pc : Atom)
@@ -181,7 +182,7 @@ module _ (core : Core) (table : List Label) (entries : List Exits) (procedure : 
       let comes : Handles core table entries procedure number takers handlers left old NoMore now = along left before levelled in
       let sum : now.number + 0 ≡ old.number + made_by_handlers handlers = comes.number_is in
       record {
-        added = λ named stands. comes.added now.constraints.items (added-none core table now.constraints.items);
+        added = λ named stands. comes.added now (walks-none core table now);
         entries_left = comes.entries_left;
         number_is = omega (arith, sum);
         thrown_is = comes.thrown_is;

@@ -1,6 +1,7 @@
 -- Walks past procedures, one after the other.
 use Rattle.std.proofs.Common.{◌≡◌, refl, sym, ap, ◌∙◌, subst, ℕ, zero, suc, ◌+◌, ◌<◌, ◌≤◌, List, [], ◌∷◌, ◌++◌, map, take, drop, length, get_or, replicate, flat_map, Bool, true, false, arith, append_assoc, append-nil, add-one}
-use Rattle.std.specs.Prelude.{if◌then◌else◌, string_bytes, sum_by}
+use Rattle.std.specs.Prelude.{Contains, if◌then◌else◌, string_bytes, sum_by}
+use Rattle.principals.proofs.Closure.{none_in_nil}
 use Rattle.std.proofs.lemmas.Bool.{leb-true}
 use Rattle.std.proofs.lemmas.List.{get_or-map, length-map, length-replicate, length-take-le, map-append, take_all}
 use Rattle.std.proofs.lemmas.List.Sums.{AllPass-from_list_all, sum_by-cons}
@@ -28,18 +29,23 @@ use Rattle.path_map.specs.Paths.{block_paths, program_paths}
 use Rattle.path_map.specs.declared.exits.Exits.{Exits}
 use Rattle.path_map.proofs.Procedures.{next-procedure}
 use Rattle.gathering.specs.Names.{NamedAtom, NamedConstraint, Real}
-use Rattle.gathering.specs.Walk.{at_end, constraints_from, end_constraints, end_takers, has_one_end, inner_atom, inner_block, made_by_block, made_by_procedure, made_from, nowhere, procedure_constraints, program_constraints, rule_constraint, thrown_constraints, thrown_number}
+use Rattle.gathering.specs.Walk.{at_end, constraints_from, declares, end_constraints, end_takers, has_one_end, inner_atom, inner_block, made_by_block, made_by_procedure, made_from, nowhere, procedure_constraints, program_constraints, rule_constraint, thrown_constraints, thrown_number}
 use Rattle.solver.specs.declared.constraints.Atom.{Atom}
 use Rattle.constraints.specs.Added.{AreAdded, IsPart, Stored}
 use Rattle.constraints.specs.LeftSides.{scope_of}
 use Rattle.constraints.specs.Procedures.{AreDeclaredTakers, HasPassedProcedure, StaysInPlace, IsOf, IsProcedureWalked, end_takers_of, number_in}
 use Rattle.constraints.specs.Ready.{AreThrownInside, IsBlockReady, IsProcedureReady, exception_count}
 use Rattle.constraints.specs.Takers.{AreLevelled, AreWithin, no_entry, takers_of}
+use Rattle.constraints.specs.Thinned.{AreNoted, Thinned, ThinnedWhole}
+use Rattle.constraints.specs.Journals.{AreOrdered, AreUpTo, IsUpToDate, entry_from, moments_at, noted_all}
+use Rattle.constraints.specs.declared.journal.Journal.{Journal}
 use Rattle.constraints.specs.Walked.{HasPassed, IsBlockWalked}
 use Rattle.constraints.specs.declared.progress.Progress.{Progress}
 use Rattle.constraints.specs.declared.takers.Entry.{Entry}
 use Rattle.constraints.specs.declared.takers.Takers.{Takers}
 use Rattle.constraints.proofs.Added.{added-none, added-same, added-then}
+use Rattle.constraints.proofs.Noted.{declared-ones, noted-journal, undeclared-stay}
+use Rattle.constraints.proofs.Thinned.{thinned-exact, walks-exact, walks-noted, walks-same, walks-then, whole-same, whole-then}
 use Rattle.constraints.proofs.Ready.{thrown-inside}
 use Rattle.constraints.proofs.Declared.{taken-within, takers-at-end, thrown-numbers}
 
@@ -83,7 +89,7 @@ ends-added core table f n level only procedure throws had taken given old middle
     ∙ ap (λ at. end at ++ thrown_constraints scope (number_in given) (map thrown_entry throws)) (sym at_is)))))
     (added-then core table (end procedure.at) (thrown_constraints scope (number_in given) (map thrown_entry throws)) old middle new first (second at_is))
 
-pub procedure-passed : (core : Core) (table : List Label) (entries : List Exits) (f barrier level start count : ℕ) (procedure : Procedure) (throws : List Thrown) (block : List S.Statement) (pc : Atom) (takers : Takers) (only : Bool) (left : List Exits) (old middle walked new : Progress)
+pub procedure-passed : (core : Core) (table : List Label) (entries : List Exits) (f barrier level start count : ℕ) (procedure : Procedure) (throws noted : List Thrown) (noting : List Entry) (block : List S.Statement) (pc : Atom) (takers : Takers) (only : Bool) (left : List Exits) (old middle walked new : Progress)
     → IsOf core f procedure
     → drop old.index entries ≡ map exits_of (block_paths (program_of core) (here (scope_of core f)).body) ++ left
     → AreWithin barrier old.thrown.items
@@ -93,6 +99,10 @@ pub procedure-passed : (core : Core) (table : List Label) (entries : List Exits)
     → takers ≡ end_takers_of old.number barrier level only
     → IsPart core table (renamed Real (label_of (program_of core) (ToBegin f))) pc
     → middle.index ≡ old.index → middle.number ≡ start + count → middle.constraints.items ≡ old.constraints.items
+    → middle.journal.calls ≡ old.journal.calls
+    → ((x : ℕ) → moments_at middle.journal.moments.items x ≡ noted_all (length old.journal.moments.items) (length old.journal.calls.items) noting
+    (map (λ (declared : Thrown). declared.exception) noted) x (moments_at old.journal.moments.items x))
+    → length middle.journal.moments.items ≡ length old.journal.moments.items → noting ≡ middle.thrown.items → noted ≡ throws
     → length middle.thrown.items ≡ length old.thrown.items
     → ((b : ℕ) → b < level → AreWithin b old.thrown.items → AreDeclaredTakers (map thrown_entry throws) start level old.thrown.items middle.thrown.items)
     → IsBlockWalked core table entries f pc takers (block_of block) middle walked
@@ -101,7 +111,7 @@ pub procedure-passed : (core : Core) (table : List Label) (entries : List Exits)
     → AreDeclaredTakers (here (scope_of core f)).throws (suc old.number) l had walked.thrown.items
     → AreAdded core table (end_constraints (scope_of core f) old.number) walked.constraints.items new.constraints.items)
     → HasPassedProcedure core table entries f (suc barrier) left old new
-procedure-passed core table entries f barrier level start count procedure throws block pc takers only left old middle walked new is goes within level_is start_is count_is throws_are block_is one takers_are stands index_is number_is constraints_are wide takes walks kept ended =
+procedure-passed core table entries f barrier level start count procedure throws noted noting block pc takers only left old middle walked new is goes within level_is start_is count_is throws_are block_is one takers_are stands index_is number_is constraints_are calls moments counted_is noting_is noted_is wide takes walks kept ended =
     let program : Program = program_of core in
     let scope : Scope = scope_of core f in
     let declared : List ThrownEntry = (here scope).throws in
@@ -130,23 +140,31 @@ procedure-passed core table entries f barrier level start count procedure throws
     ∙ ap (λ b. if b then nowhere else at_end n declared) one) in
     let counted : count ≡ length declared = count_is ∙ (sym (length-map procedure.throws.items thrown_entry) ∙ ap (λ (p : ProcedureEntry). length p.throws) (sym is)) in
     let number_suc : middle.number ≡ suc n + length declared = omega (arith, number_is, start_is, counted) in
-    let first : AreAdded core table (inner_block scope begin (end_takers scope n) (suc n + length declared) (here scope).body) middle.constraints.items walked.constraints.items =
-    added-same core table (inner_block scope begin (end_takers scope n) (suc n + length declared) (here scope).body)
-    (inner_block scope begin (takers_of takers middle.thrown.items) middle.number body) middle.constraints.items walked.constraints.items
+    let inside_it : List NamedConstraint = inner_block scope begin (end_takers scope n) (suc n + length declared) (here scope).body in
+    let first : Thinned core table inside_it middle walked =
+    walks-same core table inside_it (inner_block scope begin (takers_of takers middle.thrown.items) middle.number body) middle walked
     (ap (λ t. inner_block scope begin t (suc n + length declared) (here scope).body) (sym same)
     ∙ (ap (λ k. inner_block scope begin (takers_of takers middle.thrown.items) k (here scope).body) (sym number_suc)
     ∙ ap (inner_block scope begin (takers_of takers middle.thrown.items) middle.number) (sym body_is)))
     (passed.added begin stands) in
+    let taking : IsUpToDate old.journal old.thrown.items → AreNoted old.journal middle.journal middle.thrown.items =
+    noted-journal old.journal middle.journal old.thrown.items middle.thrown.items (map (λ (d : Thrown). d.exception) noted) calls
+    (λ x. moments x ∙ ap (λ es. noted_all (length old.journal.moments.items) (length old.journal.calls.items) es (map (λ (d : Thrown). d.exception) noted) x (moments_at old.journal.moments.items x)) noting_is)
+    counted_is wide
+    (λ x none.
+    let undeclared : declares declared x ≡ false = ap (λ list. declares list x) (sym (ap (map thrown_entry) noted_is ∙ declared_is)) ∙ (sym (declared-ones noted x) ∙ none) in
+    taken x ∙ undeclared-stay declared (suc n) (suc barrier) x (get_or old.thrown.items x no_entry) undeclared) in
     let made : made_by_block body ≡ made_by_block (here scope).body = ap made_by_block body_is in
     let walked_number : walked.number ≡ middle.number + made_by_block body = passed.number_is in
     let kept_number : new.number ≡ walked.number = kept.number_is in
     let taken_is : new.thrown.items ≡ middle.thrown.items = kept.thrown_is ∙ passed.thrown_is in
     let own : made_by_procedure scope ≡ suc (length declared + made_by_block (here scope).body) = refl in
     record {
-      added = added-then core table (inner_block scope begin (end_takers scope n) (suc n + length declared) (here scope).body) (end_constraints scope n)
-          old.constraints.items walked.constraints.items new.constraints.items
-          (subst (λ cs. AreAdded core table (inner_block scope begin (end_takers scope n) (suc n + length declared) (here scope).body) cs walked.constraints.items) constraints_are first)
-          (ended (suc barrier) old.thrown.items is one (subst (AreDeclaredTakers declared (suc n) (suc barrier) old.thrown.items) (sym passed.thrown_is) taken));
+      added = walks-then core table inside_it (end_constraints scope n) old walked new
+          (walks-then core table [] inside_it old middle walked (walks-noted core table old middle constraints_are taking) first)
+          (walks-exact core table (end_constraints scope n) walked new
+          (ended (suc barrier) old.thrown.items is one (subst (AreDeclaredTakers declared (suc n) (suc barrier) old.thrown.items) (sym passed.thrown_is) taken))
+          kept.journal_is kept.thrown_is);
       entries_left = ap (λ k. drop k entries) kept.index_is ∙ passed.entries_left;
       number_is = omega (arith, number_suc, made, walked_number, kept_number, own);
       within = subst (AreWithin (suc barrier)) (sym taken_is) inside;
@@ -250,7 +268,7 @@ exceptions-numbered core = omega (arith, program-small core, length-map core.exc
 
 -- the first procedures were walked past
 pub record ArePassed (core : Core) (table : List Label) (entries : List Exits) (i : ℕ) (progress : Progress) : Type 0 where
-  pub added : AreAdded core table (constraints_from (program_of core) 0 0 (map procedure_entry (take i core.procedures.items))) [] progress.constraints.items
+  pub added : ThinnedWhole core table (constraints_from (program_of core) 0 0 (map procedure_entry (take i core.procedures.items))) progress
   pub entries_left : drop progress.index entries ≡ map exits_of (paths_of (program_of core) (map procedure_entry (drop i core.procedures.items)))
   pub number_is : progress.number ≡ made_from (program_of core) 0 (map procedure_entry (take i core.procedures.items))
   pub within : AreWithin i progress.thrown.items
@@ -262,11 +280,31 @@ replicate-read zero x = refl
 replicate-read (suc n) zero = refl
 replicate-read (suc n) (suc x) = replicate-read n x
 
+-- the next call of a walk before which nothing was noted
+none-noted : (journal : Journal) (thrown : List Entry) (n : ℕ)
+    → journal.calls.items ≡ [] → ((x : ℕ) → moments_at journal.moments.items x ≡ []) → length journal.moments.items ≡ n → thrown ≡ replicate n no_entry
+    → IsUpToDate journal thrown
+none-noted journal thrown n calls moments rows thrown_are = record {
+  now = λ x. ap (λ ms. entry_from ms (length journal.calls.items) no_entry) (moments x) ∙ sym (ap (λ list. get_or list x no_entry) thrown_are ∙ replicate-read n x);
+  past = λ called h. absurd (none_in_nil called (subst (λ list. Contains list called) calls h));
+  upto = λ x. subst (AreUpTo (length journal.calls.items)) (sym (moments x)) (λ m h. absurd (none_in_nil m h));
+  ordered = λ x. subst AreOrdered (sym (moments x)) tt;
+  wide = rows ∙ sym (ap length thrown_are ∙ length-replicate n no_entry);
+}
+
 pub passed-none : (core : Core) (table : List Label) (entries : List Exits) (n : ℕ) (progress : Progress)
     → entries ≡ map exits_of (program_paths (program_of core)) → progress.index ≡ 0 → progress.number ≡ 0 → progress.constraints.items ≡ []
-    → progress.thrown.items ≡ replicate n no_entry → n ≡ length core.exceptions.items + BUILT_IN → ArePassed core table entries 0 progress
-passed-none core table entries n progress mapped index number constraints thrown count = record {
-  added = subst (AreAdded core table [] []) (sym constraints) (added-none core table []);
+    → progress.thrown.items ≡ replicate n no_entry → n ≡ length core.exceptions.items + BUILT_IN
+    → progress.journal.calls.items ≡ [] → ((x : ℕ) → moments_at progress.journal.moments.items x ≡ []) → length progress.journal.moments.items ≡ n
+    → ArePassed core table entries 0 progress
+passed-none core table entries n progress mapped index number constraints thrown count calls moments rows = record {
+  added = record {
+    start = progress.journal;
+    no_calls = calls;
+    now = thinned-exact core table [] [] progress.constraints.items progress.journal progress.journal progress.thrown.items progress.thrown.items
+        (subst (AreAdded core table [] []) (sym constraints) (added-none core table [])) refl refl
+        (none-noted progress.journal progress.thrown.items n calls moments rows thrown);
+  };
   entries_left = ap (λ k. drop k entries) index ∙ mapped;
   number_is = number;
   within = λ x. subst (λ (e : Entry). e.level ≤ 0) (sym (ap (λ list. get_or list x no_entry) thrown ∙ replicate-read n x)) (omega arith);
@@ -276,9 +314,9 @@ passed-none core table entries n progress mapped index number constraints thrown
 }
 
 pub passed-added : (core : Core) (table : List Label) (entries : List Exits) (i : ℕ) (progress : Progress) → length core.procedures.items ≤ i
-    → ArePassed core table entries i progress → AreAdded core table (program_constraints (program_of core)) [] progress.constraints.items
+    → ArePassed core table entries i progress → ThinnedWhole core table (program_constraints (program_of core)) progress
 passed-added core table entries i progress all passed =
-    subst (λ list. AreAdded core table (constraints_from (program_of core) 0 0 (map procedure_entry list)) [] progress.constraints.items)
+    subst (λ list. ThinnedWhole core table (constraints_from (program_of core) 0 0 (map procedure_entry list)) progress)
     (take_all i core.procedures.items all) passed.added
 
 pub passed-number : (core : Core) (table : List Label) (entries : List Exits) (i : ℕ) (progress : Progress) → length core.procedures.items ≤ i
@@ -327,13 +365,13 @@ passed-next core table entries i procedure old new inside is walks had =
     let new_number : new.number ≡ old.number + made_by_procedure scope = passed.number_is in
     let start : 0 + made_from program 0 before ≡ old.number = omega (arith, old_number) in
     record {
-      added = added-same core table (constraints_from program 0 0 (map procedure_entry (take (i + 1) procedures)))
-          (constraints_from program 0 0 before ++ procedure_constraints scope old.number) [] new.constraints.items
+      added = whole-same core table (constraints_from program 0 0 (map procedure_entry (take (i + 1) procedures)))
+          (constraints_from program 0 0 before ++ procedure_constraints scope old.number) new
           (ap (constraints_from program 0 0) next
           ∙ (from-append program 0 0 before (procedure_entry procedure)
           ∙ (ap (λ g. constraints_from program 0 0 before ++ procedure_constraints (record { program = program; number = g }) (0 + made_from program 0 before)) count'
           ∙ ap (λ k. constraints_from program 0 0 before ++ procedure_constraints scope k) start)))
-          (added-then core table (constraints_from program 0 0 before) (procedure_constraints scope old.number) [] old.constraints.items new.constraints.items had.added passed.added);
+          (whole-then core table (constraints_from program 0 0 before) (procedure_constraints scope old.number) old new had.added passed.added);
       entries_left = passed.entries_left;
       number_is = omega (arith, made, old_number, new_number);
       within = subst (λ level. AreWithin level new.thrown.items) (sym (add-one i)) passed.within;

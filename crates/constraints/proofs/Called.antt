@@ -1,5 +1,5 @@
 -- What is gathered of calls.
-use Rattle.std.proofs.Common.{map, ◌≡◌, refl, sym, ap, ◌∙◌, subst, List, [], ◌∷◌, ◌++◌, Bool, true, false, ℕ, suc, ◌+◌, ◌<◌, ◌≤◌, length, take, get_or, arith, append_assoc, append-nil}
+use Rattle.std.proofs.Common.{map, ◌≡◌, refl, sym, ap, ◌∙◌, List, [], ◌∷◌, ◌++◌, Bool, true, false, ℕ, suc, ◌+◌, ◌<◌, ◌≤◌, length, take, get_or, arith, append_assoc, append-nil}
 use Rattle.std.proofs.lemmas.List.{length-map, length-take-le}
 use Rattle.common.proofs.Cases.{map_next}
 use Rattle.labels.specs.Label.{Label}
@@ -22,10 +22,8 @@ use Rattle.path_map.specs.Exceptions.{AreRaised, raised_list}
 use Rattle.solver.specs.declared.constraints.Atom.{Atom}
 use Rattle.constraints.specs.Added.{AreAdded, IsLeftFrom, Stored, flow_if}
 use Rattle.constraints.specs.LeftSides.{IsJoined, joined, scope_of, wanted_part}
-use Rattle.constraints.specs.declared.rows.ThrownLabel.{ThrownLabel}
 use Rattle.constraints.proofs.Added.{added-then, added-same, raised-once}
 use Rattle.constraints.proofs.Joined.{joined-append}
-use Rattle.resolved.proofs.Exits.{thrown-append}
 
 -- a left side to which a join was added
 pub left-then : (core : Core) (table : List Label) (pc : Atom) (a b : Join) (first left : List Atom)
@@ -73,26 +71,6 @@ flows-append program callee own takers (x ∷ xs) ys =
     ap (λ cs. flow (inner_atom own ∷ named_atoms (call_atoms program callee x)) (takers x) ++ cs) (flows-append program callee own takers xs ys)
     ∙ sym (append_assoc (flow (inner_atom own ∷ named_atoms (call_atoms program callee x)) (takers x)) (call_flows program callee own takers xs) (call_flows program callee own takers ys))
 
-abbrev pub exception_of : ThrownLabel → ℕ
-exception_of thrown = thrown.exception
-
-pub declared-next : (core : Core) (table : List Label) (callee k : ℕ) (takers : walk.Takers) (xs : List ThrownLabel) (i : ℕ) (x : ThrownLabel) (e : ℕ) (old middle new : List Stored)
-    → i < length xs → x ≡ get_or xs i x → e ≡ x.exception
-    → AreAdded core table (call_flows (program_of core) callee k takers (thrown_ends (map exception_of (take i xs)))) old middle
-    → AreAdded core table (flow (inner_atom k ∷ named_atoms (call_atoms (program_of core) callee (Throw e))) (takers (Throw e))) middle new
-    → AreAdded core table (call_flows (program_of core) callee k takers (thrown_ends (map exception_of (take (i + 1) xs)))) old new
-declared-next core table callee k takers xs i x e old middle new inside is same first second =
-    let program : Program = program_of core in
-    let before : List ℕ = map exception_of (take i xs) in
-    let last : List NamedConstraint = flow (inner_atom k ∷ named_atoms (call_atoms program callee (Throw x.exception))) (takers (Throw x.exception)) in
-    added-same core table (call_flows program callee k takers (thrown_ends (map exception_of (take (i + 1) xs)))) (call_flows program callee k takers (thrown_ends before) ++ last) old new
-    (ap (λ es. call_flows program callee k takers (thrown_ends es)) (map_next exception_of xs i x inside is)
-    ∙ (ap (call_flows program callee k takers) (thrown-append before (x.exception ∷ []))
-    ∙ (flows-append program callee k takers (thrown_ends before) (Throw x.exception ∷ [])
-    ∙ ap (λ cs. call_flows program callee k takers (thrown_ends before) ++ cs) (append-nil last))))
-    (added-then core table (call_flows program callee k takers (thrown_ends before)) last old middle new first
-    (subst (λ n. AreAdded core table (flow (inner_atom k ∷ named_atoms (call_atoms program callee (Throw n))) (takers (Throw n))) middle new) same second))
-
 -- the exceptions of the arguments
 called-list : (program : Program) (callee k : ℕ) (takers : walk.Takers) (a b : Bool)
     → call_flows program callee k takers (thrown_ends (raised_list a b))
@@ -117,19 +95,3 @@ called-raised core table callee k takers found exceptions old middle new are fir
     added-same core table (call_flows program callee k takers (thrown_ends (raised_once exceptions))) (one ++ two) old new
     (ap (λ es. call_flows program callee k takers (thrown_ends es)) (raised-once found exceptions are) ∙ called-list program callee k takers found.arith found.bounds)
     (added-then core table one two old middle new first second)
-
--- all ends of a call: the normal one, the exceptions of its arguments, and declared ones
-pub called-all : (core : Core) (table : List Label) (callee k : ℕ) (takers : walk.Takers) (raised declared : List ℕ) (normal : List NamedConstraint) (old one two new : List Stored)
-    → AreAdded core table normal old one
-    → AreAdded core table (call_flows (program_of core) callee k takers (thrown_ends raised)) one two
-    → AreAdded core table (call_flows (program_of core) callee k takers (thrown_ends declared)) two new
-    → AreAdded core table (normal ++ call_flows (program_of core) callee k takers (thrown_ends (raised ++ declared))) old new
-called-all core table callee k takers raised declared normal old one two new first second third =
-    let program : Program = program_of core in
-    let all : List NamedConstraint = call_flows program callee k takers (thrown_ends (raised ++ declared)) in
-    let left : List NamedConstraint = call_flows program callee k takers (thrown_ends raised) in
-    let right : List NamedConstraint = call_flows program callee k takers (thrown_ends declared) in
-    added-then core table normal all old one new first
-    (added-same core table all (left ++ right) one new
-    (ap (call_flows program callee k takers) (thrown-append raised declared) ∙ flows-append program callee k takers (thrown_ends raised) (thrown_ends declared))
-    (added-then core table left right one two new second third))

@@ -1,6 +1,6 @@
 -- A walk past each form of statement with blocks, from walks past its pieces.
-use Rattle.std.proofs.Common.{◌≡◌, refl, sym, ap, ◌∙◌, subst, ℕ, suc, ◌+◌, List, [], ◌∷◌, ◌++◌, map, drop, arith, append_assoc, Bool, true}
-use Rattle.std.specs.Prelude.{Some, None}
+use Rattle.std.proofs.Common.{◌≡◌, refl, sym, ap, ◌∙◌, subst, ℕ, suc, ◌+◌, List, [], ◌∷◌, ◌++◌, map, drop, arith, append_assoc, append-nil, Bool, true}
+use Rattle.std.specs.Prelude.{Some, None, false, length, slice_index_or}
 use Rattle.labels.specs.Label.{Label}
 use Rattle.labels.specs.Constraints.{renamed}
 use Rattle.resolved.specs.CoreOf.{program_of}
@@ -14,7 +14,7 @@ use Rattle.resolved.specs.Program.{Program}
 use Rattle.resolved.specs.Labelled.{Scope, label_of, value_label}
 use Rattle.resolved.specs.Tree.{Expression, Statement, If, While, Try, Block, Handlers}
 use Rattle.resolved.specs.TreeOf.{handlers_of, statement_of}
-use Rattle.resolved.specs.Ends.{block_ends, one_end, raises, statement_ends}
+use Rattle.resolved.specs.Ends.{block_ends, handles, one_end, raises, statement_ends}
 use Rattle.path_map.specs.declared.exits.Exits.{Exits}
 use Rattle.path_map.specs.Exits.{exits_of}
 use Rattle.path_map.specs.Paths.{block_paths, handlers_paths, inner_paths, rest_paths}
@@ -22,15 +22,20 @@ use Rattle.gathering.specs.Names.{NamedAtom, NamedConstraint, Real, named_atoms}
 use Rattle.gathering.specs.Walk as walk
 use Rattle.gathering.specs.Walk.{block_constraints, flow, handler_count, handler_number, handlers_constraints, in_loop, in_try, inner_atom, inner_block, inner_constraint, made_by_block, made_by_handlers, made_by_statement, raise_atoms, raised_flows, rule_constraint, single, statement_constraints, with_normal, within_single}
 use Rattle.solver.specs.declared.constraints.Atom.{Atom}
-use Rattle.constraints.specs.Added.{IsGatheredAt, IsPart}
+use Rattle.constraints.specs.Added.{IsPart}
+use Rattle.constraints.specs.Journals.{IsUpToDate, moments_at, noted_all}
 use Rattle.constraints.specs.LeftSides.{scope_of}
-use Rattle.constraints.specs.Takers.{AreLevelled, AreWithin, takers_of, undone}
+use Rattle.constraints.specs.Takers.{AreLevelled, AreWithin, no_entry, takers_of, undone}
+use Rattle.constraints.specs.Thinned.{AreNoted}
 use Rattle.constraints.specs.Walks.{IsSimple, loop_head_constraints}
 use Rattle.constraints.specs.Walked.{AreHandlersWalked, AreStatementsWalked, HasPassed, IsBlockWalked, IsFormWalked, IsStatementWalked, IsTried, IsWalked, branch_constraints, step_constraints}
 use Rattle.constraints.specs.declared.pieces.Tried.{Tried}
 use Rattle.constraints.specs.declared.progress.Progress.{Progress}
 use Rattle.constraints.specs.declared.takers.Entry.{Entry}
 use Rattle.constraints.specs.declared.takers.Takers.{Takers}
+use Rattle.constraints.proofs.Noted.{handled-ones, noted-journal}
+use Rattle.constraints.proofs.SavedEntries.{undone-length}
+use Rattle.constraints.proofs.Thinned.{walks-noted, walks-same, walks-then}
 use Rattle.constraints.proofs.Passed.{alone-passed, levels-same, passed-at, passed-same, passed-then, paths-then, walked-on}
 
 append-four : {A : Type 0} (a b c d e : List A) → (a ++ (b ++ (c ++ d))) ++ e ≡ a ++ (b ++ (c ++ (d ++ e)))
@@ -132,15 +137,19 @@ module _ (core : Core) (table : List Label) (entries : List Exits) (procedure : 
       (passed-then core table entries pc opening (λ named. inside_it ++ turning (suc n)) 2 (made_by_block body + 0) (map exits_of (block_paths program body) ++ left) left old begun new one
       (passed-then core table entries pc (λ named. inside_it) (λ named. turning (suc n)) (made_by_block body) 0 left left begun middle new two three))
 
-  pub try-walked : (at : ℕ) (block : Block) (handlers : List Handler) (pc : Atom) (takers : Takers) (tried : Tried) (old begun middle after new : Progress)
+  pub try-walked : (at : ℕ) (block : Block) (handlers : List Handler) (pc : Atom) (takers : Takers) (tried : Tried) (noting : List Entry) (old begun middle after new : Progress)
       → IsTried takers handlers old begun tried
       → IsBlockWalked core table entries procedure pc tried.takers block begun middle
       → after.index ≡ middle.index → after.number ≡ middle.number → after.constraints.items ≡ middle.constraints.items
       → after.thrown.items ≡ undone tried.saved.items middle.thrown.items
+      → after.journal.calls ≡ middle.journal.calls
+      → ((x : ℕ) → moments_at after.journal.moments.items x ≡ noted_all (length middle.journal.moments.items) (length middle.journal.calls.items) noting
+      (map (λ (handler : Handler). handler.exception) handlers) x (moments_at middle.journal.moments.items x))
+      → length after.journal.moments.items ≡ length middle.journal.moments.items → noting ≡ after.thrown.items
       → ((number : ℕ → ℕ) (other : Atom) → tried.numbers.items ≡ map (λ (handler : Handler). number handler.exception) handlers
       → AreHandlersWalked core table entries procedure other takers number (handlers_of handlers) after new)
       → IsFormWalked core table entries procedure pc takers (Try at block (handlers_of handlers)) old new
-  try-walked at block list pc takers tried old begun middle after new begins walked index_is number_is constraints_are thrown_is handled = λ left before levelled.
+  try-walked at block list pc takers tried noting old begun middle after new begins walked index_is number_is constraints_are thrown_is calls moments counted noted_are handled = λ left before levelled.
       let program : Program = program_of core in
       let scope : Scope = scope_of core procedure in
       let t : walk.Takers = takers_of takers old.thrown.items in
@@ -155,12 +164,21 @@ module _ (core : Core) (table : List Label) (entries : List Exits) (procedure : 
       block-on pc tried.takers (in_try number handlers t) block rest begun middle begun.thrown.items (n + count) refl begins.number_is
       (begins.taken levelled).levels_are (begins.taken levelled).takers_are
       (ap (λ i. drop i entries) begins.index_is ∙ paths-then (block_paths program block) (handlers_paths program handlers) (drop old.index entries) left before) walked in
+      let back : after.thrown.items ≡ old.thrown.items = thrown_is ∙ (ap (undone tried.saved.items) inner.thrown_is ∙ begins.saved_is) in
+      let others : (x : ℕ) → handles handlers x ≡ false → slice_index_or after.thrown.items x no_entry ≡ slice_index_or middle.thrown.items x no_entry = λ x none.
+      ap (λ es. slice_index_or es x no_entry) back ∙ (sym (begins.others_are x none) ∙ ap (λ es. slice_index_or es x no_entry) (sym inner.thrown_is)) in
+      let noted : IsUpToDate middle.journal middle.thrown.items → AreNoted middle.journal after.journal after.thrown.items =
+      noted-journal middle.journal after.journal middle.thrown.items after.thrown.items (map (λ (handler : Handler). handler.exception) list) calls
+      (λ x. moments x ∙ ap (λ es. noted_all (length middle.journal.moments.items) (length middle.journal.calls.items) es (map (λ (handler : Handler). handler.exception) list) x
+      (moments_at middle.journal.moments.items x)) noted_are)
+      counted (ap length thrown_is ∙ undone-length tried.saved.items middle.thrown.items) (λ x none. others x (sym (handled-ones list x) ∙ none)) in
       let one : HasPassed core table entries pc trying (count + made_by_block block) rest old after = record {
-        added = subst (λ cs. IsGatheredAt core table pc trying cs after.constraints.items) (ap (λ (v : _). v.items) begins.constraints_are)
-            (subst (λ cs. IsGatheredAt core table pc trying begun.constraints.items cs) (sym constraints_are) inner.added);
+        added = λ named stands. walks-same core table (trying named) ([] ++ (trying named ++ [])) old after (sym (append-nil (trying named)))
+            (walks-then core table [] (trying named ++ []) old begun after (walks-noted core table old begun (ap (λ (v : _). v.items) begins.constraints_are) begins.noted)
+            (walks-then core table (trying named) [] begun middle after (inner.added named stands) (walks-noted core table middle after constraints_are noted)));
         entries_left = ap (λ i. drop i entries) index_is ∙ inner.entries_left;
         number_is = omega (arith, number_is, inner.number_is, begins.number_is);
-        thrown_is = thrown_is ∙ (ap (undone tried.saved.items) inner.thrown_is ∙ begins.saved_is);
+        thrown_is = back;
       } in
       let two : HasPassed core table entries pc (λ named. handling) (made_by_handlers handlers) left after new =
       walked-on core table entries pc takers (handlers_paths program handlers) (λ thrown k named. handlers_constraints scope number (takers_of takers thrown) k handlers)
@@ -174,15 +192,15 @@ module _ (core : Core) (table : List Label) (entries : List Exits) (procedure : 
   -- a statement without inner unknowns, which takes no entry of the path map but its own
   pub simple-walked : (tree : Statement) (pc : Atom) (takers : Takers) (thrown : List Entry) (old new : Progress)
       → inner_paths (program_of core) tree ≡ [] → made_by_statement tree ≡ 0 → thrown ≡ old.thrown.items
-      → new.index ≡ old.index → new.number ≡ old.number → new.thrown.items ≡ old.thrown.items
+      → new.index ≡ old.index → new.number ≡ old.number → new.thrown.items ≡ old.thrown.items → new.journal ≡ old.journal
       → IsSimple core table procedure pc (takers_of takers thrown) tree old.constraints.items new.constraints.items
       → IsFormWalked core table entries procedure pc takers tree old new
-  simple-walked tree pc takers thrown old new none made_none same index number thrown_is simple = λ left before levelled.
+  simple-walked tree pc takers thrown old new none made_none same index number thrown_is journal simple = λ left before levelled.
       passed-same core table entries pc (λ named. statement_constraints (scope_of core procedure) named (takers_of takers old.thrown.items) old.number tree)
       (λ named. statement_constraints (scope_of core procedure) named (takers_of takers thrown) old.number tree) (made_by_statement tree) 0 left old new
       (λ named. ap (λ t. statement_constraints (scope_of core procedure) named (takers_of takers t) old.number tree) (sym same)) made_none
       (alone-passed core table entries pc (λ named. statement_constraints (scope_of core procedure) named (takers_of takers thrown) old.number tree) 0 left old new
-      (before ∙ ap (λ (paths : List (List Exit)). map exits_of paths ++ left) none) index (omega (arith, number)) thrown_is (simple old.number))
+      (before ∙ ap (λ (paths : List (List Exit)). map exits_of paths ++ left) none) index (omega (arith, number)) thrown_is journal (simple old.number))
 
   pub form-at : (s : S.Statement) (tree : Statement) (pc : Atom) (takers : Takers) (old new : Progress) → statement_of s ≡ tree
       → IsFormWalked core table entries procedure pc takers tree old new → IsFormWalked core table entries procedure pc takers (statement_of s) old new

@@ -1,24 +1,35 @@
 -- Stored constraints that stand for what is gathered: they are just that, and their numbers are in range.
-use Rattle.std.proofs.Common.{◌≡◌, refl, ap, ◌∙◌, subst, ℕ, ◌<◌, List, [], ◌∷◌, map, length}
-use Rattle.std.specs.Prelude.{Contains, Some, slice_get}
+use Rattle.std.proofs.Common.{◌≡◌, refl, sym, ap, ◌∙◌, subst, ℕ, ◌+◌, ◌<◌, List, [], ◌∷◌, ◌++◌, map, length}
+use Rattle.std.specs.Prelude.{◌↔◌, Contains, Some, slice_get}
+use Rattle.std.proofs.lemmas.List.{map-append}
 use Rattle.std.proofs.lemmas.List.Elements.{All-cons, All-nil}
 use Rattle.principals.proofs.Closure.{Contains-first, Contains-later}
 use Rattle.std.proofs.lemmas.Option.{get_or_from_slice_get, slice_get_within}
 use Rattle.labels.specs.Label.{Label}
-use Rattle.labels.specs.Constraints.{Lattice}
+use Rattle.labels.specs.Constraints.{Lattice, label_lattice}
 use Rattle.labels.specs.Constraints as formal
 use Rattle.resolved.specs.Flow.{Gathered}
 use Rattle.resolved.specs.declared.program.Core.{Core}
 use Rattle.resolved.specs.CoreOf.{program_of}
-use Rattle.gathering.specs.Names.{numbered}
+use Rattle.resolved.specs.EndFaults.{end_faults}
+use Rattle.resolved.specs.Labelled.{FitsDemands, Labelling, program_demands}
+use Rattle.gathering.specs.Gathered.{AreConstraintsOf, FitsConstraints}
+use Rattle.gathering.specs.Names.{numbered, real_unknowns}
 use Rattle.gathering.specs.Walk as walk
-use Rattle.gathering.specs.Walk.{gathered_constraints, program_constraints}
+use Rattle.gathering.specs.Walk.{made_from, program_constraints}
+use Rattle.gathering.proofs.ReroutedPrograms.{constraints-fit, rerouted-constraints}
 use Rattle.solver.specs.Links.{AreBelow, InRange, IsBelow}
 use Rattle.solver.specs.Constraints.{atom_of, constraint_of}
 use Rattle.solver.specs.declared.constraints.Atom.{Atom}
 use Rattle.solver.specs.declared.constraints.Atom.TheVariants as stored
 use Rattle.constraints.specs.LeftSides.{part, left_parts, wanted}
 use Rattle.constraints.specs.Added.{AreAdded, Stored, stand_for, stands_for, wanted_of}
+use Rattle.constraints.specs.Spreading.{AreSpread, Declares}
+use Rattle.constraints.specs.Thinned.{ThinnedWhole}
+use Rattle.constraints.specs.declared.progress.Progress.{Progress}
+use Rattle.constraints.specs.declared.spreading.Made.{Made}
+use Rattle.constraints.proofs.Added.{added-then}
+use Rattle.constraints.proofs.SpreadCalls.{calls-rerouted, spread-below}
 use Rattle.constraints.proofs.Tables.{map-map}
 
 module _ (l : Lattice Label) (table : List Label) where
@@ -93,9 +104,37 @@ module _ (table : List Label) (count : ℕ) where
   constraints-in-range [] (g ∷ gs) is below = absurd (cc)
   constraints-in-range (c ∷ cs) [] is below = absurd (cc)
 
--- what was added to nothing, of a core that is this one
-pub stand-for-gathered : (core given : Core) (table : List Label) (cs : List Stored) → given ≡ core
-    → AreAdded given table (program_constraints (program_of given)) [] cs → stand_for table cs ≡ map wanted_of (gathered_constraints (program_of core))
-stand-for-gathered core given table cs same added =
-    subst (λ (k : Core). stand_for table cs ≡ map wanted_of (gathered_constraints (program_of k))) same
-    (added ∙ map-map (numbered (program_of given)) wanted_of (program_constraints (program_of given)))
+-- what a walk kept, and the flows of the calls that it noted
+module _ (core : Core) (table : List Label) (walked : Progress) (old new : Made)
+    (whole : ThinnedWhole core table (program_constraints (program_of core)) walked)
+    (spread : AreSpread core table walked.journal (Declares core) walked.journal.calls.items old new)
+    (first : old.number ≡ made_from (program_of core) 0 (program_of core).procedures)
+    (same : old.constraints.items ≡ walked.constraints.items) where
+  stand-for-all : stand_for table new.constraints.items ≡ map wanted_of (map (numbered (program_of core)) (whole.now.kept ++ spread.added))
+  stand-for-all =
+      added-then core table whole.now.kept spread.added [] old.constraints.items new.constraints.items
+      (subst (AreAdded core table whole.now.kept []) (sym same) whole.now.kept_added) spread.are_added
+      ∙ map-map (numbered (program_of core)) wanted_of (whole.now.kept ++ spread.added)
+
+  pub all-gathered : end_faults (program_of core) ≡ []
+      → AreConstraintsOf (program_of core) (map (constraint_of (label_lattice (program_of core).hierarchy) table) new.constraints.items)
+  all-gathered ended =
+      let l : Lattice Label = label_lattice (program_of core).hierarchy in
+      let base : List Gathered = map (numbered (program_of core)) whole.now.kept in
+      let added : List Gathered = map (numbered (program_of core)) spread.added in
+      subst (AreConstraintsOf (program_of core))
+      (sym (constraints-are l table new.constraints.items (map (numbered (program_of core)) (whole.now.kept ++ spread.added)) stand-for-all
+      ∙ map-append (numbered (program_of core)) whole.now.kept spread.added))
+      (rerouted-constraints (program_of core) core.well_formed ended base added (calls-rerouted core table walked old new whole spread first))
+
+  pub all-fit : end_faults (program_of core) ≡ [] → (labelling : Labelling)
+      → FitsDemands (program_of core).hierarchy labelling (program_demands (program_of core))
+      ↔ FitsConstraints (program_of core) (map (constraint_of (label_lattice (program_of core).hierarchy) table) new.constraints.items) labelling
+  all-fit ended labelling =
+      constraints-fit (program_of core) (map (constraint_of (label_lattice (program_of core).hierarchy) table) new.constraints.items) (all-gathered ended) labelling
+
+  pub all-in-range : (unknowns : ℕ) → unknowns ≡ real_unknowns (program_of core) + new.number → InRange (length table) unknowns new.constraints.items
+  all-in-range unknowns is =
+      subst (λ n. InRange (length table) n new.constraints.items) (sym is)
+      (constraints-in-range table (real_unknowns (program_of core) + new.number) new.constraints.items (map (numbered (program_of core)) (whole.now.kept ++ spread.added)) stand-for-all
+      (spread-below core table walked old new whole spread first))

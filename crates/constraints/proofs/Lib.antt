@@ -2,6 +2,9 @@ pub mod Tables
 pub mod Joined
 pub mod Added
 pub mod Called
+pub mod Noted
+pub mod Thinned
+pub mod CallThinned
 pub mod Branched
 pub mod SavedEntries
 pub mod Taken
@@ -13,4 +16,11 @@ pub mod Measured
 pub mod Declared
 pub mod Bodies
 pub mod Ready
+pub mod Moments
+pub mod OneTaker
+pub mod FixedFlows
+pub mod Spread
+pub mod CallRows
+pub mod SpreadRows
+pub mod SpreadCalls
 mod Gathered

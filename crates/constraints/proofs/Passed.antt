@@ -14,7 +14,7 @@ use Rattle.constraints.specs.Walked.{HasPassed, IsWalked}
 use Rattle.constraints.specs.declared.progress.Progress.{Progress}
 use Rattle.constraints.specs.declared.takers.Entry.{Entry}
 use Rattle.constraints.specs.declared.takers.Takers.{Takers}
-use Rattle.constraints.proofs.Added.{added-same, added-then}
+use Rattle.constraints.proofs.Thinned.{walks-exact, walks-same, walks-then}
 
 -- the ends of two pieces, one after the other
 pub paths-then : (first second : List (List Exit)) (found left : List Exits) → found ≡ map exits_of (first ++ second) ++ left
@@ -28,29 +28,28 @@ levels-same takers old new same levelled = subst (AreLevelled takers) (sym same)
 module _ (core : Core) (table : List Label) (entries : List Exits) where
   -- a piece that takes no entry of the path map
   pub alone-passed : (pc : Atom) (gathered : NamedAtom → List NamedConstraint) (made : ℕ) (left : List Exits) (old new : Progress)
-      → drop old.index entries ≡ left → new.index ≡ old.index → new.number ≡ old.number + made → new.thrown.items ≡ old.thrown.items
+      → drop old.index entries ≡ left → new.index ≡ old.index → new.number ≡ old.number + made → new.thrown.items ≡ old.thrown.items → new.journal ≡ old.journal
       → IsGatheredAt core table pc gathered old.constraints.items new.constraints.items
       → HasPassed core table entries pc gathered made left old new
-  alone-passed pc gathered made left old new before index number thrown added = record {
-    added = added;
+  alone-passed pc gathered made left old new before index number thrown journal added = record {
+    added = λ named stands. walks-exact core table (gathered named) old new (added named stands) journal thrown;
     entries_left = ap (λ i. drop i entries) index ∙ before;
     number_is = number;
     thrown_is = thrown;
   }
 
   pub alone-walked : (pc : Atom) (takers : Takers) (gathered : NamedAtom → List NamedConstraint) (made : ℕ) (old new : Progress)
-      → new.index ≡ old.index → new.number ≡ old.number + made → new.thrown.items ≡ old.thrown.items
+      → new.index ≡ old.index → new.number ≡ old.number + made → new.thrown.items ≡ old.thrown.items → new.journal ≡ old.journal
       → IsGatheredAt core table pc gathered old.constraints.items new.constraints.items
       → IsWalked core table entries pc takers [] gathered made old new
-  alone-walked pc takers gathered made old new index number thrown added =
-      λ left before levelled. alone-passed pc gathered made left old new before index number thrown added
+  alone-walked pc takers gathered made old new index number thrown journal added =
+      λ left before levelled. alone-passed pc gathered made left old new before index number thrown journal added
 
   pub passed-then : (pc : Atom) (first second : NamedAtom → List NamedConstraint) (m k : ℕ) (between left : List Exits) (old middle new : Progress)
       → HasPassed core table entries pc first m between old middle → HasPassed core table entries pc second k left middle new
       → HasPassed core table entries pc (λ named. first named ++ second named) (m + k) left old new
   passed-then pc first second m k between left old middle new one two = record {
-    added = λ named stands. added-then core table (first named) (second named) old.constraints.items middle.constraints.items new.constraints.items
-        (one.added named stands) (two.added named stands);
+    added = λ named stands. walks-then core table (first named) (second named) old middle new (one.added named stands) (two.added named stands);
     entries_left = two.entries_left;
     number_is = omega (arith, one.number_is, two.number_is);
     thrown_is = two.thrown_is ∙ one.thrown_is;
@@ -60,7 +59,7 @@ module _ (core : Core) (table : List Label) (entries : List Exits) where
       → ((named : NamedAtom) → wanted named ≡ gathered named) → k ≡ m
       → HasPassed core table entries pc gathered m left old new → HasPassed core table entries pc wanted k left old new
   passed-same pc wanted gathered k m left old new same count passed = record {
-    added = λ named stands. added-same core table (wanted named) (gathered named) old.constraints.items new.constraints.items (same named) (passed.added named stands);
+    added = λ named stands. walks-same core table (wanted named) (gathered named) old new (same named) (passed.added named stands);
     entries_left = passed.entries_left;
     number_is = passed.number_is ∙ ap (λ n. old.number + n) (sym count);
     thrown_is = passed.thrown_is;

@@ -6,3 +6,6 @@ pub mod Walks
 pub mod Walked
 pub mod Procedures
 pub mod Ready
+pub mod Journals
+pub mod Thinned
+pub mod Spreading

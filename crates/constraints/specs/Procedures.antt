@@ -12,9 +12,9 @@ use Rattle.path_map.specs.declared.exits.Exits.{Exits}
 use Rattle.path_map.specs.Exits.{exits_of}
 use Rattle.path_map.specs.Paths.{block_paths}
 use Rattle.gathering.specs.Walk.{made_by_procedure, procedure_constraints}
-use Rattle.constraints.specs.Added.{AreAdded}
 use Rattle.constraints.specs.LeftSides.{scope_of}
 use Rattle.constraints.specs.Takers.{AreWithin, no_entry}
+use Rattle.constraints.specs.Thinned.{Thinned}
 use Rattle.constraints.specs.declared.progress.Progress.{Progress}
 use Rattle.constraints.specs.declared.takers.Entry.{Entry}
 use Rattle.constraints.specs.declared.takers.Takers.{Takers}
@@ -45,6 +45,7 @@ pub record StaysInPlace (old new : Progress) : Type 0 where
   pub index_is : new.index ≡ old.index
   pub number_is : new.number ≡ old.number
   pub thrown_is : new.thrown.items ≡ old.thrown.items
+  pub journal_is : new.journal ≡ old.journal
 
 -- this is the procedure of a program with this number
 abbrev pub IsOf : Core → (f : ℕ) → Procedure → Type 0
@@ -52,7 +53,7 @@ IsOf core f procedure = here (scope_of core f) ≡ procedure_entry procedure
 
 -- a walk that came past a procedure, with these entries of the path map left, and takers up to a level
 pub record HasPassedProcedure (core : Core) (table : List Label) (entries : List Exits) (f level : ℕ) (left : List Exits) (old new : Progress) : Type 0 where
-  pub added : AreAdded core table (procedure_constraints (scope_of core f) old.number) old.constraints.items new.constraints.items
+  pub added : Thinned core table (procedure_constraints (scope_of core f) old.number) old new
   pub entries_left : drop new.index entries ≡ left
   pub number_is : new.number ≡ old.number + made_by_procedure (scope_of core f)
   pub within : AreWithin level new.thrown.items

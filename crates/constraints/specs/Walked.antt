@@ -1,12 +1,12 @@
 -- Private: what a walk along blocks, statements and handlers does, where the path map has their ends from an entry on.
 -- Source: our own.
-use Rattle.std.specs.Prelude.{◌≡◌, ℕ, ◌+◌, List, ◌∷◌, ◌++◌, drop, length, map, true, Some, None}
+use Rattle.std.specs.Prelude.{◌≡◌, ℕ, ◌+◌, List, ◌∷◌, ◌++◌, drop, length, map, true, false, Some, None, slice_index_or}
 use Rattle.labels.specs.Label.{Label}
 use Rattle.resolved.specs.declared.program.Core.{Core}
 use Rattle.resolved.specs.declared.statement.Exit.{Exit}
 use Rattle.resolved.specs.declared.statement.Handler.{Handler}
 use Rattle.resolved.specs.CoreOf.{program_of}
-use Rattle.resolved.specs.Ends.{one_end, raises, statement_ends}
+use Rattle.resolved.specs.Ends.{handles, one_end, raises, statement_ends}
 use Rattle.resolved.specs.Labelled.{Scope, value_label}
 use Rattle.resolved.specs.Tree.{Expression, Statement, Block, Handlers}
 use Rattle.resolved.specs.TreeOf.{handlers_of}
@@ -17,16 +17,17 @@ use Rattle.gathering.specs.Names.{NamedAtom, NamedConstraint, named_atoms}
 use Rattle.gathering.specs.Walk as walk
 use Rattle.gathering.specs.Walk.{block_constraints, handler_count, handler_number, handlers_constraints, in_try, inner_block, inner_constraint, made_by_block, made_by_handlers, made_by_statement, raise_atoms, raised_flows, single, statement_constraints, with_normal, within_single}
 use Rattle.solver.specs.declared.constraints.Atom.{Atom}
-use Rattle.constraints.specs.Added.{IsGatheredAt}
 use Rattle.constraints.specs.LeftSides.{scope_of}
-use Rattle.constraints.specs.Takers.{AreLevelled, takers_of, undone}
+use Rattle.constraints.specs.Journals.{IsUpToDate}
+use Rattle.constraints.specs.Takers.{AreLevelled, no_entry, takers_of, undone}
+use Rattle.constraints.specs.Thinned.{AreNoted, IsThinnedAt}
 use Rattle.constraints.specs.declared.pieces.Tried.{Tried}
 use Rattle.constraints.specs.declared.progress.Progress.{Progress}
 use Rattle.constraints.specs.declared.takers.Takers.{Takers}
 
 -- a walk that came past what is gathered thus and makes so many inner unknowns, with these entries of the path map left
 pub record HasPassed (core : Core) (table : List Label) (entries : List Exits) (pc : Atom) (gathered : NamedAtom → List NamedConstraint) (made : ℕ) (left : List Exits) (old new : Progress) : Type 0 where
-  pub added : IsGatheredAt core table pc gathered old.constraints.items new.constraints.items
+  pub added : IsThinnedAt core table pc gathered old new
   pub entries_left : drop new.index entries ≡ left
   pub number_is : new.number ≡ old.number + made
   pub thrown_is : new.thrown.items ≡ old.thrown.items
@@ -98,4 +99,7 @@ pub record IsTried (takers : Takers) (handlers : List Handler) (old new : Progre
   pub saved_is : undone tried.saved.items new.thrown.items ≡ old.thrown.items
   pub index_is : new.index ≡ old.index
   pub constraints_are : new.constraints ≡ old.constraints
+  pub others_are : (x : ℕ) → handles (handlers_of handlers) x ≡ false →
+      slice_index_or new.thrown.items x no_entry ≡ slice_index_or old.thrown.items x no_entry
+  pub noted : IsUpToDate old.journal old.thrown.items → AreNoted old.journal new.journal new.thrown.items
   pub number_is : new.number ≡ old.number + handler_count (handlers_of handlers)

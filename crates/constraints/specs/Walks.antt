@@ -1,19 +1,20 @@
 -- Private: what is gathered of statements.
 -- Source: our own.
-use Rattle.std.specs.Prelude.{ℕ, List, [], ◌∷◌, ◌++◌}
+use Rattle.std.specs.Prelude.{ℕ, List, [], ◌∷◌, ◌++◌, Option}
 use Rattle.labels.specs.Label.{Label}
 use Rattle.labels.specs.Constraints.{renamed}
+use Rattle.resolved.specs.declared.expression.Variable.{Variable}
 use Rattle.resolved.specs.declared.program.Core.{Core}
 use Rattle.resolved.specs.declared.statement.Exit.{Exit}
 use Rattle.resolved.specs.declared.statement.Exit.TheVariants.{Normal}
 use Rattle.resolved.specs.declared.target.Target.{Target}
-use Rattle.resolved.specs.declared.target.Target.TheVariants.{ToLoop}
+use Rattle.resolved.specs.declared.target.Target.TheVariants.{ToBegin, ToLoop, ToValue}
 use Rattle.resolved.specs.Tree.{Expression, Statement}
-use Rattle.resolved.specs.Ends.{raises}
-use Rattle.resolved.specs.Labelled.{Scope, label_of, value_label}
+use Rattle.resolved.specs.Ends.{raises, raises_all, thrown_ends}
+use Rattle.resolved.specs.Labelled.{Scope, label_of, one, value_label}
 use Rattle.gathering.specs.Names.{NamedAtom, NamedConstraint, Real, named_atoms}
 use Rattle.gathering.specs.Walk as walk
-use Rattle.gathering.specs.Walk.{flow, inner_atom, inner_constraint, raise_atoms, raised_flows, rule_constraint, statement_constraints}
+use Rattle.gathering.specs.Walk.{argument_constraints, call_atoms, call_flows, flow, inner_atom, inner_constraint, raise_atoms, raise_atoms_all, raised_flows, raised_once, rule_constraint, statement_constraints, target_constraint}
 use Rattle.solver.specs.declared.constraints.Atom.{Atom}
 use Rattle.constraints.specs.Added.{IsGatheredAt, Stored}
 use Rattle.constraints.specs.LeftSides.{scope_of}
@@ -38,3 +39,16 @@ loop_head_constraints scope pc takers inner at loop e =
     ++ (inner_constraint (turn ∷ named_atoms (value_label scope e)) inner
     ++ (flow (inner_atom inner ∷ []) (takers Normal)
     ++ raised_flows (turn ∷ named_atoms (raise_atoms scope e)) takers (raises e)))
+
+-- the ends of a call but for the exceptions that its callee declares, and what is gathered of it but for their flows
+abbrev pub kept_ends : List Expression → List Exit
+kept_ends arguments = Normal ∷ thrown_ends (raised_once (raises_all arguments))
+
+abbrev pub kept_call : Scope → (pc : NamedAtom) → walk.Takers → ℕ → (at callee : ℕ) → List Expression → Option Variable → List NamedConstraint
+kept_call scope pc takers n at callee arguments target =
+    inner_constraint (pc ∷ named_atoms (raise_atoms_all scope arguments)) n
+    ++ (rule_constraint scope at 6 (inner_atom n ∷ []) (ToBegin callee)
+    ++ (argument_constraints scope at n callee 0 arguments
+    ++ (target_constraint scope at 6
+    (inner_atom n ∷ named_atoms (call_atoms scope.program callee Normal ++ one (label_of scope.program (ToValue callee)))) target
+    ++ call_flows scope.program callee n takers (kept_ends arguments))))

@@ -2,12 +2,12 @@
 ghost use Rattle.constraints.specs.Added.{AreAdded, IsGatheredAt, IsLeftFrom, IsPart, flow_if};
 ghost use Rattle.constraints.specs.LeftSides.{scope_of};
 ghost use Rattle.constraints.specs.Takers.{takers_of};
-ghost use Rattle.constraints.specs.declared.rows.ThrownLabel.{ThrownLabel};
+ghost use Rattle.constraints.specs.Walks.{kept_call, kept_ends};
 ghost use Rattle.gathering.specs.Names.{NamedAtom, named_atoms};
-ghost use Rattle.gathering.specs.Walk.{argument_constraints, call_atoms, call_constraints, call_ends, call_flows, flow, inner_atom, raised_once};
+ghost use Rattle.gathering.specs.Walk.{argument_constraints, call_atoms, call_flows, flow, inner_atom, raised_once};
 ghost use Rattle.path_map.specs.Exceptions.{AreRaised};
 ghost use Rattle.resolved.specs.CoreOf.{program_of};
-ghost use Rattle.resolved.specs.Ends.{declared_by, thrown_ends};
+ghost use Rattle.resolved.specs.Ends.{thrown_ends};
 ghost use Rattle.resolved.specs.Labelled.{any_of, label_of, one};
 ghost use Rattle.resolved.specs.Program.{procedure_at};
 ghost use Rattle.resolved.specs.TreeOf.{expression_of};
@@ -16,7 +16,6 @@ ghost use Rattle.resolved.specs.declared.target.Target.TheVariants.{ToValue};
 ghost use Rattle.std.specs.Prelude.{IfOk, List, OnOk, map, ℕ, ◌++◌, ◌∷◌, ◌≡◌};
 
 use crate::lefts::left_of_pc;
-use crate::rows::ThrownLabel;
 use crate::statements::Walk;
 use crate::takers::{Entry, Takers};
 use common::exceptions::{ARITH, BOUNDS};
@@ -117,53 +116,6 @@ impl<'a> Walk<'a> {
         }
     }
 
-    // Adds the flows of exceptions with labels.
-    fn add_all_thrown(
-        &self,
-        own: Atom,
-        callee: u32,
-        throws: &[ThrownLabel],
-        takers: Takers,
-        thrown: &[Entry],
-        constraints: &mut Vec<Constraint<Option<Target>>>,
-    ) -> Result<(), AllocError>
-        ensures { OnOk result ((k : ℕ) →
-            IsPart self.now.table.now.core.now self.now.table.now.written.items (inner_atom k) own →
-            AreAdded self.now.table.now.core.now self.now.table.now.written.items
-            (call_flows (program_of self.now.table.now.core.now) callee k
-            (takers_of takers thrown.now)
-            (thrown_ends (map (λ (entry : ThrownLabel). entry.exception) throws.now)))
-            constraints.old.items constraints.new.items) }
-    {
-        for entry in throws {
-            self.add_thrown(own, callee, entry.exception, takers, thrown, constraints)?;
-        }
-        Ok(())
-    }
-
-    // Adds the flows of the exceptions that a procedure declares.
-    fn add_declared(
-        &self,
-        own: Atom,
-        callee: u32,
-        takers: Takers,
-        thrown: &[Entry],
-        constraints: &mut Vec<Constraint<Option<Target>>>,
-    ) -> Result<(), AllocError>
-        ensures { OnOk result ((k : ℕ) →
-            IsPart self.now.table.now.core.now self.now.table.now.written.items (inner_atom k) own →
-            AreAdded self.now.table.now.core.now self.now.table.now.written.items
-            (call_flows (program_of self.now.table.now.core.now) callee k
-            (takers_of takers thrown.now)
-            (thrown_ends (declared_by
-            (procedure_at (program_of self.now.table.now.core.now) callee).throws)))
-            constraints.old.items constraints.new.items) }
-    {
-        let throws = &self.table.row(callee).throws;
-        self.add_all_thrown(own, callee, throws, takers, thrown, constraints)?;
-        Ok(())
-    }
-
     // Adds the flow of an exception of the arguments, if a test holds.
     fn add_thrown_if(
         &self,
@@ -213,7 +165,7 @@ impl<'a> Walk<'a> {
         Ok(())
     }
 
-    // Adds the flows of all ends of a call.
+    // Adds the flows of the ends of a call, but for the exceptions that its callee declares.
     fn add_call_ends(
         &self,
         own: Atom,
@@ -228,8 +180,7 @@ impl<'a> Walk<'a> {
             AreAdded self.now.table.now.core.now self.now.table.now.written.items
             (call_flows (program_of self.now.table.now.core.now) callee k
             (takers_of takers thrown.now)
-            (call_ends (program_of self.now.table.now.core.now) callee
-            (map expression_of arguments.now)))
+            (kept_ends (map expression_of arguments.now)))
             constraints.old.items constraints.new.items) }
     {
         let left = self.left_of_end(own, callee)?;
@@ -237,11 +188,11 @@ impl<'a> Walk<'a> {
         self.table.add_flow(self.alloc, &left, normal, constraints)?;
         let found = raises_of_all(arguments);
         self.add_argument_ends(own, callee, found, takers, thrown, constraints)?;
-        self.add_declared(own, callee, takers, thrown, constraints)?;
         Ok(())
     }
 
-    /// Adds what is gathered of a call, whose own label is the inner unknown with this number.
+    /// Adds what is gathered of a call, whose own label is the inner unknown with this number, but for the flows of the exceptions that its
+    /// callee declares.
     pub fn add_call(
         &self,
         at: usize,
@@ -256,7 +207,7 @@ impl<'a> Walk<'a> {
     ) -> Result<(), AllocError>
         ensures { OnOk result (IsGatheredAt self.now.table.now.core.now
             self.now.table.now.written.items pc
-            (λ (named : NamedAtom). call_constraints
+            (λ (named : NamedAtom). kept_call
             (scope_of self.now.table.now.core.now self.now.procedure) named
             (takers_of takers thrown.now) number at callee (map expression_of arguments.now) target)
             constraints.old.items constraints.new.items) }

@@ -226,6 +226,7 @@ impl<'a> Walk<'a> {
             &mut progress.thrown,
             &mut saved,
         )?;
+        progress.journal.note_handled(handlers, &progress.thrown)?;
         let numbers = numbers_of(self.alloc, handlers, &progress.thrown)?;
         Ok(Tried {
             takers: inner,
@@ -265,6 +266,7 @@ impl<'a> Walk<'a> {
             &progress.thrown,
             &mut progress.constraints,
         )?;
+        progress.journal.add_call(callee, takers.barrier, number)?;
         Ok(())
     }
 }

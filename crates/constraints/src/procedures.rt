@@ -4,14 +4,16 @@ ghost use Rattle.constraints.specs.LeftSides.{scope_of};
 ghost use Rattle.constraints.specs.Procedures.{AreDeclaredTakers, StaysInPlace, IsOf, IsProcedureWalked, end_takers_of, number_in};
 ghost use Rattle.constraints.specs.Ready.{entries_of, AreThrownInside, IsProcedureReady};
 ghost use Rattle.constraints.specs.Takers.{AreWithin};
+ghost use Rattle.constraints.specs.Thinned.{ThinnedWhole};
 ghost use Rattle.gathering.specs.Walk.{end_constraints, has_one_end, made_from, program_constraints, thrown_constraints};
 ghost use Rattle.path_map.specs.EndsOf.{AreEndsOf};
 ghost use Rattle.resolved.specs.CoreOf.{program_of};
 ghost use Rattle.resolved.specs.ProgramOf.{thrown_entry};
 ghost use Rattle.resolved.specs.Labelled.{here};
-ghost use Rattle.std.specs.Prelude.{IfOk, List, OnOk, [], length, map, suc, ℕ, ◌<◌, ◌≡◌};
+ghost use Rattle.std.specs.Prelude.{IfOk, List, OnOk, length, map, suc, ℕ, ◌<◌, ◌≡◌};
 ghost use Rattle.constraints.specs.declared.takers.Entry.{Entry};
 
+use crate::journal::Journal;
 use crate::lefts::left_of_pc;
 use crate::progress::Progress;
 use crate::statements::Walk;
@@ -137,6 +139,9 @@ impl<'a> Walk<'a> {
             level,
             &mut progress.thrown,
         )?;
+        progress
+            .journal
+            .note_declared(&procedure.throws, &progress.thrown)?;
         let only = self.exits_at(progress.index).is_single_of_procedure();
         let takers = end_takers(number, barrier, level, only);
         let begin = self.table.part(Target::ToBegin(self.procedure))?;
@@ -170,15 +175,15 @@ fn end_takers(number: u32, barrier: u32, level: u32, only: bool) -> Takers
     }
 }
 
-/// What is gathered of all procedures.
+/// What is gathered of all procedures, but for the flows of the exceptions that calls raise, in place of which the calls are noted.
 pub(crate) fn walk_procedures(
     alloc: Global,
     table: &Table,
     ends: &Ends,
 ) -> Result<Progress, AllocError>
     requires mapped { AreEndsOf (program_of table.now.core.now) ends.now }
-    ensures added { IfOk result (λ progress. AreAdded table.now.core.now table.now.written.items
-        (program_constraints (program_of table.now.core.now)) [] progress.constraints.items) }
+    ensures added { IfOk result (λ progress. ThinnedWhole table.now.core.now
+        table.now.written.items (program_constraints (program_of table.now.core.now)) progress) }
     ensures number { IfOk result (λ progress. progress.number
         ≡ made_from (program_of table.now.core.now) 0 (program_of table.now.core.now).procedures) }
 {
@@ -193,6 +198,7 @@ pub(crate) fn walk_procedures(
         number: 0,
         constraints: Vec::new(alloc),
         thrown: vec![in alloc; none; exceptions]?,
+        journal: Journal::new(alloc, exceptions)?,
     };
     for (i, procedure) in table.core.procedures.iter().enumerate() {
         let number = i as u32;

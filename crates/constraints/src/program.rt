@@ -11,6 +11,7 @@ ghost use Rattle.solver.specs.Constraints.{constraints_of};
 ghost use Rattle.std.specs.Prelude.{IfOk, [], length, ◌*◌, ◌↔◌, ◌≡◌, ◌≤◌};
 
 use crate::procedures::walk_procedures;
+use crate::spreading::{Made, spread_calls};
 use crate::table::Table;
 use gathering::unknowns::number_after;
 use labels::Label;
@@ -24,7 +25,8 @@ use std::alloc::{AllocError, Global};
 /// loops among these make every procedure labelled. Each has its byte and its rule, and a target by name, unless it is an inner one.
 /// The caller owes the ends of that program, which has no fault of its ends.
 ///
-/// It takes time and memory in proportion to the program, and for each call to the exceptions that its callee declares.
+/// It takes time and memory in proportion to the program, where the exceptions that a procedure declares count once for all of its calls,
+/// and by the logarithm of these wherever the taker of one of them changes between two calls.
 ///
 /// # Errors
 ///
@@ -55,10 +57,15 @@ pub fn gather(
 {
     let table = Table::of(alloc, core)?;
     let progress = walk_procedures(alloc, &table, ends)?;
-    let unknowns = number_after(table.unknowns, progress.number as usize)?;
+    let mut made = Made {
+        number: progress.number,
+        constraints: progress.constraints,
+    };
+    spread_calls(alloc, &table, &progress.journal, &mut made)?;
+    let unknowns = number_after(table.unknowns, made.number as usize)?;
     Ok(Constraints {
         written: table.written,
         unknowns,
-        constraints: progress.constraints,
+        constraints: made.constraints,
     })
 }

@@ -1,6 +1,7 @@
 //! How far a walk along a program has come.
 ghost use Rattle.std.specs.Prelude.{IfOk, OnOk, ◌+◌, ◌≡◌};
 
+use crate::journal::Journal;
 use crate::takers::Entry;
 use gathering::unknowns::number_after;
 use resolved::target::Target;
@@ -8,13 +9,14 @@ use solver::Constraint;
 use std::alloc::AllocError;
 
 /// How far a walk along a program has come: the number of the next entry of the path map, that of the next inner unknown, the
-/// constraints so far, and the takers of exceptions.
+/// constraints so far, the takers of exceptions, and the calls so far.
 #[derive(Drop)]
 pub struct Progress {
     pub index: usize,
     pub number: u32,
     pub constraints: Vec<Constraint<Option<Target>>>,
     pub thrown: Vec<Entry>,
+    pub journal: Journal,
 }
 
 impl Progress {

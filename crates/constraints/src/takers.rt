@@ -51,7 +51,7 @@ pub(crate) fn entry_in(thrown: &[Entry], exception: u32) -> Entry
 }
 
 // The taker that an entry gives.
-fn taker_in(barrier: u32, entry: Entry) -> Option<u32>
+pub(crate) fn taker_in(barrier: u32, entry: Entry) -> Option<u32>
     ensures { result ≡ taker_of barrier entry }
 {
     if barrier < entry.level {

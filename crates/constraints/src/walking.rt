@@ -218,6 +218,7 @@ fn walk_try(
     let tried = walk.begin_try(handlers, takers, progress)?;
     walk_block(walk, block, pc, tried.takers, progress)?;
     put_back(tried.saved, &mut progress.thrown);
+    progress.journal.note_handled(handlers, &progress.thrown)?;
     walk_handlers(walk, handlers, &tried.numbers, takers, progress)?;
     Ok(())
 }

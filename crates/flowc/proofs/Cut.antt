@@ -1,20 +1,13 @@
 -- What a run has shown where a stream failed or memory ran out.
 use Rattle.std.proofs.Common.{◌≡◌, ℕ, ◌≤◌, List, ap, ◌∙◌, subst, inr, Option, Result, Ok, Err, IfOk}
-use Rattle.std.specs.Str.{IsUtf8}
 use Rattle.std.specs.Io.KnownBytes.{Appends}
 use Rattle.std.specs.String.{string_bytes}
-use Rattle.labels.specs.declared.sent.Pair.{Pair}
 use Rattle.labels.proofs.Prefixes.{prefix-itself}
 use Rattle.principals.specs.ActsFor.{PrincipalHierarchy}
 use Rattle.modules.specs.Contents.{ModuleContents}
-use Rattle.modules.specs.Form.{Spells}
-use Rattle.modules.specs.Format.{module_file}
 use Rattle.modules.specs.Machine.{Machine, Running, after_steps, exec, first_state, machine_code, sent_of}
 use Rattle.channels.specs.Sink.{AppendsPrefix}
 use Rattle.channels.specs.View.{ShowsAll, ShowsPrefix}
-use Rattle.channels.specs.World.{input_names}
-use Rattle.channels.specs.WorldText.{IsWorldText, lines_of}
-use Rattle.verifier.specs.Refusals.{HasNoDefect}
 use Rattle.machine.specs.Run.{ReportsStatus}
 use Rattle.machine.specs.declared.status.Status.{Status}
 use Rattle.flowc.specs.Messages.{AreSound, IsEndLine, reported_line}
@@ -40,6 +33,14 @@ can_run code text under name m h principal sound viewed observed = record {
   viewed = viewed;
   observed = observed;
 }
+
+-- the same where the module was lent, and lent again, for the hierarchy and for the principal
+pub can_run_lent : (code text : List ℕ) (under name : Option (List ℕ)) (m w v : ModuleContents) (larger : Option PrincipalHierarchy) (principal : Option ℕ)
+    → AreSound code text m → w ≡ m → IsViewedUnder w under (hierarchy_under larger w) → v ≡ m → IsObserver (hierarchy_under larger v) name principal → CanRun code text under name m (hierarchy_under larger m) principal
+can_run_lent code text under name m w v larger principal sound same viewed again observed =
+    can_run code text under name m (hierarchy_under larger m) principal sound
+    (subst (λ (x : ModuleContents). IsViewedUnder x under (hierarchy_under larger x)) same viewed)
+    (subst (λ (x : ModuleContents). IsObserver (hierarchy_under larger x) name principal) again observed)
 
 -- what is known of a run that has taken some steps from the first state on, and is viewed under the module's hierarchy or a larger one
 module _ (code text : List ℕ) (under name : Option (List ℕ)) (steps : ℕ) (m program : ModuleContents) (larger : Option PrincipalHierarchy) (principal : Option ℕ)

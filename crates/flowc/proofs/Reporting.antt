@@ -12,7 +12,7 @@ use Rattle.common.specs.Answers.{IfRefused}
 use Rattle.common.specs.declared.fault.OrNoMemory.{OrNoMemory}
 use Rattle.common.specs.declared.fault.OrNoMemory.TheVariants as or
 use Rattle.channels.specs.World.{input_names}
-use Rattle.channels.specs.WorldText.{IsWorldRefusal, IsWorldText, lines_of}
+use Rattle.channels.specs.WorldText.{IsWorldRefusal, lines_of}
 use Rattle.channels.specs.declared.defect.WorldRefusal.{WorldRefusal}
 use Rattle.channels.specs.declared.sink.SinkFault.{SinkFault}
 use Rattle.verifier.specs.Refusals.{HasNoDefect}

@@ -94,7 +94,7 @@ own-count program procedure parts =
     let j : length (block_loops procedure.body) ≡ procedure.loops = grind (arith, parts.loops_are_all) in
     omega (arith, i, j)
 
-real-count : (program : Program) (ps : List ProcedureEntry) → list_all (procedure_fits program) ps ≡ true → total ps ≤ nodes_in ps
+pub real-count : (program : Program) (ps : List ProcedureEntry) → list_all (procedure_fits program) ps ≡ true → total ps ≤ nodes_in ps
 real-count program [] h = omega arith
 real-count program (p ∷ ps) h =
     let parts = and_parts (procedure_fits program p) (list_all (procedure_fits program) ps) h in

@@ -13,4 +13,7 @@ pub mod Renaming
 pub mod Numbers
 pub mod Small
 pub mod Counted
+pub mod Begins
 pub mod Before
+pub mod Rerouted
+pub mod ReroutedPrograms

@@ -21,7 +21,7 @@ use Rattle.gathering.proofs.Programs.{gathered_by}
 use Rattle.gathering.proofs.Faultless.{faultless-gathers}
 use Rattle.gathering.proofs.Ranged.{InRange, Ranged}
 use Rattle.gathering.proofs.RangedPrograms.{ranged-program}
-use Rattle.gathering.proofs.Renaming.{Stands, renamed-gathered, renamed-number}
+use Rattle.gathering.proofs.Renaming.{Stands, renamed-gathered, renamed-inner, renamed-number}
 
 -- ---- back from a number
 abbrev name_in : ProcedureEntry → (f k : ℕ) → Unwritten
@@ -96,7 +96,7 @@ module _ (program : Program) where
       omega (arith, below, more)
 
   module _ (bound : ℕ) where
-    kept : (a : NamedAtom) → InRange program bound a → is_inner (λ k. nat_le (real_unknowns program) k) (numbered_atom program a) ≡ is_inner is_inner_name a
+    pub kept : (a : NamedAtom) → InRange program bound a → is_inner (λ k. nat_le (real_unknowns program) k) (numbered_atom program a) ≡ is_inner is_inner_name a
     kept (Written v) h = refl
     kept (Unknown (Real u)) h = lt-leb (real_unknowns program) (unwritten_number program u) (unwritten-below u h)
     kept (Unknown (Inner k)) h = le-leb (real_unknowns program) (real_unknowns program + k) (omega arith)
@@ -139,6 +139,17 @@ numbered-numbers program formed none u =
     renamed-number (program_demands program) (program_constraints program) (gathered_by program (faultless-gathers program none)) (unknown_number program) (name_of program) (λ k. nat_le (real_unknowns program) k)
     (λ a there. kept program bound a (in-range program bound (program_constraints program) ranged a there))
     (λ a there. returns program bound a (in-range program bound (program_constraints program) ranged a there)) u
+
+-- and the numbers of inner unknowns follow on theirs
+pub numbered-inner : (program : Program) (formed : IsTrue (well_formed program)) (none : end_faults program ≡ []) →
+    (numbered-gathered program formed none).inner ≡ (λ k. nat_le (real_unknowns program) k)
+unfolding numbered-gathered
+numbered-inner program formed none =
+    let bound : ℕ = made_from program 0 program.procedures in
+    let ranged : Ranged program bound (program_constraints program) = ranged-program program formed in
+    renamed-inner (program_demands program) (program_constraints program) (gathered_by program (faultless-gathers program none)) (unknown_number program) (name_of program) (λ k. nat_le (real_unknowns program) k)
+    (λ a there. kept program bound a (in-range program bound (program_constraints program) ranged a there))
+    (λ a there. returns program bound a (in-range program bound (program_constraints program) ranged a there))
 
 -- so each labelling meets the demands exactly where it fits what is gathered
 pub labellings-fit : (program : Program) → IsTrue (well_formed program) → end_faults program ≡ [] → (labelling : Labelling) →

@@ -112,3 +112,8 @@ module _ {N U W X V : Type 0} (ds : List (Constraint N U V)) (cs : List (Constra
     pub renamed-number : (u : U) → renamed-gathered.number u ≡ count u
     unfolding renamed-gathered
     renamed-number u = refl
+
+    -- and an inner unknown is one by its new name
+    pub renamed-inner : renamed-gathered.inner ≡ inner
+    unfolding renamed-gathered
+    renamed-inner = refl

@@ -2,3 +2,4 @@ pub mod Names
 pub mod Gathered
 pub mod Walk
 pub mod Size
+pub mod Rerouted

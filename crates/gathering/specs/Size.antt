@@ -1,9 +1,13 @@
--- Private: how large constraints are, and how many exceptions the callees of a program declare, each as often as it is called.
+-- Private: how large constraints are, how many exceptions the callees of a program declare, each as often as it is called, and how many
+-- calls there are.
 -- Source: our own.
-use Rattle.std.specs.Prelude.{ℕ, suc, ◌+◌, List, [], ◌∷◌, length, sum_by}
+use Rattle.std.specs.Prelude.{ℕ, suc, ◌+◌, List, [], ◌∷◌, length, sum_by, Option, Some, None}
 use Rattle.labels.specs.Constraints.{Constraint}
+use Rattle.resolved.specs.declared.target.Target.{Target}
+use Rattle.resolved.specs.declared.target.Target.TheVariants.{ToVariable, ToChannel, ToBegin, ToParameter, ToValue, ToEnd, ToThrown, ToLoop}
 use Rattle.resolved.specs.Tree.{Statement, Assign, Clear, Store, Receive, Send, Call, If, While, Leave, ReturnWith, Try, Nested, Block, Empty, Then, Handlers, NoMore, Catch}
 use Rattle.resolved.specs.Program.{Program, ProcedureEntry, procedure_at}
+use Rattle.gathering.specs.Names.{NamedConstraint}
 
 -- each counts one, and one for each part of its left side
 abbrev pub size_of : {N U V : Type 0} → List (Constraint N U V) → ℕ
@@ -35,3 +39,19 @@ abbrev mutual
 
 abbrev pub declared_at_calls : Program → ℕ
 declared_at_calls program = sum_by (λ (procedure : ProcedureEntry). declared_in program procedure.body) program.procedures
+
+-- the demands on the labels at which procedures begin: one for each call
+abbrev pub begins_at : Option Target → ℕ
+begins_at None = 0
+begins_at (Some (ToVariable f x)) = 0
+begins_at (Some (ToChannel channel)) = 0
+begins_at (Some (ToBegin f)) = 1
+begins_at (Some (ToParameter f n)) = 0
+begins_at (Some (ToValue f)) = 0
+begins_at (Some (ToEnd f)) = 0
+begins_at (Some (ToThrown f x)) = 0
+begins_at (Some (ToLoop f loop)) = 0
+
+abbrev pub begins : List NamedConstraint → ℕ
+begins [] = 0
+begins (c ∷ rest) = begins_at c.target + begins rest

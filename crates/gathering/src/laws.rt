@@ -1,13 +1,16 @@
 //! Laws of the gathering, each the contract of a function that does nothing.
+ghost use Rattle.gathering.specs.Gathered.{AreConstraintsOf, FitsConstraints};
+ghost use Rattle.gathering.specs.Names.{real_unknowns};
+ghost use Rattle.gathering.specs.Rerouted.{IsRerouted};
 ghost use Rattle.gathering.specs.Size.{declared_at_calls, size_of};
 ghost use Rattle.gathering.specs.Walk.{AreUnknownsBelow, FitsGathered, gathered_constraints, program_constraints, unknown_count};
 ghost use Rattle.labels.specs.Constraints.{IsGathered};
 ghost use Rattle.resolved.specs.EndFaults.{end_faults};
-ghost use Rattle.resolved.specs.Flow.{AreGathered};
+ghost use Rattle.resolved.specs.Flow.{AreGathered, Gathered};
 ghost use Rattle.resolved.specs.Labelled.{FitsDemands, Labelling, program_demands};
 ghost use Rattle.resolved.specs.Program.{Program};
 ghost use Rattle.resolved.specs.WellFormed.{program_nodes, well_formed};
-ghost use Rattle.std.specs.Prelude.{IsTrue, [], ◌*◌, ◌+◌, ◌↔◌, ◌≡◌, ◌≤◌};
+ghost use Rattle.std.specs.Prelude.{IsTrue, List, [], nat_le, ◌*◌, ◌+◌, ◌++◌, ◌↔◌, ◌≡◌, ◌≤◌};
 
 /// What the walk along a well-formed program without a fault of its ends gives is gathered from the program's demands: constraints
 /// with numbers for the unknowns, which stand for the demands one by one and in order. By their names they are where the program
@@ -41,4 +44,20 @@ pub fn unknowns_have_numbers_below_their_count()
 pub fn what_is_gathered_is_in_proportion_to_the_program()
     ensures { (program : Program) → size_of (gathered_constraints program)
         ≤ 20 * program_nodes program + 3 * declared_at_calls program }
+{}
+
+/// What the walk gives for a well-formed program without a fault of its ends stays gathered from the program's demands where some of
+/// its flows go by further unknowns, whose numbers follow on those of the others.
+pub fn flows_may_go_by_further_unknowns()
+    ensures { (program : Program) → IsTrue (well_formed program) → end_faults program ≡ [] →
+        (base added : List Gathered) → IsRerouted (λ k. nat_le (real_unknowns program) k)
+        (λ k. nat_le (unknown_count program) k) (gathered_constraints program) base added →
+        AreConstraintsOf program (base ++ added) }
+{}
+
+/// Each labelling meets a program's demands exactly where it fits constraints that stand for them.
+pub fn labellings_fit_constraints()
+    ensures { (program : Program) (cs : List Gathered) → AreConstraintsOf program cs →
+        (labelling : Labelling) → FitsDemands program.hierarchy labelling (program_demands program)
+        ↔ FitsConstraints program cs labelling }
 {}

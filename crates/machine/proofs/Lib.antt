@@ -15,3 +15,4 @@ pub mod Switching
 pub mod OpenCells
 pub mod Entering
 pub mod Looping
+pub mod Turning

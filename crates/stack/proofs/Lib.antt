@@ -4,3 +4,4 @@ pub mod CellsByPlace
 pub mod OnSlab
 pub mod UpTo
 pub mod OfGlobals
+pub mod Runs

@@ -1,8 +1,8 @@
 ghost use Rattle.modules.specs.Machine.{first_global, slot_of};
 ghost use Rattle.stack.specs.Globals.{HasPut};
-ghost use Rattle.stack.specs.Slab.{cell_in};
+ghost use Rattle.stack.specs.Slab.{cell_at, cell_in, place_in, total, with_cell_at};
 ghost use Rattle.std.specs.List.{flat_map};
-ghost use Rattle.std.specs.Prelude.{IfOk, OnOk, is_some, length, map, ◌++◌, ◌≡◌};
+ghost use Rattle.std.specs.Prelude.{IfOk, OnOk, Some, is_some, length, map, ◌++◌, ◌<◌, ◌≡◌};
 
 use crate::shape::{Shape, repeat};
 use modules::{Cell, Global as Variable, Kind, Slot};
@@ -63,6 +63,38 @@ impl Globals {
         };
         self.cells[place] = cell;
         true
+    }
+
+    /// Where an element of a global stands among the values of all globals, if it is there.
+    pub fn place(&self, global: u32, index: usize) -> Option<usize>
+        ensures { result ≡ place_in (map length self.now) global index }
+    {
+        self.shape.place(global, index)
+    }
+
+    /// How many values all globals have.
+    pub fn count(&self) -> usize
+        ensures { result ≡ total (map length self.now) }
+    {
+        self.shape.count()
+    }
+
+    /// The value at a place among those of all globals. Precondition: there is one.
+    #[inline(always)]
+    pub fn at(&self, place: usize) -> Cell
+        requires { place < total (map length self.now) }
+        ensures { cell_at self.now place ≡ Some result }
+    {
+        self.cells[place]
+    }
+
+    /// Changes the value at a place among those of all globals. Precondition: there is one.
+    #[inline(always)]
+    pub fn set_at(&mut self, place: usize, value: Cell)
+        requires { place < total (map length self.old) }
+        ensures { self.new ≡ with_cell_at self.old place value }
+    {
+        self.cells[place] = value;
     }
 }
 

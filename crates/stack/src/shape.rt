@@ -47,6 +47,16 @@ impl Shape {
         Ok(Shape { spans })
     }
 
+    /// How many cells all slots have.
+    pub fn count(&self) -> usize
+        ensures { result ≡ total self.now }
+    {
+        match self.spans.last() {
+            Some(span) => span.start + span.count,
+            None => 0,
+        }
+    }
+
     /// Where an element of a slot stands, if it is there.
     pub fn place(&self, slot: u32, index: usize) -> Option<usize>
         ensures { result ≡ place_in self.now slot index }

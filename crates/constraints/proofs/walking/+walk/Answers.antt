@@ -8,6 +8,7 @@ use Rattle.constraints.proofs.Along.{Along, Handling, along-start, along-step, a
 use Rattle.constraints.proofs.Formed.{form-at, block-walked, statement-walked, if-walked, while-walked, try-walked}
 use Rattle.constraints.proofs.Ready.{along-first, along-second, block-goes, form-ready-at, handling-first, handling-second, if-first, if-second, statement-goes, there-is-next, try-first, try-inside, try-second, while-goes}
 use Rattle.constraints.specs.Ready.{entries_of, AreHandlersReady, AreStatementsReady}
+use Rattle.constraints.specs.declared.progress.Progress.{Progress}
 use Rattle.constraints.proofs.Measured.{statement-within, handler-within}
 use Rattle.constraints.proofs.Taken.{number-at}
 use Rattle.constraints.proofs.walking.+walk.Goals as goal
@@ -146,11 +147,13 @@ walk_while-returns t c =
 
 pub walk_try-returns : goal.walk_try-returns
 walk_try-returns t c = λ at.
+    let after : Progress = record c.walk_block.new.progress { thrown = c.put_back.new.thrown; journal = c.note_handled.new.self } in
     try-walked c.args.walk.now.table.now.core.now c.args.walk.now.table.now.written.items (entries_of c.args.walk.now.map.now) c.args.walk.now.procedure
-    at (block_of c.args.block.now) c.args.handlers.now c.args.pc c.args.takers c.in_ok-tried.tried
-    c.args.progress.now c.begin_try.new.progress c.walk_block.new.progress _ c.walk_handlers.new.progress
+    at (block_of c.args.block.now) c.args.handlers.now c.args.pc c.args.takers c.in_ok-tried.tried c.deref.result.now
+    c.args.progress.now c.begin_try.new.progress c.walk_block.new.progress after c.walk_handlers.new.progress
     c.in_ok-tried.ensures c.in_ok-walk_block.ensures refl refl refl c.put_back.ensures
-    (λ number other are. c.in_ok-walk_handlers.ensures number other (c.deref.ensures.value ∙ are))
+    c.in_ok-note_handled.ensures.calls c.in_ok-note_handled.ensures.moments c.in_ok-note_handled.ensures.count c.deref.ensures.value
+    (λ number other are. c.in_ok-walk_handlers.ensures number other (c.deref-2.ensures.value ∙ are))
 
 -- along the statements of a block
 pub walk_statements-loop-statement-init : goal.walk_statements-loop-statement-init
@@ -322,12 +325,13 @@ walk_try-walk_block-requires t c = (
 
 pub walk_try-walk_handlers-requires : goal.walk_try-walk_handlers-requires
 walk_try-walk_handlers-requires t c =
-    let numbered = ap length c.deref.ensures.value ∙ c.in_ok-tried.ensures.count_is in (
+    let after : Progress = record c.walk_block.new.progress { thrown = c.put_back.new.thrown; journal = c.note_handled.new.self } in
+    let numbered = ap length c.deref-2.ensures.value ∙ c.in_ok-tried.ensures.count_is in (
       omega arith,
       (
         numbered,
         try-second c.args.walk.now.table.now.core.now c.args.walk.now.table.now.written.items (entries_of c.args.walk.now.map.now) c.args.walk.now.procedure
-            0 (block_of c.args.block.now) c.args.handlers.now c.args.pc c.args.takers c.in_ok-tried.tried c.args.progress.now c.begin_try.new.progress c.walk_block.new.progress _
+            0 (block_of c.args.block.now) c.args.handlers.now c.args.pc c.args.takers c.in_ok-tried.tried c.args.progress.now c.begin_try.new.progress c.walk_block.new.progress after
             c.requires c.in_ok-tried.ensures c.in_ok-walk_block.ensures refl c.put_back.ensures,
       ),
     )

@@ -1,16 +1,14 @@
-use Rattle.std.proofs.Common.{◌≡◌, ◌∙◌, ℕ, false, IfErr, IfOk, Option, option_map, subst, sym}
+use Rattle.std.proofs.Common.{◌≡◌, ◌∙◌, false, IfOk, option_map, subst, sym}
 use Rattle.std.specs.String.{string_bytes}
 use Rattle.flowc.specs.Lines.{IsPerformFault}
-use Rattle.flowc.specs.Task.{status_of_fault}
 use Rattle.modules.specs.Contents.{ModuleContents}
 use Rattle.host.specs.Meaning.{IsContained, hierarchy_under}
-use Rattle.flowc.proofs.Cut.{appended_all, can_run, cut_off, ends_so, shows_run}
+use Rattle.flowc.proofs.Cut.{appended_all, can_run_lent, cut_off, ends_so, shows_run}
 use Rattle.flowc.proofs.Reporting.{memory_message, memory_status, observer_message, start_message, under_message, unwritten_message, unwritten_status}
 use Rattle.flowc.specs.Compiled.{bytes_of}
 use Rattle.flowc.specs.Given.{text_of}
 use Rattle.flowc.specs.Messages.{AreSound, IsObserverLine, IsRefusedLine, reported_line}
-use Rattle.flowc.specs.Stdout.{CannotRun, IsViewedUnder}
-use Rattle.flowc.specs.View.{IsObserver}
+use Rattle.flowc.specs.Stdout.{IsViewedUnder}
 use Rattle.flowc.proofs.Refusals.{observed_by_none, viewed_by_none}
 use Rattle.flowc.proofs.running.run.Goals as goal
 use Rattle.channels.proofs.Views.{on_err}
@@ -97,12 +95,8 @@ returns-in_err-show-clause-prefix g c =
       right = c.in_ok-machine.ensures.right;
     } in
     let larger = c.in_ok-larger.larger in
-    let viewed : IsViewedUnder m (bytes_of (option_map text_of c.args.files.under)) (hierarchy_under larger m) =
-    subst (λ (w : ModuleContents). IsViewedUnder w (bytes_of (option_map text_of c.args.files.under)) (hierarchy_under larger w)) c.module.ensures c.in_ok-larger.ensures.accepted in
     let principal = c.in_ok-principal.principal in
-    let observed : IsObserver (hierarchy_under larger m) (option_map (λ name. name.now) c.args.observer) principal =
-    subst (λ (w : ModuleContents). IsObserver (hierarchy_under larger w) (option_map (λ name. name.now) c.args.observer) principal) c.module-2.ensures c.in_ok-principal.ensures.found in
-    let can = can_run _ _ _ _ m (hierarchy_under larger m) principal sound viewed observed in
+    let can = can_run_lent _ _ (bytes_of (option_map text_of c.args.files.under)) (option_map (λ name. name.now) c.args.observer) m _ _ larger principal sound c.module.ensures c.in_ok-larger.ensures.accepted c.module-2.ensures c.in_ok-principal.ensures.found in
     on_err _ _ (cut_off _ _ _ _ c.args.steps m c.run-status.new.self.program larger principal c.run-status.result.0 _ _ c.run-status.result.1 can c.run-status.ensures.within c.run-status.ensures.unchanged c.in_ok-machine.ensures.first c.run-status.ensures.after c.run-status.ensures.reported _ _ c.in_err-show.ensures.prefix)
 
 pub returns-clause-prefix : goal.returns-clause-prefix
@@ -115,12 +109,8 @@ returns-clause-prefix g c =
       right = c.in_ok-machine.ensures.right;
     } in
     let larger = c.in_ok-larger.larger in
-    let viewed : IsViewedUnder m (bytes_of (option_map text_of c.args.files.under)) (hierarchy_under larger m) =
-    subst (λ (w : ModuleContents). IsViewedUnder w (bytes_of (option_map text_of c.args.files.under)) (hierarchy_under larger w)) c.module.ensures c.in_ok-larger.ensures.accepted in
     let principal = c.in_ok-principal.principal in
-    let observed : IsObserver (hierarchy_under larger m) (option_map (λ name. name.now) c.args.observer) principal =
-    subst (λ (w : ModuleContents). IsObserver (hierarchy_under larger w) (option_map (λ name. name.now) c.args.observer) principal) c.module-2.ensures c.in_ok-principal.ensures.found in
-    let can = can_run _ _ _ _ m (hierarchy_under larger m) principal sound viewed observed in
+    let can = can_run_lent _ _ (bytes_of (option_map text_of c.args.files.under)) (option_map (λ name. name.now) c.args.observer) m _ _ larger principal sound c.module.ensures c.in_ok-larger.ensures.accepted c.module-2.ensures c.in_ok-principal.ensures.found in
     on_err c.report_end.result _ (cut_off _ _ _ _ c.args.steps m c.run-status.new.self.program larger principal c.run-status.result.0 _ _ c.run-status.result.1 can c.run-status.ensures.within c.run-status.ensures.unchanged c.in_ok-machine.ensures.first c.run-status.ensures.after c.run-status.ensures.reported _ _ (appended_all _ _ _ c.in_ok-show.ensures.accepted))
 
 pub returns-clause-stdout : goal.returns-clause-stdout
@@ -133,12 +123,8 @@ returns-clause-stdout g c =
       right = c.in_ok-machine.ensures.right;
     } in
     let larger = c.in_ok-larger.larger in
-    let viewed : IsViewedUnder m (bytes_of (option_map text_of c.args.files.under)) (hierarchy_under larger m) =
-    subst (λ (w : ModuleContents). IsViewedUnder w (bytes_of (option_map text_of c.args.files.under)) (hierarchy_under larger w)) c.module.ensures c.in_ok-larger.ensures.accepted in
     let principal = c.in_ok-principal.principal in
-    let observed : IsObserver (hierarchy_under larger m) (option_map (λ name. name.now) c.args.observer) principal =
-    subst (λ (w : ModuleContents). IsObserver (hierarchy_under larger w) (option_map (λ name. name.now) c.args.observer) principal) c.module-2.ensures c.in_ok-principal.ensures.found in
-    let can = can_run _ _ _ _ m (hierarchy_under larger m) principal sound viewed observed in
+    let can = can_run_lent _ _ (bytes_of (option_map text_of c.args.files.under)) (option_map (λ name. name.now) c.args.observer) m _ _ larger principal sound c.module.ensures c.in_ok-larger.ensures.accepted c.module-2.ensures c.in_ok-principal.ensures.found in
     shows_run _ _ _ _ c.args.steps m c.run-status.new.self.program larger principal c.run-status.result.0 _ _ c.run-status.result.1 can c.run-status.ensures.within c.run-status.ensures.unchanged c.in_ok-machine.ensures.first c.run-status.ensures.after c.run-status.ensures.reported _ _ c.report_end.result c.in_ok-show.ensures.accepted c.report_end.ensures.message
 
 pub returns-clause-end : goal.returns-clause-end
@@ -151,12 +137,8 @@ returns-clause-end g c =
       right = c.in_ok-machine.ensures.right;
     } in
     let larger = c.in_ok-larger.larger in
-    let viewed : IsViewedUnder m (bytes_of (option_map text_of c.args.files.under)) (hierarchy_under larger m) =
-    subst (λ (w : ModuleContents). IsViewedUnder w (bytes_of (option_map text_of c.args.files.under)) (hierarchy_under larger w)) c.module.ensures c.in_ok-larger.ensures.accepted in
     let principal = c.in_ok-principal.principal in
-    let observed : IsObserver (hierarchy_under larger m) (option_map (λ name. name.now) c.args.observer) principal =
-    subst (λ (w : ModuleContents). IsObserver (hierarchy_under larger w) (option_map (λ name. name.now) c.args.observer) principal) c.module-2.ensures c.in_ok-principal.ensures.found in
-    let can = can_run _ _ _ _ m (hierarchy_under larger m) principal sound viewed observed in
+    let can = can_run_lent _ _ (bytes_of (option_map text_of c.args.files.under)) (option_map (λ name. name.now) c.args.observer) m _ _ larger principal sound c.module.ensures c.in_ok-larger.ensures.accepted c.module-2.ensures c.in_ok-principal.ensures.found in
     let program = c.module-3.ensures in
     ends_so _ _ _ _ c.args.steps m c.run-status.new.self.program larger principal c.run-status.result.0 _ _ c.run-status.result.1 can c.run-status.ensures.within c.run-status.ensures.unchanged c.in_ok-machine.ensures.first c.run-status.ensures.after c.run-status.ensures.reported c.report_end.result c.report_end.ensures.message
     (subst (λ (w : ModuleContents). IfOk c.report_end.result (λ ended. string_bytes ended.line ≡ reported_line w principal c.run-status.result.1)) program c.report_end.ensures.line)

@@ -5,9 +5,10 @@ use Rattle.resolved.specs.TreeOf.{expression_of}
 use Rattle.resolved.specs.declared.statement.Exit.TheVariants.{Normal}
 use Rattle.resolved.specs.declared.target.Target.TheVariants.{ToBegin, ToValue}
 use Rattle.gathering.specs.Names.{NamedAtom, named_atoms}
-use Rattle.gathering.specs.Walk.{argument_constraints, call_atoms, call_ends, call_flows, inner_atom, inner_constraint, raise_atoms_all, rule_constraint, target_constraint}
+use Rattle.gathering.specs.Walk.{argument_constraints, call_atoms, call_flows, inner_atom, inner_constraint, raise_atoms_all, rule_constraint, target_constraint}
 use Rattle.constraints.specs.LeftSides.{scope_of}
 use Rattle.constraints.specs.Takers.{takers_of}
+use Rattle.constraints.specs.Walks.{kept_ends}
 use Rattle.constraints.proofs.Added.{added-then, alone-left}
 use Rattle.constraints.proofs.statements.Walk.add_call.Goals as goal
 
@@ -24,7 +25,7 @@ returns c = λ named stands.
     let raised : List NamedAtom = named ∷ named_atoms (raise_atoms_all scope arguments) in
     let own : List NamedAtom = inner_atom k ∷ [] in
     let received : List NamedAtom = inner_atom k ∷ named_atoms (call_atoms program c.args.callee Normal ++ one (label_of program (ToValue c.args.callee))) in
-    let ends = call_flows program c.args.callee k takers (call_ends program c.args.callee arguments) in
+    let ends = call_flows program c.args.callee k takers (kept_ends arguments) in
     let demands = target_constraint scope c.args.at 6 received c.args.target in
     let passed = argument_constraints scope c.args.at k c.args.callee 0 arguments in
     let begun = rule_constraint scope c.args.at 6 own (ToBegin c.args.callee) in

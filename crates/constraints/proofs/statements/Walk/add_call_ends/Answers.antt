@@ -1,14 +1,12 @@
 use Rattle.std.proofs.Common.{List, ◌∷◌, map}
 use Rattle.resolved.specs.CoreOf.{program_of}
-use Rattle.resolved.specs.Ends.{declared_by, raises_all}
-use Rattle.resolved.specs.Program.{procedure_at}
+use Rattle.resolved.specs.Ends.{raises_all, thrown_ends}
 use Rattle.resolved.specs.TreeOf.{expression_of}
 use Rattle.resolved.specs.declared.statement.Exit.TheVariants.{Normal}
 use Rattle.gathering.specs.Names.{NamedAtom, named_atoms}
-use Rattle.gathering.specs.Walk.{call_atoms, flow, inner_atom, raised_once}
+use Rattle.gathering.specs.Walk.{call_atoms, call_flows, flow, inner_atom, raised_once}
 use Rattle.constraints.specs.Takers.{takers_of}
-use Rattle.constraints.proofs.Added.{flow-added, left-same}
-use Rattle.constraints.proofs.Called.{called-all}
+use Rattle.constraints.proofs.Added.{added-then, flow-added, left-same}
 use Rattle.constraints.proofs.statements.Walk.add_call_ends.Goals as goal
 
 pub returns : goal.returns
@@ -20,7 +18,7 @@ returns c = λ k stands.
     let takers = takers_of c.args.takers c.args.thrown.now in
     let q : List NamedAtom = inner_atom k ∷ named_atoms (call_atoms program c.args.callee Normal) in
     let raised = raises_all (map expression_of c.args.arguments.now) in
-    called-all core table c.args.callee k takers (raised_once raised) (declared_by (procedure_at program c.args.callee).throws) (flow q (takers Normal)) _ _ _ _
+    added-then core table (flow q (takers Normal)) (call_flows program c.args.callee k takers (thrown_ends (raised_once raised))) _ _ _
     (flow-added core table q c.at-normal.result (takers Normal) _ _ c.at-normal.ensures
     (c.in_ok-add_flow.ensures q (left-same core table q c.in_ok-left.left.items c.deref.result.now c.deref.ensures.value (c.in_ok-left.ensures (inner_atom k) stands))))
-    (c.in_ok-add_argument_ends.ensures k raised stands c.raises_of_all-found.ensures) (c.in_ok-add_declared.ensures k stands)
+    (c.in_ok-add_argument_ends.ensures k raised stands c.raises_of_all-found.ensures)

@@ -16,4 +16,4 @@ returns-clause-added c =
     let e = expression_of c.args.condition.now in
     made-walked c.args.self.now.table.now.core.now c.args.self.now.table.now.written.items (entries_of c.args.self.now.map.now)
     c.args.pc c.args.takers c.deref.result.now 2 c.in_ok-inner.inner (λ t n named. loop_head_constraints scope named (takers_of c.args.takers t) n c.args.at c.args.number e) c.args.progress.now c.make.new.self _
-    c.in_ok-inner.ensures.made c.in_ok-inner.ensures.first c.deref.ensures.value refl refl refl c.in_ok-add_loop_head.ensures
+    c.in_ok-inner.ensures.made c.in_ok-inner.ensures.first c.deref.ensures.value refl refl refl refl c.in_ok-add_loop_head.ensures

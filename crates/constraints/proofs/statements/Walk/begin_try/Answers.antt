@@ -8,12 +8,13 @@ use Rattle.constraints.proofs.statements.Walk.begin_try.Goals as goal
 
 pub returns : goal.returns
 returns c =
-    try-begun c.args.takers c.args.handlers.now c.deref.result.now c.in_ok-first.first c.in_ok-inner.inner.level c.args.progress.now c.make.new.self
-    (record c.make.new.self { thrown = c.take_handled.new.thrown })
+    try-begun c.args.takers c.args.handlers.now c.deref-2.result.now c.deref.result.now c.in_ok-first.first c.in_ok-inner.inner.level c.args.progress.now c.make.new.self
+    (record c.make.new.self { thrown = c.take_handled.new.thrown; journal = c.note_handled.new.self })
     (record { takers = c.in_ok-inner.inner; numbers = c.in_ok-numbers.numbers; saved = c.take_handled.new.saved })
     c.in_ok-first.ensures.made c.in_ok-first.ensures.first c.in_ok-inner.ensures (ap (λ (t : Takers). t.level) c.in_ok-inner.ensures)
     (c.in_ok-take_handled.ensures.undone ∙ ap (λ list. undone list c.make.new.self.thrown.items) c.new-saved.ensures.items)
-    c.in_ok-take_handled.ensures.taken c.in_ok-numbers.ensures c.deref.ensures.value refl refl refl
+    c.in_ok-take_handled.ensures.taken c.in_ok-numbers.ensures c.deref-2.ensures.value refl refl refl
+    c.in_ok-note_handled.ensures.calls c.in_ok-note_handled.ensures.moments c.in_ok-note_handled.ensures.count c.deref.ensures.value
 
 pub take_handled-requires : goal.take_handled-requires
 take_handled-requires c =

@@ -1,0 +1,357 @@
+//! The flows of the exceptions that calls raise: all calls at which an exception has one taker reach it by one inner unknown.
+ghost use Rattle.constraints.specs.Added.{AreAdded, IsLeft, IsPart};
+ghost use Rattle.constraints.specs.Journals.{AreInOrder, HasOneTaker};
+ghost use Rattle.constraints.specs.Spreading.{AreCallsOf, AreLabelsOf, AreRowsOf, AreSpread, AreSpreadTo, Declares, fixed_flows};
+ghost use Rattle.constraints.specs.declared.journal.Called.{Called};
+ghost use Rattle.constraints.specs.declared.rows.ThrownLabel.{ThrownLabel};
+ghost use Rattle.gathering.specs.Names.{NamedAtom};
+ghost use Rattle.gathering.specs.Walk.{flow, inner_atom, inner_constraint};
+ghost use Rattle.resolved.specs.CoreOf.{program_of};
+ghost use Rattle.std.specs.List.{All};
+ghost use Rattle.std.specs.Prelude.{Contains, IfOk, IsTrue, List, OnOk, [], if◌then◌else◌, length, map, ℕ, ◌+◌, ◌++◌, ◌<◌, ◌∷◌, ◌≡◌, ◌≤◌, ◌⊎◌};
+
+use crate::journal::{Called, Journal};
+use crate::rows::ThrownLabel;
+use crate::table::Table;
+use crate::takers::taker_in;
+use gathering::unknowns::number_after;
+use resolved::target::Target;
+use solver::{Atom, Constraint};
+use std::alloc::{AllocError, Global};
+
+/// The table of labels, and the entries of exceptions at each call.
+#[derive(Drop)]
+pub(crate) struct Spreading<'a> {
+    pub alloc: Global,
+    pub table: &'a Table<'a>,
+    pub journal: &'a Journal,
+}
+
+/// What is made: constraints, and the number of the next inner unknown.
+#[derive(Drop)]
+pub struct Made {
+    pub number: u32,
+    pub constraints: Vec<Constraint<Option<Target>>>,
+}
+
+/// Exceptions with the labels that their procedure declares: those with one entry at all of some calls, and the others.
+#[derive(Drop)]
+struct Parted {
+    fixed: Vec<ThrownLabel>,
+    varied: Vec<ThrownLabel>,
+}
+
+// The numbers between which those of some calls are.
+fn range_of(calls: &[Called]) -> (usize, usize)
+    ensures first { All (λ (called : Called). result.0 ≤ called.call) calls.now }
+    ensures last { All (λ (called : Called). called.call ≤ result.1) calls.now }
+{
+    let mut first = usize::MAX;
+    let mut last = 0;
+    for called in calls {
+        first = first.min(called.call);
+        last = last.max(called.call);
+    }
+    (first, last)
+}
+
+// Whether all of some calls are made under this barrier.
+fn are_under(barrier: u32, calls: &[Called]) -> bool
+    ensures { IsTrue result → All (λ (called : Called). called.barrier ≡ barrier) calls.now }
+{
+    for called in calls {
+        if called.barrier != barrier {
+            return false;
+        }
+    }
+    true
+}
+
+// Adds an exception to the first list, or else to the second.
+fn put(
+    one: bool,
+    thrown: ThrownLabel,
+    fixed: &mut Vec<ThrownLabel>,
+    varied: &mut Vec<ThrownLabel>,
+) -> Result<(), AllocError>
+    ensures fixed { OnOk result (fixed.new.items
+        ≡ (if one then fixed.old.items ++ thrown ∷ [] else fixed.old.items)) }
+    ensures varied { OnOk result (varied.new.items
+        ≡ (if one then varied.old.items else varied.old.items ++ thrown ∷ [])) }
+{
+    if one {
+        fixed.push(thrown)?;
+    } else {
+        varied.push(thrown)?;
+    }
+    Ok(())
+}
+
+impl<'a> Spreading<'a> {
+    // Whether an exception has one taker at all of some calls, whose numbers are between these, if they are made under one barrier.
+    fn has_one_taker(&self, under: bool, first: usize, last: usize, exception: u32) -> bool
+        requires { AreInOrder self.now.journal.now }
+        ensures { IsTrue result → (calls : List Called) (barrier : ℕ) →
+            (IsTrue under → All (λ (called : Called). called.barrier ≡ barrier) calls) →
+            All (λ (called : Called). first ≤ called.call) calls →
+            All (λ (called : Called). called.call ≤ last) calls →
+            HasOneTaker self.now.journal.now calls exception }
+    {
+        under && self.journal.is_fixed(exception, first, last)
+    }
+
+    // Parts exceptions by whether they have one taker at all of these calls, by their barrier and their entries.
+    fn parted(
+        &self,
+        barrier: u32,
+        calls: &[Called],
+        labels: &[ThrownLabel],
+    ) -> Result<Parted, AllocError>
+        requires { AreInOrder self.now.journal.now }
+        ensures fixed { IfOk result (λ parted. (x : ThrownLabel) → Contains parted.fixed.items x →
+            HasOneTaker self.now.journal.now calls.now x.exception) }
+        ensures all { IfOk result (λ parted. (x : ThrownLabel) → Contains labels.now x →
+            Contains parted.fixed.items x ⊎ Contains parted.varied.items x) }
+        ensures fixed_of { IfOk result (λ parted. (x : ThrownLabel) →
+            Contains parted.fixed.items x → Contains labels.now x) }
+        ensures varied_of { IfOk result (λ parted. (x : ThrownLabel) →
+            Contains parted.varied.items x → Contains labels.now x) }
+    {
+        let (first, last) = range_of(calls);
+        let under = are_under(barrier, calls);
+        let mut fixed = Vec::new(self.alloc);
+        let mut varied = Vec::new(self.alloc);
+        for thrown in labels {
+            let one = self.has_one_taker(under, first, last, thrown.exception);
+            put(one, *thrown, &mut fixed, &mut varied)?;
+        }
+        Ok(Parted { fixed, varied })
+    }
+
+    // Adds the flows of exceptions that have at all calls that a part stands for the taker that they have at this one.
+    fn add_fixed(
+        &self,
+        called: Called,
+        node: Atom,
+        fixed: &[ThrownLabel],
+        made: &mut Made,
+    ) -> Result<(), AllocError>
+        requires { AreInOrder self.now.journal.now }
+        ensures number { OnOk result (made.new.number ≡ made.old.number) }
+        ensures added { OnOk result ((callee number : ℕ) →
+            IsPart self.now.table.now.core.now self.now.table.now.written.items
+            (inner_atom number) node →
+            AreLabelsOf self.now.table.now.core.now self.now.table.now.written.items callee
+            fixed.now →
+            AreAdded self.now.table.now.core.now self.now.table.now.written.items
+            (fixed_flows (program_of self.now.table.now.core.now) self.now.journal.now called
+            callee number fixed.now)
+            made.old.constraints.items made.new.constraints.items) }
+    {
+        for thrown in fixed {
+            let entry = self.journal.entry(thrown.exception, called.call);
+            self.add_one(taker_in(called.barrier, entry), node, thrown.label, made)?;
+        }
+        Ok(())
+    }
+
+    // Adds the flow of an exception to its taker, where it has one.
+    fn add_one(
+        &self,
+        taker: Option<u32>,
+        node: Atom,
+        label: Atom,
+        made: &mut Made,
+    ) -> Result<(), AllocError>
+        ensures number { OnOk result (made.new.number ≡ made.old.number) }
+        ensures added { OnOk result ((named of_label : NamedAtom) →
+            IsPart self.now.table.now.core.now self.now.table.now.written.items named node →
+            IsPart self.now.table.now.core.now self.now.table.now.written.items of_label label →
+            AreAdded self.now.table.now.core.now self.now.table.now.written.items
+            (flow (named ∷ of_label ∷ []) taker)
+            made.old.constraints.items made.new.constraints.items) }
+    {
+        let left = vec![in self.alloc; node, label]?;
+        self.table
+            .add_flow(self.alloc, &left, taker, &mut made.constraints)
+    }
+
+    // The parts of the labels of calls.
+    fn owns(&self, calls: &[Called]) -> Result<Vec<Atom>, AllocError>
+        ensures { IfOk result (λ atoms.
+            IsLeft self.now.table.now.core.now self.now.table.now.written.items
+            (map (λ (called : Called). inner_atom called.own) calls.now) atoms.items) }
+    {
+        let mut atoms = Vec::with_capacity(self.alloc, calls.len())?;
+        for called in calls {
+            atoms.push(self.table.inner(called.own)?)?;
+        }
+        Ok(atoms)
+    }
+
+    // A new inner unknown, to which these parts flow.
+    fn joined(&self, parts: Vec<Atom>, made: &mut Made) -> Result<Atom, AllocError>
+        ensures number { OnOk result (made.new.number ≡ made.old.number + 1) }
+        ensures added { OnOk result ((atoms : List NamedAtom) →
+            IsLeft self.now.table.now.core.now self.now.table.now.written.items atoms parts.items →
+            AreAdded self.now.table.now.core.now self.now.table.now.written.items
+            (inner_constraint atoms made.old.number)
+            made.old.constraints.items made.new.constraints.items) }
+        ensures part { IfOk result (λ atom.
+            IsPart self.now.table.now.core.now self.now.table.now.written.items
+            (inner_atom made.old.number) atom) }
+    {
+        let number = made.number;
+        made.number = number_after(number, 1)?;
+        self.table.add_inner(parts, number, &mut made.constraints)?;
+        self.table.inner(number)
+    }
+
+    // Adds the flows of exceptions from one call, whose own label is the part that stands for it.
+    fn single(
+        &self,
+        called: Called,
+        labels: &[ThrownLabel],
+        made: &mut Made,
+    ) -> Result<Atom, AllocError>
+        requires { AreInOrder self.now.journal.now }
+        ensures { IfOk result (λ atom. AreSpreadTo self.now.table.now.core.now
+            self.now.table.now.written.items self.now.journal.now labels.now (called ∷ [])
+            made.old made.new atom) }
+    {
+        let node = self.table.inner(called.own)?;
+        self.add_fixed(called, node, labels, made)?;
+        Ok(node)
+    }
+}
+
+// Adds the flows of exceptions from some calls, and gives a part that stands for all of the calls.
+#[cycle(spread)]
+fn spread(
+    of: &Spreading,
+    calls: &[Called],
+    labels: &[ThrownLabel],
+    made: &mut Made,
+) -> Result<Atom, AllocError>
+    requires ordered { AreInOrder of.now.journal.now }
+    requires some { 0 < length calls.now }
+    ensures { IfOk result (λ atom. AreSpreadTo of.now.table.now.core.now
+        of.now.table.now.written.items of.now.journal.now labels.now calls.now
+        made.old made.new atom) }
+{
+    let one = calls[0];
+    if calls.len() == 1 {
+        return of.single(one, labels, made);
+    }
+    let parted = of.parted(one.barrier, calls, labels)?;
+    let node = spread_halves(of, calls, &parted.varied, made)?;
+    of.add_fixed(one, node, &parted.fixed, made)?;
+    Ok(node)
+}
+
+// The same for exceptions that do not have one taker at all of the calls, whose halves end at single calls, 64 levels down at most.
+#[cycle(spread)]
+fn spread_halves(
+    of: &Spreading,
+    calls: &[Called],
+    varied: &[ThrownLabel],
+    made: &mut Made,
+) -> Result<Atom, AllocError>
+    requires ordered { AreInOrder of.now.journal.now }
+    requires several { 1 < length calls.now }
+    ensures { IfOk result (λ atom. AreSpreadTo of.now.table.now.core.now
+        of.now.table.now.written.items of.now.journal.now varied.now calls.now
+        made.old made.new atom) }
+{
+    if varied.is_empty() {
+        let owns = of.owns(calls)?;
+        return of.joined(owns, made);
+    }
+    let (first, second) = calls.split_at(calls.len() / 2);
+    let one = spread(of, first, varied, made)?;
+    let other = spread(of, second, varied, made)?;
+    let both = vec![in of.alloc; one, other]?;
+    of.joined(both, made)
+}
+
+// So many rows without calls.
+fn no_rows(alloc: Global, count: usize) -> Result<Vec<Vec<Called>>, AllocError>
+    ensures { IfOk result (λ rows. AreRowsOf count [] rows.items) }
+{
+    let mut rows = Vec::with_capacity(alloc, count)?;
+    for _i in 0..count {
+        rows.push(Vec::new(alloc))?;
+    }
+    Ok(rows)
+}
+
+// Adds a call to the row of its procedure, if there is one.
+fn add_called(called: Called, rows: &mut Vec<Vec<Called>>) -> Result<(), AllocError>
+    ensures { OnOk result ((count : ℕ) (calls : List Called) →
+        AreRowsOf count calls rows.old.items →
+        AreRowsOf count (calls ++ called ∷ []) rows.new.items) }
+{
+    let at = called.callee as usize;
+    if at < rows.len() {
+        rows[at].push(called)?;
+    }
+    Ok(())
+}
+
+// The calls of each procedure.
+fn rows_of(
+    alloc: Global,
+    procedures: usize,
+    calls: &[Called],
+) -> Result<Vec<Vec<Called>>, AllocError>
+    ensures { IfOk result (λ rows. AreRowsOf procedures calls.now rows.items) }
+{
+    let mut rows = no_rows(alloc, procedures)?;
+    for called in calls {
+        add_called(*called, &mut rows)?;
+    }
+    Ok(rows)
+}
+
+// Adds the flows of the exceptions that the calls of one procedure raise.
+fn spread_row(
+    of: &Spreading,
+    callee: u32,
+    calls: &[Called],
+    made: &mut Made,
+) -> Result<(), AllocError>
+    requires { AreInOrder of.now.journal.now }
+    ensures { OnOk result (AreCallsOf callee calls.now →
+        AreSpread of.now.table.now.core.now of.now.table.now.written.items of.now.journal.now
+        (Declares of.now.table.now.core.now) calls.now made.old made.new) }
+{
+    let throws = &of.table.row(callee).throws;
+    if calls.is_empty() || throws.is_empty() {
+        return Ok(());
+    }
+    spread(of, calls, throws, made)?;
+    Ok(())
+}
+
+/// Adds the flows of the exceptions that calls raise.
+pub(crate) fn spread_calls<'a>(
+    alloc: Global,
+    table: &'a Table<'a>,
+    journal: &'a Journal,
+    made: &mut Made,
+) -> Result<(), AllocError>
+    requires { AreInOrder journal.now }
+    ensures { OnOk result (AreSpread table.now.core.now table.now.written.items journal.now
+        (Declares table.now.core.now) journal.now.calls.items made.old made.new) }
+{
+    let spreading = Spreading {
+        alloc,
+        table,
+        journal,
+    };
+    let rows = rows_of(alloc, table.core.procedures.len(), &journal.calls)?;
+    for (i, row) in rows.iter().enumerate() {
+        spread_row(&spreading, i as u32, row, made)?;
+    }
+    Ok(())
+}
