@@ -169,6 +169,39 @@ def many_labels_to_one_channel(size):
     return chain(256), "output{P255:} o;\nvoid main() {\n" + joined(found) + "}\n"
 
 
+def one_policy(number):
+    """A policy of its own for each number below 256 times 256 times 256."""
+    return f"P{number % 256}: P{number // 256 % 256}, P{number // 65536}"
+
+
+def long_label_named_again(size):
+    """A long label, which each of many locals has by the name of a global."""
+    head = f"global int{policies(size * 2 // 3)} g = 1;\nvoid main() {{\n"
+    found = pieces(size - len(head) - 2, lambda n: (f"int{{g}} a{n} = g;\n",))
+    return flat(256), head + joined(found) + "}\n"
+
+
+def long_label_along_names(size):
+    """The same, each local by the name of the one before."""
+    head = f"void main() {{\nint{policies(size * 2 // 3)} a0 = 1;\n"
+    found = pieces(size - len(head) - 2, lambda n: (f"int{{a{n}}} a{n + 1} = a{n};\n",))
+    return flat(256), head + joined(found) + "}\n"
+
+
+def long_label_beside_policies(size):
+    """A long label, by the name of a global, each time beside another policy: labels that are all long and all differ."""
+    head = f"global int{policies(size * 2 // 3)} g = 1;\nvoid main() {{\n"
+    found = pieces(size - len(head) - 2, lambda n: (f"int{{g; {one_policy(n)}}} a{n} = g;\n",))
+    return flat(256), head + joined(found) + "}\n"
+
+
+def one_policy_more_each(size):
+    """A chain of locals, each with the label of the one before and one policy more."""
+    head = "void main() {\nint{} a0 = 1;\n"
+    found = pieces(size - len(head) - 2, lambda n: (f"int{{a{n}; {one_policy(n)}}} a{n + 1} = 0;\n",))
+    return flat(256), head + joined(found) + "}\n"
+
+
 def declared(size):
     """Exceptions for a third of a source: their declarations, and the names with labels that stand behind `throws`."""
     found = pieces(size // 3, lambda n: (f"exception e{n};\n", f", e{n}{{}}"))
@@ -238,6 +271,10 @@ SHAPES = [
     (labels_around_a_cycle, 5),
     (copies_backwards, 5),
     (labels_along_a_backward_chain, 5),
+    (long_label_named_again, 20),
+    (long_label_along_names, 20),
+    (long_label_beside_policies, 20),
+    (one_policy_more_each, 20),
     (exceptions_of_calls, 20),
     (exceptions_of_calls_at_many_labels, 20),
     (exceptions_of_calls_in_tries, 20),

@@ -1,13 +1,12 @@
--- A program that a source is resolved to under the hierarchy of a text has proper names.
+-- A program that a source is resolved to has proper names.
 use Rattle.std.proofs.Common.{◌≡◌, ◌≢◌, ℕ, List, ◌++◌, length, sym, ◌∙◌, subst, append_assoc, arith}
 use Rattle.std.specs.Prelude.{All, IsUtf8}
 use Rattle.std.proofs.lemmas.List.{length-append, get_or_append_left}
 use Rattle.std.proofs.lemmas.List.Elements.{All-weaker}
 use Rattle.std.proofs.lemmas.Str.{IsUtf8-from_is_utf8}
 use Rattle.principals.specs.ActsFor.{PrincipalHierarchy, IsHierarchy, AllDifferent}
-use Rattle.principals.specs.Laws.{IsNameWithin, NamesAreNames}
+use Rattle.principals.specs.Named.{IsKeptName}
 use Rattle.principals.proofs.Called.{token_texts}
-use Rattle.principals.proofs.Total.{described_is_hierarchy}
 use Rattle.parser.proofs.Spelled.{text_spelled}
 use Rattle.syntax.specs.Limits.{IsOfText}
 use Rattle.syntax.specs.Tree.{ProgramTree}
@@ -16,7 +15,7 @@ use Rattle.common.proofs.Cases.{all_front, pairs_front}
 use Rattle.resolved.specs.Names.{IsShortName, kept_names}
 use Rattle.resolved.specs.Program.{Program}
 use Rattle.types.specs.Laws.{channel_names, global_names, procedure_names, item_names, IsProperName, HasUtf8Names, NamesAreProper, NamesAreDifferent, NamesAreUtf8, HierarchyIsKept, ChannelLabelsAreCanonical}
-use Rattle.acceptance.specs.Accepted.{IsTreeOf, HasHierarchy}
+use Rattle.acceptance.specs.Accepted.{IsTreeOf}
 use Rattle.acceptance.specs.Laws.{GivesNames}
 use Rattle.acceptance.proofs.TreeNames.{spelled_named}
 
@@ -55,19 +54,8 @@ items_different program different =
     pairs_front (λ first second. first ≢ second) (built_in_names ++ kept_names program) (global_names program ++ procedure_names program)
     (subst (λ (names : List (List ℕ)). AllDifferent (built_in_names ++ names)) (kept_first program) different)
 
-module _ (hierarchy : List ℕ) (h : PrincipalHierarchy) (has : HasHierarchy hierarchy h) where
-  is_hierarchy : IsHierarchy h
-  is_hierarchy = described_is_hierarchy has.hierarchy_of.entries h has.hierarchy_of.described
-
-  principals_short : NamesAreNames → All IsShortName h.names
-  principals_short named =
-      All-weaker (IsNameWithin (length hierarchy)) IsShortName
-      (λ name is. record { named = is.named; characters = is.characters; short = omega (arith, is.short, has.hierarchy_of.has_entries.fits) }) h.names
-      (named hierarchy h (IsUtf8-from_is_utf8 hierarchy has.characters) has.hierarchy_of)
-
 -- the laws of the phases
 pub record NameLaws : Type 0 where
-  pub principals : NamesAreNames
   pub proper : NamesAreProper
   pub different : NamesAreDifferent
   pub utf8 : NamesAreUtf8
@@ -75,13 +63,13 @@ pub record NameLaws : Type 0 where
   pub canonical : ChannelLabelsAreCanonical
 
 pub gives_names : NameLaws → GivesNames
-gives_names laws hierarchy source h program has from =
+gives_names laws h source program is_hierarchy named from =
     let tree = from.tree in
     let is = tree_of_text source tree from.tree_of in
     let same = laws.kept h tree program from.resolved in
     record {
-      hierarchy = subst IsHierarchy (sym same) (is_hierarchy hierarchy h has);
-      principals = subst (λ (one : PrincipalHierarchy). All IsShortName one.names) (sym same) (principals_short hierarchy h has laws.principals);
+      hierarchy = subst IsHierarchy (sym same) is_hierarchy;
+      principals = subst (λ (one : PrincipalHierarchy). All IsKeptName one.names) (sym same) named;
       items = items_short program (laws.proper h tree program is from.resolved)
           (laws.utf8 h tree program (tree_has_utf8 source tree from.tree_of) from.resolved);
       different = items_different program (laws.different h tree program is from.resolved);

@@ -1,11 +1,12 @@
 -- The law of verdicts: two texts stand for one program, or one of them is refused for one cause at one byte, and not both. And laws
 -- of the programs that sources are resolved to.
 -- Source: our own.
-use Rattle.std.specs.Prelude.{◌≡◌, ℕ, List}
-use Rattle.principals.specs.ActsFor.{PrincipalHierarchy}
+use Rattle.std.specs.Prelude.{◌≡◌, ℕ, List, All}
+use Rattle.principals.specs.ActsFor.{PrincipalHierarchy, IsHierarchy}
+use Rattle.principals.specs.Named.{IsKeptName}
 use Rattle.resolved.specs.Names.{HasNames}
 use Rattle.resolved.specs.Program.{Program}
-use Rattle.acceptance.specs.Accepted.{HasHierarchy, IsResolvedFrom, StandFor}
+use Rattle.acceptance.specs.Accepted.{IsResolvedFrom, StandFor}
 use Rattle.acceptance.specs.Refused.{AreTextsRefusedAt}
 use Rattle.acceptance.specs.declared.cause.Cause.{Cause}
 use Rattle.acceptance.specs.declared.cause.Text.{Text}
@@ -34,8 +35,8 @@ abbrev pub KeepsHierarchy : Type 0
 KeepsHierarchy =
     (source : List ℕ) (h : PrincipalHierarchy) (program : Program) → IsResolvedFrom h source program → program.hierarchy ≡ h
 
--- under the hierarchy of a text that program has the names, and the labels of channels, that a file wants
+-- under a hierarchy with the names that a file wants that program has them too, and the labels of channels that a file wants
 abbrev pub GivesNames : Type 0
 GivesNames =
-    (hierarchy source : List ℕ) (h : PrincipalHierarchy) (program : Program) → HasHierarchy hierarchy h
+    (h : PrincipalHierarchy) (source : List ℕ) (program : Program) → IsHierarchy h → All IsKeptName h.names
     → IsResolvedFrom h source program → HasNames program

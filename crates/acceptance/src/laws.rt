@@ -15,14 +15,13 @@ pub fn one_verdict()
     principals::laws::one_reading();
 }
 
-/// A program that a source is resolved to under the hierarchy of a text has that hierarchy, whose principals have different names in
-/// UTF-8 of at most 1 MiB; so have its exceptions and channels, which are none of the built-in exceptions; and the labels of its
-/// channels are canonical.
+/// A program that a source is resolved to under a hierarchy has that hierarchy. Its exceptions and channels have different names in
+/// UTF-8 of at most 1 MiB, which are none of the built-in exceptions, and the labels of its channels are canonical; so where the
+/// principals have different names such as a module file holds, the file holds all names of the program.
 pub fn resolved_programs_have_names()
     ensures hierarchy { KeepsHierarchy }
     ensures names { GivesNames }
 {
-    principals::laws::names_are_names();
     types::laws::item_names_are_proper_and_different();
     types::laws::item_names_are_utf8();
     types::laws::hierarchies_and_channel_labels_are_kept();

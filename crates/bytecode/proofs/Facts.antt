@@ -14,11 +14,13 @@ use Rattle.std.proofs.lemmas.List.Quantifiers.{all_pairs_push}
 use Rattle.std.proofs.lemmas.Map.Keys.{sorted_from_all_adjacent, IsStrictlyIncreasing-from_sorted}
 use Rattle.std.proofs.lemmas.Option.{slice_get-get_or}
 use Rattle.std.proofs.lemmas.Slice.Eq.{bytes_eq-Decides}
+use Rattle.std.proofs.lemmas.Str.{IsUtf8-from_is_utf8}
 use Rattle.common.specs.declared.fault.OrNoMemory.{OrNoMemory}
 use Rattle.common.specs.declared.fault.OrNoMemory.TheVariants.{NoMemory, Refused}
 use Rattle.modules.specs.declared.fault.ReadRefusal.{ReadRefusal}
 use Rattle.bytecode.proofs.Loop.{ReadingFails}
 use Rattle.principals.specs.ActsFor.{PrincipalHierarchy, AllDifferent, AllBelow}
+use Rattle.principals.specs.Named.{IsKeptName}
 use Rattle.labels.proofs.Ascending.{sorted_nil}
 use Rattle.labels.specs.Label.{Label}
 use Rattle.labels.specs.Canonical.{policy_cmp, IsCanonicalPolicy}
@@ -93,6 +95,15 @@ principals-different names h =
     along _ AllDifferent (λ before x different fits. all_pairs_push (λ one other. one ≢ other) before x different (All-from_recursion (λ other. other ≢ x) before (not_among before x (neither false _ (not-true _ (second _ _ fits.1))))))
     [] names (λ i j d below inside. absurd (omega arith)) h.2
 
+pub principals-kept : (names : List (List ℕ)) → Fits principals names → All IsKeptName names
+unfolding principals name_after
+principals-kept names h =
+    along _ (All IsKeptName) (λ before x kept fits. All-push IsKeptName before x kept (record {
+      named = second _ _ (first _ _ fits.1);
+      characters = IsUtf8-from_is_utf8 x (first _ _ (first _ _ fits.1));
+      short = omega (arith, fits.0);
+    })) [] names (λ k d inside. absurd (omega arith)) h.2
+
 pub pairs-there : (count : ℕ) (pairs : List (ℕ × ℕ)) → FitEach (λ before x. Fits (pair_after count before) x) [] pairs → AllBelow count pairs
 unfolding pair_after number_below
 pairs-there count pairs h =
@@ -155,6 +166,9 @@ pub record IsHierarchy (names : List (List ℕ)) (pairs : List (ℕ × ℕ)) : T
 
 pub names-read : (bytes : List ℕ) (names : List (List ℕ)) (rest : List ℕ) → IsBytes bytes → read principals bytes ≡ Ok (names, rest) → length names ≤ 256
 names-read bytes names rest fits e = principals-few names (taken principals principals-coherent bytes names rest fits e).fits
+
+pub names-kept : (bytes : List ℕ) (names : List (List ℕ)) (rest : List ℕ) → IsBytes bytes → read principals bytes ≡ Ok (names, rest) → All IsKeptName names
+names-kept bytes names rest fits e = principals-kept names (taken principals principals-coherent bytes names rest fits e).fits
 
 pub pairs-read : (bytes : List ℕ) (names : List (List ℕ)) (rest : List ℕ) (pairs : List (ℕ × ℕ)) (after : List ℕ) → IsBytes bytes → read principals bytes ≡ Ok (names, rest) → read (Counted any (pair_after (length names))) rest ≡ Ok (pairs, after) → IsHierarchy names pairs
 pairs-read bytes names rest pairs after fits e f =

@@ -1,13 +1,14 @@
 -- The module file is coherent: its two laws hold.
-use Rattle.std.proofs.Common.{◌≡◌, ℕ, zero, suc, ◌+◌, ◌^◌, ◌<◌, Bool, true, false, cond, ltb, eqb, List, [], ◌∷◌, length, Option, Some, None, refl, sym, ap, subst, ◌∙◌, arith, inl, inr, ◌⊎◌, lit<}
+use Rattle.std.proofs.Common.{◌≡◌, ℕ, zero, suc, ◌+◌, ◌^◌, ◌<◌, Bool, true, false, ◌||◌, cond, ltb, eqb, List, [], ◌∷◌, length, Option, Some, None, refl, sym, ap, subst, ◌∙◌, arith, inl, inr, ◌⊎◌, lit<}
 use Rattle.std.specs.Int.{w32, cast_signed, cast_unsigned, from_be_bytes, to_be_bytes}
 use Rattle.std.specs.List.{find, AllByRecursion}
-use Rattle.std.specs.Option.{option_map}
 use Rattle.std.proofs.lemmas.Bool.{ltb-true, eqb-true}
 use Rattle.std.proofs.lemmas.Int.{of_z-to_z}
 use Rattle.std.proofs.lemmas.Nat.{be_bytes_4}
 use Rattle.modules.specs.declared.instruction.Instruction.{Instruction}
 use Rattle.modules.specs.declared.instruction.Instruction.TheVariants.{PushBoolean}
+use Rattle.modules.specs.declared.version.Version.{Version}
+use Rattle.modules.specs.declared.version.Version.TheVariants.{One, Two}
 use Rattle.modules.specs.declared.value.Kind.{Kind}
 use Rattle.modules.specs.declared.value.Kind.TheVariants as kind
 use Rattle.modules.specs.declared.declaration.Slot.TheVariants as slot
@@ -18,8 +19,8 @@ use Rattle.modules.specs.Code.{width_of}
 use Rattle.modules.specs.Form.{Form, Number, Checked, Fits}
 use Rattle.modules.specs.declared.opcode.Operand.{Operand}
 use Rattle.modules.specs.declared.opcode.Operand.TheVariants.{Absent, Int, Boolean, Number as Numbered}
-use Rattle.modules.specs.Opcodes.{row_of, opcode_of, operand_of, operand_width, numbered, plain, with_opcode, instruction_of, examples, width_after, instructions}
-use Rattle.modules.specs.Format.{name_after, number_below, principals, pair_after, hierarchy, exceptions, direction_of, direction_byte, direction, reader_after, policy_after, label, channel_after, channels, kind_of, kind_byte, variable_kind, of_scalar, first_value, global_of, global_fields, global_after, globals, slot_fields, slot_after, slots, returned_of, returned_byte, returned, handler, handlers, procedure, procedures, main, declared, program, contents, module_file}
+use Rattle.modules.specs.Opcodes.{row_of, opcode_of, operand_of, operand_width, numbered, plain, with_opcode, instruction_of, examples, has_instruction, width_in, width_after, instructions}
+use Rattle.modules.specs.Format.{name_after, number_below, principals, pair_after, hierarchy, exceptions, direction_of, direction_byte, direction, reader_after, policy_after, label, channel_after, channels, kind_of, kind_byte, variable_kind, of_scalar, first_value, global_of, global_fields, global_after, globals, slot_fields, slot_after, slots, returned_of, returned_byte, returned, handler, handlers, procedure, procedures, main, declared, program, contents, version_number, version, module_file}
 use Rattle.bytecode.proofs.Steps.{IsBytes}
 use Rattle.bytecode.proofs.Coherent.{IsLawful, Coherent}
 
@@ -62,7 +63,7 @@ four_has byte operand x len fits e =
     with_operand byte operand (numbered n) x (int, (here, (here, (here, (here, (here, (here, (here, (here, (here, (here, (here, (here, (here, (here, (here, tt)))))))))))))))) e
 
 spelled_by : (byte : ℕ) (operand : List ℕ) (x : Instruction) → IsBytes operand → (length operand ≡ 0) ⊎ ((length operand ≡ 1) ⊎ (length operand ≡ 4)) → instruction_of byte operand ≡ Some x → Has byte operand x
-spelled_by byte [] x fits size e = with_operand byte [] plain x (refl, (refl, (refl, (refl, (refl, (refl, (refl, (refl, (refl, (refl, (refl, (refl, (refl, (refl, (refl, (refl, (refl, (refl, tt)))))))))))))))))) e
+spelled_by byte [] x fits size e = with_operand byte [] plain x (refl, (refl, (refl, (refl, (refl, (refl, (refl, (refl, (refl, (refl, (refl, (refl, (refl, (refl, (refl, (refl, (refl, (refl, (refl, (refl, (refl, (refl, (refl, (refl, tt)))))))))))))))))))))))) e
 spelled_by byte (b ∷ []) x fits size e = flagged_has byte b x (eqb b 0) (eqb b 1) refl refl e
 spelled_by byte (a ∷ b ∷ []) x fits size e = absurd (elim size [ inl h ↦ omega arith | inr more ↦ elim more [ inl h ↦ omega arith | inr h ↦ omega arith ] ])
 spelled_by byte (a ∷ b ∷ c ∷ []) x fits size e = absurd (elim size [ inl h ↦ omega arith | inr more ↦ elim more [ inl h ↦ omega arith | inr h ↦ omega arith ] ])
@@ -82,7 +83,7 @@ flagged_width byte x false true e = with_width byte 2 (PushBoolean true ∷ []) 
 flagged_width byte x false false e = absurd cc
 
 pub width_by : (byte : ℕ) (operand : List ℕ) (x : Instruction) → (length operand ≡ 0) ⊎ ((length operand ≡ 1) ⊎ (length operand ≡ 4)) → instruction_of byte operand ≡ Some x → width_of x ≡ 1 + length operand
-width_by byte [] x size e = with_width byte 1 plain x (refl, (refl, (refl, (refl, (refl, (refl, (refl, (refl, (refl, (refl, (refl, (refl, (refl, (refl, (refl, (refl, (refl, (refl, tt)))))))))))))))))) e
+width_by byte [] x size e = with_width byte 1 plain x (refl, (refl, (refl, (refl, (refl, (refl, (refl, (refl, (refl, (refl, (refl, (refl, (refl, (refl, (refl, (refl, (refl, (refl, (refl, (refl, (refl, (refl, (refl, (refl, tt)))))))))))))))))))))))) e
 width_by byte (b ∷ []) x size e = flagged_width byte x (eqb b 0) (eqb b 1) e
 width_by byte (a ∷ b ∷ []) x size e = absurd (elim size [ inl h ↦ omega arith | inr more ↦ elim more [ inl h ↦ omega arith | inr h ↦ omega arith ] ])
 width_by byte (a ∷ b ∷ c ∷ []) x size e = absurd (elim size [ inl h ↦ omega arith | inr more ↦ elim more [ inl h ↦ omega arith | inr h ↦ omega arith ] ])
@@ -95,18 +96,22 @@ three_widths (Boolean b) n e = inr (inl (sym e))
 three_widths (Int z) n e = inr (inr (sym e))
 three_widths (Numbered k) n e = inr (inr (sym e))
 
-width_found : (example : Option Instruction) (n : ℕ) → option_map (λ x. operand_width (row_of x).operand) example ≡ Some n → (n ≡ 0) ⊎ ((n ≡ 1) ⊎ (n ≡ 4))
-width_found None n e = absurd cc
-width_found (Some x) n e = three_widths (row_of x).operand n cc
+width_if : (has : Bool) (x : Instruction) (n : ℕ) → cond has (Some (operand_width (row_of x).operand)) None ≡ Some n → operand_width (row_of x).operand ≡ n
+width_if true x n e = cc
+width_if false x n e = absurd cc
 
-pub one_width : (byte n : ℕ) → width_after byte ≡ Some n → (n ≡ 0) ⊎ ((n ≡ 1) ⊎ (n ≡ 4))
-one_width byte n e = width_found (with_opcode byte examples) n e
+width_found : (version : Version) (example : Option Instruction) (n : ℕ) → width_in version example ≡ Some n → (n ≡ 0) ⊎ ((n ≡ 1) ⊎ (n ≡ 4))
+width_found version None n e = absurd cc
+width_found version (Some x) n e = three_widths (row_of x).operand n (width_if (has_instruction version x) x n e)
 
-pub instructions-lawful : IsLawful instructions
+pub one_width : (version : Version) (byte n : ℕ) → width_after version byte ≡ Some n → (n ≡ 0) ⊎ ((n ≡ 1) ⊎ (n ≡ 4))
+one_width version byte n e = width_found version (with_opcode byte examples) n e
+
+pub instructions-lawful : (version : Version) → IsLawful (instructions version)
 unfolding instructions
-instructions-lawful = record {
-  opcode = λ byte operand x fits width e. (spelled_by byte operand x fits (one_width byte (length operand) width) e).0;
-  operand = λ byte operand x fits width e. (spelled_by byte operand x fits (one_width byte (length operand) width) e).1;
+instructions-lawful version = record {
+  opcode = λ byte operand x fits width e. (spelled_by byte operand x fits (one_width version byte (length operand) width) e).0;
+  operand = λ byte operand x fits width e. (spelled_by byte operand x fits (one_width version byte (length operand) width) e).1;
 }
 
 -- ---- the module file
@@ -205,9 +210,9 @@ returned-back (suc zero) below = refl
 returned-back (suc (suc zero)) below = refl
 returned-back (suc (suc (suc n))) below = absurd (omega (arith, ltb-true _ _ below))
 
-pub procedures-coherent : Coherent procedures
+pub procedures-coherent : (version : Version) → Coherent (procedures version)
 unfolding procedures procedure returned handlers handler
-procedures-coherent = λ before. (((tt, λ byte fits. returned-back byte fits.1), λ _. (tt, λ count. (slots-coherent count, λ _. (instructions-lawful, λ _ before. ((tt, λ _. (tt, λ _. (tt, λ _. tt))), λ fields fits. refl))))), λ fields fits. refl)
+procedures-coherent version = λ before. (((tt, λ byte fits. returned-back byte fits.1), λ _. (tt, λ count. (slots-coherent count, λ _. (instructions-lawful version, λ _ before. ((tt, λ _. (tt, λ _. (tt, λ _. tt))), λ fields fits. refl))))), λ fields fits. refl)
 
 main-coherent : (all : List ProcedureContents) → Coherent (main all)
 unfolding main
@@ -217,10 +222,23 @@ pub declared-coherent : (count : ℕ) → Coherent (declared count)
 unfolding declared
 declared-coherent count = (exceptions-coherent, channels-coherent count)
 
-pub program-coherent : Coherent program
+pub program-coherent : (version : Version) → Coherent (program version)
 unfolding program
-program-coherent = (globals-coherent, λ _. (procedures-coherent, main-coherent))
+program-coherent version = (globals-coherent, λ _. (procedures-coherent version, main-coherent))
+
+version_back : (n : ℕ) (one two : Bool) → eqb n 1 ≡ one → eqb n 2 ≡ two → (one || two) ≡ true → version_number (cond one One Two) ≡ n
+version_back n true two a b h = sym (eqb-true n 1 a)
+version_back n false true a b h = sym (eqb-true n 2 b)
+version_back n false false a b h = absurd cc
+
+version-coherent : Coherent version
+unfolding version
+version-coherent = (tt, λ n fits. version_back n (eqb n 1) (eqb n 2) refl refl fits.1)
+
+contents-coherent : (version : Version) → Coherent (contents version)
+unfolding contents
+contents-coherent version = (hierarchy-coherent, λ h. (declared-coherent (length h.names), λ _. program-coherent version))
 
 pub module_file-coherent : Coherent module_file
-unfolding module_file contents
-module_file-coherent = (lit< tt, (lit< tt, ((hierarchy-coherent, λ h. (declared-coherent (length h.names), λ _. program-coherent)), λ fields fits. refl)))
+unfolding module_file
+module_file-coherent = (lit< tt, ((version-coherent, contents-coherent), λ fields fits. refl))

@@ -11,6 +11,8 @@ use Rattle.modules.proofs.Spelling.{spelled-width}
 use Rattle.labels.specs.Label.{ReaderPolicy, Label}
 use Rattle.principals.specs.ActsFor.{PrincipalHierarchy}
 use Rattle.modules.specs.declared.instruction.Instruction.{Instruction}
+use Rattle.modules.specs.declared.version.Version.{Version}
+use Rattle.modules.specs.declared.version.Version.TheVariants.{One}
 use Rattle.modules.specs.declared.value.Kind.TheVariants as kind
 use Rattle.modules.specs.declared.declaration.Slot.{Slot}
 use Rattle.modules.specs.declared.declaration.Global.{Global}
@@ -21,7 +23,7 @@ use Rattle.modules.specs.Contents.{ChannelContents, ProcedureContents, ModuleCon
 use Rattle.modules.specs.Code.{code_length, width_of}
 use Rattle.modules.specs.Form.{Form, Number, Checked, Fits, FitEach, spelled, spelled_each, spelled_code}
 use Rattle.modules.specs.Opcodes.{instructions}
-use Rattle.modules.specs.Format.{direction_byte, kind_byte, returned_byte, magic, version, is_built_in, is_among, channel_names, name_after, number_below, principals, pair_after, hierarchy, exceptions, direction, reader_after, policy_after, label, channel_after, channels, declared, of_scalar, global_after, globals, slot_after, slots, variable_kind, returned, handler, handlers, procedure, procedures, main, program, contents, module_file}
+use Rattle.modules.specs.Format.{direction_byte, kind_byte, returned_byte, magic, version, version_number, is_built_in, is_among, channel_names, name_after, number_below, principals, pair_after, hierarchy, exceptions, direction, reader_after, policy_after, label, channel_after, channels, declared, of_scalar, global_after, globals, slot_after, slots, variable_kind, returned, handler, handlers, procedure, procedures, main, program, contents, module_file}
 use Rattle.bytecode.specs.Writing.{number_bytes, list_bytes, text_bytes, pair_bytes, policy_bytes, channel_bytes, variable_bytes, slot_bytes, handler_bytes, instruction_bytes, code_bytes, procedure_bytes, module_bytes, IsShort, PolicyFits, ChannelFits, ProcedureFits, ModuleFits}
 
 -- ---- lists
@@ -138,35 +140,35 @@ handler-bytes : (before : List Handler) (x : Handler) → Fits handler x → spe
 unfolding handler handler_bytes
 handler-bytes before x h = refl
 
-code-bytes : (code : List Instruction) → spelled_code instructions code ≡ code_bytes code
+code-bytes : (v : Version) (code : List Instruction) → spelled_code (instructions v) code ≡ code_bytes code
 unfolding instructions
-code-bytes [] = refl
-code-bytes (x ∷ xs) = ap (λ (bytes : List ℕ). instruction_bytes x ++ bytes) (code-bytes xs)
+code-bytes v [] = refl
+code-bytes v (x ∷ xs) = ap (λ (bytes : List ℕ). instruction_bytes x ++ bytes) (code-bytes v xs)
 
-procedure-bytes : (before : List ProcedureContents) (x : ProcedureContents) → Fits procedure x → spelled procedure x ≡ procedure_bytes x
+procedure-bytes : (v : Version) (before : List ProcedureContents) (x : ProcedureContents) → Fits (procedure v) x → spelled (procedure v) x ≡ procedure_bytes x
 unfolding procedure procedure_bytes returned slots handlers
-procedure-bytes before x h =
+procedure-bytes v before x h =
     after (returned_byte x.returned ∷ []) (after (number_bytes x.parameters) (two (counted_bytes (slot_after x.parameters) slot_bytes (slot-bytes x.parameters) x.slots h.0.1.1.0.2)
-    (two (ap (λ (bytes : List ℕ). number_bytes (length bytes) ++ bytes) (code-bytes x.code)) (counted_bytes (λ _. handler) handler_bytes handler-bytes x.handlers h.0.1.1.1.1.2))))
+    (two (ap (λ (bytes : List ℕ). number_bytes (length bytes) ++ bytes) (code-bytes v x.code)) (counted_bytes (λ _. handler) handler_bytes handler-bytes x.handlers h.0.1.1.1.1.2))))
 
-procedure_fits : (before : List ProcedureContents) (x : ProcedureContents) → Fits procedure x → ProcedureFits x
+procedure_fits : (v : Version) (before : List ProcedureContents) (x : ProcedureContents) → Fits (procedure v) x → ProcedureFits x
 unfolding procedure slots handlers
-procedure_fits before x h = record {
+procedure_fits v before x h = record {
   slots = h.0.1.1.0.0;
-  code = rw (code-bytes x.code) at h.0.1.1.1.0.0;
+  code = rw (code-bytes v x.code) at h.0.1.1.1.0.0;
   handlers = h.0.1.1.1.1.0;
 }
 
-program-bytes : (g : List Global) (ps : List ProcedureContents) (n : ℕ) → Fits program (g, (ps, n)) → spelled program (g, (ps, n)) ≡ list_bytes variable_bytes g ++ (list_bytes procedure_bytes ps ++ number_bytes n)
+program-bytes : (v : Version) (g : List Global) (ps : List ProcedureContents) (n : ℕ) → Fits (program v) (g, (ps, n)) → spelled (program v) (g, (ps, n)) ≡ list_bytes variable_bytes g ++ (list_bytes procedure_bytes ps ++ number_bytes n)
 unfolding program globals procedures main
-program-bytes g ps n h = two (counted_bytes global_after variable_bytes global-bytes g h.0.2) (ap (λ (bytes : List ℕ). bytes ++ number_bytes n) (counted_bytes (λ _. procedure) procedure_bytes procedure-bytes ps h.1.0.2))
+program-bytes v g ps n h = two (counted_bytes global_after variable_bytes global-bytes g h.0.2) (ap (λ (bytes : List ℕ). bytes ++ number_bytes n) (counted_bytes (λ _. procedure v) procedure_bytes (procedure-bytes v) ps h.1.0.2))
 
 -- ---- modules
 
 pub module-bytes : (m : ModuleContents) → Fits module_file m → spelled module_file m ≡ module_bytes m
-unfolding module_file contents module_bytes
+unfolding module_file version contents module_bytes
 module-bytes m h =
-    after (number_bytes magic) (after (number_bytes version) (two (hierarchy-bytes m.hierarchy h.0.0) (two (declared-bytes (length m.hierarchy.names) m.exceptions m.channels h.0.1.0) (program-bytes m.globals m.procedures m.main h.0.1.1))))
+    after (number_bytes magic) (after (number_bytes (version_number m.version)) (two (hierarchy-bytes m.hierarchy h.0.1.0) (two (declared-bytes (length m.hierarchy.names) m.exceptions m.channels h.0.1.1.0) (program-bytes m.version m.globals m.procedures m.main h.0.1.1.1))))
 
 record HierarchyFits (h : PrincipalHierarchy) : Type 0 where
   names : IsShort h.names
@@ -197,16 +199,16 @@ record ProgramFits (g : List Global) (ps : List ProcedureContents) : Type 0 wher
   procedures_short : IsShort ps
   each : All ProcedureFits ps
 
-program_fits : (g : List Global) (ps : List ProcedureContents) (n : ℕ) → Fits program (g, (ps, n)) → ProgramFits g ps
+program_fits : (v : Version) (g : List Global) (ps : List ProcedureContents) (n : ℕ) → Fits (program v) (g, (ps, n)) → ProgramFits g ps
 unfolding program globals procedures
-program_fits g ps n h = record { globals_short = h.0.0; procedures_short = h.1.0.0; each = all_have (λ _. procedure) ProcedureFits procedure_fits ps h.1.0.2 }
+program_fits v g ps n h = record { globals_short = h.0.0; procedures_short = h.1.0.0; each = all_have (λ _. procedure v) ProcedureFits (procedure_fits v) ps h.1.0.2 }
 
 pub module_fits : (m : ModuleContents) → Fits module_file m → ModuleFits m
 unfolding module_file contents
 module_fits m h =
-    let p = hierarchy_fits m.hierarchy h.0.0 in
-    let d = declared_fits (length m.hierarchy.names) m.exceptions m.channels h.0.1.0 in
-    let q = program_fits m.globals m.procedures m.main h.0.1.1 in
+    let p = hierarchy_fits m.hierarchy h.0.1.0 in
+    let d = declared_fits (length m.hierarchy.names) m.exceptions m.channels h.0.1.1.0 in
+    let q = program_fits m.version m.globals m.procedures m.main h.0.1.1.1 in
     record {
       names = p.names;
       each_name = p.each;
@@ -224,7 +226,7 @@ module_fits m h =
 
 instruction_size : (x : Instruction) → length (instruction_bytes x) ≡ width_of x
 unfolding instructions
-instruction_size x = spelled-width x
+instruction_size x = spelled-width One x
 
 each_text : (names : List (String Allocator)) → flat_map (λ text. text_bytes (string_bytes text)) names ≡ flat_map text_bytes (texts names)
 each_text [] = refl
@@ -247,7 +249,7 @@ texts-short names h = All-from_recursion (λ text. IsShort (string_bytes text)) 
 regroup : (o a b c d e f g h : List ℕ) → (((((((o ++ a) ++ b) ++ c) ++ d) ++ e) ++ f) ++ g) ++ h ≡ o ++ (a ++ (b ++ (c ++ ((d ++ e) ++ (f ++ (g ++ h))))))
 regroup o a b c d e f g h = simp append_assoc
 
-pub module_written : (m : ModuleContents) (o0 o1 o2 o3 o4 o5 o6 o7 o8 : List ℕ) → o1 ≡ o0 ++ number_bytes magic → o2 ≡ o1 ++ number_bytes version
+pub module_written : (m : ModuleContents) (o0 o1 o2 o3 o4 o5 o6 o7 o8 : List ℕ) → o1 ≡ o0 ++ number_bytes magic → o2 ≡ o1 ++ number_bytes (version_number m.version)
     → o3 ≡ o2 ++ (list_bytes text_bytes m.hierarchy.names ++ list_bytes pair_bytes m.hierarchy.pairs) → o4 ≡ o3 ++ list_bytes text_bytes m.exceptions → o5 ≡ o4 ++ list_bytes channel_bytes m.channels
     → o6 ≡ o5 ++ list_bytes variable_bytes m.globals → o7 ≡ o6 ++ list_bytes procedure_bytes m.procedures → o8 ≡ o7 ++ number_bytes m.main → o8 ≡ o0 ++ module_bytes m
 unfolding module_bytes
@@ -259,5 +261,5 @@ module_written m o0 o1 o2 o3 o4 o5 o6 o7 o8 e1 e2 e3 e4 e5 e6 e7 e8 =
     ∙ (λ i. (((e4 i ++ list_bytes channel_bytes m.channels) ++ list_bytes variable_bytes m.globals) ++ list_bytes procedure_bytes m.procedures) ++ number_bytes m.main)
     ∙ (λ i. ((((e3 i ++ list_bytes text_bytes m.exceptions) ++ list_bytes channel_bytes m.channels) ++ list_bytes variable_bytes m.globals) ++ list_bytes procedure_bytes m.procedures) ++ number_bytes m.main)
     ∙ (λ i. (((((e2 i ++ authority) ++ list_bytes text_bytes m.exceptions) ++ list_bytes channel_bytes m.channels) ++ list_bytes variable_bytes m.globals) ++ list_bytes procedure_bytes m.procedures) ++ number_bytes m.main)
-    ∙ (λ i. ((((((e1 i ++ number_bytes version) ++ authority) ++ list_bytes text_bytes m.exceptions) ++ list_bytes channel_bytes m.channels) ++ list_bytes variable_bytes m.globals) ++ list_bytes procedure_bytes m.procedures) ++ number_bytes m.main)
-    ∙ regroup o0 (number_bytes magic) (number_bytes version) authority (list_bytes text_bytes m.exceptions) (list_bytes channel_bytes m.channels) (list_bytes variable_bytes m.globals) (list_bytes procedure_bytes m.procedures) (number_bytes m.main)
+    ∙ (λ i. ((((((e1 i ++ number_bytes (version_number m.version)) ++ authority) ++ list_bytes text_bytes m.exceptions) ++ list_bytes channel_bytes m.channels) ++ list_bytes variable_bytes m.globals) ++ list_bytes procedure_bytes m.procedures) ++ number_bytes m.main)
+    ∙ regroup o0 (number_bytes magic) (number_bytes (version_number m.version)) authority (list_bytes text_bytes m.exceptions) (list_bytes channel_bytes m.channels) (list_bytes variable_bytes m.globals) (list_bytes procedure_bytes m.procedures) (number_bytes m.main)

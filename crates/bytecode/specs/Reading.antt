@@ -5,6 +5,7 @@ use Rattle.std.specs.Prelude.{◌≡◌, ℕ, List, String, map, Result, Ok, Err
 use Rattle.common.specs.Answers.{Answers}
 use Rattle.common.specs.declared.fault.OrNoMemory.{OrNoMemory}
 use Rattle.modules.specs.Contents.{ModuleContents}
+use Rattle.modules.specs.Format.{FieldsOfVersion}
 use Rattle.bytecode.specs.declared.decoding.Fields.{Fields}
 use Rattle.modules.specs.declared.fault.ReadRefusal.{ReadRefusal}
 
@@ -16,9 +17,19 @@ Decodes view result read = Answers (λ x. read ≡ Ok (view x)) (λ stop. read �
 abbrev pub texts : List (String Global) → List (List ℕ)
 texts names = map (λ name. string_bytes name) names
 
--- the fields of a module that was read, as its contents
+-- the fields behind the version of a module that was read, and all of them as its contents
+abbrev pub fields_of : Fields → FieldsOfVersion
+fields_of fields = (
+  fields.hierarchy,
+  (
+    (texts fields.exceptions.items, fields.channels.items),
+    (fields.program.globals.items, (fields.program.procedures.items, fields.program.main)),
+  ),
+)
+
 abbrev pub contents_of : Fields → ModuleContents
 contents_of fields = record {
+  version = fields.version;
   hierarchy = fields.hierarchy;
   exceptions = texts fields.exceptions.items;
   channels = fields.channels.items;

@@ -12,7 +12,7 @@ use Rattle.modules.specs.declared.value.Kind.TheVariants as kind
 use Rattle.modules.specs.declared.declaration.Handler.{Handler}
 use Rattle.modules.specs.Contents.{ChannelContents, ProcedureContents, ModuleContents}
 use Rattle.modules.specs.Opcodes.{opcode_of, operand_of}
-use Rattle.modules.specs.Format.{direction_byte, kind_byte, magic, returned_byte, slot_fields, version}
+use Rattle.modules.specs.Format.{direction_byte, kind_byte, magic, returned_byte, slot_fields, version_number}
 
 abbrev pub number_bytes : ℕ → List ℕ
 number_bytes n = to_be_bytes w32 n
@@ -59,7 +59,7 @@ procedure_bytes p =
 
 unfoldable pub module_bytes : ModuleContents → List ℕ
 module_bytes m =
-    number_bytes magic ++ (number_bytes version
+    number_bytes magic ++ (number_bytes (version_number m.version)
     ++ ((list_bytes text_bytes m.hierarchy.names ++ list_bytes pair_bytes m.hierarchy.pairs)
     ++ ((list_bytes text_bytes m.exceptions ++ list_bytes channel_bytes m.channels)
     ++ (list_bytes variable_bytes m.globals ++ (list_bytes procedure_bytes m.procedures ++ number_bytes m.main)))))

@@ -7,20 +7,24 @@ ghost use Rattle.bytecode.specs.Reading.{Decodes};
 ghost use Rattle.std.specs.Prelude.{[], IfOk, ◌≤◌};
 
 use crate::reading::{ReadFault, read_byte, read_number, read_text, refuse};
-use modules::FormatDefect;
 use modules::instruction::Instruction;
 use modules::opcode::{instruction_of, width_after};
+use modules::{FormatDefect, Version};
 use std::alloc::Global;
 
-/// The instruction at the front, which ends within the room that is left in its code.
+/// The instruction of a version at the front, which ends within the room that is left in its code.
 #[tactic(auto, unfolding(modules::specs::Opcodes::instructions))]
-fn read_instruction(room: u32, bytes: &[u8]) -> Result<(Instruction, &[u8]), ReadFault>
-    ensures gives { Decodes (λ x. (x.0, x.1.now)) result (instruction_in instructions room
+fn read_instruction(
+    version: Version,
+    room: u32,
+    bytes: &[u8],
+) -> Result<(Instruction, &[u8]), ReadFault>
+    ensures gives { Decodes (λ x. (x.0, x.1.now)) result (instruction_in (instructions version) room
         bytes.now) }
     ensures inside { IfOk result (λ x. width_of x.0 ≤ room) }
 {
     let (opcode, rest) = read_byte(bytes)?;
-    let Some(width) = width_after(opcode) else {
+    let Some(width) = width_after(version, opcode) else {
         return Err(refuse(FormatDefect::BadValue, bytes));
     };
     if room as usize <= width {
@@ -33,20 +37,21 @@ fn read_instruction(room: u32, bytes: &[u8]) -> Result<(Instruction, &[u8]), Rea
     Ok((instruction, after))
 }
 
-/// The instructions that the next `size` bytes are. Room for them grows with what was read, whatever the size claims.
+/// The instructions of a version that the next `size` bytes are. Room for them grows with what was read, whatever the size claims.
 fn read_instructions(
     alloc: Global,
+    version: Version,
     size: u32,
     bytes: &[u8],
 ) -> Result<(Vec<Instruction>, &[u8]), ReadFault>
-    ensures { Decodes (λ x. (x.0.items, x.1.now)) result (code_at instructions size size []
+    ensures { Decodes (λ x. (x.0.items, x.1.now)) result (code_at (instructions version) size size []
         bytes.now) }
 {
     let mut code = Vec::new(alloc);
     let mut rest = bytes;
     let mut room = size;
     while room > 0 {
-        let (next, after) = read_instruction(room, rest)?;
+        let (next, after) = read_instruction(version, room, rest)?;
         code.push(next)?;
         room -= next.width() as u32;
         rest = after;
@@ -54,10 +59,14 @@ fn read_instructions(
     Ok((code, rest))
 }
 
-/// The code behind its length.
-pub(crate) fn read_code(alloc: Global, bytes: &[u8]) -> Result<(Vec<Instruction>, &[u8]), ReadFault>
-    ensures { Decodes (λ x. (x.0.items, x.1.now)) result (read (Code instructions) bytes.now) }
+/// The code of a version behind its length.
+pub(crate) fn read_code(
+    alloc: Global,
+    version: Version,
+    bytes: &[u8],
+) -> Result<(Vec<Instruction>, &[u8]), ReadFault>
+    ensures { Decodes (λ x. (x.0.items, x.1.now)) result (read (Code (instructions version)) bytes.now) }
 {
     let (size, rest) = read_number(bytes)?;
-    read_instructions(alloc, size, rest)
+    read_instructions(alloc, version, size, rest)
 }

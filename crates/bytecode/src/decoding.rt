@@ -4,8 +4,8 @@ ghost use Rattle.modules.specs.Contents.{ModuleContents};
 ghost use Rattle.common.specs.Answers.{Answers, IfRefused};
 ghost use Rattle.bytecode.specs.Decoded.{first_refusal};
 ghost use Rattle.modules.specs.Form.{Fits, read, read_all, Spells};
-ghost use Rattle.modules.specs.Format.{contents, main, module_file, program};
-ghost use Rattle.bytecode.specs.Reading.{contents_of, Decodes};
+ghost use Rattle.modules.specs.Format.{contents, main, module_file, program, version};
+ghost use Rattle.bytecode.specs.Reading.{contents_of, Decodes, fields_of};
 ghost use Rattle.std.specs.Prelude.{IfErr, IfOk, Some, ◌≡◌};
 
 use crate::channels::read_declared;
@@ -15,23 +15,21 @@ use crate::hierarchy::read_hierarchy;
 use crate::procedures::read_procedures;
 use crate::reading::{ReadFault, read_number, refuse};
 use common::OrNoMemory;
-use modules::FormatDefect;
 use modules::channel::Channel;
 use modules::declaration::Global as Variable;
 use modules::module::Module;
 use modules::procedure::Procedure;
+use modules::{FormatDefect, Version};
 use principals::Hierarchy;
 use std::alloc::Global;
 
 /// The first four bytes of a module, `FLOB`, as a number.
 pub(crate) const MAGIC: u32 = 0x464c_4f42;
 
-/// The version of the format.
-pub(crate) const VERSION: u32 = 1;
-
 /// The fields of a module that was read.
 #[derive(Drop)]
 pub(crate) struct Fields {
+    version: Version,
     hierarchy: Hierarchy,
     exceptions: Vec<String>,
     channels: Vec<Channel>,
@@ -60,14 +58,18 @@ fn read_main<'a>(procedures: &[Procedure], bytes: &'a [u8]) -> Result<(u32, &'a 
     }
 }
 
-/// The globals, the procedures, and the number of the one where a run starts.
+/// The globals, the procedures, and the number of the one where a run starts, in a file of the version.
 #[tactic(auto, unfolding(modules::specs::Format::program))]
-fn read_program(alloc: Global, bytes: &[u8]) -> Result<(Program, &[u8]), ReadFault>
+fn read_program(
+    alloc: Global,
+    version: Version,
+    bytes: &[u8],
+) -> Result<(Program, &[u8]), ReadFault>
     ensures { Decodes (λ x. ((x.0.globals.items, (x.0.procedures.items, x.0.main)), x.1.now)) result
-        (read program bytes.now) }
+        (read (program version) bytes.now) }
 {
     let (globals, rest) = read_globals(alloc, bytes)?;
-    let (procedures, rest) = read_procedures(alloc, rest)?;
+    let (procedures, rest) = read_procedures(alloc, version, rest)?;
     let (main, rest) = read_main(&procedures, rest)?;
     let program = Program {
         globals,
@@ -77,21 +79,41 @@ fn read_program(alloc: Global, bytes: &[u8]) -> Result<(Program, &[u8]), ReadFau
     Ok((program, rest))
 }
 
-/// The fields of a module behind magic and version.
+/// The fields of a module of the version, behind magic and version.
 #[tactic(auto, unfolding(modules::specs::Format::contents))]
-fn read_contents(alloc: Global, bytes: &[u8]) -> Result<(Fields, &[u8]), ReadFault>
-    ensures { Decodes (λ x. (contents_of x.0, x.1.now)) result (read contents bytes.now) }
+fn read_contents(
+    alloc: Global,
+    version: Version,
+    bytes: &[u8],
+) -> Result<(Fields, &[u8]), ReadFault>
+    ensures reads { Decodes (λ x. (fields_of x.0, x.1.now)) result
+        (read (contents version) bytes.now) }
+    ensures version { IfOk result (λ x. x.0.version ≡ version) }
 {
     let (hierarchy, rest) = read_hierarchy(alloc, bytes)?;
     let (exceptions, channels, rest) = read_declared(alloc, &hierarchy, rest)?;
-    let (program, rest) = read_program(alloc, rest)?;
+    let (program, rest) = read_program(alloc, version, rest)?;
     let fields = Fields {
+        version,
         hierarchy,
         exceptions,
         channels,
         program,
     };
     Ok((fields, rest))
+}
+
+/// The version of the file.
+#[tactic(auto, unfolding(modules::specs::Format::version))]
+fn read_version(bytes: &[u8]) -> Result<(Version, &[u8]), ReadFault>
+    ensures { Decodes (λ x. (x.0, x.1.now)) result (read version bytes.now) }
+{
+    let (number, rest) = read_number(bytes)?;
+    match number {
+        1 => Ok((Version::One, rest)),
+        2 => Ok((Version::Two, rest)),
+        _ => Err(refuse(FormatDefect::Version, bytes)),
+    }
 }
 
 /// The fields of a module behind magic and version, which are tested.
@@ -103,11 +125,8 @@ fn read_file(alloc: Global, bytes: &[u8]) -> Result<(Fields, &[u8]), ReadFault>
     if magic != MAGIC {
         return Err(refuse(FormatDefect::Magic, bytes));
     }
-    let (version, after) = read_number(rest)?;
-    if version != VERSION {
-        return Err(refuse(FormatDefect::Version, rest));
-    }
-    read_contents(alloc, after)
+    let (version, rest) = read_version(rest)?;
+    read_contents(alloc, version, rest)
 }
 
 /// The fields of a module that all of the bytes are.
@@ -127,6 +146,7 @@ fn module_of(fields: Fields) -> Module
     ensures { result ≡ contents_of fields }
 {
     let Fields {
+        version,
         hierarchy,
         exceptions,
         channels,
@@ -137,7 +157,9 @@ fn module_of(fields: Fields) -> Module
         procedures,
         main,
     } = program;
-    Module::new(hierarchy, exceptions, channels, globals, procedures, main)
+    Module::new(
+        version, hierarchy, exceptions, channels, globals, procedures, main,
+    )
 }
 
 /// The module that the bytes spell.

@@ -6,7 +6,7 @@ ghost use Rattle.bytecode.specs.Reading.{texts};
 ghost use Rattle.bytecode.specs.Writing.{code_bytes, IsShort, list_bytes, module_bytes, number_bytes, pair_bytes, procedure_bytes, ProcedureFits, text_bytes};
 ghost use Rattle.std.specs.Prelude.{All, IfOk, length, OnOk, ◌++◌, ◌≡◌};
 
-use crate::decoding::{MAGIC, VERSION};
+use crate::decoding::MAGIC;
 use crate::writing::{Field, put_instruction, put_list, put_number};
 use modules::code_length;
 use modules::instruction::Instruction;
@@ -78,8 +78,9 @@ fn put_module(out: &mut Vec<u8>, program: &Module) -> Result<(), AllocError>
     ensures spelled { Fits module_file program.now }
 {
     let hierarchy = program.hierarchy();
+    let version = program.version().number();
     put_number(out, MAGIC)?;
-    put_number(out, VERSION)?;
+    put_number(out, version)?;
     put_hierarchy(out, hierarchy)?;
     put_names(out, program.exceptions())?;
     put_list(out, program.channels())?;

@@ -10,10 +10,10 @@ use crate::code::read_code;
 use crate::globals::read_kind;
 use crate::limit::{cells_of_size, is_size};
 use crate::reading::{Element, ReadFault, read_byte, read_each, read_number, refuse};
-use modules::FormatDefect;
 use modules::declaration::{Handler, Slot};
 use modules::procedure::Procedure;
 use modules::value::Kind;
+use modules::{FormatDefect, Version};
 use std::alloc::Global;
 
 /// A handler's field, whatever handlers stand before it.
@@ -129,15 +129,18 @@ fn read_returned(bytes: &[u8]) -> Result<(Option<Kind>, &[u8]), ReadFault>
     }
 }
 
-/// A procedure's field, whatever procedures stand before it.
-struct ProcedureField;
+/// A procedure's field in a file of the version, whatever procedures stand before it.
+#[derive(Drop)]
+struct ProcedureField {
+    version: Version,
+}
 
 impl Element for ProcedureField {
     type Item = Procedure;
 
     type State = ();
 
-    ghost reads = { λ self before bytes. read procedure bytes };
+    ghost reads = { λ self before bytes. read (procedure self.version) bytes };
 
     ghost holds = { λ self state before. Unit {0} };
 
@@ -152,21 +155,22 @@ impl Element for ProcedureField {
         let (returned, rest) = read_returned(bytes)?;
         let (parameters, rest) = read_number(rest)?;
         let (slots, rest) = read_slots(alloc, parameters, rest)?;
-        let (code, rest) = read_code(alloc, rest)?;
+        let (code, rest) = read_code(alloc, self.version, rest)?;
         let (handlers, rest) = read_handlers(alloc, rest)?;
         let procedure = Procedure::new(returned, parameters, slots, code, handlers);
         Ok((procedure, rest))
     }
 }
 
-/// The procedures behind their count.
+/// The procedures of a file of the version, behind their count.
 #[tactic(auto, unfolding(modules::specs::Format::procedures))]
 pub(crate) fn read_procedures(
     alloc: Global,
+    version: Version,
     bytes: &[u8],
 ) -> Result<(Vec<Procedure>, &[u8]), ReadFault>
-    ensures { Decodes (λ x. (x.0.items, x.1.now)) result (read procedures bytes.now) }
+    ensures { Decodes (λ x. (x.0.items, x.1.now)) result (read (procedures version) bytes.now) }
 {
     let (count, rest) = read_number(bytes)?;
-    read_each(alloc, &ProcedureField, (), count, rest)
+    read_each(alloc, &ProcedureField { version }, (), count, rest)
 }

@@ -4,6 +4,7 @@ mod Characters
 mod Flows
 mod Labels
 mod Unknowns
+mod Locals
 mod Faults
 mod Verdicts
 mod Refusals

@@ -1,7 +1,7 @@
 pub mod Position
 pub mod NextPlace
 pub mod Characters
-pub mod Least
+pub mod Checked
 pub mod Reported
 pub mod Steps
 pub mod Found

@@ -1,6 +1,6 @@
 //! All phases, from the text of a source to an accepted program.
 ghost use Rattle.acceptance.specs.Accepted.{IsAccepted};
-ghost use Rattle.checker.specs.Least.{least_label};
+ghost use Rattle.checker.specs.Checked.{IsChecked, least_label};
 ghost use Rattle.checker.specs.Reported.{AsksForFlow, HasFlow, IsNotAccepted, IsSourceFault};
 ghost use Rattle.checker.specs.Steps.{RefusesProgram};
 ghost use Rattle.common.specs.Answers.{IfRefused};
@@ -10,7 +10,7 @@ ghost use Rattle.resolved.specs.CoreOf.{program_of};
 ghost use Rattle.resolved.specs.EndFaults.{end_faults};
 ghost use Rattle.resolved.specs.Flow.{AreLeast};
 ghost use Rattle.resolved.specs.Isolated.{Isolated};
-ghost use Rattle.resolved.specs.Labelled.{Labelled};
+ghost use Rattle.resolved.specs.Names.{HasNames};
 ghost use Rattle.std.specs.Prelude.{IfErr, IfOk, IfSome, [], ◌≡◌};
 
 use crate::analysing::{Analysed, analyse};
@@ -57,7 +57,7 @@ pub fn check(alloc: Global, hierarchy: &Hierarchy, source: &str) -> Result<Check
     isolation::noninterference::labelled_programs_are_isolated();
     isolation::noninterference::labelled_programs_stay_isolated();
     resolved_programs_have_names();
-    // It brings that this is a hierarchy.
+    // It brings that this is a hierarchy, with names that a module file holds.
     let _count = hierarchy.count();
     let analysed = match analyse(alloc, hierarchy, source) {
         Ok(analysed) => analysed,
@@ -84,10 +84,9 @@ pub fn check(alloc: Global, hierarchy: &Hierarchy, source: &str) -> Result<Check
 fn find_labels(alloc: Global, core: Core, ends: &Ends) -> Result<Checked, OrNoMemory<RefusedFlow>>
     requires ended { end_faults (program_of core) ≡ [] }
     requires mapped { AreEndsOf (program_of core) ends.now }
+    requires names { HasNames (program_of core) }
     ensures core { IfOk result (λ checked. checked.core ≡ core) }
-    ensures labelled { IfOk result (λ checked. Labelled (program_of checked.core)) }
-    ensures least { IfOk result (λ checked.
-        AreLeast (program_of checked.core) (least_label checked)) }
+    ensures checked { IfOk result IsChecked }
     ensures rejected { IfErr result (IfRefused (RefusesProgram core)) }
 {
     let system = gather(alloc, &core, ends)?;
@@ -97,11 +96,7 @@ fn find_labels(alloc: Global, core: Core, ends: &Ends) -> Result<Checked, OrNoMe
     match solve(alloc, &lattice, &system) {
         Ok(solution) => {
             let Constraints { written, .. } = system;
-            Ok(Checked {
-                core,
-                written,
-                solution,
-            })
+            Ok(Checked::of(core, written, solution))
         }
         Err(OrNoMemory::NoMemory) => Err(OrNoMemory::NoMemory),
         Err(OrNoMemory::Refused(refusal)) => {

@@ -1,7 +1,7 @@
 //! Checking two texts by their bytes: that of a hierarchy, and that of a source under it.
 
 ghost use Rattle.acceptance.specs.Accepted.{HasHierarchy, IsText, StandFor};
-ghost use Rattle.checker.specs.Least.{least_label};
+ghost use Rattle.checker.specs.Checked.{least_label};
 ghost use Rattle.checker.specs.Read.{IsOfNoFlow, IsUnread};
 ghost use Rattle.checker.specs.Reported.{HasFlow, HasNoHierarchy, IsFirstFault, IsHierarchyFault, StandForNone, TextsAskForFlow};
 ghost use Rattle.common.specs.Answers.{IfRefused};

@@ -1,4 +1,5 @@
 pub mod Answers
+pub mod Bits
 pub mod Exceptions
 pub mod Functions
 pub mod Integers

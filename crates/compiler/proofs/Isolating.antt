@@ -10,7 +10,7 @@ use Rattle.modules.specs.Contents.{ModuleContents}
 use Rattle.modules.specs.Isolated.{channel_label_under, module_view, StaysIsolated}
 use Rattle.modules.specs.Machine.{after_steps, sent_after}
 use Rattle.lowering.specs.SameMeaning.{SameMeaning}
-use Rattle.compiler.specs.Compiled.{HasInterfaceOf}
+use Rattle.lowering.specs.Interface.{HasInterfaceOf}
 use Rattle.compiler.proofs.Readers.{contains-module, seen-module, agree-module}
 
 pub isolated-module : (program : Program) (m : ModuleContents) → HasInterfaceOf program m → SameMeaning program (after_steps m) → IsolatedUnderLarger program → StaysIsolated m

@@ -10,11 +10,11 @@ ghost use Rattle.resolved.specs.ProgramOf.{procedure_entry, result_entry, slot_e
 ghost use Rattle.resolved.specs.declared.tables.Channel.{Channel};
 ghost use Rattle.resolved.specs.declared.tables.GlobalVariable.{GlobalVariable};
 ghost use Rattle.constraints.specs.declared.rows.ThrownLabel.{ThrownLabel};
-ghost use Rattle.std.specs.Prelude.{IfOk, List, OnOk, [], map, sum_by, ℕ, ◌++◌, ◌∷◌, ◌≡◌};
+ghost use Rattle.std.specs.Prelude.{IfOk, List, OnOk, [], length, map, sum_by, ℕ, ◌+◌, ◌++◌, ◌<◌, ◌^◌, ◌∷◌, ◌≡◌};
 
 use crate::rows::{ProcedureLabels, ThrownLabel};
 use crate::written::{Labels, add};
-use gathering::unknowns::{first_after, number_after};
+use gathering::unknowns::first_after;
 use labels::Label;
 use resolved::tables::{Channel, GlobalVariable, Procedure, ResultType, Slot, Thrown};
 use solver::Atom;
@@ -73,13 +73,14 @@ fn slot_parts(
     slots: &[Slot],
     first: u32,
 ) -> Result<Vec<Atom>, AllocError>
+    requires { first + length slots.now < 2 ^ 32 }
     ensures grown { OnOk result (TableGrows written.old.list.items written.new.list.items) }
     ensures meaning { IfOk result (λ atoms. Mean written.new.list.items atoms.items
         (slot_parts first (map slot_entry slots.now))) }
 {
     let mut atoms = Vec::new(alloc);
     for (i, slot) in slots.iter().enumerate() {
-        atoms.push(slot_part(written, &slot.written, number_after(first, i)?)?)?;
+        atoms.push(slot_part(written, &slot.written, first + i as u32)?)?;
     }
     Ok(atoms)
 }
@@ -132,6 +133,7 @@ fn row_of(
     procedure: &Procedure,
     first: u32,
 ) -> Result<ProcedureLabels, AllocError>
+    requires { first + own_unknowns (procedure_entry procedure.now) < 2 ^ 32 }
     ensures grown { OnOk result (TableGrows written.old.list.items written.new.list.items) }
     ensures row { IfOk result (λ row. (more : List Label) →
         IsRow (written.new.list.items ++ more) first (procedure_entry procedure.now) row) }
@@ -143,7 +145,7 @@ fn row_of(
         slots: slot_parts(alloc, written, &procedure.slots, first)?,
         throws: thrown_labels(alloc, written, &procedure.throws)?,
         first,
-        loops: number_after(first, procedure.slots.len())?,
+        loops: first + procedure.slots.len() as u32,
     })
 }
 
@@ -153,6 +155,7 @@ pub(crate) fn rows_of(
     written: &mut Labels,
     procedures: &[Procedure],
 ) -> Result<(Vec<ProcedureLabels>, u32), AllocError>
+    requires { sum_by own_unknowns (map procedure_entry procedures.now) < 2 ^ 32 }
     ensures grown { OnOk result (TableGrows written.old.list.items written.new.list.items) }
     ensures rows { IfOk result (λ found. (more : List Label) →
         AreProcedureRows (written.new.list.items ++ more) 0
@@ -164,7 +167,7 @@ pub(crate) fn rows_of(
     let mut first = 0;
     for procedure in procedures {
         rows.push(row_of(alloc, written, procedure, first)?)?;
-        first = first_after(first, procedure)?;
+        first = first_after(first, procedure);
     }
     Ok((rows, first))
 }

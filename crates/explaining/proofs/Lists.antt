@@ -13,8 +13,7 @@ use Rattle.resolved.specs.ProgramOf.{procedure_entry, slot_entry}
 use Rattle.resolved.specs.declared.tables.Procedure.{Procedure}
 use Rattle.resolved.specs.declared.tables.Slot.{Slot}
 use Rattle.channels.specs.Sink.{AppendsPrefix}
-use Rattle.checker.specs.Least.{least_label}
-use Rattle.checker.specs.declared.checked.Checked.{Checked}
+use Rattle.checker.specs.Checked.{CheckedProgram, least_label}
 use Rattle.explaining.proofs.Canonical.{canonical, canonical-above, canonical-below, IsCanonicalLabel-canonical}
 use Rattle.explaining.specs.Text.{Writes, WritesPrefix}
 use Rattle.explaining.specs.Locals.{AreLines, IsLocalLine, LocalEntry, if_unlabelled, local_line, local_of, locals_from, locals_in}
@@ -92,7 +91,7 @@ without_label local None is = refl
 without_label local (Some label) is = cc
 
 -- ---- their lines
-module _ (source : List ℕ) (checked : Checked) where
+module _ (source : List ℕ) (checked : CheckedProgram) where
   lines-append : (xs ys : List LocalEntry) (text more : List ℕ) → AreLines source checked xs text → AreLines source checked ys more
       → AreLines source checked (xs ++ ys) (text ++ more)
   lines-append [] ys [] more none behind = behind

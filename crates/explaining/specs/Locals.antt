@@ -10,8 +10,7 @@ use Rattle.resolved.specs.CoreOf.{program_of}
 use Rattle.resolved.specs.Labelled.{OfLocal}
 use Rattle.resolved.specs.Program.{Program, ProcedureEntry, SlotEntry}
 use Rattle.solver.specs.Constraints.{AreAlike}
-use Rattle.checker.specs.Least.{least_label}
-use Rattle.checker.specs.declared.checked.Checked.{Checked}
+use Rattle.checker.specs.Checked.{CheckedProgram, least_label}
 use Rattle.explaining.specs.Text.{Writes, WritesPrefix, at_place}
 
 -- ---- the locals
@@ -47,7 +46,7 @@ unlabelled_locals program = locals_from 0 program.procedures
 -- ---- their lines
 
 -- a label flows both ways with the least label of a local
-abbrev pub IsLeastLabel : Checked → LocalEntry → Label → Type 0
+abbrev pub IsLeastLabel : CheckedProgram → LocalEntry → Label → Type 0
 IsLeastLabel checked local label =
     AreAlike (label_lattice (program_of checked.core).hierarchy) (least_label checked (OfLocal local.procedure local.number)) label
 
@@ -56,20 +55,20 @@ local_line source h local label =
     at_place source local.at (codes " " ++ (local.name ++ (codes " " ++ (printed_label h label ++ codes "\n"))))
 
 -- the line of a local, with a label that flows both ways with its least one, each policy once and in order
-abbrev pub IsLocalLine : (source : List ℕ) → Checked → LocalEntry → (line : List ℕ) → Type 0
+abbrev pub IsLocalLine : (source : List ℕ) → CheckedProgram → LocalEntry → (line : List ℕ) → Type 0
 IsLocalLine source checked local line =
     (label : Label) × IsCanonicalLabel label × IsLeastLabel checked local label
     × (line ≡ local_line source (program_of checked.core).hierarchy local label)
 
 -- a line for each of these locals, in order
-pub data AreLines (source : List ℕ) (checked : Checked) : List LocalEntry → (text : List ℕ) → Type 0 where
+pub data AreLines (source : List ℕ) (checked : CheckedProgram) : List LocalEntry → (text : List ℕ) → Type 0 where
   none : AreLines source checked [] []
   one_more : (local : LocalEntry) (locals : List LocalEntry) (line text : List ℕ) → IsLocalLine source checked local line
       → AreLines source checked locals text → AreLines source checked (local ∷ locals) (line ++ text)
 
 -- a line for each local without a written label was written, or a prefix of such lines
-abbrev pub WritesLabels : Checked → (source : List ℕ) → (old new : Option (List ℕ)) → Type 0
+abbrev pub WritesLabels : CheckedProgram → (source : List ℕ) → (old new : Option (List ℕ)) → Type 0
 WritesLabels checked source old new = Writes (AreLines source checked (unlabelled_locals (program_of checked.core))) old new
 
-abbrev pub WritesSomeLabels : Checked → (source : List ℕ) → (old new : Option (List ℕ)) → Type 0
+abbrev pub WritesSomeLabels : CheckedProgram → (source : List ℕ) → (old new : Option (List ℕ)) → Type 0
 WritesSomeLabels checked source old new = WritesPrefix (AreLines source checked (unlabelled_locals (program_of checked.core))) old new

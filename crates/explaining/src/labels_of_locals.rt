@@ -6,13 +6,13 @@ ghost use Rattle.explaining.specs.Text.{Writes, WritesPrefix};
 ghost use Rattle.gathering.specs.Names.{unknowns_before};
 ghost use Rattle.resolved.specs.CoreOf.{program_of};
 ghost use Rattle.resolved.specs.ProgramOf.{slot_entry};
-ghost use Rattle.std.specs.Prelude.{IfErr, IfOk, IsTrue, OnErr, OnOk, map, ◌≡◌};
+ghost use Rattle.std.specs.Prelude.{IfErr, IfOk, IsTrue, OnErr, OnOk, length, map, ◌+◌, ◌<◌, ◌^◌, ◌≡◌};
 ghost use Rattle.std.specs.String.{string_bytes};
 
 use crate::marks::MarkedText;
 use channels::{Sink, ViewFault, write_all};
 use checker::Checked;
-use gathering::unknowns::{first_after, number_after};
+use gathering::unknowns::first_after;
 use labels::PrintedLabel;
 use lexer::Place;
 use resolved::tables::Slot;
@@ -37,11 +37,12 @@ pub fn write_labels<O: Sink>(
     ensures rejected { IfErr result (IfRefused (λ _. IsTrue (O.has_failed out.new))) }
 {
     let marked = MarkedText::of(alloc, source)?;
+    let core = checked.core();
     let mut first = 0;
-    for (number, procedure) in checked.core.procedures.iter().enumerate() {
+    for (number, procedure) in core.procedures.iter().enumerate() {
         let slots = procedure.slots.as_slice();
         write_locals(alloc, checked, &marked, number, first, slots, out)?;
-        first = first_after(first, procedure)?;
+        first = first_after(first, procedure);
     }
     Ok(())
 }
@@ -57,7 +58,8 @@ fn write_locals<O: Sink>(
     slots: &[Slot],
     out: &mut O,
 ) -> Result<(), ViewFault>
-    requires { first ≡ unknowns_before (program_of checked.now.core) procedure }
+    requires first { first ≡ unknowns_before (program_of checked.now.core) procedure }
+    requires few { first + length slots.now < 2 ^ 32 }
     ensures accepted { OnOk result (Writes (AreLines marked.now.text.now checked.now
         (locals_in procedure 0 (map slot_entry slots.now))) (O.taken out.old) (O.taken out.new)) }
     ensures prefix { OnErr result (WritesPrefix (AreLines marked.now.text.now checked.now
@@ -81,7 +83,8 @@ fn write_local<O: Sink>(
     slot: &Slot,
     out: &mut O,
 ) -> Result<(), ViewFault>
-    requires { first ≡ unknowns_before (program_of checked.now.core) procedure }
+    requires first { first ≡ unknowns_before (program_of checked.now.core) procedure }
+    requires few { first + number < 2 ^ 32 }
     ensures accepted { OnOk result (Writes (AreLines marked.now.text.now checked.now
         (if_unlabelled (local_of procedure number (slot_entry slot.now)) slot.now.written))
         (O.taken out.old) (O.taken out.new)) }
@@ -108,15 +111,16 @@ fn line_of_local(
     number: usize,
     slot: &Slot,
 ) -> Result<String, AllocError>
-    requires { first ≡ unknowns_before (program_of checked.now.core) procedure }
+    requires first { first ≡ unknowns_before (program_of checked.now.core) procedure }
+    requires few { first + number < 2 ^ 32 }
     ensures { IfOk result (λ line. IsLocalLine marked.now.text.now checked.now
         (local_of procedure number (slot_entry slot.now)) (string_bytes line)) }
 {
-    let label = checked.label_of_unknown(alloc, number_after(first, number)?)?;
+    let label = checked.label_of_unknown(alloc, first + number as u32)?;
     let Place { line, column } = marked.place_of(slot.at);
     let name = slot.name.as_str();
     let printed = PrintedLabel {
-        hierarchy: &checked.core.hierarchy,
+        hierarchy: &checked.core().hierarchy,
         label: &label,
     };
     format!(in alloc; "{line}:{column} {name} {printed}\n")

@@ -30,7 +30,8 @@ use Rattle.modules.specs.Isolated.{AgreeOnInputs, IsIsolated, StaysIsolated, cha
 use Rattle.modules.proofs.Own.{module-hierarchy, own-isolation, own-view}
 use Rattle.modules.specs.Machine.{Machine, Ending, after_steps, machine_code, sent_after, sent_of}
 use Rattle.channels.specs.World.{InputNumbers, input_names, numbers_of_channel}
-use Rattle.compiler.specs.Compiled.{HasInterfaceOf, IsCompiled}
+use Rattle.compiler.specs.Compiled.{IsCompiled}
+use Rattle.lowering.specs.Interface.{HasInterfaceOf}
 use Rattle.channels.specs.WorldText.{IsWorldText, lines_of}
 use Rattle.compiler.proofs.Readers.{label-module, seen-module}
 use Rattle.lowering.proofs.Sent.{exec-keeps}

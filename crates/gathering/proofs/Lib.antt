@@ -15,5 +15,6 @@ pub mod Small
 pub mod Counted
 pub mod Begins
 pub mod Before
+pub mod Few
 pub mod Rerouted
 pub mod ReroutedPrograms

@@ -1,7 +1,7 @@
 //! The numbers of unknowns, as they are counted.
 ghost use Rattle.gathering.specs.Names.{own_unknowns};
 ghost use Rattle.resolved.specs.ProgramOf.{procedure_entry};
-ghost use Rattle.std.specs.Prelude.{IfErr, IfOk, ◌+◌, ◌^◌, ◌≡◌, ◌≤◌};
+ghost use Rattle.std.specs.Prelude.{IfErr, IfOk, ◌+◌, ◌<◌, ◌^◌, ◌≡◌, ◌≤◌};
 
 use resolved::tables::Procedure;
 use std::alloc::AllocError;
@@ -26,15 +26,10 @@ pub fn number_after(number: u32, more: usize) -> Result<u32, AllocError>
 
 /// The number of the first unknown behind those of a procedure, which are its locals and its loops, by the number of its own first.
 ///
-/// # Errors
-///
-/// The number does not fit 32 bits, which is answered as memory that ran out is.
-pub fn first_after(first: u32, procedure: &Procedure) -> Result<u32, AllocError>
-    ensures sum { IfOk result (λ next. next
-        ≡ first + own_unknowns (procedure_entry procedure.now)) }
-    ensures large { IfErr result (λ _. 2 ^ 32
-        ≤ first + own_unknowns (procedure_entry procedure.now)) }
+/// Precondition: the number fits 32 bits, as those of all programs within the limits do.
+pub fn first_after(first: u32, procedure: &Procedure) -> u32
+    requires { first + own_unknowns (procedure_entry procedure.now) < 2 ^ 32 }
+    ensures { result ≡ first + own_unknowns (procedure_entry procedure.now) }
 {
-    let loops = number_after(first, procedure.slots.len())?;
-    number_after(loops, procedure.loops as usize)
+    first + procedure.slots.len() as u32 + procedure.loops
 }

@@ -14,7 +14,7 @@ use Rattle.resolved.specs.declared.expression.Value.{Value}
 use Rattle.resolved.specs.declared.expression.Value.TheVariants.{Number, Truth}
 use Rattle.resolved.specs.declared.expression.Prefix.TheVariants.{Negate}
 use Rattle.resolved.specs.declared.expression.Operator.{Operator}
-use Rattle.resolved.specs.declared.expression.Operator.TheVariants.{Add, Subtract, Multiply, Divide, Remainder, LessThan, AtMost, GreaterThan, AtLeast, Equal, Unequal, Same, Different}
+use Rattle.resolved.specs.declared.expression.Operator.TheVariants.{Compute, Divide, Bits, Compare, Match}
 use Rattle.resolved.specs.declared.statement.Exit.{Exit}
 use Rattle.resolved.specs.declared.statement.Exit.TheVariants.{Normal, Return, Break, Continue, Throw}
 use Rattle.resolved.specs.Tree.{Expression, Integer, Logical, Read, Element, Unary, Binary, Short, Statement, Assign, Clear, Store, Receive, Send, Call, If, While, Leave, ReturnWith, Try, Nested, Block, Empty, Then, Handlers, NoMore, Catch}
@@ -126,19 +126,11 @@ raises-division s e w result f = go (divisor_can_raise e) refl (is_zero (number_
 
 raises-operator : (s : SourceState) (operator : Operator) (e : Expression) (v w : Value) → value_of s e ≡ Yields w →
     RaisesAmong (operator_raises operator e) (operator_value operator v w)
-raises-operator s Divide e v w f = raises-division s e w _ f
-raises-operator s Remainder e v w f = raises-division s e w _ f
-raises-operator s Add e v w f = raises-none [] _
-raises-operator s Subtract e v w f = raises-none [] _
-raises-operator s Multiply e v w f = raises-none [] _
-raises-operator s LessThan e v w f = raises-none [] _
-raises-operator s AtMost e v w f = raises-none [] _
-raises-operator s GreaterThan e v w f = raises-none [] _
-raises-operator s AtLeast e v w f = raises-none [] _
-raises-operator s Equal e v w f = raises-none [] _
-raises-operator s Unequal e v w f = raises-none [] _
-raises-operator s Same e v w f = raises-none [] _
-raises-operator s Different e v w f = raises-none [] _
+raises-operator s (Compute computation) e v w f = raises-none [] _
+raises-operator s (Divide division) e v w f = raises-division s e w _ f
+raises-operator s (Bits operator) e v w f = raises-none [] _
+raises-operator s (Compare relation) e v w f = raises-none [] _
+raises-operator s (Match sameness) e v w f = raises-none [] _
 
 raises-if : {A : Type 0} (xs : List ℕ) (b : Bool) (o p : Evaluated A) → RaisesAmong xs o → RaisesAmong xs p →
     RaisesAmong xs (if b then o else p)

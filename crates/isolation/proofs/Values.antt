@@ -6,7 +6,7 @@ use Rattle.principals.specs.ActsFor.{PrincipalHierarchy}
 use Rattle.resolved.specs.declared.expression.Value.{Value}
 use Rattle.resolved.specs.declared.expression.Value.TheVariants.{Number, Truth}
 use Rattle.resolved.specs.declared.expression.Operator.{Operator}
-use Rattle.resolved.specs.declared.expression.Operator.TheVariants.{Add, Subtract, Multiply, Divide, Remainder, LessThan, AtMost, GreaterThan, AtLeast, Equal, Unequal, Same, Different}
+use Rattle.resolved.specs.declared.expression.Operator.TheVariants.{Compute, Divide, Bits, Compare, Match}
 use Rattle.resolved.specs.declared.expression.Connective.{Connective}
 use Rattle.resolved.specs.Tree.{Expression, Integer, Logical, Read, Element, Unary, Binary, Short}
 use Rattle.resolved.specs.Value.{Evaluated, Yields, Raises, then_with, number_in, literal_number, unless_zero, prefix_value, operator_value, decides, in_range, position_of, checked_index}
@@ -72,21 +72,12 @@ division-alike b d e m n no_zero same = go (is_zero e) refl
 operator-alike : (b : Bool) (operator : Operator) (v w v' w' : Value) →
     (is_division operator ≡ true → is_zero (number_in w) ≡ is_zero (number_in w')) → SameIf b v v' → SameIf b w w' →
     Alike (SameIf b) (operator_value operator v w) (operator_value operator v' w')
-operator-alike b Divide v w v' w' no_zero left right = division-alike b (number_in w) (number_in w') _ _ (no_zero refl)
+operator-alike b (Compute computation) v w v' w' no_zero left right = both_give _ _ (λ i. rw (left i, right i) refl)
+operator-alike b (Divide division) v w v' w' no_zero left right = division-alike b (number_in w) (number_in w') _ _ (no_zero refl)
     (λ i. rw (left i, right i) refl)
-operator-alike b Remainder v w v' w' no_zero left right = division-alike b (number_in w) (number_in w') _ _ (no_zero refl)
-    (λ i. rw (left i, right i) refl)
-operator-alike b Add v w v' w' no_zero left right = both_give _ _ (λ i. rw (left i, right i) refl)
-operator-alike b Subtract v w v' w' no_zero left right = both_give _ _ (λ i. rw (left i, right i) refl)
-operator-alike b Multiply v w v' w' no_zero left right = both_give _ _ (λ i. rw (left i, right i) refl)
-operator-alike b LessThan v w v' w' no_zero left right = both_give _ _ (λ i. rw (left i, right i) refl)
-operator-alike b AtMost v w v' w' no_zero left right = both_give _ _ (λ i. rw (left i, right i) refl)
-operator-alike b GreaterThan v w v' w' no_zero left right = both_give _ _ (λ i. rw (left i, right i) refl)
-operator-alike b AtLeast v w v' w' no_zero left right = both_give _ _ (λ i. rw (left i, right i) refl)
-operator-alike b Equal v w v' w' no_zero left right = both_give _ _ (λ i. rw (left i, right i) refl)
-operator-alike b Unequal v w v' w' no_zero left right = both_give _ _ (λ i. rw (left i, right i) refl)
-operator-alike b Same v w v' w' no_zero left right = both_give _ _ (λ i. rw (left i, right i) refl)
-operator-alike b Different v w v' w' no_zero left right = both_give _ _ (λ i. rw (left i, right i) refl)
+operator-alike b (Bits operator) v w v' w' no_zero left right = both_give _ _ (λ i. rw (left i, right i) refl)
+operator-alike b (Compare relation) v w v' w' no_zero left right = both_give _ _ (λ i. rw (left i, right i) refl)
+operator-alike b (Match sameness) v w v' w' no_zero left right = both_give _ _ (λ i. rw (left i, right i) refl)
 
 -- whether a divisor is 0 is the same in both, if it can be
 divisor-alike : (s t : SourceState) (e : Expression) (b : Bool) (w w' : Value) → (divisor_can_raise e ≡ true → b ≡ true) →

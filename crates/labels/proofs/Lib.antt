@@ -8,6 +8,7 @@ pub mod Meaning
 pub mod Merge
 pub mod Order
 pub mod Prefixes
+pub mod Present
 pub mod Tests
 mod Readers
 pub mod Written

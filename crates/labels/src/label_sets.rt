@@ -2,17 +2,25 @@
 ghost use Rattle.labels.specs.Canonical.{IsCanonicalLabel, IsCanonicalPolicy, policy_cmp, written_label};
 ghost use Rattle.labels.specs.PolicyOrder.{label_eq, label_eq-equivalence, label_eq-partial};
 ghost use Rattle.std.specs.List.Sorted.{IsStrictlySortedBy};
-ghost use Rattle.std.specs.Prelude.{All, IsTrue, [], ◌↔◌, ◌≡◌};
+ghost use Rattle.std.specs.Prelude.{All, IfOk, IsTrue, [], ◌↔◌, ◌≡◌};
 
 use crate::policies::Policy;
 use std::alloc::{AllocError, Global};
 use std::marker::Model;
+use std::sync::Arc;
+
+// The policies of a label: its own, or held together with the labels that were cloned from it.
+#[derive(Debug, Drop)]
+enum Policies {
+    Own(Vec<Policy>),
+    Shared(Arc<Vec<Policy>>),
+}
 
 /// A label of the decentralized label model (Myers and Liskov 1997): a set of policies, in ascending order by owner and then by
 /// the list of readers, each policy once.
 #[derive(Debug, Drop)]
 pub struct Label {
-    policies: Vec<Policy>,
+    policies: Policies,
 }
 
 impl Model for Label {
@@ -22,10 +30,11 @@ impl Model for Label {
     ghost Value = { List ReaderPolicy };
 
     ghost use Rattle.labels.specs.Canonical.{IsCanonicalLabel};
+    ghost use Rattle.labels.specs.Inside.{held_policies};
 
-    ghost view = { λ label. label.policies.items };
+    ghost view = { λ label. held_policies label.policies };
 
-    ghost invariant = { λ label. IsCanonicalLabel label.policies.items };
+    ghost invariant = { λ label. IsCanonicalLabel (held_policies label.policies) };
 }
 
 impl Label {
@@ -34,7 +43,7 @@ impl Label {
         ensures { result ≡ [] }
     {
         Label {
-            policies: Vec::new(alloc),
+            policies: Policies::Own(Vec::new(alloc)),
         }
     }
 
@@ -45,7 +54,9 @@ impl Label {
         requires each_canonical { All IsCanonicalPolicy policies.items }
         ensures { result ≡ policies.items }
     {
-        Label { policies }
+        Label {
+            policies: Policies::Own(policies),
+        }
     }
 
     /// The label that is written with these policies, in any order and any number of times. Precondition: each is
@@ -59,19 +70,34 @@ impl Label {
         Label::of(policies)
     }
 
+    /// The same label, held so that its clones share its policies with it: cloning it takes no memory then, however long it is.
+    pub fn share(self, alloc: Global) -> Result<Label, AllocError>
+        ensures { IfOk result (λ label. label ≡ self) }
+    {
+        let Label { policies } = self;
+        let policies = match policies {
+            Policies::Own(own) => Policies::Shared(Arc::new(alloc, own)?),
+            Policies::Shared(shared) => Policies::Shared(shared),
+        };
+        Ok(Label { policies })
+    }
+
     /// The policies, in ascending order.
     pub fn policies(&self) -> &[Policy]
         ensures policies { result.now ≡ self.now }
         ensures canonical { IsCanonicalLabel self.now }
     {
-        self.policies.as_slice()
+        match &self.policies {
+            Policies::Own(own) => own.as_slice(),
+            Policies::Shared(shared) => shared.as_ref().as_slice(),
+        }
     }
 
     /// Whether this is the least label, which has no policy.
     pub fn is_empty(&self) -> bool
         ensures { IsTrue result ↔ (self.now ≡ []) }
     {
-        self.policies.is_empty()
+        self.policies().is_empty()
     }
 }
 
@@ -79,9 +105,11 @@ impl Clone for Label {
     ghost is_clone = { λ label copy. copy ≡ label };
 
     fn clone(&self) -> Result<Label, AllocError> {
-        Ok(Label {
-            policies: self.policies.clone()?,
-        })
+        let policies = match &self.policies {
+            Policies::Own(own) => Policies::Own(own.clone()?),
+            Policies::Shared(shared) => Policies::Shared(shared.clone()?),
+        };
+        Ok(Label { policies })
     }
 }
 
@@ -94,7 +122,7 @@ impl PartialEq for Label {
         ensures order { result ≡ label_eq self.now other.now }
         ensures same { IsTrue result ↔ (self.now ≡ other.now) }
     {
-        self.policies == other.policies
+        self.policies() == other.policies()
     }
 }
 

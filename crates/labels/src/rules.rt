@@ -2,7 +2,7 @@
 ghost use Rattle.labels.specs.Label.{Covers, FlowsTo, MayRead, PolicyAllows, PolicyFlowsTo, covers, flows, may_read, policy_allows, policy_flows};
 ghost use Rattle.principals.specs.ActsFor.{acts_for};
 ghost use Rattle.std.specs.List.{list_all, list_any};
-ghost use Rattle.std.specs.Prelude.{IsTrue, ◌↔◌, ◌≡◌};
+ghost use Rattle.std.specs.Prelude.{Contains, IsTrue, ◌↔◌, ◌≡◌};
 
 use crate::label_sets::Label;
 use crate::policies::Policy;
@@ -70,14 +70,28 @@ impl Policy {
 }
 
 impl Label {
-    /// Whether the label covers a policy: the policy flows to some policy of the label. It takes no memory.
-    pub fn covers(&self, hierarchy: &Hierarchy, policy: &Policy) -> bool
-        ensures covers { IsTrue result ↔ Covers hierarchy.now self.now policy.now }
-        ensures test { result ≡ covers hierarchy.now self.now policy.now }
+    // Whether a policy is one of the label's own, found by their order.
+    fn has(&self, policy: &Policy) -> bool
+        ensures { IsTrue result → Contains self.now policy.now }
+    {
+        self.policies().binary_search(policy).is_ok()
+    }
+
+    // Whether a policy flows to some policy of the label, tried one after another.
+    fn has_above(&self, hierarchy: &Hierarchy, policy: &Policy) -> bool
+        ensures { result ≡ covers hierarchy.now self.now policy.now }
     {
         self.policies()
             .iter()
             .any(|other| policy.flows_to(hierarchy, other))
+    }
+
+    /// Whether the label covers a policy: the policy flows to some policy of the label, itself if it is there. It takes no memory.
+    pub fn covers(&self, hierarchy: &Hierarchy, policy: &Policy) -> bool
+        ensures covers { IsTrue result ↔ Covers hierarchy.now self.now policy.now }
+        ensures test { result ≡ covers hierarchy.now self.now policy.now }
+    {
+        self.has(policy) || self.has_above(hierarchy, policy)
     }
 }
 

@@ -8,6 +8,7 @@ use Rattle.std.proofs.lemmas.List.Elements.{All-head, All-tail}
 use Rattle.std.proofs.lemmas.Option.{slice_get-map}
 use Rattle.modules.specs.declared.instruction.Instruction.{Instruction}
 use Rattle.modules.specs.declared.instruction.Instruction.TheVariants.{Jump, JumpIfFalse}
+use Rattle.modules.specs.declared.version.Version.{Version}
 use Rattle.modules.specs.declared.declaration.Handler.{Handler}
 use Rattle.modules.specs.Code.{code_length}
 use Rattle.modules.specs.Contents.{ProcedureContents, ModuleContents}
@@ -28,29 +29,29 @@ pub length-renamed : (f : ℕ → ℕ) (code : List Instruction) → code_length
 length-renamed f [] = refl
 length-renamed f (x ∷ code) = omega (arith, width-renamed f x, length-renamed f code)
 
-coded : (f : ℕ → ℕ) (x : Instruction) → IfSome (target_of x) (λ target. f target < 2 ^ 32) → IsCoded instructions x → IsCoded instructions (renamed_instruction f x)
-coded f (Jump target) small h = is_spelled (Jump (f target)) small
-coded f (JumpIfFalse target) small h = is_spelled (JumpIfFalse (f target)) small
-coded f x small h = h
+coded : (version : Version) (f : ℕ → ℕ) (x : Instruction) → IfSome (target_of x) (λ target. f target < 2 ^ 32) → IsCoded (instructions version) x → IsCoded (instructions version) (renamed_instruction f x)
+coded version f (Jump target) small h = is_spelled version (Jump (f target)) refl small
+coded version f (JumpIfFalse target) small h = is_spelled version (JumpIfFalse (f target)) refl small
+coded version f x small h = h
 
 target-small : (code : List Instruction) (target : Option ℕ) → code_length code < 2 ^ 32 → IfSome target (λ t. t < length code) → IfSome target (λ t. offset code t < 2 ^ 32)
 target-small code None short below = below
 target-small code (Some t) short below = omega (arith, offset-within code t (omega (arith, below)))
 
-all_coded : (code rest : List Instruction) → code_length code < 2 ^ 32 → All (HasTargetIn code) rest → AllByRecursion (IsCoded instructions) rest → AllByRecursion (IsCoded instructions) (map (renamed_instruction (offset code)) rest)
-all_coded code [] short targets h = tt
-all_coded code (x ∷ rest) short targets h = (
-  coded (offset code) x (target-small code (target_of x) short (All-head (HasTargetIn code) x rest targets)) h.0,
-  all_coded code rest short (All-tail (HasTargetIn code) x rest targets) h.1,
+all_coded : (version : Version) (code rest : List Instruction) → code_length code < 2 ^ 32 → All (HasTargetIn code) rest → AllByRecursion (IsCoded (instructions version)) rest → AllByRecursion (IsCoded (instructions version)) (map (renamed_instruction (offset code)) rest)
+all_coded version code [] short targets h = tt
+all_coded version code (x ∷ rest) short targets h = (
+  coded version (offset code) x (target-small code (target_of x) short (All-head (HasTargetIn code) x rest targets)) h.0,
+  all_coded version code rest short (All-tail (HasTargetIn code) x rest targets) h.1,
 )
 
-code_short : (code : List Instruction) → Fits (Code instructions) code → code_length code < 2 ^ 32
-code_short code h = omega (arith, h.0, spelled-length code)
+code_short : (version : Version) (code : List Instruction) → Fits (Code (instructions version)) code → code_length code < 2 ^ 32
+code_short version code h = omega (arith, h.0, spelled-length version code)
 
-code_fits : (code : List Instruction) → All (HasTargetIn code) code → Fits (Code instructions) code → Fits (Code instructions) (map (renamed_instruction (offset code)) code)
-code_fits code targets h = (
-  omega (arith, code_short code h, length-renamed (offset code) code, spelled-length (map (renamed_instruction (offset code)) code)),
-  all_coded code code (code_short code h) targets h.1,
+code_fits : (version : Version) (code : List Instruction) → All (HasTargetIn code) code → Fits (Code (instructions version)) code → Fits (Code (instructions version)) (map (renamed_instruction (offset code)) code)
+code_fits version code targets h = (
+  omega (arith, code_short version code h, length-renamed (offset code) code, spelled-length version (map (renamed_instruction (offset code)) code)),
+  all_coded version code code (code_short version code h) targets h.1,
 )
 
 -- ---- handlers
@@ -77,23 +78,23 @@ handlers_fit code hs short within h =
 
 -- ---- procedures
 
-procedure_fits : (p : ProcedureContents) → HasPositions p → Fits procedure p → Fits procedure (laid_out_procedure p)
+procedure_fits : (version : Version) (p : ProcedureContents) → HasPositions p → Fits (procedure version) p → Fits (procedure version) (laid_out_procedure p)
 unfolding procedure
-procedure_fits p positions h =
-    let code = code_fits p.code positions.targets h.0.1.1.1.0 in
-    let handlers = handlers_fit p.code p.handlers (code_short p.code h.0.1.1.1.0) positions.handlers h.0.1.1.1.1 in
+procedure_fits version p positions h =
+    let code = code_fits version p.code positions.targets h.0.1.1.1.0 in
+    let handlers = handlers_fit p.code p.handlers (code_short version p.code h.0.1.1.1.0) positions.handlers h.0.1.1.1.1 in
     ((h.0.0, (h.0.1.0, (h.0.1.1.0, (code, handlers)))), refl)
 
-each_procedure : (before other rest : List ProcedureContents) → All HasPositions rest → FitEach (λ _ p. Fits procedure p) before rest → FitEach (λ _ p. Fits procedure p) other (map laid_out_procedure rest)
-each_procedure before other [] positions h = tt
-each_procedure before other (p ∷ rest) positions h = (
-  procedure_fits p (All-head HasPositions p rest positions) h.0,
-  each_procedure (before ++ p ∷ []) (other ++ laid_out_procedure p ∷ []) rest (All-tail HasPositions p rest positions) h.1,
+each_procedure : (version : Version) (before other rest : List ProcedureContents) → All HasPositions rest → FitEach (λ _ p. Fits (procedure version) p) before rest → FitEach (λ _ p. Fits (procedure version) p) other (map laid_out_procedure rest)
+each_procedure version before other [] positions h = tt
+each_procedure version before other (p ∷ rest) positions h = (
+  procedure_fits version p (All-head HasPositions p rest positions) h.0,
+  each_procedure version (before ++ p ∷ []) (other ++ laid_out_procedure p ∷ []) rest (All-tail HasPositions p rest positions) h.1,
 )
 
-procedures_fit : (ps : List ProcedureContents) → All HasPositions ps → Fits procedures ps → Fits procedures (map laid_out_procedure ps)
+procedures_fit : (version : Version) (ps : List ProcedureContents) → All HasPositions ps → Fits (procedures version) ps → Fits (procedures version) (map laid_out_procedure ps)
 unfolding procedures
-procedures_fit ps positions h = (omega (arith, h.0, length-map ps laid_out_procedure), refl, each_procedure [] [] ps positions h.2)
+procedures_fit version ps positions h = (omega (arith, h.0, length-map ps laid_out_procedure), refl, each_procedure version [] [] ps positions h.2)
 
 start-same : (p : Option ProcedureContents) → may_start (option_map laid_out_procedure p) ≡ may_start p
 start-same None = refl
@@ -107,11 +108,11 @@ main_fits ps number h = (h.0, ap may_start (slice_get-map laid_out_procedure ps 
 
 pub codes-short : (graph : ModuleContents) → IsGraph graph → All (λ (p : ProcedureContents). code_length p.code < 2 ^ 32) graph.procedures
 unfolding module_file contents program
-codes-short graph h = procedures_short graph.procedures h.limits.0.1.1.1.0
+codes-short graph h = procedures_short graph.version graph.procedures h.limits.0.1.1.1.1.0
 
 pub Fits-laid_out : (graph : ModuleContents) → IsGraph graph → Fits module_file (laid_out graph)
 unfolding module_file contents program
 Fits-laid_out graph h =
     let all = h.limits.0 in
-    let made = procedures_fit graph.procedures h.positions all.1.1.1.0 in
-    ((all.0, (all.1.0, (all.1.1.0, (made, main_fits graph.procedures graph.main all.1.1.1.1)))), refl)
+    let made = procedures_fit graph.version graph.procedures h.positions all.1.1.1.1.0 in
+    ((all.0, (all.1.0, (all.1.1.0, (all.1.1.1.0, (made, main_fits graph.procedures graph.main all.1.1.1.1.1))))), refl)

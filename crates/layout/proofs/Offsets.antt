@@ -197,6 +197,7 @@ runs-same g = record {
 
 pub interface-same : (g : ModuleContents) → SameInterface g (laid_out g)
 interface-same g = record {
+  version = refl;
   hierarchy = refl;
   exceptions = refl;
   channels = refl;

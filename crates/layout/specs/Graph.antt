@@ -26,7 +26,7 @@ pub record HasPositions (procedure : ProcedureContents) : Type 0 where
   pub handlers : All (IsHandlerIn (length procedure.code)) procedure.handlers
 
 -- a graph: its targets are positions, and its numbers, names and lists, and the bytes that its code will take, are within the
--- limits of the module file
+-- limits of the module file, whose version has each instruction
 pub record IsGraph (graph : ModuleContents) : Type 0 where
   pub positions : All HasPositions graph.procedures
   pub limits : Fits module_file graph

@@ -45,9 +45,10 @@ LayoutKeepsRuns = (graph : ModuleContents) → SameRuns graph (laid_out graph)
 
 -- ---- what shows before any run
 
--- a module has the hierarchy, the exceptions, the channels and the globals of a graph, starts in the procedure of the same number,
+-- a module has the version, the hierarchy, the exceptions, the channels and the globals of a graph, starts in the procedure of the same number,
 -- and its procedures have the same results, parameters and slots
 pub record SameInterface (graph m : ModuleContents) : Type 0 where
+  pub version : m.version ≡ graph.version
   pub hierarchy : m.hierarchy ≡ graph.hierarchy
   pub exceptions : m.exceptions ≡ graph.exceptions
   pub channels : m.channels ≡ graph.channels

@@ -4,7 +4,7 @@ ghost use Rattle.layout.specs.Graph.{IsGraph};
 ghost use Rattle.std.specs.Prelude.{map, ◌≡◌};
 ghost use Rattle.std.specs.String.{string_bytes};
 
-use modules::{Channel, Global, Procedure};
+use modules::{Channel, Global, Procedure, Version};
 use principals::Hierarchy;
 use std::marker::Model;
 
@@ -13,9 +13,11 @@ use std::marker::Model;
 /// from 0 on. The range and the target of a handler are positions too.
 ///
 /// Each target is a position of the code, no handler's range is empty or ends behind the code, and the
-/// numbers, names and lists are within the limits of the module file.
+/// numbers, names and lists are within the limits of the module file, whose version has each
+/// instruction.
 #[derive(Debug, Drop)]
 pub struct Graph {
+    version: Version,
     hierarchy: Hierarchy,
     exceptions: Vec<String>,
     channels: Vec<Channel>,
@@ -33,6 +35,7 @@ impl Model for Graph {
     ghost Value = { ModuleContents };
 
     ghost view = { λ g. record {
+      version = g.version;
       hierarchy = g.hierarchy;
       exceptions = map (λ name. string_bytes name) g.exceptions.items;
       channels = g.channels.items;
@@ -42,6 +45,7 @@ impl Model for Graph {
     } };
 
     ghost invariant = { λ g. IsGraph (record {
+      version = g.version;
       hierarchy = g.hierarchy;
       exceptions = map (λ name. string_bytes name) g.exceptions.items;
       channels = g.channels.items;
@@ -52,12 +56,14 @@ impl Model for Graph {
 }
 
 impl Graph {
-    /// The graph of the given fields: the hierarchy, the names of the declared exceptions, which are
-    /// numbered from 3, the channels, the globals, the procedures, and the number of the procedure
-    /// where a run starts.
+    /// The graph of the given fields: the version of the module file, the hierarchy, the names of the
+    /// declared exceptions, which are numbered from 3, the channels, the globals, the procedures, and
+    /// the number of the procedure where a run starts.
     ///
-    /// Precondition: the targets are positions, and everything is within the limits of the module file.
+    /// Precondition: the targets are positions, everything is within the limits of the module file, and
+    /// its version has each instruction.
     pub fn new(
+        version: Version,
         hierarchy: Hierarchy,
         exceptions: Vec<String>,
         channels: Vec<Channel>,
@@ -66,6 +72,7 @@ impl Graph {
         main: u32,
     ) -> Graph
         requires { IsGraph (record {
+          version = version;
           hierarchy = hierarchy;
           exceptions = map (λ name. string_bytes name) exceptions.items;
           channels = channels.items;
@@ -74,6 +81,7 @@ impl Graph {
           main = main;
         }) }
         ensures { result ≡ record {
+          version = version;
           hierarchy = hierarchy;
           exceptions = map (λ name. string_bytes name) exceptions.items;
           channels = channels.items;
@@ -83,6 +91,7 @@ impl Graph {
         } }
     {
         Graph {
+            version,
             hierarchy,
             exceptions,
             channels,
@@ -90,6 +99,13 @@ impl Graph {
             procedures,
             main,
         }
+    }
+
+    /// The version of the module file.
+    pub fn version(&self) -> Version
+        ensures { result ≡ self.now.version }
+    {
+        self.version
     }
 
     /// The principals, and who acts for whom.

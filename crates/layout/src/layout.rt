@@ -77,6 +77,7 @@ pub fn emit(alloc: Global, graph: &Graph) -> Result<Module, AllocError>
     let globals = Vec::from_slice(alloc, graph.globals())?;
     let procedures = lay_out_procedures(alloc, graph.procedures())?;
     Ok(Module::new(
+        graph.version(),
         hierarchy,
         exceptions,
         channels,

@@ -34,7 +34,7 @@ Front White c cs lexeme = (lexeme ≡ Gap) × (cs ≡ [])
 Front Digit c cs lexeme = (lexeme ≡ literal_of (c ∷ cs)) × (list_all is_ascii_digit cs ≡ true)
 Front Letter c cs lexeme = (lexeme ≡ Word (word_kind (c ∷ cs))) × (list_all may_continue cs ≡ true)
 Front Solidus c cs lexeme = AfterSolidus cs lexeme
-Front Other c cs lexeme = (kind : Kind) × ((sign_of (c ∷ cs) ≡ Some kind) × ((lexeme ≡ Word kind) × (length cs ≤ 1)))
+Front Other c cs lexeme = (kind : Kind) × ((sign_of (c ∷ cs) ≡ Some kind) × ((lexeme ≡ Word kind) × (length cs ≤ 2)))
 
 -- of a class that is known
 known : (k : Class) (c : ℕ) (cs : List ℕ) (lexeme : Lexeme) → class_of c ≡ k → Front k c cs lexeme
@@ -77,12 +77,13 @@ literal_shape c cs lexeme numeral e =
     let (first, others) = and_parts _ _ numeral.digits in
     known Digit c cs lexeme (class-Digit c first) (e, others)
 
--- each sign is `/`, or one or two characters, of which the first begins no other lexeme
+-- each sign is `/`, or one to three characters, of which the first begins no other lexeme
 sign_word : List ℕ → Bool
 sign_word [] = false
 sign_word (c ∷ []) = is_sign_first c || c == 47
 sign_word (c ∷ d ∷ []) = is_sign_first c
-sign_word (c ∷ d ∷ e ∷ cs) = false
+sign_word (c ∷ d ∷ e ∷ []) = is_sign_first c
+sign_word (c ∷ d ∷ e ∷ f ∷ cs) = false
 
 -- a `/` that is a sign
 alone : (c : ℕ) (kind : Kind) → c ≡ 47 → sign_of (c ∷ []) ≡ Some kind → Front (class_of c) c [] (Word kind)
@@ -105,8 +106,11 @@ sign_shape c [] kind found =
 sign_shape c (d ∷ []) kind found =
     let first = found_passes sign_word signs refl (c ∷ d ∷ []) kind found in
     known Other c (d ∷ []) (Word kind) (class-Other c first) (kind, (found, (refl, omega arith)))
-sign_shape c (d ∷ e ∷ cs) kind found =
-    let none : false ≡ true = found_passes sign_word signs refl (c ∷ d ∷ e ∷ cs) kind found in
+sign_shape c (d ∷ e ∷ []) kind found =
+    let first = found_passes sign_word signs refl (c ∷ d ∷ e ∷ []) kind found in
+    known Other c (d ∷ e ∷ []) (Word kind) (class-Other c first) (kind, (found, (refl, omega arith)))
+sign_shape c (d ∷ e ∷ f ∷ cs) kind found =
+    let none : false ≡ true = found_passes sign_word signs refl (c ∷ d ∷ e ∷ f ∷ cs) kind found in
     absurd cc
 
 -- a lexeme that begins with `/`

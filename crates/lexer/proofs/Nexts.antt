@@ -9,7 +9,7 @@ use Rattle.std.proofs.lemmas.List.Prefix.{front_fits}
 use Rattle.lexer.specs.Words.{is_white_space, is_identifier, may_begin, may_continue, keyword_of}
 use Rattle.lexer.specs.Lexeme.{Lexeme, Word, Gap, OpenComment, IsLexeme, Blank, LineComment, BlockComment, Unended, Keyword, Identifier, Literal, TooLarge, Sign, IsInLine, HasNoCommentEnd, IsClosed, IsNumeral, sign_of}
 use Rattle.lexer.specs.Cut.{IsNextLexeme, HasNoLexeme}
-use Rattle.lexer.specs.Scan.{IsNoDouble}
+use Rattle.lexer.specs.Scan.{IsNoDouble, IsNoTriple}
 use Rattle.lexer.specs.declared.token.Kind.{Kind}
 use Rattle.lexer.specs.declared.token.Kind.TheVariants.{Slash, Name}
 use Rattle.lexer.proofs.Letters.{Class, White, Digit, Letter, Solidus, Other, class_of, class-White, class-Digit, class-Letter, class-Solidus}
@@ -166,39 +166,61 @@ next_solidus cs no_line no_block = record {
   longest = bounded Solidus 47 cs 0 class-Solidus (after_alone cs no_line no_block);
 }
 
-pub next_double : (c d : ℕ) (cs : List ℕ) (kind : Kind) → class_of c ≡ Other → sign_of (c ∷ d ∷ []) ≡ Some kind
-    → IsNextLexeme (c ∷ d ∷ cs) (Word kind) (c ∷ d ∷ []) cs
-next_double c d cs kind class found = record {
+pub next_triple : (c d f : ℕ) (cs : List ℕ) (kind : Kind) → class_of c ≡ Other
+    → sign_of (c ∷ d ∷ f ∷ []) ≡ Some kind → IsNextLexeme (c ∷ d ∷ f ∷ cs) (Word kind) (c ∷ d ∷ f ∷ []) cs
+next_triple c d f cs kind class found = record {
   text_is = refl;
-  is = Sign (c ∷ d ∷ []) kind found;
-  longest = bounded Other c (d ∷ cs) 1 class (λ lexeme tail more e front. front.1.1.1);
+  is = Sign (c ∷ d ∷ f ∷ []) kind found;
+  longest = bounded Other c (d ∷ f ∷ cs) 2 class (λ lexeme tail more e front. front.1.1.1);
 }
 
-single : (c : ℕ) (cs : List ℕ) → IsNoDouble c cs → (lexeme : Lexeme) (tail more : List ℕ) → cs ≡ tail ++ more
+-- a sign that goes on with no two characters
+double : (c : ℕ) (cs : List ℕ) → IsNoTriple c cs → (lexeme : Lexeme) (tail more : List ℕ) → cs ≡ tail ++ more
+    → Front Other c tail lexeme → length tail ≤ 1
+double c cs short lexeme [] more e front = omega arith
+double c cs short lexeme (d ∷ []) more e front = omega arith
+double c cs short lexeme (d ∷ f ∷ []) more e front =
+    let none : sign_of (c ∷ d ∷ f ∷ []) ≡ None = subst (IsNoTriple c) e short in
+    let some = front.1.0 in
+    absurd cc
+double c cs short lexeme (d ∷ f ∷ g ∷ tail) more e front = let most = front.1.1.1 in absurd (omega arith)
+
+pub next_double : (c d : ℕ) (cs : List ℕ) (kind : Kind) → class_of c ≡ Other → sign_of (c ∷ d ∷ []) ≡ Some kind
+    → IsNoTriple c (d ∷ cs) → IsNextLexeme (c ∷ d ∷ cs) (Word kind) (c ∷ d ∷ []) cs
+next_double c d cs kind class found short = record {
+  text_is = refl;
+  is = Sign (c ∷ d ∷ []) kind found;
+  longest = bounded Other c (d ∷ cs) 1 class (double c (d ∷ cs) short);
+}
+
+-- and one that goes on with none
+single : (c : ℕ) (cs : List ℕ) → IsNoTriple c cs → IsNoDouble c cs → (lexeme : Lexeme) (tail more : List ℕ) → cs ≡ tail ++ more
     → Front Other c tail lexeme → tail ≡ []
-single c cs alone lexeme [] more e front = refl
-single c cs alone lexeme (d ∷ []) more e front =
+single c cs short alone lexeme [] more e front = refl
+single c cs short alone lexeme (d ∷ []) more e front =
     let none : sign_of (c ∷ d ∷ []) ≡ None = subst (IsNoDouble c) e alone in
     let some = front.1.0 in
     absurd cc
-single c cs alone lexeme (d ∷ f ∷ tail) more e front = let short = front.1.1.1 in absurd (omega arith)
+single c cs short alone lexeme (d ∷ f ∷ tail) more e front =
+    let most = double c cs short lexeme (d ∷ f ∷ tail) more e front in
+    absurd (omega arith)
 
 pub next_single : (c : ℕ) (cs : List ℕ) (kind : Kind) → class_of c ≡ Other → sign_of (c ∷ []) ≡ Some kind
-    → IsNoDouble c cs → IsNextLexeme (c ∷ cs) (Word kind) (c ∷ []) cs
-next_single c cs kind class found alone = record {
+    → IsNoTriple c cs → IsNoDouble c cs → IsNextLexeme (c ∷ cs) (Word kind) (c ∷ []) cs
+next_single c cs kind class found short alone = record {
   text_is = refl;
   is = Sign (c ∷ []) kind found;
   longest = bounded Other c cs 0 class
-      (λ lexeme tail more e front. let n = ap length (single c cs alone lexeme tail more e front) in omega arith);
+      (λ lexeme tail more e front. let n = ap length (single c cs short alone lexeme tail more e front) in omega arith);
 }
 
-pub none_next : (c : ℕ) (cs : List ℕ) → class_of c ≡ Other → sign_of (c ∷ []) ≡ None → IsNoDouble c cs
-    → HasNoLexeme (c ∷ cs)
-none_next c cs class absent alone = record {
+pub none_next : (c : ℕ) (cs : List ℕ) → class_of c ≡ Other → sign_of (c ∷ []) ≡ None → IsNoTriple c cs
+    → IsNoDouble c cs → HasNoLexeme (c ∷ cs)
+none_next c cs class absent short alone = record {
   goes_on = λ e. cc;
   none = λ lexeme front rest h e.
       let (tail, (here, (others, shape))) = opened Other c cs class lexeme front rest h e in
-      let empty = single c cs alone lexeme tail rest others shape in
+      let empty = single c cs short alone lexeme tail rest others shape in
       let some : sign_of (c ∷ []) ≡ Some shape.0 = ap (λ t. sign_of (c ∷ t)) (sym empty) ∙ shape.1.0 in
       cc;
 }

@@ -9,7 +9,7 @@ use Rattle.lexer.specs.Words.{is_white_space, may_begin, may_continue}
 use Rattle.lexer.specs.Lexeme.{Lexeme, Word, Gap, LargeLiteral, OpenComment, sign_of}
 use Rattle.lexer.specs.Cut.{Cuts, Nothing, Token, Between, IsNextLexeme, IsCut, HasDefect, IsStuck, HasNoLexeme, terminal_at, size}
 use Rattle.lexer.specs.Laws.{IsCutOrRefused}
-use Rattle.lexer.specs.Scan.{after_close, after_run, IsNoDouble}
+use Rattle.lexer.specs.Scan.{after_close, after_run, IsNoDouble, IsNoTriple}
 use Rattle.lexer.specs.declared.token.Kind.{Kind}
 use Rattle.lexer.specs.declared.token.Kind.TheVariants.{End}
 use Rattle.lexer.specs.declared.fault.LexRefusal.{LexRefusal}
@@ -17,7 +17,7 @@ use Rattle.lexer.specs.declared.fault.LexDefect.{LexDefect}
 use Rattle.lexer.specs.declared.fault.LexDefect.TheVariants.{NoToken, LiteralTooLarge, UnclosedComment}
 use Rattle.lexer.proofs.Letters.{class_of, Other}
 use Rattle.lexer.proofs.Fronts.{nonempty}
-use Rattle.lexer.proofs.Nexts.{next_white, next_literal, next_word, next_solidus, next_double, next_single, none_next}
+use Rattle.lexer.proofs.Nexts.{next_white, next_literal, next_word, next_solidus, next_triple, next_double, next_single, none_next}
 use Rattle.lexer.proofs.Reading.{moved, run_parts, line_read, block_read, open_read, class-sign}
 use Rattle.lexer.proofs.Listed.{cut_size}
 
@@ -26,19 +26,28 @@ data Found (text : List ℕ) : Type 0 where
   Next : (lexeme : Lexeme) (front rest : List ℕ) → IsNextLexeme text lexeme front rest → Found text
   Absent : HasNoLexeme text → Found text
 
-find_single : (c : ℕ) (cs : List ℕ) → class_of c ≡ Other → IsNoDouble c cs → (single : Option Kind)
+find_single : (c : ℕ) (cs : List ℕ) → class_of c ≡ Other → IsNoTriple c cs → IsNoDouble c cs → (single : Option Kind)
     → sign_of (c ∷ []) ≡ single → Found (c ∷ cs)
-find_single c cs class alone None e = Absent (none_next c cs class e alone)
-find_single c cs class alone (Some kind) e = Next (Word kind) (c ∷ []) cs (next_single c cs kind class e alone)
+find_single c cs class short alone None e = Absent (none_next c cs class e short alone)
+find_single c cs class short alone (Some kind) e =
+    Next (Word kind) (c ∷ []) cs (next_single c cs kind class e short alone)
 
-find_double : (c d : ℕ) (cs : List ℕ) → class_of c ≡ Other → (double : Option Kind) → sign_of (c ∷ d ∷ []) ≡ double
-    → Found (c ∷ d ∷ cs)
-find_double c d cs class None e = find_single c (d ∷ cs) class e (sign_of (c ∷ [])) refl
-find_double c d cs class (Some kind) e = Next (Word kind) (c ∷ d ∷ []) cs (next_double c d cs kind class e)
+find_double : (c d : ℕ) (cs : List ℕ) → class_of c ≡ Other → IsNoTriple c (d ∷ cs) → (double : Option Kind)
+    → sign_of (c ∷ d ∷ []) ≡ double → Found (c ∷ d ∷ cs)
+find_double c d cs class short None e = find_single c (d ∷ cs) class short e (sign_of (c ∷ [])) refl
+find_double c d cs class short (Some kind) e =
+    Next (Word kind) (c ∷ d ∷ []) cs (next_double c d cs kind class e short)
+
+find_triple : (c d f : ℕ) (cs : List ℕ) → class_of c ≡ Other → (triple : Option Kind)
+    → sign_of (c ∷ d ∷ f ∷ []) ≡ triple → Found (c ∷ d ∷ f ∷ cs)
+find_triple c d f cs class None e = find_double c d (f ∷ cs) class e (sign_of (c ∷ d ∷ [])) refl
+find_triple c d f cs class (Some kind) e =
+    Next (Word kind) (c ∷ d ∷ f ∷ []) cs (next_triple c d f cs kind class e)
 
 find_sign : (c : ℕ) (cs : List ℕ) → class_of c ≡ Other → Found (c ∷ cs)
-find_sign c [] class = find_single c [] class tt (sign_of (c ∷ [])) refl
-find_sign c (d ∷ cs) class = find_double c d cs class (sign_of (c ∷ d ∷ [])) refl
+find_sign c [] class = find_single c [] class tt tt (sign_of (c ∷ [])) refl
+find_sign c (d ∷ []) class = find_double c d [] class tt (sign_of (c ∷ d ∷ [])) refl
+find_sign c (d ∷ f ∷ cs) class = find_triple c d f cs class (sign_of (c ∷ d ∷ f ∷ [])) refl
 
 find_comment : (body : List ℕ) (closed : Option (List ℕ)) → after_close false body ≡ closed → Found (47 ∷ 42 ∷ body)
 find_comment body None e = let (front, (rest, next)) = open_read (47 ∷ 42 ∷ body) body refl e in Next OpenComment front rest next

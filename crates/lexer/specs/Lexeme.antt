@@ -9,7 +9,7 @@ use Rattle.std.specs.Map.{lookup}
 use Rattle.std.specs.Str.Parse.{digits_value}
 use Rattle.lexer.specs.Words.{is_white_space, is_name, keyword_of}
 use Rattle.lexer.specs.declared.token.Kind.{Kind}
-use Rattle.lexer.specs.declared.token.Kind.TheVariants.{OpenBrace, CloseBrace, OpenParenthesis, CloseParenthesis, OpenBracket, CloseBracket, Semicolon, Comma, Colon, Assign, EqualTo, NotEqualTo, LessThan, AtMost, GreaterThan, AtLeast, Plus, Minus, Star, Slash, Percent, Not, And, Or, Name, Integer}
+use Rattle.lexer.specs.declared.token.Kind.TheVariants.{OpenBrace, CloseBrace, OpenParenthesis, CloseParenthesis, OpenBracket, CloseBracket, Semicolon, Comma, Colon, Assign, EqualTo, NotEqualTo, LessThan, AtMost, GreaterThan, AtLeast, Plus, Minus, Star, Slash, Percent, Not, And, Or, BitAnd, BitOr, BitXor, ShiftLeft, ShiftRight, ShiftRightUnsigned, Name, Integer}
 
 -- the signs, each with the kind of its token
 abbrev pub signs : List (List ℕ × Kind)
@@ -19,7 +19,8 @@ signs =
     ∷ (codes ":", Colon) ∷ (codes "=", Assign) ∷ (codes "==", EqualTo) ∷ (codes "!=", NotEqualTo)
     ∷ (codes "<", LessThan) ∷ (codes "<=", AtMost) ∷ (codes ">", GreaterThan) ∷ (codes ">=", AtLeast)
     ∷ (codes "+", Plus) ∷ (codes "-", Minus) ∷ (codes "*", Star) ∷ (codes "/", Slash) ∷ (codes "%", Percent)
-    ∷ (codes "!", Not) ∷ (codes "&&", And) ∷ (codes "||", Or) ∷ []
+    ∷ (codes "!", Not) ∷ (codes "&&", And) ∷ (codes "||", Or) ∷ (codes "&", BitAnd) ∷ (codes "|", BitOr)
+    ∷ (codes "^", BitXor) ∷ (codes "<<", ShiftLeft) ∷ (codes ">>", ShiftRight) ∷ (codes ">>>", ShiftRightUnsigned) ∷ []
 
 -- the kind of the sign that the characters are, if they are one
 abbrev pub sign_of : List ℕ → Option Kind

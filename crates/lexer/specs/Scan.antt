@@ -50,3 +50,12 @@ IsNoDouble c (d ∷ cs) = sign_of (c ∷ d ∷ []) ≡ None
 -- the character and the first one of the list are a sign of this kind, and `rest` follows
 abbrev pub IsDouble : ℕ → List ℕ → Kind → List ℕ → Type 0
 IsDouble c cs kind rest = (d : ℕ) × (cs ≡ d ∷ rest) × (sign_of (c ∷ d ∷ []) ≡ Some kind)
+
+-- the same of three characters
+abbrev pub IsNoTriple : ℕ → List ℕ → Type 0
+IsNoTriple c [] = Unit {0}
+IsNoTriple c (d ∷ []) = Unit {0}
+IsNoTriple c (d ∷ (e ∷ cs)) = sign_of (c ∷ d ∷ e ∷ []) ≡ None
+
+abbrev pub IsTriple : ℕ → List ℕ → Kind → List ℕ → Type 0
+IsTriple c cs kind rest = (d : ℕ) × (e : ℕ) × (cs ≡ d ∷ e ∷ rest) × (sign_of (c ∷ d ∷ e ∷ []) ≡ Some kind)

@@ -1,7 +1,7 @@
 //! The next lexeme of a text. A private part of the lexer.
 ghost use Rattle.lexer.specs.Cut.{IsStuck, HasNoLexeme};
 ghost use Rattle.lexer.specs.Lexeme.{sign_of};
-ghost use Rattle.lexer.specs.Scan.{holds, after_run, after_close, begins_sign, IsDouble, IsNoDouble, IsTail, Reads};
+ghost use Rattle.lexer.specs.Scan.{holds, after_run, after_close, begins_sign, IsDouble, IsNoDouble, IsTriple, IsNoTriple, IsTail, Reads};
 ghost use Rattle.lexer.specs.Words.{is_white_space, may_begin};
 ghost use Rattle.std.specs.Prelude.{◌≡◌, ◌++◌, ◌∷◌, [], MatchResult, MatchOption, IsTrue, Some, None, false};
 ghost use Rattle.std.specs.Char.{is_ascii_digit};
@@ -147,6 +147,12 @@ fn cut_sign<'a>(text: &'a str, first: char, after: &'a str) -> Option<Piece<'a>>
     ensures { MatchOption result (HasNoLexeme (chars text.now)) (λ piece. Reads (chars text.now)
         piece.kind (chars piece.rest.now)) }
 {
+    if let Some((kind, rest)) = cut_triple_sign(first, after) {
+        return Some(Piece {
+            kind: Some(kind),
+            rest,
+        });
+    }
     if let Some((kind, rest)) = cut_double_sign(first, after) {
         return Some(Piece {
             kind: Some(kind),
@@ -158,6 +164,27 @@ fn cut_sign<'a>(text: &'a str, first: char, after: &'a str) -> Option<Piece<'a>>
         kind: Some(kind),
         rest: after,
     })
+}
+
+/// The sign of three characters that begins with `first` and goes on in `after`, if there is one,
+/// and what follows it.
+fn cut_triple_sign(first: char, after: &str) -> Option<(Kind, &str)>
+    ensures { MatchOption result (IsNoTriple first (chars after.now)) (λ sign. IsTriple first
+        (chars after.now) sign.0 (chars sign.1.now)) }
+{
+    let (second, behind) = split_first(after)?;
+    let (third, rest) = split_first(behind)?;
+    let kind = kind_of_triple(first, second, third)?;
+    Some((kind, rest))
+}
+
+fn kind_of_triple(first: char, second: char, third: char) -> Option<Kind>
+    ensures { result ≡ sign_of (first ∷ second ∷ third ∷ []) }
+{
+    match (first, second, third) {
+        ('>', '>', '>') => Some(Kind::ShiftRightUnsigned),
+        _ => None,
+    }
 }
 
 /// The sign of two characters that begins with `first` and goes on in `after`, if there is one, and
@@ -181,6 +208,8 @@ fn kind_of_pair(first: char, second: char) -> Option<Kind>
         ('>', '=') => Some(Kind::AtLeast),
         ('&', '&') => Some(Kind::And),
         ('|', '|') => Some(Kind::Or),
+        ('<', '<') => Some(Kind::ShiftLeft),
+        ('>', '>') => Some(Kind::ShiftRight),
         _ => None,
     }
 }
@@ -207,6 +236,9 @@ fn kind_of_sign(character: char) -> Option<Kind>
         '/' => Some(Kind::Slash),
         '%' => Some(Kind::Percent),
         '!' => Some(Kind::Not),
+        '&' => Some(Kind::BitAnd),
+        '|' => Some(Kind::BitOr),
+        '^' => Some(Kind::BitXor),
         _ => None,
     }
 }

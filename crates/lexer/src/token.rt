@@ -72,6 +72,18 @@ pub enum Kind {
     And,
     /// `||`
     Or,
+    /// `&`
+    BitAnd,
+    /// `|`
+    BitOr,
+    /// `^`
+    BitXor,
+    /// `<<`
+    ShiftLeft,
+    /// `>>`
+    ShiftRight,
+    /// `>>>`
+    ShiftRightUnsigned,
     /// A name, which is no keyword.
     Name,
     /// An integer with its value, at most 2147483647.

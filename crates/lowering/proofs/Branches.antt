@@ -10,6 +10,8 @@ use Rattle.resolved.specs.declared.expression.Base.TheVariants as base
 use Rattle.resolved.specs.declared.expression.Prefix.TheVariants as prefix
 use Rattle.resolved.specs.declared.expression.Operator.{Operator}
 use Rattle.resolved.specs.declared.expression.Operator.TheVariants as operator
+use Rattle.resolved.specs.declared.expression.Relation.TheVariants as relation
+use Rattle.resolved.specs.declared.expression.Sameness.TheVariants as sameness
 use Rattle.resolved.specs.declared.expression.Connective.{Connective}
 use Rattle.resolved.specs.declared.expression.Connective.TheVariants.{And, Or}
 use Rattle.resolved.specs.Tree.{Expression, Integer, Logical, Read, Element, Unary, Binary, Short}
@@ -66,15 +68,17 @@ negated_truth a b e = ap (λ (t : Bool). Yields (Truth t)) e
 
 negated-operator : (op : Operator) (v w : Value) → result_base op ≡ base.Boolean
     → operator_value (negated_operator op) v w ≡ then_with (operator_value op v w) (λ x. Yields (prefix_value prefix.Not x))
-negated-operator operator.LessThan v w e = negated_truth _ _ (negated_order (number_in v) (number_in w))
-negated-operator operator.AtMost v w e = negated_truth _ _ (negated_order' (number_in v) (number_in w))
-negated-operator operator.GreaterThan v w e = negated_truth _ _ (negated_order (number_in w) (number_in v))
-negated-operator operator.AtLeast v w e = negated_truth _ _ (negated_order' (number_in w) (number_in v))
-negated-operator operator.Equal v w e = refl
-negated-operator operator.Unequal v w e = negated_truth _ _ (twice _)
-negated-operator operator.Same v w e = refl
-negated-operator operator.Different v w e = negated_truth _ _ (twice _)
-negated-operator _ v w e = absurd (let no : base.Int ≡ base.Boolean = e in cc)
+negated-operator (operator.Compare relation.LessThan) v w e = negated_truth _ _ (negated_order (number_in v) (number_in w))
+negated-operator (operator.Compare relation.AtMost) v w e = negated_truth _ _ (negated_order' (number_in v) (number_in w))
+negated-operator (operator.Compare relation.GreaterThan) v w e = negated_truth _ _ (negated_order (number_in w) (number_in v))
+negated-operator (operator.Compare relation.AtLeast) v w e = negated_truth _ _ (negated_order' (number_in w) (number_in v))
+negated-operator (operator.Compare relation.Equal) v w e = refl
+negated-operator (operator.Compare relation.Unequal) v w e = negated_truth _ _ (twice _)
+negated-operator (operator.Match sameness.Same) v w e = refl
+negated-operator (operator.Match sameness.Different) v w e = negated_truth _ _ (twice _)
+negated-operator (operator.Compute computed) v w e = cc
+negated-operator (operator.Divide divided) v w e = cc
+negated-operator (operator.Bits made) v w e = cc
 
 negated_pair : (op : Operator) (first second : Evaluated Value) → result_base op ≡ base.Boolean
     → then_with first (λ v. then_with second (λ w. operator_value (negated_operator op) v w))

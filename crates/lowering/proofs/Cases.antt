@@ -2,6 +2,8 @@
 use Rattle.std.proofs.Common.{◌≡◌, refl, List, [], ◌∷◌, None}
 use Rattle.resolved.specs.declared.expression.Variable.TheVariants.{Local}
 use Rattle.resolved.specs.declared.expression.Operator.TheVariants as operator
+use Rattle.resolved.specs.declared.expression.Division.TheVariants.{Quotient}
+use Rattle.resolved.specs.declared.expression.Relation.TheVariants.{LessThan, AtMost}
 use Rattle.resolved.specs.declared.expression.Connective.TheVariants.{And}
 use Rattle.resolved.specs.declared.statement.Exit.TheVariants as exit
 use Rattle.resolved.specs.Tree as tree
@@ -24,7 +26,7 @@ y = tree.Read (Local 1)
 
 -- `while (x < 3 && 5 <= x) { send pub, 1; break; }`
 looping : (p : Program) → ◌≡◌ {A = List Instruction}
-    (body_code p (tree.Then (tree.While 0 0 (tree.Short And (tree.Binary operator.LessThan x (tree.Integer 3)) (tree.Binary operator.AtMost (tree.Integer 5) x))
+    (body_code p (tree.Then (tree.While 0 0 (tree.Short And (tree.Binary (operator.Compare LessThan) x (tree.Integer 3)) (tree.Binary (operator.Compare AtMost) (tree.Integer 5) x))
     (tree.Then (tree.Send 0 0 (tree.Integer 1)) (tree.Then (tree.Leave 0 exit.Break) tree.Empty))) tree.Empty))
     (Jump 4 ∷ Push (literal_number 1) ∷ Send 0 ∷ Jump 12
     ∷ Load 0 ∷ Push (literal_number 3) ∷ Compare Less ∷ JumpIfFalse 12
@@ -39,13 +41,13 @@ nested p = refl
 
 -- `try { send pub, 1 / x; } catch (Arith) { return; }`
 catching : (p : Program) → ◌≡◌ {A = List Instruction}
-    (body_code p (tree.Then (tree.Try 0 (tree.Then (tree.Send 0 0 (tree.Binary operator.Divide (tree.Integer 1) x)) tree.Empty)
+    (body_code p (tree.Then (tree.Try 0 (tree.Then (tree.Send 0 0 (tree.Binary (operator.Divide Quotient) (tree.Integer 1) x)) tree.Empty)
     (tree.Catch 0 0 (tree.Then (tree.ReturnWith 0 None) tree.Empty) tree.NoMore)) tree.Empty))
     (Push (literal_number 1) ∷ Load 0 ∷ Compute Divide ∷ Send 0 ∷ Jump 6 ∷ Return ∷ Return ∷ [])
 catching p = refl
 
 caught : (p : Program) → ◌≡◌ {A = List Handler}
-    (block_table p 0 (tree.Then (tree.Try 0 (tree.Then (tree.Send 0 0 (tree.Binary operator.Divide (tree.Integer 1) x)) tree.Empty)
+    (block_table p 0 (tree.Then (tree.Try 0 (tree.Then (tree.Send 0 0 (tree.Binary (operator.Divide Quotient) (tree.Integer 1) x)) tree.Empty)
     (tree.Catch 0 0 (tree.Then (tree.ReturnWith 0 None) tree.Empty) tree.NoMore)) tree.Empty))
     (record { start = 0; end = 4; exception = 0; target = 5 } ∷ [])
 caught p = refl

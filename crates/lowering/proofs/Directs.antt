@@ -1,7 +1,8 @@
 -- No jump of a graph leads to an unconditional jump.
 use Rattle.std.proofs.Common.{get_or}
 use Rattle.std.proofs.lemmas.List.Elements.{All-map}
-use Rattle.lowering.specs.Direct.{HasDirectJumps, GraphsHaveDirectJumps}
+use Rattle.lowering.specs.Direct.{HasDirectJumps}
+use Rattle.lowering.specs.Laws.{GraphsHaveDirectJumps}
 use Rattle.lowering.specs.Graphs.{body_code, procedure_contents}
 use Rattle.lowering.proofs.Finals.{threaded-direct}
 use Rattle.lowering.proofs.Forward.{body-forward}

@@ -13,6 +13,11 @@ use Rattle.resolved.specs.declared.expression.Prefix.{Prefix}
 use Rattle.resolved.specs.declared.expression.Prefix.TheVariants as prefix
 use Rattle.resolved.specs.declared.expression.Operator.{Operator}
 use Rattle.resolved.specs.declared.expression.Operator.TheVariants as operator
+use Rattle.resolved.specs.declared.expression.Computation.TheVariants as computation
+use Rattle.resolved.specs.declared.expression.Division.TheVariants as division
+use Rattle.resolved.specs.declared.expression.BitOperator.TheVariants as bits
+use Rattle.resolved.specs.declared.expression.Relation.TheVariants as relation
+use Rattle.resolved.specs.declared.expression.Sameness.TheVariants as sameness
 use Rattle.resolved.specs.declared.expression.Connective.{Connective}
 use Rattle.resolved.specs.declared.expression.Connective.TheVariants.{And, Or}
 use Rattle.resolved.specs.Tree.{Expression, Integer, Logical, Read, Element, Unary, Binary, Short}
@@ -34,6 +39,7 @@ use Rattle.lowering.proofs.Steps.{Leads, leads-through}
 use Rattle.lowering.proofs.States.{Setting, state_at, place, cell_of, thrown_to, raised-is}
 use Rattle.lowering.proofs.Rows.{does, onward}
 use Rattle.lowering.proofs.Values.{Finds, finds-part, ValueRuns, value-from, value-to, value-at, then-runs, read-runs, element-runs}
+use Rattle.common.specs.Bits.{bits_and, bits_or, bits_xor, shifted_left, shifted_right, shifted_right_unsigned}
 use Rattle.common.specs.Integers.{is_zero}
 use Rattle.resolved.proofs.Sound.Meanings.{base_given}
 
@@ -83,30 +89,43 @@ module _ (g : Setting) (h : ℕ → Option ℕ) (s : source.SourceState) where
   numbers-run : (op : Operator) (a b : ℤ) (at : ℕ) (operands : List Cell) (more : List Instruction) → operand_base op ≡ base.Int
       → Stands g.code (operator_instruction op ∷ more) at → ((exception : ℕ) → g.p.find g.number at exception ≡ h exception)
       → ValueRuns g h operands (place g at (cell.Int b ∷ cell.Int a ∷ operands) s) (at + 1) s (operator_value op (Number a) (Number b))
-  numbers-run operator.Add a b at operands more ints stands finds = gives-runs _ at _ operands (Number (wrapped (a +ℤ b))) more stands refl
-  numbers-run operator.Subtract a b at operands more ints stands finds = gives-runs _ at _ operands (Number (wrapped (a -ℤ b))) more stands refl
-  numbers-run operator.Multiply a b at operands more ints stands finds = gives-runs _ at _ operands (Number (wrapped (a *ℤ b))) more stands refl
-  numbers-run operator.Divide a b at operands more ints stands finds = division-runs _ a b (wrapped (int_div a b)) (is_zero b) at operands more refl stands finds refl
-  numbers-run operator.Remainder a b at operands more ints stands finds = division-runs _ a b (int_rem a b) (is_zero b) at operands more refl stands finds refl
-  numbers-run operator.LessThan a b at operands more ints stands finds = gives-runs _ at _ operands (Truth (int_lt a b)) more stands refl
-  numbers-run operator.AtMost a b at operands more ints stands finds = gives-runs _ at _ operands (Truth (int_le a b)) more stands refl
-  numbers-run operator.GreaterThan a b at operands more ints stands finds = gives-runs _ at _ operands (Truth (int_lt b a)) more stands refl
-  numbers-run operator.AtLeast a b at operands more ints stands finds = gives-runs _ at _ operands (Truth (int_le b a)) more stands refl
-  numbers-run operator.Equal a b at operands more ints stands finds =
+  numbers-run (operator.Compute computation.Add) a b at operands more ints stands finds = gives-runs _ at _ operands (Number (wrapped (a +ℤ b))) more stands refl
+  numbers-run (operator.Compute computation.Subtract) a b at operands more ints stands finds = gives-runs _ at _ operands (Number (wrapped (a -ℤ b))) more stands refl
+  numbers-run (operator.Compute computation.Multiply) a b at operands more ints stands finds = gives-runs _ at _ operands (Number (wrapped (a *ℤ b))) more stands refl
+  numbers-run (operator.Divide division.Quotient) a b at operands more ints stands finds =
+      division-runs _ a b (wrapped (int_div a b)) (is_zero b) at operands more refl stands finds refl
+  numbers-run (operator.Divide division.Remainder) a b at operands more ints stands finds =
+      division-runs _ a b (int_rem a b) (is_zero b) at operands more refl stands finds refl
+  numbers-run (operator.Bits bits.BitAnd) a b at operands more ints stands finds =
+      gives-runs _ at _ operands (Number (bits_and a b)) more stands refl
+  numbers-run (operator.Bits bits.BitOr) a b at operands more ints stands finds =
+      gives-runs _ at _ operands (Number (bits_or a b)) more stands refl
+  numbers-run (operator.Bits bits.BitXor) a b at operands more ints stands finds =
+      gives-runs _ at _ operands (Number (bits_xor a b)) more stands refl
+  numbers-run (operator.Bits bits.ShiftLeft) a b at operands more ints stands finds =
+      gives-runs _ at _ operands (Number (shifted_left a b)) more stands refl
+  numbers-run (operator.Bits bits.ShiftRight) a b at operands more ints stands finds =
+      gives-runs _ at _ operands (Number (shifted_right a b)) more stands refl
+  numbers-run (operator.Bits bits.ShiftRightUnsigned) a b at operands more ints stands finds =
+      gives-runs _ at _ operands (Number (shifted_right_unsigned a b)) more stands refl
+  numbers-run (operator.Compare relation.LessThan) a b at operands more ints stands finds = gives-runs _ at _ operands (Truth (int_lt a b)) more stands refl
+  numbers-run (operator.Compare relation.AtMost) a b at operands more ints stands finds = gives-runs _ at _ operands (Truth (int_le a b)) more stands refl
+  numbers-run (operator.Compare relation.GreaterThan) a b at operands more ints stands finds = gives-runs _ at _ operands (Truth (int_lt b a)) more stands refl
+  numbers-run (operator.Compare relation.AtLeast) a b at operands more ints stands finds = gives-runs _ at _ operands (Truth (int_le b a)) more stands refl
+  numbers-run (operator.Compare relation.Equal) a b at operands more ints stands finds =
       gives-runs _ at _ operands (Truth (int_eq a b)) more stands
       (ap (λ (t : Bool). goes_on g.p (state_at g at (cell.Int b ∷ cell.Int a ∷ operands) s) (cell.Bool t ∷ operands)) (same_equal a b))
-  numbers-run operator.Unequal a b at operands more ints stands finds =
+  numbers-run (operator.Compare relation.Unequal) a b at operands more ints stands finds =
       gives-runs _ at _ operands (Truth (not (int_eq a b))) more stands
       (ap (λ (t : Bool). goes_on g.p (state_at g at (cell.Int b ∷ cell.Int a ∷ operands) s) (cell.Bool (not t) ∷ operands)) (same_equal a b))
-  numbers-run operator.Same a b at operands more ints stands finds = cc
-  numbers-run operator.Different a b at operands more ints stands finds = cc
+  numbers-run (operator.Match matched) a b at operands more ints stands finds = cc
 
   truths-run : (op : Operator) (a b : Bool) (at : ℕ) (operands : List Cell) (more : List Instruction) → operand_base op ≡ base.Boolean
       → Stands g.code (operator_instruction op ∷ more) at
       → ValueRuns g h operands (place g at (cell.Bool b ∷ cell.Bool a ∷ operands) s) (at + 1) s (operator_value op (Truth a) (Truth b))
-  truths-run operator.Same a b at operands more truths stands =
+  truths-run (operator.Match sameness.Same) a b at operands more truths stands =
       gives-runs _ at _ operands (Truth (same_truth a b)) more stands refl
-  truths-run operator.Different a b at operands more truths stands =
+  truths-run (operator.Match sameness.Different) a b at operands more truths stands =
       gives-runs _ at _ operands (Truth (not (same_truth a b))) more stands refl
   truths-run _ a b at operands more truths stands = absurd (let no : base.Int ≡ base.Boolean = truths in cc)
 

@@ -26,7 +26,7 @@ use Rattle.verifier.proofs.NeverStuck.{never_stuck}
 use Rattle.lowering.specs.Interface.{slot_contents, channel_contents, global_contents, returned_kind}
 use Rattle.lowering.specs.Code.{block_falls, block_size, block_code, block_table}
 use Rattle.lowering.specs.Graphs.{end_code, no_loop, body_code, procedure_contents, graph_of}
-use Rattle.lowering.specs.Verified.{ModulesHaveNoDefect, ModulesAreNeverStuck}
+use Rattle.lowering.specs.Laws.{ModulesHaveNoDefect, ModulesAreNeverStuck}
 use Rattle.lowering.proofs.Ending.{Stops, stops-one, stops-behind, stops-alone, block-stops, block-normal}
 use Rattle.lowering.proofs.Unthreaded.{unthreaded_procedure}
 use Rattle.lowering.proofs.Finals.{all-at}

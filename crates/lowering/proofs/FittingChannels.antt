@@ -19,7 +19,7 @@ use Rattle.modules.specs.Form.{Fits}
 use Rattle.modules.specs.Format.{is_among, is_built_in, direction, label, channel_after, channels, channel_names, declared}
 use Rattle.lowering.specs.Interface.{channel_contents}
 use Rattle.lowering.proofs.Fronts.{FitEach-from_fronts, All-at_seam, not_among_front}
-use Rattle.lowering.proofs.FittingNames.{behind_different, none_in_front, not_contained, name_fits, exceptions_fit}
+use Rattle.lowering.proofs.FittingNames.{kept_name, behind_different, none_in_front, not_contained, name_fits, exceptions_fit}
 use Rattle.lowering.proofs.FittingLabels.{label-fits}
 use Rattle.common.specs.Exceptions.{built_in_names}
 
@@ -41,7 +41,7 @@ record IsFitChannel (count : ℕ) (names : List (List ℕ)) (channel : ChannelCo
 fit_channel : (count : ℕ) (names : List (List ℕ)) (front : List ChannelContents) (channel : ChannelContents) → IsFitChannel count names channel → is_among (channel_names front) channel.name ≡ false → Fits (channel_after count (taken_by names) front) channel
 unfolding channel_after
 fit_channel count names front channel h new =
-    ((direction_fits channel.direction, (name_fits (taken_by names) (channel_names front) channel.name h.name h.free new, h.label)), refl)
+    ((direction_fits channel.direction, (name_fits (taken_by names) (channel_names front) channel.name (kept_name channel.name h.name) h.free new, h.label)), refl)
 
 names_at_seam : (front : List ChannelContents) (channel : ChannelContents) (rest all : List ChannelContents) → all ≡ front ++ channel ∷ rest → AllDifferent (channel_names all) → is_among (channel_names front) channel.name ≡ false
 names_at_seam front channel rest all e different =

@@ -1,8 +1,8 @@
 -- The numbers in the code of statements and in its handlers, but for where it jumps, are within the limits of the module file.
 use Rattle.std.proofs.Common.{◌≡◌, ℕ, pos, ◌+◌, ◌^◌, ◌<◌, ◌≤◌, Bool, true, false, ◌&&◌, List, [], ◌∷◌, ◌++◌, length, Option, Some, None, refl, arith, length-append}
-use Rattle.std.specs.Prelude.{slice_get, is_none, not, nat_lt, if◌then◌else◌}
+use Rattle.std.specs.Prelude.{IsTrue, slice_get, is_none, not, nat_lt, ◌||◌, if◌then◌else◌}
 use Rattle.std.specs.Int.{w32}
-use Rattle.std.specs.List.{AllByRecursion}
+use Rattle.std.specs.List.{AllByRecursion, list_any}
 use Rattle.std.proofs.lemmas.Bool.{ltb-true, and_parts}
 use Rattle.std.proofs.lemmas.Int.{SFits-int_wrap}
 use Rattle.std.proofs.lemmas.Option.{slice_get_within}
@@ -14,6 +14,10 @@ use Rattle.resolved.specs.declared.expression.Prefix.{Prefix}
 use Rattle.resolved.specs.declared.expression.Prefix.TheVariants as prefix
 use Rattle.resolved.specs.declared.expression.Operator.{Operator}
 use Rattle.resolved.specs.declared.expression.Operator.TheVariants as operator
+use Rattle.resolved.specs.declared.expression.BitOperator.TheVariants as bits
+use Rattle.resolved.specs.declared.expression.Computation.TheVariants as computation
+use Rattle.resolved.specs.declared.expression.Division.TheVariants as division
+use Rattle.resolved.specs.declared.expression.Sameness.TheVariants as sameness
 use Rattle.resolved.specs.declared.expression.Connective.{Connective}
 use Rattle.resolved.specs.declared.expression.Connective.TheVariants.{And, Or}
 use Rattle.resolved.specs.declared.statement.Exit.{Exit}
@@ -22,75 +26,99 @@ use Rattle.common.specs.declared.direction.Direction.{Direction}
 use Rattle.common.specs.declared.direction.Direction.TheVariants.{Input, Output}
 use Rattle.resolved.specs.Tree.{Expression, Integer, Logical, Read, Element, Unary, Binary, Short, Statement, Assign, Clear, Store, Receive, Send, Call, If, While, Leave, ReturnWith, Try, Nested, Block, Empty, Then, Handlers, NoMore, Catch}
 use Rattle.resolved.specs.Program.{Program, ProcedureEntry, SlotEntry, ResultEntry, ChannelEntry, GlobalEntry, procedure_at}
+use Rattle.resolved.specs.BitUse.{is_bit_operator, expression_uses_bits, statement_uses_bits, block_uses_bits, handlers_use_bits}
 use Rattle.resolved.specs.Value.{literal_number}
 use Rattle.resolved.specs.WellFormed.{VariableType, same_base, slot_type, global_type, variable_type, scalar_by, has_length, array_by, has_base, prefix_base, operand_base, result_base, has_result, target_by, channel_is, arguments_match, parameters_of, call_matches, is_exception, may_leave_by, is_array, statement_fits, block_fits, handlers_fit, statement_nodes, block_nodes, handlers_nodes}
 use Rattle.resolved.proofs.WellFormedParts.{result_some}
 use Rattle.modules.specs.declared.instruction.Instruction.{Instruction}
 use Rattle.modules.specs.declared.instruction.Instruction.TheVariants as instruction
 use Rattle.modules.specs.declared.declaration.Handler.{Handler}
-use Rattle.modules.specs.Opcodes.{OperandFits, row_of}
+use Rattle.modules.specs.declared.version.Version.{Version}
+use Rattle.modules.specs.declared.version.Version.TheVariants.{Two}
+use Rattle.modules.specs.Opcodes.{OperandFits, row_of, has_instruction}
 use Rattle.lowering.specs.Expressions.{load_of, store_of, load_element_of, store_element_of, prefix_instruction, operator_instruction, negated_operator, value_size, value_code, rest_of_short, arguments_code, negated, deciding, branch_size, branch_code, test_code}
 use Rattle.lowering.specs.Code.{Loop, jump_code, jumps_over, jumps_behind, kept_code, result_code, leave_code, return_code, entry_of, no_place, test_place, handlers_place, statement_size, block_size, handlers_size, statement_code, block_code, handlers_code, statement_table, block_table, handlers_table}
 use Rattle.lowering.specs.Graphs.{end_code}
 
 -- ---- instructions
 
--- a number of an instruction, unless it is where that jumps, is within the limits
-abbrev pub IsNumbered : Instruction → Type 0
-IsNumbered (instruction.Jump target) = Unit {0}
-IsNumbered (instruction.JumpIfFalse target) = Unit {0}
-IsNumbered x = OperandFits (row_of x).operand
+-- a version has an instruction, whose number, unless it is where that jumps, is within the limits
+abbrev pub IsNumbered : Version → Instruction → Type 0
+IsNumbered version (instruction.Jump target) = Unit {0}
+IsNumbered version (instruction.JumpIfFalse target) = Unit {0}
+IsNumbered version (instruction.Compute operator) = IsTrue (has_instruction version (instruction.Compute operator))
+IsNumbered version x = OperandFits (row_of x).operand
 
-pub record AreNumbered (code : List Instruction) : Type 0 where
-  pub each : AllByRecursion IsNumbered code
+pub record AreNumbered (version : Version) (code : List Instruction) : Type 0 where
+  pub each : AllByRecursion (IsNumbered version) code
 
-numbered-none : AreNumbered []
+-- what uses operators on bits has a version that has them
+abbrev pub Allows : Version → (uses : Bool) → Type 0
+Allows version uses = uses ≡ true → version ≡ Two
+
+pub allows-first : (version : Version) (a b : Bool) → Allows version (a || b) → Allows version a
+allows-first version true b k e = k refl
+allows-first version false b k e = cc
+
+pub allows-second : (version : Version) (a b : Bool) → Allows version (a || b) → Allows version b
+allows-second version true b k e = k refl
+allows-second version false b k e = k e
+
+numbered-none : {version : Version} → AreNumbered version []
 numbered-none = record { each = tt }
 
-numbered-more : (x : Instruction) (code : List Instruction) → IsNumbered x → AreNumbered code → AreNumbered (x ∷ code)
+numbered-more : {version : Version} (x : Instruction) (code : List Instruction) → IsNumbered version x → AreNumbered version code → AreNumbered version (x ∷ code)
 numbered-more x code h k = record { each = (h, k.each) }
 
-numbered-one : (x : Instruction) → IsNumbered x → AreNumbered (x ∷ [])
+numbered-one : {version : Version} (x : Instruction) → IsNumbered version x → AreNumbered version (x ∷ [])
 numbered-one x h = numbered-more x [] h numbered-none
 
-append-each : (xs ys : List Instruction) → AllByRecursion IsNumbered xs → AllByRecursion IsNumbered ys → AllByRecursion IsNumbered (xs ++ ys)
-append-each [] ys h k = k
-append-each (x ∷ xs) ys h k = (h.0, append-each xs ys h.1 k)
+append-each : (version : Version) (xs ys : List Instruction) → AllByRecursion (IsNumbered version) xs → AllByRecursion (IsNumbered version) ys → AllByRecursion (IsNumbered version) (xs ++ ys)
+append-each version [] ys h k = k
+append-each version (x ∷ xs) ys h k = (h.0, append-each version xs ys h.1 k)
 
-pub numbered-both : (xs ys : List Instruction) → AreNumbered xs → AreNumbered ys → AreNumbered (xs ++ ys)
-numbered-both xs ys h k = record { each = append-each xs ys h.each k.each }
+pub numbered-both : {version : Version} (xs ys : List Instruction) → AreNumbered version xs → AreNumbered version ys → AreNumbered version (xs ++ ys)
+numbered-both {version = version} xs ys h k = record { each = append-each version xs ys h.each k.each }
 
-literal-numbered : (n : ℕ) → IsNumbered (instruction.Push (literal_number n))
-literal-numbered n = SFits-int_wrap w32 (pos n)
+literal-numbered : (version : Version) (n : ℕ) → IsNumbered version (instruction.Push (literal_number n))
+literal-numbered version n = SFits-int_wrap w32 (pos n)
 
-prefix-numbered : (sign : Prefix) → IsNumbered (prefix_instruction sign)
-prefix-numbered prefix.Negate = tt
-prefix-numbered prefix.Not = tt
+prefix-numbered : (version : Version) (sign : Prefix) → IsNumbered version (prefix_instruction sign)
+prefix-numbered version prefix.Negate = tt
+prefix-numbered version prefix.Not = tt
 
-operator-numbered : (o : Operator) → IsNumbered (operator_instruction o)
-operator-numbered operator.Add = tt
-operator-numbered operator.Subtract = tt
-operator-numbered operator.Multiply = tt
-operator-numbered operator.Divide = tt
-operator-numbered operator.Remainder = tt
-operator-numbered operator.LessThan = tt
-operator-numbered operator.AtMost = tt
-operator-numbered operator.GreaterThan = tt
-operator-numbered operator.AtLeast = tt
-operator-numbered operator.Equal = tt
-operator-numbered operator.Unequal = tt
-operator-numbered operator.Same = tt
-operator-numbered operator.Different = tt
+operator-numbered : (version : Version) (o : Operator) → Allows version (is_bit_operator o) → IsNumbered version (operator_instruction o)
+operator-numbered version (operator.Compute computation.Add) k = refl
+operator-numbered version (operator.Compute computation.Subtract) k = refl
+operator-numbered version (operator.Compute computation.Multiply) k = refl
+operator-numbered version (operator.Divide division.Quotient) k = refl
+operator-numbered version (operator.Divide division.Remainder) k = refl
+operator-numbered version (operator.Bits bits.BitAnd) k = rw (k refl) refl
+operator-numbered version (operator.Bits bits.BitOr) k = rw (k refl) refl
+operator-numbered version (operator.Bits bits.BitXor) k = rw (k refl) refl
+operator-numbered version (operator.Bits bits.ShiftLeft) k = rw (k refl) refl
+operator-numbered version (operator.Bits bits.ShiftRight) k = rw (k refl) refl
+operator-numbered version (operator.Bits bits.ShiftRightUnsigned) k = rw (k refl) refl
+operator-numbered version (operator.Compare compared) k = tt
+operator-numbered version (operator.Match sameness.Same) k = tt
+operator-numbered version (operator.Match sameness.Different) k = tt
 
-jump-numbered : (wanted : Bool) (target : ℕ) → AreNumbered (jump_code wanted target)
+negated-allows : (version : Version) (o : Operator) → Allows version (is_bit_operator o) → Allows version (is_bit_operator (negated_operator o))
+negated-allows version (operator.Compute computed) k = k
+negated-allows version (operator.Divide divided) k = k
+negated-allows version (operator.Bits made) k = k
+negated-allows version (operator.Compare compared) k = k
+negated-allows version (operator.Match matched) k = k
+
+jump-numbered : {version : Version} (wanted : Bool) (target : ℕ) → AreNumbered version (jump_code wanted target)
 jump-numbered true target = numbered-one (instruction.Jump target) tt
 jump-numbered false target = numbered-none
 
-pub end-numbered : (falls : Bool) → AreNumbered (end_code falls)
+pub end-numbered : {version : Version} (falls : Bool) → AreNumbered version (end_code falls)
 end-numbered true = numbered-one instruction.Return tt
 end-numbered false = numbered-none
 
-short-numbered : (connective : Connective) (at size : ℕ) (right : ℕ → List Instruction) → ((place : ℕ) → AreNumbered (right place)) → AreNumbered (rest_of_short connective at size right)
+short-numbered : {version : Version} (connective : Connective) (at size : ℕ) (right : ℕ → List Instruction) → ((place : ℕ) → AreNumbered version (right place)) → AreNumbered version (rest_of_short connective at size right)
 short-numbered And at size right h =
     numbered-more (instruction.JumpIfFalse (at + 1 + size + 1)) _ tt
     (numbered-both (right (at + 1)) _ (h (at + 1)) (numbered-more (instruction.Jump (at + 1 + size + 1 + 1)) _ tt (numbered-one (instruction.PushBoolean false) tt)))
@@ -105,21 +133,21 @@ abbrev IsSmall : Variable → Type 0
 IsSmall (Global n) = n < 2 ^ 32
 IsSmall (Local n) = n < 2 ^ 32
 
-load-numbered : (x : Variable) → IsSmall x → IsNumbered (load_of x)
-load-numbered (Global n) h = h
-load-numbered (Local n) h = h
+load-numbered : (version : Version) (x : Variable) → IsSmall x → IsNumbered version (load_of x)
+load-numbered version (Global n) h = h
+load-numbered version (Local n) h = h
 
-store-numbered : (x : Variable) → IsSmall x → IsNumbered (store_of x)
-store-numbered (Global n) h = h
-store-numbered (Local n) h = h
+store-numbered : (version : Version) (x : Variable) → IsSmall x → IsNumbered version (store_of x)
+store-numbered version (Global n) h = h
+store-numbered version (Local n) h = h
 
-load_element-numbered : (x : Variable) → IsSmall x → IsNumbered (load_element_of x)
-load_element-numbered (Global n) h = h
-load_element-numbered (Local n) h = h
+load_element-numbered : (version : Version) (x : Variable) → IsSmall x → IsNumbered version (load_element_of x)
+load_element-numbered version (Global n) h = h
+load_element-numbered version (Local n) h = h
 
-store_element-numbered : (x : Variable) → IsSmall x → IsNumbered (store_element_of x)
-store_element-numbered (Global n) h = h
-store_element-numbered (Local n) h = h
+store_element-numbered : (version : Version) (x : Variable) → IsSmall x → IsNumbered version (store_element_of x)
+store_element-numbered version (Global n) h = h
+store_element-numbered version (Local n) h = h
 
 scalar-is : (o : Option VariableType) (test : Base → Bool) → scalar_by o test ≡ true → (type : VariableType) × (o ≡ Some type) × (test type.base ≡ true)
 scalar-is None test h = absurd (cc)
@@ -168,7 +196,7 @@ pub record HasShortTables (program : Program) (procedure : ProcedureEntry) : Typ
   pub procedures : length program.procedures < 2 ^ 32
   pub exceptions : 3 + length program.exceptions < 2 ^ 32
 
-module _ (program : Program) (procedure : ProcedureEntry) (short : HasShortTables program procedure) where
+module _ (version : Version) (program : Program) (procedure : ProcedureEntry) (short : HasShortTables program procedure) where
   global-small : (n : ℕ) (type : VariableType) (o : Option GlobalEntry) → slice_get program.globals n ≡ o → global_type o ≡ Some type → n < 2 ^ 32
   global-small n type None e h = absurd (cc)
   global-small n type (Some entry) e h = omega (arith, slice_get_within program.globals n entry e, short.globals)
@@ -199,78 +227,89 @@ module _ (program : Program) (procedure : ProcedureEntry) (short : HasShortTable
   exception-small n h = omega (arith, ltb-true n (3 + length program.exceptions) h, short.exceptions)
 
   -- ---- values
-  value-numbered : (e : Expression) (base : Base) (at : ℕ) → has_base program procedure base e ≡ true → AreNumbered (value_code at e)
-  value-numbered (Integer n) base at h = numbered-one _ (literal-numbered n)
-  value-numbered (Logical b) base at h = numbered-one _ tt
-  value-numbered (Read x) base at h = numbered-one _ (load-numbered x (scalar-small x (same_base base) h))
-  value-numbered (Element array count index) base at h =
+  value-numbered : (e : Expression) (base : Base) (at : ℕ) → has_base program procedure base e ≡ true → Allows version (expression_uses_bits e)
+      → AreNumbered version (value_code at e)
+  value-numbered (Integer n) base at h k = numbered-one _ (literal-numbered version n)
+  value-numbered (Logical b) base at h k = numbered-one _ tt
+  value-numbered (Read x) base at h k = numbered-one _ (load-numbered version x (scalar-small x (same_base base) h))
+  value-numbered (Element array count index) base at h k =
       let parts = and_parts (array_by (variable_type program procedure array) count (same_base base)) (has_base program procedure Int index) h in
-      numbered-both (value_code at index) _ (value-numbered index Int at parts.1) (numbered-one _ (load_element-numbered array (array-small array count (same_base base) parts.0)))
-  value-numbered (Unary sign e) base at h =
-      numbered-both (value_code at e) _ (value-numbered e (prefix_base sign) at (and_parts (same_base (prefix_base sign) base) _ h).1) (numbered-one _ (prefix-numbered sign))
-  value-numbered (Binary o d e) base at h =
+      numbered-both (value_code at index) _ (value-numbered index Int at parts.1 k) (numbered-one _ (load_element-numbered version array (array-small array count (same_base base) parts.0)))
+  value-numbered (Unary sign e) base at h k =
+      numbered-both (value_code at e) _ (value-numbered e (prefix_base sign) at (and_parts (same_base (prefix_base sign) base) _ h).1 k) (numbered-one _ (prefix-numbered version sign))
+  value-numbered (Binary o d e) base at h k =
       let parts = and_parts (same_base (result_base o) base && has_base program procedure (operand_base o) d) (has_base program procedure (operand_base o) e) h in
       let left = (and_parts (same_base (result_base o) base) (has_base program procedure (operand_base o) d) parts.0).1 in
-      numbered-both (value_code at d) _ (value-numbered d (operand_base o) at left)
-      (numbered-both (value_code (at + value_size d) e) _ (value-numbered e (operand_base o) (at + value_size d) parts.1) (numbered-one _ (operator-numbered o)))
-  value-numbered (Short connective d e) base at h =
+      let front = allows-first version (is_bit_operator o || expression_uses_bits d) (expression_uses_bits e) k in
+      numbered-both (value_code at d) _ (value-numbered d (operand_base o) at left (allows-second version (is_bit_operator o) (expression_uses_bits d) front))
+      (numbered-both (value_code (at + value_size d) e) _ (value-numbered e (operand_base o) (at + value_size d) parts.1 (allows-second version (is_bit_operator o || expression_uses_bits d) (expression_uses_bits e) k))
+      (numbered-one _ (operator-numbered version o (allows-first version (is_bit_operator o) (expression_uses_bits d) front))))
+  value-numbered (Short connective d e) base at h k =
       let parts = and_parts (same_base Boolean base && has_base program procedure Boolean d) (has_base program procedure Boolean e) h in
       let left = (and_parts (same_base Boolean base) (has_base program procedure Boolean d) parts.0).1 in
-      numbered-both (value_code at d) _ (value-numbered d Boolean at left)
-      (short-numbered connective (at + value_size d) (value_size e) (λ place. value_code place e) (λ place. value-numbered e Boolean place parts.1))
+      numbered-both (value_code at d) _ (value-numbered d Boolean at left (allows-first version (expression_uses_bits d) (expression_uses_bits e) k))
+      (short-numbered connective (at + value_size d) (value_size e) (λ place. value_code place e) (λ place. value-numbered e Boolean place parts.1 (allows-second version (expression_uses_bits d) (expression_uses_bits e) k)))
 
   -- a condition that is negated as a whole
-  not-numbered : (e : Expression) (at : ℕ) → has_base program procedure Boolean e ≡ true → AreNumbered (value_code at (Unary prefix.Not e))
-  not-numbered e at h = numbered-both (value_code at e) _ (value-numbered e Boolean at h) (numbered-one instruction.Not tt)
+  not-numbered : (e : Expression) (at : ℕ) → has_base program procedure Boolean e ≡ true → Allows version (expression_uses_bits e)
+      → AreNumbered version (value_code at (Unary prefix.Not e))
+  not-numbered e at h k = numbered-both (value_code at e) _ (value-numbered e Boolean at h k) (numbered-one instruction.Not tt)
 
-  negated-numbered : (e : Expression) (at : ℕ) → has_base program procedure Boolean e ≡ true → AreNumbered (value_code at (negated e))
-  negated-numbered (Integer n) at h = not-numbered (Integer n) at h
-  negated-numbered (Logical b) at h = numbered-one _ tt
-  negated-numbered (Read x) at h = not-numbered (Read x) at h
-  negated-numbered (Element array count index) at h = not-numbered (Element array count index) at h
-  negated-numbered (Unary sign e) at h = not-numbered (Unary sign e) at h
-  negated-numbered (Binary o d e) at h =
+  negated-numbered : (e : Expression) (at : ℕ) → has_base program procedure Boolean e ≡ true → Allows version (expression_uses_bits e)
+      → AreNumbered version (value_code at (negated e))
+  negated-numbered (Integer n) at h k = not-numbered (Integer n) at h k
+  negated-numbered (Logical b) at h k = numbered-one _ tt
+  negated-numbered (Read x) at h k = not-numbered (Read x) at h k
+  negated-numbered (Element array count index) at h k = not-numbered (Element array count index) at h k
+  negated-numbered (Unary sign e) at h k = not-numbered (Unary sign e) at h k
+  negated-numbered (Binary o d e) at h k =
       let parts = and_parts (same_base (result_base o) Boolean && has_base program procedure (operand_base o) d) (has_base program procedure (operand_base o) e) h in
       let left = (and_parts (same_base (result_base o) Boolean) (has_base program procedure (operand_base o) d) parts.0).1 in
-      numbered-both (value_code at d) _ (value-numbered d (operand_base o) at left)
-      (numbered-both (value_code (at + value_size d) e) _ (value-numbered e (operand_base o) (at + value_size d) parts.1) (numbered-one _ (operator-numbered (negated_operator o))))
-  negated-numbered (Short connective d e) at h = not-numbered (Short connective d e) at h
+      let front = allows-first version (is_bit_operator o || expression_uses_bits d) (expression_uses_bits e) k in
+      numbered-both (value_code at d) _ (value-numbered d (operand_base o) at left (allows-second version (is_bit_operator o) (expression_uses_bits d) front))
+      (numbered-both (value_code (at + value_size d) e) _ (value-numbered e (operand_base o) (at + value_size d) parts.1 (allows-second version (is_bit_operator o || expression_uses_bits d) (expression_uses_bits e) k))
+      (numbered-one _ (operator-numbered version (negated_operator o) (negated-allows version o (allows-first version (is_bit_operator o) (expression_uses_bits d) front)))))
+  negated-numbered (Short connective d e) at h k = not-numbered (Short connective d e) at h k
 
-  test-numbered : (wanted : Bool) (e : Expression) (at target : ℕ) → has_base program procedure Boolean e ≡ true → AreNumbered (test_code wanted at target e)
-  test-numbered true e at target h = numbered-both (value_code at (negated e)) _ (negated-numbered e at h) (numbered-one (instruction.JumpIfFalse target) tt)
-  test-numbered false e at target h = numbered-both (value_code at e) _ (value-numbered e Boolean at h) (numbered-one (instruction.JumpIfFalse target) tt)
+  test-numbered : (wanted : Bool) (e : Expression) (at target : ℕ) → has_base program procedure Boolean e ≡ true → Allows version (expression_uses_bits e)
+      → AreNumbered version (test_code wanted at target e)
+  test-numbered true e at target h k = numbered-both (value_code at (negated e)) _ (negated-numbered e at h k) (numbered-one (instruction.JumpIfFalse target) tt)
+  test-numbered false e at target h k = numbered-both (value_code at e) _ (value-numbered e Boolean at h k) (numbered-one (instruction.JumpIfFalse target) tt)
 
-  branch-numbered : (e : Expression) (wanted : Bool) (at target : ℕ) → has_base program procedure Boolean e ≡ true → AreNumbered (branch_code wanted at target e)
-  branch-numbered (Integer n) wanted at target h = test-numbered wanted (Integer n) at target h
-  branch-numbered (Logical b) wanted at target h = test-numbered wanted (Logical b) at target h
-  branch-numbered (Read x) wanted at target h = test-numbered wanted (Read x) at target h
-  branch-numbered (Element array count index) wanted at target h = test-numbered wanted (Element array count index) at target h
-  branch-numbered (Unary prefix.Negate e) wanted at target h = test-numbered wanted (Unary prefix.Negate e) at target h
-  branch-numbered (Unary prefix.Not e) wanted at target h =
-      branch-numbered e (not wanted) at target (and_parts (same_base Boolean Boolean) (has_base program procedure Boolean e) h).1
-  branch-numbered (Binary o d e) wanted at target h = test-numbered wanted (Binary o d e) at target h
-  branch-numbered (Short connective d e) wanted at target h =
+  branch-numbered : (e : Expression) (wanted : Bool) (at target : ℕ) → has_base program procedure Boolean e ≡ true → Allows version (expression_uses_bits e)
+      → AreNumbered version (branch_code wanted at target e)
+  branch-numbered (Integer n) wanted at target h k = test-numbered wanted (Integer n) at target h k
+  branch-numbered (Logical b) wanted at target h k = test-numbered wanted (Logical b) at target h k
+  branch-numbered (Read x) wanted at target h k = test-numbered wanted (Read x) at target h k
+  branch-numbered (Element array count index) wanted at target h k = test-numbered wanted (Element array count index) at target h k
+  branch-numbered (Unary prefix.Negate e) wanted at target h k = test-numbered wanted (Unary prefix.Negate e) at target h k
+  branch-numbered (Unary prefix.Not e) wanted at target h k =
+      branch-numbered e (not wanted) at target (and_parts (same_base Boolean Boolean) (has_base program procedure Boolean e) h).1 k
+  branch-numbered (Binary o d e) wanted at target h k = test-numbered wanted (Binary o d e) at target h k
+  branch-numbered (Short connective d e) wanted at target h k =
       let parts = and_parts (same_base Boolean Boolean && has_base program procedure Boolean d) (has_base program procedure Boolean e) h in
       let left = (and_parts (same_base Boolean Boolean) (has_base program procedure Boolean d) parts.0).1 in
-      numbered-both (branch_code (deciding connective) at _ d) _ (branch-numbered d (deciding connective) at _ left)
-      (branch-numbered e wanted (at + branch_size (deciding connective) d) target parts.1)
+      numbered-both (branch_code (deciding connective) at _ d) _ (branch-numbered d (deciding connective) at _ left (allows-first version (expression_uses_bits d) (expression_uses_bits e) k))
+      (branch-numbered e wanted (at + branch_size (deciding connective) d) target parts.1 (allows-second version (expression_uses_bits d) (expression_uses_bits e) k))
 
-  arguments-numbered : (es : List Expression) (parameters : List SlotEntry) (at : ℕ) → arguments_match program procedure parameters es ≡ true → AreNumbered (arguments_code at es)
-  arguments-numbered [] parameters at h = numbered-none
-  arguments-numbered (e ∷ rest) [] at h = absurd (cc)
-  arguments-numbered (e ∷ rest) (parameter ∷ parameters) at h =
+  arguments-numbered : (es : List Expression) (parameters : List SlotEntry) (at : ℕ) → arguments_match program procedure parameters es ≡ true
+      → Allows version (list_any expression_uses_bits es) → AreNumbered version (arguments_code at es)
+  arguments-numbered [] parameters at h k = numbered-none
+  arguments-numbered (e ∷ rest) [] at h k = absurd (cc)
+  arguments-numbered (e ∷ rest) (parameter ∷ parameters) at h k =
       let parts = and_parts (has_base program procedure parameter.base e) (arguments_match program procedure parameters rest) h in
-      numbered-both (value_code at e) _ (value-numbered e parameter.base at parts.0) (arguments-numbered rest parameters (at + value_size e) parts.1)
+      numbered-both (value_code at e) _ (value-numbered e parameter.base at parts.0 (allows-first version (expression_uses_bits e) _ k))
+      (arguments-numbered rest parameters (at + value_size e) parts.1 (allows-second version (expression_uses_bits e) (list_any expression_uses_bits rest) k))
 
-  kept-numbered : (target : Option Variable) (test : Base → Bool) → target_by program procedure target test ≡ true → IsNumbered (kept_code target)
+  kept-numbered : (target : Option Variable) (test : Base → Bool) → target_by program procedure target test ≡ true → IsNumbered version (kept_code target)
   kept-numbered None test h = tt
-  kept-numbered (Some x) test h = store-numbered x (scalar-small x test h)
+  kept-numbered (Some x) test h = store-numbered version x (scalar-small x test h)
 
-  result-numbered : (result : Option ResultEntry) (target : Option Variable) (test : Base → Bool) → target_by program procedure target test ≡ true → AreNumbered (result_code result target)
+  result-numbered : (result : Option ResultEntry) (target : Option Variable) (test : Base → Bool) → target_by program procedure target test ≡ true → AreNumbered version (result_code result target)
   result-numbered None target test h = numbered-none
   result-numbered (Some entry) target test h = numbered-one _ (kept-numbered target test h)
 
-  leave-numbered : (loop : Loop) (exit : Exit) → may_leave_by program exit ≡ true → IsNumbered (leave_code loop exit)
+  leave-numbered : (loop : Loop) (exit : Exit) → may_leave_by program exit ≡ true → IsNumbered version (leave_code loop exit)
   leave-numbered loop Normal h = tt
   leave-numbered loop Return h = tt
   leave-numbered loop Break h = tt
@@ -279,98 +318,103 @@ module _ (program : Program) (procedure : ProcedureEntry) (short : HasShortTable
 
   -- ---- statements that hold no others
   assign-numbered : (x : Variable) (e : Expression) (at : ℕ) → scalar_by (variable_type program procedure x) (λ base. has_base program procedure base e) ≡ true
-      → AreNumbered (value_code at e ++ store_of x ∷ [])
-  assign-numbered x e at h =
+      → Allows version (expression_uses_bits e) → AreNumbered version (value_code at e ++ store_of x ∷ [])
+  assign-numbered x e at h k =
       let there = scalar-is (variable_type program procedure x) (λ base. has_base program procedure base e) h in
-      numbered-both (value_code at e) _ (value-numbered e there.0.base at there.2) (numbered-one _ (store-numbered x (variable-small x there.0 there.1)))
+      numbered-both (value_code at e) _ (value-numbered e there.0.base at there.2 k) (numbered-one _ (store-numbered version x (variable-small x there.0 there.1)))
 
-  clear-numbered : (slot : ℕ) (o : Option SlotEntry) → slice_get procedure.slots slot ≡ o → is_array (slot_type o) ≡ true → IsNumbered (instruction.Clear slot)
+  clear-numbered : (slot : ℕ) (o : Option SlotEntry) → slice_get procedure.slots slot ≡ o → is_array (slot_type o) ≡ true → IsNumbered version (instruction.Clear slot)
   clear-numbered slot None e h = absurd (cc)
   clear-numbered slot (Some entry) e h = omega (arith, slice_get_within procedure.slots slot entry e, short.slots)
 
   element-numbered : (array : Variable) (count : ℕ) (index e : Expression) (at : ℕ)
       → (array_by (variable_type program procedure array) count (λ base. has_base program procedure base e) && has_base program procedure Int index) ≡ true
-      → AreNumbered (value_code at index ++ (value_code (at + value_size index) e ++ store_element_of array ∷ []))
-  element-numbered array count index e at h =
+      → Allows version (expression_uses_bits index || expression_uses_bits e) → AreNumbered version (value_code at index ++ (value_code (at + value_size index) e ++ store_element_of array ∷ []))
+  element-numbered array count index e at h k =
       let parts = and_parts (array_by (variable_type program procedure array) count (λ base. has_base program procedure base e)) (has_base program procedure Int index) h in
       let there = array-is (variable_type program procedure array) count (λ base. has_base program procedure base e) parts.0 in
-      numbered-both (value_code at index) _ (value-numbered index Int at parts.1)
-      (numbered-both (value_code (at + value_size index) e) _ (value-numbered e there.0.base (at + value_size index) there.2)
-      (numbered-one _ (store_element-numbered array (variable-small array there.0 there.1))))
+      numbered-both (value_code at index) _ (value-numbered index Int at parts.1 (allows-first version (expression_uses_bits index) (expression_uses_bits e) k))
+      (numbered-both (value_code (at + value_size index) e) _ (value-numbered e there.0.base (at + value_size index) there.2 (allows-second version (expression_uses_bits index) (expression_uses_bits e) k))
+      (numbered-one _ (store_element-numbered version array (variable-small array there.0 there.1))))
 
   call-numbered : (f : ℕ) (arguments : List Expression) (target : Option Variable) (at : ℕ) (result : Option ResultEntry) (o : Option ProcedureEntry)
       → slice_get program.procedures f ≡ o → call_matches program procedure o arguments target ≡ true
-      → AreNumbered (arguments_code at arguments ++ instruction.Call f ∷ result_code result target)
-  call-numbered f arguments target at result None e h = absurd (cc)
-  call-numbered f arguments target at result (Some callee) e h =
+      → Allows version (list_any expression_uses_bits arguments) → AreNumbered version (arguments_code at arguments ++ instruction.Call f ∷ result_code result target)
+  call-numbered f arguments target at result None e h k = absurd (cc)
+  call-numbered f arguments target at result (Some callee) e h k =
       let test : Base → Bool = λ base. has_result callee.result (same_base base) in
       let parts = and_parts (arguments_match program procedure (parameters_of callee) arguments) (target_by program procedure target test) h in
       let small : f < 2 ^ 32 = omega (arith, slice_get_within program.procedures f callee e, short.procedures) in
-      numbered-both (arguments_code at arguments) _ (arguments-numbered arguments (parameters_of callee) at parts.0)
+      numbered-both (arguments_code at arguments) _ (arguments-numbered arguments (parameters_of callee) at parts.0 k)
       (numbered-more (instruction.Call f) _ small (result-numbered result target test parts.1))
 
-  return-numbered : (e : Option Expression) (p at : ℕ) → statement_fits program procedure (ReturnWith p e) ≡ true → AreNumbered (return_code at e)
-  return-numbered None p at h = numbered-one instruction.Return tt
-  return-numbered (Some e) p at h =
+  return-numbered : (e : Option Expression) (p at : ℕ) → statement_fits program procedure (ReturnWith p e) ≡ true
+      → Allows version (statement_uses_bits (ReturnWith p e)) → AreNumbered version (return_code at e)
+  return-numbered None p at h k = numbered-one instruction.Return tt
+  return-numbered (Some e) p at h k =
       let there = result_some procedure.result (λ base. has_base program procedure base e) h in
-      numbered-both (value_code at e) _ (value-numbered e there.0 at there.1) (numbered-one instruction.ReturnValue tt)
+      numbered-both (value_code at e) _ (value-numbered e there.0 at there.1 k) (numbered-one instruction.ReturnValue tt)
 
   -- ---- statements, blocks and handlers
   mutual
-    statement-numbered : (loop : Loop) (p : ℕ) (statement : Statement) → statement_fits program procedure statement ≡ true → AreNumbered (statement_code program loop p statement)
-    statement-numbered loop p (Assign at x e) h = assign-numbered x e p h
-    statement-numbered loop p (Clear at slot) h = numbered-one _ (clear-numbered slot (slice_get procedure.slots slot) refl h)
-    statement-numbered loop p (Store at array count index e) h = element-numbered array count index e p h
-    statement-numbered loop p (Receive at channel target) h =
+    statement-numbered : (loop : Loop) (p : ℕ) (statement : Statement) → statement_fits program procedure statement ≡ true
+        → Allows version (statement_uses_bits statement) → AreNumbered version (statement_code program loop p statement)
+    statement-numbered loop p (Assign at x e) h k = assign-numbered x e p h k
+    statement-numbered loop p (Clear at slot) h k = numbered-one _ (clear-numbered slot (slice_get procedure.slots slot) refl h)
+    statement-numbered loop p (Store at array count index e) h k = element-numbered array count index e p h k
+    statement-numbered loop p (Receive at channel target) h k =
         let parts = and_parts (channel_is (slice_get program.channels channel) Input) (target_by program procedure target (same_base Int)) h in
         numbered-more (instruction.Receive channel) _ (channel-small channel Input (slice_get program.channels channel) refl parts.0)
         (numbered-one _ (kept-numbered target (same_base Int) parts.1))
-    statement-numbered loop p (Send at channel e) h =
+    statement-numbered loop p (Send at channel e) h k =
         let parts = and_parts (channel_is (slice_get program.channels channel) Output) (has_base program procedure Int e) h in
-        numbered-both (value_code p e) _ (value-numbered e Int p parts.1)
+        numbered-both (value_code p e) _ (value-numbered e Int p parts.1 k)
         (numbered-one (instruction.Send channel) (channel-small channel Output (slice_get program.channels channel) refl parts.0))
-    statement-numbered loop p (Call at f arguments target) h =
-        call-numbered f arguments target p (procedure_at program f).result (slice_get program.procedures f) refl h
-    statement-numbered loop p (If at e yes_block no_block) h =
+    statement-numbered loop p (Call at f arguments target) h k =
+        call-numbered f arguments target p (procedure_at program f).result (slice_get program.procedures f) refl h k
+    statement-numbered loop p (If at e yes_block no_block) h k =
         let parts = and_parts (has_base program procedure Boolean e && block_fits program procedure yes_block) (block_fits program procedure no_block) h in
         let first = and_parts (has_base program procedure Boolean e) (block_fits program procedure yes_block) parts.0 in
+        let front = allows-first version (expression_uses_bits e || block_uses_bits yes_block) (block_uses_bits no_block) k in
         let no = no_place program p e yes_block no_block in
-        numbered-both (branch_code false p no e) _ (branch-numbered e false p no first.0)
-        (numbered-both (block_code program loop (p + branch_size false e) yes_block) _ (block-numbered loop (p + branch_size false e) yes_block first.1)
+        numbered-both (branch_code false p no e) _ (branch-numbered e false p no first.0 (allows-first version (expression_uses_bits e) (block_uses_bits yes_block) front))
+        (numbered-both (block_code program loop (p + branch_size false e) yes_block) _ (block-numbered loop (p + branch_size false e) yes_block first.1 (allows-second version (expression_uses_bits e) (block_uses_bits yes_block) front))
         (numbered-both (jump_code (jumps_over yes_block no_block) _) _ (jump-numbered (jumps_over yes_block no_block) (no + block_size program no_block))
-        (block-numbered loop no no_block parts.1)))
-    statement-numbered loop p (While at number e body) h =
+        (block-numbered loop no no_block parts.1 (allows-second version (expression_uses_bits e || block_uses_bits yes_block) (block_uses_bits no_block) k))))
+    statement-numbered loop p (While at number e body) h k =
         let parts = and_parts (has_base program procedure Boolean e) (block_fits program procedure body) h in
         let test = test_place program p body in
         numbered-more (instruction.Jump test) _ tt
         (numbered-both (block_code program _ (p + 1) body) _
-        (block-numbered (record { behind = test + branch_size true e; test = test }) (p + 1) body parts.1)
-        (branch-numbered e true test (p + 1) parts.0))
-    statement-numbered loop p (Leave at exit) h = numbered-one _ (leave-numbered loop exit h)
-    statement-numbered loop p (ReturnWith at e) h = return-numbered e at p h
-    statement-numbered loop p (Try at block handlers) h =
+        (block-numbered (record { behind = test + branch_size true e; test = test }) (p + 1) body parts.1 (allows-second version (expression_uses_bits e) (block_uses_bits body) k))
+        (branch-numbered e true test (p + 1) parts.0 (allows-first version (expression_uses_bits e) (block_uses_bits body) k)))
+    statement-numbered loop p (Leave at exit) h k = numbered-one _ (leave-numbered loop exit h)
+    statement-numbered loop p (ReturnWith at e) h k = return-numbered e at p h k
+    statement-numbered loop p (Try at block handlers) h k =
         let parts = and_parts (block_fits program procedure block) (handlers_fit program procedure handlers) h in
         let place = handlers_place program p block handlers in
-        numbered-both (block_code program loop p block) _ (block-numbered loop p block parts.0)
+        numbered-both (block_code program loop p block) _ (block-numbered loop p block parts.0 (allows-first version (block_uses_bits block) (handlers_use_bits handlers) k))
         (numbered-both (jump_code (jumps_behind block handlers) _) _ (jump-numbered (jumps_behind block handlers) (place + handlers_size program handlers))
-        (handlers-numbered loop (place + handlers_size program handlers) place handlers parts.1))
-    statement-numbered loop p (Nested at block) h = block-numbered loop p block h
+        (handlers-numbered loop (place + handlers_size program handlers) place handlers parts.1 (allows-second version (block_uses_bits block) (handlers_use_bits handlers) k)))
+    statement-numbered loop p (Nested at block) h k = block-numbered loop p block h k
 
-    pub block-numbered : (loop : Loop) (p : ℕ) (block : Block) → block_fits program procedure block ≡ true → AreNumbered (block_code program loop p block)
-    block-numbered loop p Empty h = numbered-none
-    block-numbered loop p (Then statement rest) h =
+    pub block-numbered : (loop : Loop) (p : ℕ) (block : Block) → block_fits program procedure block ≡ true
+        → Allows version (block_uses_bits block) → AreNumbered version (block_code program loop p block)
+    block-numbered loop p Empty h k = numbered-none
+    block-numbered loop p (Then statement rest) h k =
         let parts = and_parts (statement_fits program procedure statement) (block_fits program procedure rest) h in
-        numbered-both (statement_code program loop p statement) _ (statement-numbered loop p statement parts.0)
-        (block-numbered loop (p + statement_size program statement) rest parts.1)
+        numbered-both (statement_code program loop p statement) _ (statement-numbered loop p statement parts.0 (allows-first version (statement_uses_bits statement) (block_uses_bits rest) k))
+        (block-numbered loop (p + statement_size program statement) rest parts.1 (allows-second version (statement_uses_bits statement) (block_uses_bits rest) k))
 
-    handlers-numbered : (loop : Loop) (end p : ℕ) (handlers : Handlers) → handlers_fit program procedure handlers ≡ true → AreNumbered (handlers_code program loop end p handlers)
-    handlers-numbered loop end p NoMore h = numbered-none
-    handlers-numbered loop end p (Catch at exception body rest) h =
+    handlers-numbered : (loop : Loop) (end p : ℕ) (handlers : Handlers) → handlers_fit program procedure handlers ≡ true
+        → Allows version (handlers_use_bits handlers) → AreNumbered version (handlers_code program loop end p handlers)
+    handlers-numbered loop end p NoMore h k = numbered-none
+    handlers-numbered loop end p (Catch at exception body rest) h k =
         let parts = and_parts (is_exception program exception && block_fits program procedure body) (handlers_fit program procedure rest) h in
         let first = and_parts (is_exception program exception) (block_fits program procedure body) parts.0 in
-        numbered-both (block_code program loop p body) _ (block-numbered loop p body first.1)
+        numbered-both (block_code program loop p body) _ (block-numbered loop p body first.1 (allows-first version (block_uses_bits body) (handlers_use_bits rest) k))
         (numbered-both (jump_code (jumps_behind body rest) end) _ (jump-numbered (jumps_behind body rest) end)
-        (handlers-numbered loop end (handlers_place program p body rest) rest parts.1))
+        (handlers-numbered loop end (handlers_place program p body rest) rest parts.1 (allows-second version (block_uses_bits body) (handlers_use_bits rest) k)))
 
   mutual
     statement-catches : (p : ℕ) (statement : Statement) → statement_fits program procedure statement ≡ true → AreCatches (statement_nodes statement) (statement_table program p statement)

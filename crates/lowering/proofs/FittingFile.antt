@@ -1,5 +1,5 @@
 -- The graph of a well-formed program is within the limits of the module file: it goes to positions alone, and so its targets are too.
-use Rattle.lowering.specs.Fitting.{GraphsFitTheFile}
+use Rattle.lowering.specs.Laws.{GraphsFitTheFile}
 use Rattle.lowering.proofs.FittingGraphs.{graph-fits}
 use Rattle.lowering.proofs.Inside.{graphs-positioned}
 

@@ -1,13 +1,15 @@
 -- The graph of a program is within the limits of the module file.
-use Rattle.std.proofs.Common.{◌≡◌, ℕ, ◌+◌, ◌*◌, ◌^◌, ◌<◌, ◌≤◌, true, ◌&&◌, List, [], ◌∷◌, ◌++◌, All, length, map, get_or, Option, Some, None, refl, ap, ◌∙◌, subst, arith, sum_by}
-use Rattle.std.specs.Prelude.{◌==◌, slice_get, is_none}
+use Rattle.std.proofs.Common.{◌≡◌, ℕ, ◌+◌, ◌*◌, ◌^◌, ◌<◌, ◌≤◌, Bool, true, false, ◌&&◌, List, [], ◌∷◌, ◌++◌, All, length, map, get_or, Option, Some, None, refl, ap, ◌∙◌, subst, arith, sum_by}
+use Rattle.std.specs.Prelude.{◌==◌, slice_get, is_none, if◌then◌else◌}
 use Rattle.std.specs.List.{AllByRecursion, list_all}
 use Rattle.std.specs.Option.{option_map}
 use Rattle.std.proofs.lemmas.Bool.{and_parts, leb-true}
 use Rattle.std.proofs.lemmas.List.{length-map, get_or-map}
 use Rattle.std.proofs.lemmas.List.Elements.{All-head, All-tail}
 use Rattle.std.proofs.lemmas.List.Sums.{get_or-le-sum_by}
+use Rattle.std.proofs.lemmas.List.Folds.{list_any_at}
 use Rattle.std.proofs.lemmas.Option.{slice_get-map, slice_get_within, slice_get-get_or}
+use Rattle.resolved.specs.BitUse.{block_uses_bits, uses_bits}
 use Rattle.resolved.specs.Names.{HasNames}
 use Rattle.resolved.specs.Program.{Program, ProcedureEntry, ResultEntry, GlobalEntry, SlotEntry}
 use Rattle.resolved.specs.WellFormed.{size_fits, cell_count, label_fits, first_fits, procedure_fits, procedure_nodes, program_nodes, node_limit, main_fits, well_formed}
@@ -18,19 +20,21 @@ use Rattle.modules.specs.declared.declaration.Handler.{Handler}
 use Rattle.modules.specs.declared.value.Kind.{Kind}
 use Rattle.modules.specs.declared.value.Kind.TheVariants as kind
 use Rattle.modules.specs.Form.{Fits, FitEach, IsCoded, Code}
-use Rattle.modules.specs.Format.{returned, handler, handlers, procedure, procedures, may_start, main, program as program_field, contents, module_file}
+use Rattle.modules.specs.Format.{returned, handler, handlers, procedure, procedures, may_start, main, program as program_field, version as version_field, contents, module_file}
+use Rattle.modules.specs.declared.version.Version.{Version}
+use Rattle.modules.specs.declared.version.Version.TheVariants.{One, Two}
 use Rattle.modules.specs.Targets.{renamed_instruction}
 use Rattle.modules.specs.Opcodes.{instructions}
 use Rattle.modules.proofs.Spelling.{is_spelled, spelled-length}
 use Rattle.layout.specs.Graph.{IsHandlerIn, HasTargetIn, HasPositions}
-use Rattle.lowering.specs.Interface.{returned_kind}
+use Rattle.lowering.specs.Interface.{module_version, returned_kind}
 use Rattle.lowering.specs.Code.{block_falls, block_size, block_code, block_table}
 use Rattle.lowering.specs.Fitting.{HasShortValues}
 use Rattle.lowering.specs.Graphs.{end_code, no_loop, body_code, procedure_contents, graph_of}
 use Rattle.lowering.specs.Threaded.{final_place, threaded}
 use Rattle.lowering.proofs.Finals.{length-threaded}
 use Rattle.lowering.proofs.FittingChannels.{declared-fits}
-use Rattle.lowering.proofs.FittingCode.{IsNumbered, numbered-both, end-numbered, IsOfException, HasShortTables, block-numbered, block-catches}
+use Rattle.lowering.proofs.FittingCode.{Allows, IsNumbered, numbered-both, end-numbered, IsOfException, HasShortTables, block-numbered, block-catches}
 use Rattle.lowering.proofs.FittingHierarchy.{hierarchy-fits}
 use Rattle.lowering.proofs.FittingLabels.{length_by_sum}
 use Rattle.lowering.proofs.FittingTables.{globals-fit, slots-fit}
@@ -44,42 +48,43 @@ use Rattle.common.specs.declared.limits.TheConstants.{MAX_CELLS}
 -- ---- code
 
 -- with its target below the length of short code, an instruction has its spelling
-numbered-coded : (n : ℕ) (x : Instruction) → n < 2 ^ 32 → IsNumbered x → Below n x → IsCoded instructions x
-numbered-coded n (instruction.Jump target) room h there = is_spelled (instruction.Jump target) (omega (arith, there, room))
-numbered-coded n (instruction.JumpIfFalse target) room h there = is_spelled (instruction.JumpIfFalse target) (omega (arith, there, room))
-numbered-coded n (instruction.Push z) room h there = is_spelled (instruction.Push z) h
-numbered-coded n (instruction.PushBoolean b) room h there = is_spelled (instruction.PushBoolean b) h
-numbered-coded n instruction.Pop room h there = is_spelled instruction.Pop h
-numbered-coded n (instruction.Load k) room h there = is_spelled (instruction.Load k) h
-numbered-coded n (instruction.Store k) room h there = is_spelled (instruction.Store k) h
-numbered-coded n (instruction.LoadGlobal k) room h there = is_spelled (instruction.LoadGlobal k) h
-numbered-coded n (instruction.StoreGlobal k) room h there = is_spelled (instruction.StoreGlobal k) h
-numbered-coded n (instruction.LoadElement k) room h there = is_spelled (instruction.LoadElement k) h
-numbered-coded n (instruction.StoreElement k) room h there = is_spelled (instruction.StoreElement k) h
-numbered-coded n (instruction.LoadGlobalElement k) room h there = is_spelled (instruction.LoadGlobalElement k) h
-numbered-coded n (instruction.StoreGlobalElement k) room h there = is_spelled (instruction.StoreGlobalElement k) h
-numbered-coded n (instruction.Clear k) room h there = is_spelled (instruction.Clear k) h
-numbered-coded n (instruction.Compute operator) room h there = is_spelled (instruction.Compute operator) h
-numbered-coded n instruction.Negate room h there = is_spelled instruction.Negate h
-numbered-coded n instruction.Not room h there = is_spelled instruction.Not h
-numbered-coded n (instruction.Compare comparison) room h there = is_spelled (instruction.Compare comparison) h
-numbered-coded n instruction.SameBoolean room h there = is_spelled instruction.SameBoolean h
-numbered-coded n instruction.OtherBoolean room h there = is_spelled instruction.OtherBoolean h
-numbered-coded n (instruction.Call f) room h there = is_spelled (instruction.Call f) h
-numbered-coded n instruction.Return room h there = is_spelled instruction.Return h
-numbered-coded n instruction.ReturnValue room h there = is_spelled instruction.ReturnValue h
-numbered-coded n (instruction.Receive k) room h there = is_spelled (instruction.Receive k) h
-numbered-coded n (instruction.Send k) room h there = is_spelled (instruction.Send k) h
-numbered-coded n (instruction.Throw k) room h there = is_spelled (instruction.Throw k) h
+numbered-coded : (version : Version) (n : ℕ) (x : Instruction) → n < 2 ^ 32 → IsNumbered version x → Below n x → IsCoded (instructions version) x
+numbered-coded version n (instruction.Jump target) room h there = is_spelled version (instruction.Jump target) refl (omega (arith, there, room))
+numbered-coded version n (instruction.JumpIfFalse target) room h there = is_spelled version (instruction.JumpIfFalse target) refl (omega (arith, there, room))
+numbered-coded version n (instruction.Push z) room h there = is_spelled version (instruction.Push z) refl h
+numbered-coded version n (instruction.PushBoolean b) room h there = is_spelled version (instruction.PushBoolean b) refl h
+numbered-coded version n instruction.Pop room h there = is_spelled version instruction.Pop refl h
+numbered-coded version n (instruction.Load k) room h there = is_spelled version (instruction.Load k) refl h
+numbered-coded version n (instruction.Store k) room h there = is_spelled version (instruction.Store k) refl h
+numbered-coded version n (instruction.LoadGlobal k) room h there = is_spelled version (instruction.LoadGlobal k) refl h
+numbered-coded version n (instruction.StoreGlobal k) room h there = is_spelled version (instruction.StoreGlobal k) refl h
+numbered-coded version n (instruction.LoadElement k) room h there = is_spelled version (instruction.LoadElement k) refl h
+numbered-coded version n (instruction.StoreElement k) room h there = is_spelled version (instruction.StoreElement k) refl h
+numbered-coded version n (instruction.LoadGlobalElement k) room h there = is_spelled version (instruction.LoadGlobalElement k) refl h
+numbered-coded version n (instruction.StoreGlobalElement k) room h there = is_spelled version (instruction.StoreGlobalElement k) refl h
+numbered-coded version n (instruction.Clear k) room h there = is_spelled version (instruction.Clear k) refl h
+numbered-coded version n (instruction.Compute operator) room h there = is_spelled version (instruction.Compute operator) h tt
+numbered-coded version n instruction.Negate room h there = is_spelled version instruction.Negate refl h
+numbered-coded version n instruction.Not room h there = is_spelled version instruction.Not refl h
+numbered-coded version n (instruction.Compare comparison) room h there = is_spelled version (instruction.Compare comparison) refl h
+numbered-coded version n instruction.SameBoolean room h there = is_spelled version instruction.SameBoolean refl h
+numbered-coded version n instruction.OtherBoolean room h there = is_spelled version instruction.OtherBoolean refl h
+numbered-coded version n (instruction.Call f) room h there = is_spelled version (instruction.Call f) refl h
+numbered-coded version n instruction.Return room h there = is_spelled version instruction.Return refl h
+numbered-coded version n instruction.ReturnValue room h there = is_spelled version instruction.ReturnValue refl h
+numbered-coded version n (instruction.Receive k) room h there = is_spelled version (instruction.Receive k) refl h
+numbered-coded version n (instruction.Send k) room h there = is_spelled version (instruction.Send k) refl h
+numbered-coded version n (instruction.Throw k) room h there = is_spelled version (instruction.Throw k) refl h
 
-code-coded : (n : ℕ) (code : List Instruction) → n < 2 ^ 32 → AllByRecursion IsNumbered code → All (Below n) code → AllByRecursion (IsCoded instructions) code
-code-coded n [] room each there = tt
-code-coded n (x ∷ code) room each there =
-    (numbered-coded n x room each.0 (All-head (Below n) x code there), code-coded n code room each.1 (All-tail (Below n) x code there))
+code-coded : (version : Version) (n : ℕ) (code : List Instruction) → n < 2 ^ 32 → AllByRecursion (IsNumbered version) code → All (Below n) code → AllByRecursion (IsCoded (instructions version)) code
+code-coded version n [] room each there = tt
+code-coded version n (x ∷ code) room each there =
+    (numbered-coded version n x room each.0 (All-head (Below n) x code there), code-coded version n code room each.1 (All-tail (Below n) x code there))
 
-code-fits : (code : List Instruction) → length code ≤ 4194305 → AllByRecursion IsNumbered code → All (HasTargetIn code) code → Fits (Code instructions) code
-code-fits code few each there =
-    (omega (arith, few, code_length_most code, spelled-length code), code-coded (length code) code (omega (arith, few)) each there)
+code-fits : (version : Version) (code : List Instruction) → length code ≤ 4194305 → AllByRecursion (IsNumbered version) code → All (HasTargetIn code) code
+    → Fits (Code (instructions version)) code
+code-fits version code few each there =
+    (omega (arith, few, code_length_most code, spelled-length version code), code-coded version (length code) code (omega (arith, few)) each there)
 
 -- ---- handlers
 
@@ -102,14 +107,15 @@ handlers-fits n table room few there small = (few, refl, each-handler n [] table
 -- ---- procedures
 
 -- other targets change no number
-renamed-numbered : (f : ℕ → ℕ) (x : Instruction) → IsNumbered x → IsNumbered (renamed_instruction f x)
-renamed-numbered f (instruction.Jump target) h = tt
-renamed-numbered f (instruction.JumpIfFalse target) h = tt
-renamed-numbered f x h = h
+renamed-numbered : (version : Version) (f : ℕ → ℕ) (x : Instruction) → IsNumbered version x → IsNumbered version (renamed_instruction f x)
+renamed-numbered version f (instruction.Jump target) h = tt
+renamed-numbered version f (instruction.JumpIfFalse target) h = tt
+renamed-numbered version f x h = h
 
-renamed-each : (f : ℕ → ℕ) (code : List Instruction) → AllByRecursion IsNumbered code → AllByRecursion IsNumbered (map (renamed_instruction f) code)
-renamed-each f [] h = tt
-renamed-each f (x ∷ code) h = (renamed-numbered f x h.0, renamed-each f code h.1)
+renamed-each : (version : Version) (f : ℕ → ℕ) (code : List Instruction) → AllByRecursion (IsNumbered version) code
+    → AllByRecursion (IsNumbered version) (map (renamed_instruction f) code)
+renamed-each version f [] h = tt
+renamed-each version f (x ∷ code) h = (renamed-numbered version f x h.0, renamed-each version f code h.1)
 
 returned-fits : (result : Option Kind) → Fits returned result
 unfolding returned
@@ -118,18 +124,19 @@ returned-fits (Some kind.Int) = ((omega arith, refl), refl)
 returned-fits (Some kind.Boolean) = ((omega arith, refl), refl)
 
 -- a procedure of a program whose tables are not too long
-procedure-fits : (program : Program) (entry : ProcedureEntry) → HasShortTables program entry → procedure_nodes entry ≤ 1048576 → ProcedureParts program entry
-    → HasPositions (procedure_contents program entry) → Fits procedure (procedure_contents program entry)
+procedure-fits : (version : Version) (program : Program) (entry : ProcedureEntry) → HasShortTables program entry → procedure_nodes entry ≤ 1048576
+    → ProcedureParts program entry → HasPositions (procedure_contents program entry) → Allows version (block_uses_bits entry.body)
+    → Fits (procedure version) (procedure_contents program entry)
 unfolding procedure
-procedure-fits program entry short few parts placed =
+procedure-fits version program entry short few parts placed allowed =
     let body = entry.body in
     let code = threaded (body_code program body) in
     let size : length code ≡ block_size program body + length (end_code (block_falls body)) =
     length-threaded (body_code program body)
     ∙ both_sized (block_code program no_loop 0 body) (end_code (block_falls body)) (block_size program body) (length (end_code (block_falls body))) (block-sized program no_loop 0 body) refl in
     let long : length code ≤ 4194305 = omega (arith, few, size, block-room program body, end-room (block_falls body)) in
-    let numbers = numbered-both (block_code program no_loop 0 body) (end_code (block_falls body)) (block-numbered program entry short no_loop 0 body parts.body_fits) (end-numbered (block_falls body)) in
-    let catches = block-catches program entry short 0 body parts.body_fits in
+    let numbers = numbered-both (block_code program no_loop 0 body) (end_code (block_falls body)) (block-numbered version program entry short no_loop 0 body parts.body_fits allowed) (end-numbered (block_falls body)) in
+    let catches = block-catches version program entry short 0 body parts.body_fits in
     let parameters = leb-true entry.parameters (length entry.slots) parts.parameters_there in (
       (
         returned-fits (returned_kind entry.result),
@@ -139,7 +146,7 @@ procedure-fits program entry short few parts placed =
             slots-fit program.hierarchy entry.parameters entry.slots (omega (arith, few)) parameters parts.parameters_written parts.slots_fit
                 (leb-true (sum_by (λ (slot : SlotEntry). cell_count slot.size) entry.slots) MAX_CELLS parts.frame_cells),
             (
-              code-fits code long (renamed-each (final_place (body_code program body)) (body_code program body) numbers.each) placed.targets,
+              code-fits version code long (renamed-each version (final_place (body_code program body)) (body_code program body) numbers.each) placed.targets,
               handlers-fits (length code) (block_table program 0 body) (omega (arith, long)) (omega (arith, few, catches.few)) placed.handlers catches.each,
             ),
           ),
@@ -150,14 +157,16 @@ procedure-fits program entry short few parts placed =
 
 -- ---- programs
 
-procedures-fits : (program : Program) (entries : List ProcedureEntry) → length entries ≤ 1048576
-    → All (λ (entry : ProcedureEntry). Fits procedure (procedure_contents program entry)) entries → Fits procedures (map (procedure_contents program) entries)
+procedures-fits : (version : Version) (program : Program) (entries : List ProcedureEntry) → length entries ≤ 1048576
+    → All (λ (entry : ProcedureEntry). Fits (procedure version) (procedure_contents program entry)) entries
+    → Fits (procedures version) (map (procedure_contents program) entries)
 unfolding procedures
-procedures-fits program entries few each = (
+procedures-fits version program entries few each = (
   omega (arith, few, length-map entries (procedure_contents program)),
   refl,
   FitEach-made _ (procedure_contents program) entries (λ front entry rest e.
-      All-at_seam front entry rest (λ (entry : ProcedureEntry). Fits procedure (procedure_contents program entry)) (subst (All (λ (entry : ProcedureEntry). Fits procedure (procedure_contents program entry))) e each)),
+      All-at_seam front entry rest (λ (entry : ProcedureEntry). Fits (procedure version) (procedure_contents program entry))
+      (subst (All (λ (entry : ProcedureEntry). Fits (procedure version) (procedure_contents program entry))) e each)),
 )
 
 starts : (program : Program) (o : Option ProcedureEntry) → main_fits o ≡ true → may_start (option_map (procedure_contents program) o) ≡ true
@@ -204,14 +213,27 @@ tables-from program entry counts few = record {
 }
 
 each-procedure : (program : Program) → HasCounts program → list_all (procedure_fits program) program.procedures ≡ true → All HasPositions (map (procedure_contents program) program.procedures)
-    → All (λ (entry : ProcedureEntry). Fits procedure (procedure_contents program entry)) program.procedures
+    → All (λ (entry : ProcedureEntry). Fits (procedure (module_version program)) (procedure_contents program entry)) program.procedures
 each-procedure program counts fits placed k d below =
     let entry = get_or program.procedures k d in
     let few : procedure_nodes entry ≤ 1048576 = omega (arith, counts.procedures, get_or-le-sum_by procedure_nodes program.procedures k d below) in
     let here : HasPositions (procedure_contents program entry) =
     subst HasPositions (get_or-map (procedure_contents program) program.procedures k d (procedure_contents program d) below)
     (placed k (procedure_contents program d) (omega (arith, below, length-map program.procedures (procedure_contents program)))) in
-    procedure-fits program entry (tables-from program entry counts few) few (procedure_parts program entry (passes_at (procedure_fits program) program.procedures k (get_or program.procedures k d) fits (slice_get-get_or program.procedures k d below))) here
+    let allowed : Allows (module_version program) (block_uses_bits entry.body) = λ uses.
+    chosen (uses_bits program) (list_any_at (λ (procedure : ProcedureEntry). block_uses_bits procedure.body) program.procedures k d below uses) in
+    procedure-fits (module_version program) program entry (tables-from program entry counts few) few
+    (procedure_parts program entry (passes_at (procedure_fits program) program.procedures k (get_or program.procedures k d) fits (slice_get-get_or program.procedures k d below)))
+    here allowed
+  where
+    chosen : (uses : Bool) → uses ≡ true → (if uses then Two else One) ≡ Two
+    chosen true e = refl
+    chosen false e = cc
+
+version-fits : (v : Version) → Fits version_field v
+unfolding version_field
+version-fits One = ((omega arith, refl), refl)
+version-fits Two = ((omega arith, refl), refl)
 
 pub graph-fits : (program : Program) → well_formed program ≡ true → HasNames program → HasShortValues program
     → All HasPositions (graph_of program).procedures → Fits module_file (graph_of program)
@@ -222,14 +244,17 @@ graph-fits program formed names values placed =
     let few = length_by_sum procedure_nodes program.procedures procedure-some in
     let tables = and_parts (list_all (λ (entry : GlobalEntry). size_fits entry.size && label_fits program.hierarchy entry.label && first_fits entry) program.globals) _ parts.globals_are in (
       (
-        hierarchy-fits program.hierarchy names.hierarchy names.principals,
+        version-fits (module_version program),
         (
-          declared-fits program.hierarchy program.exceptions program.channels names.hierarchy.few counts.exceptions counts.channels parts.labels_fit parts.channels_fit names.items names.different names.labels,
+          hierarchy-fits program.hierarchy names.hierarchy names.principals,
           (
-            globals-fit program.hierarchy program.globals counts.globals tables.0 (leb-true (sum_by (λ (entry : GlobalEntry). cell_count entry.size) program.globals) MAX_CELLS tables.1) values,
+            declared-fits program.hierarchy program.exceptions program.channels names.hierarchy.few counts.exceptions counts.channels parts.labels_fit parts.channels_fit names.items names.different names.labels,
             (
-              procedures-fits program program.procedures (omega (arith, few, counts.procedures)) (each-procedure program counts parts.procedures_fit placed),
-              main-fits program (omega (arith, few, counts.procedures)) parts.main_is,
+              globals-fit program.hierarchy program.globals counts.globals tables.0 (leb-true (sum_by (λ (entry : GlobalEntry). cell_count entry.size) program.globals) MAX_CELLS tables.1) values,
+              (
+                procedures-fits (module_version program) program program.procedures (omega (arith, few, counts.procedures)) (each-procedure program counts parts.procedures_fit placed),
+                main-fits program (omega (arith, few, counts.procedures)) parts.main_is,
+              ),
             ),
           ),
         ),

@@ -8,9 +8,9 @@ use Rattle.std.proofs.lemmas.Bool.{ltb-true, eqb-true}
 use Rattle.std.proofs.lemmas.List.Elements.{All-from_recursion, All-head, All-tail}
 use Rattle.std.proofs.lemmas.Map.Keys.{sorted_head, sorted_tail}
 use Rattle.principals.specs.ActsFor.{PrincipalHierarchy, IsHierarchy, AllBelow}
+use Rattle.principals.specs.Named.{IsKeptName}
 use Rattle.labels.specs.Sets.{ascending_set}
 use Rattle.labels.proofs.Ascending.{ascending_set-sorted}
-use Rattle.resolved.specs.Names.{IsShortName}
 use Rattle.modules.specs.Form.{Fits}
 use Rattle.modules.specs.Format.{is_above, pair_cmp, pair_after, hierarchy}
 use Rattle.lowering.specs.Interface.{hierarchy_contents}
@@ -64,7 +64,7 @@ unfolding pair_after
 pair_fits count front x few there above =
     ((number_fits count x.0 few there.0, number_fits count x.1 few there.1), above)
 
-pub hierarchy-fits : (h : PrincipalHierarchy) → IsHierarchy h → All IsShortName h.names → Fits hierarchy (hierarchy_contents h)
+pub hierarchy-fits : (h : PrincipalHierarchy) → IsHierarchy h → All IsKeptName h.names → Fits hierarchy (hierarchy_contents h)
 unfolding hierarchy
 hierarchy-fits h is each =
     let count = length h.names in

@@ -8,6 +8,7 @@ use Rattle.std.proofs.lemmas.List.Folds.{list_any_none}
 use Rattle.std.proofs.lemmas.Slice.Eq.{bytes_eq-Decides}
 use Rattle.std.proofs.lemmas.Str.{is_utf8-from_IsUtf8}
 use Rattle.principals.specs.ActsFor.{AllDifferent}
+use Rattle.principals.specs.Named.{IsKeptName}
 use Rattle.resolved.specs.Names.{IsShortName}
 use Rattle.modules.specs.Form.{Fits}
 use Rattle.modules.specs.Format.{is_among, name_after, number_below, principals, exceptions, is_built_in}
@@ -41,17 +42,20 @@ not_contained names name h =
 
 -- ---- names in their field
 
-pub name_fits : (taken : List ℕ → Bool) (front : List (List ℕ)) (x : List ℕ) → IsShortName x → taken x ≡ false → is_among front x ≡ false → Fits (name_after taken front) x
+pub kept_name : (x : List ℕ) → IsShortName x → IsKeptName x
+kept_name x h = record { named = h.named; characters = h.characters; short = omega (arith, h.short) }
+
+pub name_fits : (taken : List ℕ → Bool) (front : List (List ℕ)) (x : List ℕ) → IsKeptName x → taken x ≡ false → is_among front x ≡ false → Fits (name_after taken front) x
 unfolding name_after
 name_fits taken front x h free new =
     (omega (arith, h.short), and_from _ _ (and_from _ _ (is_utf8-from_IsUtf8 x h.characters) h.named) (not_from_false (taken x || is_among front x) (λ i. free i || new i)))
 
-pub principals_fit : (names : List (List ℕ)) → All IsShortName names → AllDifferent names → length names ≤ 256 → Fits principals names
+pub principals_fit : (names : List (List ℕ)) → All IsKeptName names → AllDifferent names → length names ≤ 256 → Fits principals names
 unfolding principals
 principals_fit names each different few = (
   omega (arith, few),
   le-leb _ _ few,
-  FitEach-from_fronts _ names (λ front x rest e. name_fits (λ _. false) front x (All-at_seam front x rest IsShortName (subst (All IsShortName) e each)) refl (not_among_front front x rest (subst AllDifferent e different))),
+  FitEach-from_fronts _ names (λ front x rest e. name_fits (λ _. false) front x (All-at_seam front x rest IsKeptName (subst (All IsKeptName) e each)) refl (not_among_front front x rest (subst AllDifferent e different))),
 )
 
 -- the names of declared exceptions
@@ -60,7 +64,7 @@ unfolding exceptions
 exceptions_fit names few each free different = (
   omega (arith, few),
   refl,
-  FitEach-from_fronts _ names (λ front x rest e. name_fits is_built_in front x (All-at_seam front x rest IsShortName (subst (All IsShortName) e each)) (not_contained built_in_names x (All-at_seam front x rest (λ name. ¬ Contains built_in_names name) (subst (All (λ name. ¬ Contains built_in_names name)) e free))) (not_among_front front x rest (subst AllDifferent e different))),
+  FitEach-from_fronts _ names (λ front x rest e. name_fits is_built_in front x (kept_name x (All-at_seam front x rest IsShortName (subst (All IsShortName) e each))) (not_contained built_in_names x (All-at_seam front x rest (λ name. ¬ Contains built_in_names name) (subst (All (λ name. ¬ Contains built_in_names name)) e free))) (not_among_front front x rest (subst AllDifferent e different))),
 )
 
 -- ---- numbers

@@ -8,6 +8,7 @@ use Rattle.resolved.specs.declared.expression.Prefix.{Prefix}
 use Rattle.resolved.specs.declared.expression.Prefix.TheVariants as prefix
 use Rattle.resolved.specs.declared.expression.Operator.{Operator}
 use Rattle.resolved.specs.declared.expression.Operator.TheVariants as operator
+use Rattle.resolved.specs.declared.expression.Sameness.TheVariants as sameness
 use Rattle.resolved.specs.declared.expression.Connective.{Connective}
 use Rattle.resolved.specs.declared.expression.Connective.TheVariants.{And, Or}
 use Rattle.resolved.specs.declared.statement.Exit.{Exit}
@@ -85,8 +86,12 @@ prefix-still prefix.Negate = refl
 prefix-still prefix.Not = refl
 
 operator-still : (o : Operator) → jump_of (Some (operator_instruction o)) ≡ None
-operator-still operator.Add = refl
-operator-still o = refl
+operator-still (operator.Compute computed) = refl
+operator-still (operator.Divide divided) = refl
+operator-still (operator.Bits made) = refl
+operator-still (operator.Compare compared) = refl
+operator-still (operator.Match sameness.Same) = refl
+operator-still (operator.Match sameness.Different) = refl
 
 -- ---- expressions
 short-ahead : (connective : Connective) (at size : ℕ) (right : ℕ → List Instruction) → ((place : ℕ) → Ahead place (right place)) → ((place : ℕ) → length (right place) ≡ size)

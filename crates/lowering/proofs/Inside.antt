@@ -23,7 +23,7 @@ use Rattle.layout.specs.Graph.{IsHandlerIn, HasPositions}
 use Rattle.lowering.specs.Expressions.{value_size, value_code, arguments_code, branch_size}
 use Rattle.lowering.specs.Code.{Loop, statement_falls, block_falls, handlers_fall, is_empty, is_none_left, jump_size, jump_code, jumps_over, jumps_behind, result_code, leave_code, return_code, return_size, entry_of, statement_size, block_size, handlers_size, statement_code, block_code, handlers_code, statement_table, block_table, handlers_table}
 use Rattle.lowering.specs.Graphs.{end_code, no_loop, body_code, procedure_contents}
-use Rattle.lowering.specs.Positions.{GraphsHavePositions}
+use Rattle.lowering.specs.Laws.{GraphsHavePositions}
 use Rattle.lowering.proofs.Sizes.{both_sized, block-sized}
 use Rattle.lowering.proofs.Unthreaded.{unthreaded_procedure}
 use Rattle.lowering.proofs.Finals.{threaded-positioned}

@@ -11,13 +11,12 @@ use Rattle.resolved.specs.WellFormed.{well_formed}
 use Rattle.modules.specs.Contents.{ModuleContents}
 use Rattle.modules.specs.Machine as machine
 use Rattle.modules.specs.Machine.{Machine, Running}
-use Rattle.layout.specs.Offsets.{laid_out}
 use Rattle.layout.specs.Runs.{graph_program, graph_after_steps}
 use Rattle.layout.specs.SameRuns.{SameRuns}
-use Rattle.layout.proofs.Offsets.{runs-same}
 use Rattle.lowering.specs.Graphs.{graph_of}
 use Rattle.lowering.specs.Threaded.{jump_of}
-use Rattle.lowering.specs.SameMeaning.{ending_of, SameMeaning, GraphsKeepMeaning, ModulesKeepMeaning}
+use Rattle.lowering.specs.Laws.{GraphsKeepMeaning}
+use Rattle.lowering.specs.SameMeaning.{ending_of, SameMeaning}
 use Rattle.lowering.proofs.Sent.{exec-keeps}
 use Rattle.lowering.proofs.Steps.{counted, counts, sent-before, ends-once}
 use Rattle.lowering.proofs.Unthreaded.{unthreaded_graph, graph-threaded}
@@ -162,17 +161,16 @@ graphs-keep program formed none = record {
   ends_too = λ world k ending so. ends_too program formed none world k ending (run-within-limit program formed none world k) so;
 }
 
-pub modules-keep : ModulesKeepMeaning
-modules-keep program formed none =
-    let kept : SameMeaning program (graph_after_steps (graph_of program)) = graphs-keep program formed none in
-    let same : SameRuns (graph_of program) (laid_out (graph_of program)) = runs-same (graph_of program) in
-    record {
-      no_more = λ world n. subst (λ (sent : List Pair). IsPrefix sent (meaning.sent_by program world n)) (sym (same.sends world n)) (kept.no_more world n);
-      no_less = λ world k.
-          let less = kept.no_less world k in
-          (less.0, subst (IsPrefix (meaning.sent_by program world k)) (sym (same.sends world less.0)) less.1);
-      ends_so = λ world n ending sent reached. kept.ends_so world n ending sent ((same.ends world n ending sent).0 reached);
-      ends_too = λ world k ending so.
-          let end = kept.ends_too world k ending so in
-          (end.0, (same.ends world end.0 ending (meaning.sent_by program world k)).1 end.1);
-    }
+-- a module that runs as a graph does keeps the meaning that the graph keeps
+pub layout-keeps : (program : Program) (graph m : ModuleContents) → SameMeaning program (graph_after_steps graph) → SameRuns graph m
+    → SameMeaning program (machine.after_steps m)
+layout-keeps program graph m kept same = record {
+  no_more = λ world n. subst (λ (sent : List Pair). IsPrefix sent (meaning.sent_by program world n)) (sym (same.sends world n)) (kept.no_more world n);
+  no_less = λ world k.
+      let less = kept.no_less world k in
+      (less.0, subst (IsPrefix (meaning.sent_by program world k)) (sym (same.sends world less.0)) less.1);
+  ends_so = λ world n ending sent reached. kept.ends_so world n ending sent ((same.ends world n ending sent).0 reached);
+  ends_too = λ world k ending so.
+      let end = kept.ends_too world k ending so in
+      (end.0, (same.ends world end.0 ending (meaning.sent_by program world k)).1 end.1);
+}

@@ -10,6 +10,7 @@ use Rattle.resolved.specs.declared.expression.Prefix.{Prefix}
 use Rattle.resolved.specs.declared.expression.Prefix.TheVariants as prefix
 use Rattle.resolved.specs.declared.expression.Operator.{Operator}
 use Rattle.resolved.specs.declared.expression.Operator.TheVariants as operator
+use Rattle.resolved.specs.declared.expression.Sameness.TheVariants as sameness
 use Rattle.common.specs.declared.direction.Direction.TheVariants as direction
 use Rattle.common.proofs.Cases.{none_there}
 use Rattle.resolved.specs.Program.{Program, ProcedureEntry, SlotEntry, ChannelEntry}
@@ -178,19 +179,12 @@ module _ (m : ModuleContents) (p : ProcedureContents) where
 
   pub operator-does : (o : Operator) (kinds : List Kind)
       → Does m p (operator_instruction o) (kind_of_base (operand_base o) ∷ kind_of_base (operand_base o) ∷ kinds) (kind_of_base (result_base o) ∷ kinds)
-  operator-does operator.Add kinds = numbers _ kinds
-  operator-does operator.Subtract kinds = numbers _ kinds
-  operator-does operator.Multiply kinds = numbers _ kinds
-  operator-does operator.Divide kinds = numbers _ kinds
-  operator-does operator.Remainder kinds = numbers _ kinds
-  operator-does operator.LessThan kinds = compares _ kinds
-  operator-does operator.AtMost kinds = compares _ kinds
-  operator-does operator.GreaterThan kinds = compares _ kinds
-  operator-does operator.AtLeast kinds = compares _ kinds
-  operator-does operator.Equal kinds = compares _ kinds
-  operator-does operator.Unequal kinds = compares _ kinds
-  operator-does operator.Same kinds = going instruction.SameBoolean (Boolean ∷ Boolean ∷ kinds) (Boolean ∷ kinds) refl refl refl refl
-  operator-does operator.Different kinds = going instruction.OtherBoolean (Boolean ∷ Boolean ∷ kinds) (Boolean ∷ kinds) refl refl refl refl
+  operator-does (operator.Compute computed) kinds = numbers _ kinds
+  operator-does (operator.Divide divided) kinds = numbers _ kinds
+  operator-does (operator.Bits made) kinds = numbers _ kinds
+  operator-does (operator.Compare compared) kinds = compares _ kinds
+  operator-does (operator.Match sameness.Same) kinds = going instruction.SameBoolean (Boolean ∷ Boolean ∷ kinds) (Boolean ∷ kinds) refl refl refl refl
+  operator-does (operator.Match sameness.Different) kinds = going instruction.OtherBoolean (Boolean ∷ Boolean ∷ kinds) (Boolean ∷ kinds) refl refl refl refl
 
   pub receive-does : (channel : ℕ) (kinds : List Kind) → is_input (slice_get (machine_code m).directions channel) ≡ true
       → Does m p (instruction.Receive channel) kinds (Int ∷ kinds)

@@ -28,6 +28,7 @@ pub mod Literals
 pub mod Trees
 pub mod Falling
 pub mod Forms
+pub mod BitForms
 pub mod Adding
 pub mod Compounds
 pub mod Lists
@@ -57,3 +58,4 @@ pub mod Standing
 pub mod Threads
 pub mod Ending
 pub mod Faultless
+pub mod Interfaces

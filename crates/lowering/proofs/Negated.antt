@@ -12,15 +12,11 @@ use Rattle.resolved.proofs.Sound.Values.{same_base_is}
 use Rattle.lowering.specs.Expressions.{negated_operator, negated, tested}
 
 negated_bases : (op : Operator) → result_base op ≡ base.Boolean → (result_base (negated_operator op) ≡ base.Boolean) × (operand_base (negated_operator op) ≡ operand_base op)
-negated_bases operator.LessThan e = (refl, refl)
-negated_bases operator.AtMost e = (refl, refl)
-negated_bases operator.GreaterThan e = (refl, refl)
-negated_bases operator.AtLeast e = (refl, refl)
-negated_bases operator.Equal e = (refl, refl)
-negated_bases operator.Unequal e = (refl, refl)
-negated_bases operator.Same e = (refl, refl)
-negated_bases operator.Different e = (refl, refl)
-negated_bases _ e = absurd (let no : base.Int ≡ base.Boolean = e in cc)
+negated_bases (operator.Compare compared) e = (refl, refl)
+negated_bases (operator.Match matched) e = (refl, refl)
+negated_bases (operator.Compute computed) e = cc
+negated_bases (operator.Divide divided) e = cc
+negated_bases (operator.Bits made) e = cc
 
 -- the operands of an operator whose value has a base type
 pub record OperandsFit (program : Program) (procedure : ProcedureEntry) (wanted : Base) (op : Operator) (d e : Expression) : Type 0 where

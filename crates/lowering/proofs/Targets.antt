@@ -10,6 +10,7 @@ use Rattle.resolved.specs.declared.expression.Prefix.{Prefix}
 use Rattle.resolved.specs.declared.expression.Prefix.TheVariants as prefix
 use Rattle.resolved.specs.declared.expression.Operator.{Operator}
 use Rattle.resolved.specs.declared.expression.Operator.TheVariants as operator
+use Rattle.resolved.specs.declared.expression.Sameness.TheVariants as sameness
 use Rattle.resolved.specs.declared.expression.Connective.{Connective}
 use Rattle.resolved.specs.declared.expression.Connective.TheVariants.{And, Or}
 use Rattle.resolved.specs.Tree.{Expression, Integer, Logical, Read, Element, Unary, Binary, Short}
@@ -64,19 +65,12 @@ prefix-below n prefix.Negate = tt
 prefix-below n prefix.Not = tt
 
 operator-below : (n : ℕ) (o : Operator) → Below n (operator_instruction o)
-operator-below n operator.Add = tt
-operator-below n operator.Subtract = tt
-operator-below n operator.Multiply = tt
-operator-below n operator.Divide = tt
-operator-below n operator.Remainder = tt
-operator-below n operator.LessThan = tt
-operator-below n operator.AtMost = tt
-operator-below n operator.GreaterThan = tt
-operator-below n operator.AtLeast = tt
-operator-below n operator.Equal = tt
-operator-below n operator.Unequal = tt
-operator-below n operator.Same = tt
-operator-below n operator.Different = tt
+operator-below n (operator.Compute computed) = tt
+operator-below n (operator.Divide divided) = tt
+operator-below n (operator.Bits made) = tt
+operator-below n (operator.Compare compared) = tt
+operator-below n (operator.Match sameness.Same) = tt
+operator-below n (operator.Match sameness.Different) = tt
 
 short-below : (connective : Connective) (at size n : ℕ) (right : ℕ → List Instruction) → at + (1 + (size + 2)) < n
     → ((place : ℕ) → place + size < n → Stays n (right place)) → Stays n (rest_of_short connective at size right)

@@ -2,15 +2,17 @@
 use Rattle.std.proofs.Common.{◌≡◌, ℕ, List, map}
 use Rattle.principals.specs.ActsFor.{PrincipalHierarchy}
 use Rattle.modules.specs.declared.declaration.Global.{Global}
+use Rattle.modules.specs.declared.version.Version.{Version}
 use Rattle.modules.specs.Contents.{ChannelContents, ProcedureContents, ModuleContents}
 use Rattle.resolved.specs.Program.{Program}
-use Rattle.lowering.specs.Interface.{hierarchy_contents, channel_contents, global_contents}
+use Rattle.lowering.specs.Interface.{module_version, hierarchy_contents, channel_contents, global_contents}
 use Rattle.lowering.specs.Graphs.{procedure_contents, graph_of}
 
-pub graph-made : (program : Program) (hierarchy : PrincipalHierarchy) (exceptions : List (List ℕ)) (channels : List ChannelContents) (globals : List Global) (procedures : List ProcedureContents)
-    → hierarchy ≡ hierarchy_contents program.hierarchy → exceptions ≡ program.exceptions → channels ≡ map channel_contents program.channels
+pub graph-made : (program : Program) (version : Version) (hierarchy : PrincipalHierarchy) (exceptions : List (List ℕ)) (channels : List ChannelContents) (globals : List Global) (procedures : List ProcedureContents)
+    → version ≡ module_version program → hierarchy ≡ hierarchy_contents program.hierarchy → exceptions ≡ program.exceptions → channels ≡ map channel_contents program.channels
     → globals ≡ map global_contents program.globals → procedures ≡ map (procedure_contents program) program.procedures
     → ◌≡◌ {A = ModuleContents} (record {
+      version = version;
       hierarchy = hierarchy;
       exceptions = exceptions;
       channels = channels;
@@ -18,5 +20,5 @@ pub graph-made : (program : Program) (hierarchy : PrincipalHierarchy) (exception
       procedures = procedures;
       main = program.main;
     }) (graph_of program)
-graph-made program hierarchy exceptions channels globals procedures h e c g p =
-    λ i. record { hierarchy = h i; exceptions = e i; channels = c i; globals = g i; procedures = p i; main = program.main }
+graph-made program version hierarchy exceptions channels globals procedures v h e c g p =
+    λ i. record { version = v i; hierarchy = h i; exceptions = e i; channels = c i; globals = g i; procedures = p i; main = program.main }

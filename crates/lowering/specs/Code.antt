@@ -1,4 +1,4 @@
--- The code of statements, and the handlers that stand for their catches.
+-- Private: the code of statements, and the handlers that stand for their catches.
 -- A loop has its test at the bottom: `jump test; body; test: go back to the body if true`. Each `try` has its block first and then its
 -- handlers' bodies, which code jumps over that ends normally. No code is made for an end that cannot occur.
 -- Source: our own; the handler table is that of the Java virtual machine, inner handlers first.

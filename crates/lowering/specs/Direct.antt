@@ -1,14 +1,10 @@
 -- What it means that no jump leads to an unconditional jump.
 -- Source: our own.
-use Rattle.std.specs.Prelude.{◌≡◌, List, [], All, IfSome, IsTrue, None, slice_get}
+use Rattle.std.specs.Prelude.{◌≡◌, List, All, IfSome, None, slice_get}
 use Rattle.modules.specs.declared.instruction.Instruction.{Instruction}
 use Rattle.modules.specs.Contents.{ProcedureContents}
 use Rattle.modules.specs.Targets.{target_of}
-use Rattle.resolved.specs.EndFaults.{end_faults}
-use Rattle.resolved.specs.Program.{Program}
-use Rattle.resolved.specs.WellFormed.{well_formed}
 use Rattle.lowering.specs.Threaded.{jump_of}
-use Rattle.lowering.specs.Graphs.{graph_of}
 
 -- at the target of an instruction, if it has one, stands no unconditional jump
 abbrev pub IsDirect : List Instruction → Instruction → Type 0
@@ -16,8 +12,3 @@ IsDirect code instruction = IfSome (target_of instruction) (λ target. jump_of (
 
 abbrev pub HasDirectJumps : ProcedureContents → Type 0
 HasDirectJumps procedure = All (IsDirect procedure.code) procedure.code
-
--- so for the graph of every well-formed program without a fault of its ends
-abbrev pub GraphsHaveDirectJumps : Type 0
-GraphsHaveDirectJumps = (program : Program) → IsTrue (well_formed program) → end_faults program ≡ []
-    → All HasDirectJumps (graph_of program).procedures

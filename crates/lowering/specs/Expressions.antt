@@ -1,4 +1,4 @@
--- The code of expressions for a stack machine: code that leaves the value of an expression on the operands, and code of a condition
+-- Private: the code of expressions for a stack machine: code that leaves the value of an expression on the operands, and code of a condition
 -- that goes to a place where the condition has the truth that is asked for, and else goes on behind.
 -- Places are numbers of instructions in the code of a procedure, from 0 on; code is made for the place at which it is to stand.
 -- Source: our own; jumping code for conditions as textbooks give it.
@@ -10,11 +10,23 @@ use Rattle.resolved.specs.declared.expression.Prefix.{Prefix}
 use Rattle.resolved.specs.declared.expression.Prefix.TheVariants as prefix
 use Rattle.resolved.specs.declared.expression.Operator.{Operator}
 use Rattle.resolved.specs.declared.expression.Operator.TheVariants as operator
+use Rattle.resolved.specs.declared.expression.Computation.{Computation}
+use Rattle.resolved.specs.declared.expression.Computation.TheVariants as computation
+use Rattle.resolved.specs.declared.expression.Division.{Division}
+use Rattle.resolved.specs.declared.expression.Division.TheVariants as division
+use Rattle.resolved.specs.declared.expression.BitOperator.{BitOperator}
+use Rattle.resolved.specs.declared.expression.BitOperator.TheVariants as bits
+use Rattle.resolved.specs.declared.expression.Relation.{Relation}
+use Rattle.resolved.specs.declared.expression.Relation.TheVariants as relation
+use Rattle.resolved.specs.declared.expression.Sameness.{Sameness}
+use Rattle.resolved.specs.declared.expression.Sameness.TheVariants as sameness
 use Rattle.resolved.specs.declared.expression.Connective.{Connective}
 use Rattle.resolved.specs.declared.expression.Connective.TheVariants.{And, Or}
 use Rattle.resolved.specs.Tree.{Expression, Integer, Logical, Read, Element, Unary, Binary, Short}
 use Rattle.resolved.specs.Value.{literal_number}
-use Rattle.modules.specs.declared.instruction.Arithmetic.TheVariants.{Add, Subtract, Multiply, Divide, Remainder}
+use Rattle.modules.specs.declared.instruction.Arithmetic.{Arithmetic}
+use Rattle.modules.specs.declared.instruction.Arithmetic.TheVariants.{Add, Subtract, Multiply, Divide, Remainder, BitAnd, BitOr, BitXor, ShiftLeft, ShiftRight, ShiftRightUnsigned}
+use Rattle.modules.specs.declared.instruction.Comparison.{Comparison}
 use Rattle.modules.specs.declared.instruction.Comparison.TheVariants.{Less, AtMost, Greater, AtLeast, Equal, NotEqual}
 use Rattle.modules.specs.declared.instruction.Instruction.{Instruction}
 use Rattle.modules.specs.declared.instruction.Instruction.TheVariants.{Push, PushBoolean, Load, Store, LoadGlobal, StoreGlobal, LoadElement, StoreElement, LoadGlobalElement, StoreGlobalElement, Compute, Negate, Not, Compare, SameBoolean, OtherBoolean, Jump, JumpIfFalse}
@@ -40,20 +52,41 @@ abbrev pub prefix_instruction : Prefix → Instruction
 prefix_instruction prefix.Negate = Negate
 prefix_instruction prefix.Not = Not
 
+abbrev pub computation_arithmetic : Computation → Arithmetic
+computation_arithmetic computation.Add = Add
+computation_arithmetic computation.Subtract = Subtract
+computation_arithmetic computation.Multiply = Multiply
+
+abbrev pub division_arithmetic : Division → Arithmetic
+division_arithmetic division.Quotient = Divide
+division_arithmetic division.Remainder = Remainder
+
+abbrev pub bit_arithmetic : BitOperator → Arithmetic
+bit_arithmetic bits.BitAnd = BitAnd
+bit_arithmetic bits.BitOr = BitOr
+bit_arithmetic bits.BitXor = BitXor
+bit_arithmetic bits.ShiftLeft = ShiftLeft
+bit_arithmetic bits.ShiftRight = ShiftRight
+bit_arithmetic bits.ShiftRightUnsigned = ShiftRightUnsigned
+
+abbrev pub comparison_of : Relation → Comparison
+comparison_of relation.LessThan = Less
+comparison_of relation.AtMost = AtMost
+comparison_of relation.GreaterThan = Greater
+comparison_of relation.AtLeast = AtLeast
+comparison_of relation.Equal = Equal
+comparison_of relation.Unequal = NotEqual
+
+abbrev pub sameness_instruction : Sameness → Instruction
+sameness_instruction sameness.Same = SameBoolean
+sameness_instruction sameness.Different = OtherBoolean
+
 abbrev pub operator_instruction : Operator → Instruction
-operator_instruction operator.Add = Compute Add
-operator_instruction operator.Subtract = Compute Subtract
-operator_instruction operator.Multiply = Compute Multiply
-operator_instruction operator.Divide = Compute Divide
-operator_instruction operator.Remainder = Compute Remainder
-operator_instruction operator.LessThan = Compare Less
-operator_instruction operator.AtMost = Compare AtMost
-operator_instruction operator.GreaterThan = Compare Greater
-operator_instruction operator.AtLeast = Compare AtLeast
-operator_instruction operator.Equal = Compare Equal
-operator_instruction operator.Unequal = Compare NotEqual
-operator_instruction operator.Same = SameBoolean
-operator_instruction operator.Different = OtherBoolean
+operator_instruction (operator.Compute computed) = Compute (computation_arithmetic computed)
+operator_instruction (operator.Divide divided) = Compute (division_arithmetic divided)
+operator_instruction (operator.Bits made) = Compute (bit_arithmetic made)
+operator_instruction (operator.Compare compared) = Compare (comparison_of compared)
+operator_instruction (operator.Match matched) = sameness_instruction matched
 
 -- ---- values
 -- how many instructions the code of an expression's value has
@@ -95,21 +128,26 @@ arguments_code at [] = []
 arguments_code at (e ∷ rest) = value_code at e ++ arguments_code (at + value_size e) rest
 
 -- ---- conditions
--- the comparison that is true exactly where an operator is false; an operator on numbers has none and stays
+-- the relation and the sameness that are true exactly where another is false
+abbrev pub opposite_relation : Relation → Relation
+opposite_relation relation.LessThan = relation.AtLeast
+opposite_relation relation.AtMost = relation.GreaterThan
+opposite_relation relation.GreaterThan = relation.AtMost
+opposite_relation relation.AtLeast = relation.LessThan
+opposite_relation relation.Equal = relation.Unequal
+opposite_relation relation.Unequal = relation.Equal
+
+abbrev pub opposite_sameness : Sameness → Sameness
+opposite_sameness sameness.Same = sameness.Different
+opposite_sameness sameness.Different = sameness.Same
+
+-- the operator that is true exactly where an operator is false; one that gives a number has none and stays
 abbrev pub negated_operator : Operator → Operator
-negated_operator operator.Add = operator.Add
-negated_operator operator.Subtract = operator.Subtract
-negated_operator operator.Multiply = operator.Multiply
-negated_operator operator.Divide = operator.Divide
-negated_operator operator.Remainder = operator.Remainder
-negated_operator operator.LessThan = operator.AtLeast
-negated_operator operator.AtMost = operator.GreaterThan
-negated_operator operator.GreaterThan = operator.AtMost
-negated_operator operator.AtLeast = operator.LessThan
-negated_operator operator.Equal = operator.Unequal
-negated_operator operator.Unequal = operator.Equal
-negated_operator operator.Same = operator.Different
-negated_operator operator.Different = operator.Same
+negated_operator (operator.Compute computed) = operator.Compute computed
+negated_operator (operator.Divide divided) = operator.Divide divided
+negated_operator (operator.Bits made) = operator.Bits made
+negated_operator (operator.Compare compared) = operator.Compare (opposite_relation compared)
+negated_operator (operator.Match matched) = operator.Match (opposite_sameness matched)
 
 -- a condition that is true exactly where a condition is false. A connective is negated as a whole here; the code of a condition never
 -- asks for that

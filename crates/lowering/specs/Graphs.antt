@@ -1,4 +1,4 @@
--- The graph of a program: the code of each procedure, and the tables of its globals, channels and exceptions.
+-- Private: the graph of a program: its version, the code of each procedure, and the tables of its globals, channels and exceptions.
 -- Source: our own.
 use Rattle.std.specs.Prelude.{Bool, true, false, List, [], ◌∷◌, ◌++◌, map}
 use Rattle.resolved.specs.Tree.{Block}
@@ -6,7 +6,7 @@ use Rattle.resolved.specs.Program.{Program, ProcedureEntry}
 use Rattle.modules.specs.declared.instruction.Instruction.{Instruction}
 use Rattle.modules.specs.declared.instruction.Instruction.TheVariants.{Return}
 use Rattle.modules.specs.Contents.{ProcedureContents, ModuleContents}
-use Rattle.lowering.specs.Interface.{hierarchy_contents, channel_contents, global_contents, slot_contents, returned_kind}
+use Rattle.lowering.specs.Interface.{module_version, hierarchy_contents, channel_contents, global_contents, slot_contents, returned_kind}
 use Rattle.lowering.specs.Code.{Loop, block_falls, block_code, block_table}
 use Rattle.lowering.specs.Threaded.{threaded}
 
@@ -33,6 +33,7 @@ procedure_contents program procedure = record {
 
 abbrev pub graph_of : Program → ModuleContents
 graph_of program = record {
+  version = module_version program;
   hierarchy = hierarchy_contents program.hierarchy;
   exceptions = program.exceptions;
   channels = map channel_contents program.channels;

@@ -1,22 +1,29 @@
--- What a program and its graph show of themselves before any run: the hierarchy, the channels, the exceptions, the globals, and what
--- each procedure takes and gives.
+-- What a program and its graph show of themselves before any run: the version, the hierarchy, the channels, the exceptions, the globals,
+-- and what each procedure takes and gives.
 -- Source: our own.
-use Rattle.std.specs.Prelude.{ℕ, Option, Some, None}
-use Rattle.principals.specs.ActsFor.{PrincipalHierarchy}
+use Rattle.std.specs.Prelude.{◌≡◌, ◌↔◌, ℕ, map, Option, Some, None, if◌then◌else◌}
+use Rattle.principals.specs.ActsFor.{ActsFor, PrincipalHierarchy}
 use Rattle.labels.specs.Sets.{ascending_set}
 use Rattle.resolved.specs.declared.expression.Base.{Base}
 use Rattle.resolved.specs.declared.expression.Base.TheVariants as base
 use Rattle.resolved.specs.declared.expression.Value.{Value}
 use Rattle.resolved.specs.declared.expression.Value.TheVariants.{Number, Truth}
-use Rattle.resolved.specs.Program.{ChannelEntry, GlobalEntry, SlotEntry, ResultEntry}
+use Rattle.resolved.specs.BitUse.{uses_bits}
+use Rattle.resolved.specs.Program.{Program, ChannelEntry, GlobalEntry, SlotEntry, ResultEntry}
 use Rattle.modules.specs.declared.declaration.Slot.{Slot}
 use Rattle.modules.specs.declared.declaration.Slot.TheVariants as slot
 use Rattle.modules.specs.declared.declaration.Global.{Global}
 use Rattle.modules.specs.declared.declaration.Global.TheVariants as global
+use Rattle.modules.specs.declared.version.Version.{Version}
+use Rattle.modules.specs.declared.version.Version.TheVariants.{One, Two}
 use Rattle.modules.specs.declared.value.Kind.{Kind}
 use Rattle.modules.specs.declared.value.Kind.TheVariants as kind
-use Rattle.modules.specs.Contents.{ChannelContents}
+use Rattle.modules.specs.Contents.{ChannelContents, ModuleContents}
 use Rattle.modules.specs.Format.{pair_cmp}
+
+-- the version of the module file for a program: the second exactly where the program uses an operator on bits
+abbrev pub module_version : Program → Version
+module_version program = if uses_bits program then Two else One
 
 -- the same principals, and the written pairs in ascending order, each once
 abbrev pub hierarchy_contents : PrincipalHierarchy → PrincipalHierarchy
@@ -55,3 +62,13 @@ global_contents entry = declared_global entry.base entry.size entry.first
 abbrev pub returned_kind : Option ResultEntry → Option Kind
 returned_kind None = None
 returned_kind (Some entry) = Some (kind_of_base entry.base)
+
+-- a graph or a module has the version of a program, the second exactly where the program uses an operator on bits; its principals with
+-- the same numbers, of whom the same act for each other; its channels with the same numbers, and the names of its declared exceptions
+-- with the same numbers
+pub record HasInterfaceOf (program : Program) (m : ModuleContents) : Type 0 where
+  pub version : m.version ≡ module_version program
+  pub names : m.hierarchy.names ≡ program.hierarchy.names
+  pub acts : (a b : ℕ) → ActsFor m.hierarchy.pairs a b ↔ ActsFor program.hierarchy.pairs a b
+  pub channels : m.channels ≡ map channel_contents program.channels
+  pub exceptions : m.exceptions ≡ program.exceptions

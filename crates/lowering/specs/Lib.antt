@@ -5,7 +5,6 @@ pub mod Threaded
 pub mod Graphs
 pub mod SameMeaning
 pub mod Added
-pub mod Positions
 pub mod Direct
 pub mod Fitting
-pub mod Verified
+pub mod Laws

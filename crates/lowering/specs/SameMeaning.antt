@@ -1,18 +1,13 @@
 -- What it means that a machine keeps the meaning of a program: on every world both send the same and end the same way.
 -- Source: our own; the correctness of a compiler by simulation in both directions, as for CompCert (Leroy 2009).
-use Rattle.std.specs.Prelude.{◌≡◌, ℕ, List, [], Option, Some, None, IsTrue}
+use Rattle.std.specs.Prelude.{◌≡◌, ℕ, List, Option, Some, None}
 use Rattle.labels.specs.declared.sent.Pair.{Pair}
 use Rattle.labels.specs.Sent.{IsPrefix}
 use Rattle.resolved.specs.declared.statement.Exit.TheVariants.{Normal, Return, Break, Continue, Throw}
-use Rattle.resolved.specs.EndFaults.{end_faults}
 use Rattle.resolved.specs.Program.{Program}
 use Rattle.resolved.specs.SourceState.{World}
 use Rattle.resolved.specs.Meaning.{Outcome, Ended, Stopped, Deep, OutOfTurns, run_within, frame_limit, sent_by}
-use Rattle.resolved.specs.WellFormed.{well_formed}
 use Rattle.modules.specs.Machine as machine
-use Rattle.layout.specs.Offsets.{laid_out}
-use Rattle.layout.specs.Runs.{graph_after_steps}
-use Rattle.lowering.specs.Graphs.{graph_of}
 
 -- how a machine ends where a program does so; none for a run that is out of turns, which has not ended, and for a `break` or a
 -- `continue` out of a procedure, which no program has that is free of faults of its ends
@@ -37,13 +32,3 @@ pub record SameMeaning (program : Program) (after : World → ℕ → machine.Ma
   pub ends_too : (world : World) (k : ℕ) (ending : machine.Ending)
       → ending_of (run_within frame_limit program world k) ≡ Some ending
       → (n : ℕ) × (after world n ≡ machine.Ended ending (sent_by program world k))
-
--- the graph of every well-formed program without a fault of its ends keeps its meaning
-abbrev pub GraphsKeepMeaning : Type 0
-GraphsKeepMeaning = (program : Program) → IsTrue (well_formed program) → end_faults program ≡ []
-    → SameMeaning program (graph_after_steps (graph_of program))
-
--- and so does the module that this graph is laid out as
-abbrev pub ModulesKeepMeaning : Type 0
-ModulesKeepMeaning = (program : Program) → IsTrue (well_formed program) → end_faults program ≡ []
-    → SameMeaning program (machine.after_steps (laid_out (graph_of program)))

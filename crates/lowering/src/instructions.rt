@@ -1,9 +1,11 @@
 //! Single instructions: those of operators, and those that move values between variables and operands.
-ghost use Rattle.lowering.specs.Expressions.{load_element_of, load_of, operator_instruction, prefix_instruction, store_element_of, store_of};
+ghost use Rattle.lowering.specs.Expressions.{bit_arithmetic, comparison_of, computation_arithmetic, division_arithmetic, load_element_of, load_of, operator_instruction, prefix_instruction, sameness_instruction, store_element_of, store_of};
 ghost use Rattle.std.specs.Prelude.{◌≡◌};
 
 use modules::{Arithmetic, Comparison, Instruction};
-use resolved::expression::{Operator, Prefix, Variable};
+use resolved::expression::{
+    BitOperator, Computation, Division, Operator, Prefix, Relation, Sameness, Variable,
+};
 
 /// The instruction of an operator before its operand.
 pub(crate) fn prefix_instruction(prefix: Prefix) -> Instruction
@@ -20,19 +22,65 @@ pub(crate) fn operator_instruction(operator: Operator) -> Instruction
     ensures { result ≡ operator_instruction operator }
 {
     match operator {
-        Operator::Add => Instruction::Compute(Arithmetic::Add),
-        Operator::Subtract => Instruction::Compute(Arithmetic::Subtract),
-        Operator::Multiply => Instruction::Compute(Arithmetic::Multiply),
-        Operator::Divide => Instruction::Compute(Arithmetic::Divide),
-        Operator::Remainder => Instruction::Compute(Arithmetic::Remainder),
-        Operator::LessThan => Instruction::Compare(Comparison::Less),
-        Operator::AtMost => Instruction::Compare(Comparison::AtMost),
-        Operator::GreaterThan => Instruction::Compare(Comparison::Greater),
-        Operator::AtLeast => Instruction::Compare(Comparison::AtLeast),
-        Operator::Equal => Instruction::Compare(Comparison::Equal),
-        Operator::Unequal => Instruction::Compare(Comparison::NotEqual),
-        Operator::Same => Instruction::SameBoolean,
-        Operator::Different => Instruction::OtherBoolean,
+        Operator::Compute(computation) => Instruction::Compute(computation_arithmetic(computation)),
+        Operator::Divide(division) => Instruction::Compute(division_arithmetic(division)),
+        Operator::Bits(operator) => Instruction::Compute(bit_arithmetic(operator)),
+        Operator::Compare(relation) => Instruction::Compare(comparison_of(relation)),
+        Operator::Match(sameness) => sameness_instruction(sameness),
+    }
+}
+
+fn computation_arithmetic(computation: Computation) -> Arithmetic
+    ensures { result ≡ computation_arithmetic computation }
+{
+    match computation {
+        Computation::Add => Arithmetic::Add,
+        Computation::Subtract => Arithmetic::Subtract,
+        Computation::Multiply => Arithmetic::Multiply,
+    }
+}
+
+fn division_arithmetic(division: Division) -> Arithmetic
+    ensures { result ≡ division_arithmetic division }
+{
+    match division {
+        Division::Quotient => Arithmetic::Divide,
+        Division::Remainder => Arithmetic::Remainder,
+    }
+}
+
+fn bit_arithmetic(operator: BitOperator) -> Arithmetic
+    ensures { result ≡ bit_arithmetic operator }
+{
+    match operator {
+        BitOperator::BitAnd => Arithmetic::BitAnd,
+        BitOperator::BitOr => Arithmetic::BitOr,
+        BitOperator::BitXor => Arithmetic::BitXor,
+        BitOperator::ShiftLeft => Arithmetic::ShiftLeft,
+        BitOperator::ShiftRight => Arithmetic::ShiftRight,
+        BitOperator::ShiftRightUnsigned => Arithmetic::ShiftRightUnsigned,
+    }
+}
+
+fn comparison_of(relation: Relation) -> Comparison
+    ensures { result ≡ comparison_of relation }
+{
+    match relation {
+        Relation::LessThan => Comparison::Less,
+        Relation::AtMost => Comparison::AtMost,
+        Relation::GreaterThan => Comparison::Greater,
+        Relation::AtLeast => Comparison::AtLeast,
+        Relation::Equal => Comparison::Equal,
+        Relation::Unequal => Comparison::NotEqual,
+    }
+}
+
+fn sameness_instruction(sameness: Sameness) -> Instruction
+    ensures { result ≡ sameness_instruction sameness }
+{
+    match sameness {
+        Sameness::Same => Instruction::SameBoolean,
+        Sameness::Different => Instruction::OtherBoolean,
     }
 }
 

@@ -8,11 +8,11 @@ mod emitter;
 mod endings;
 mod instructions;
 mod interface;
-pub mod laws;
 mod lengths;
 mod operands;
 mod procedures;
 pub mod program;
 mod threading;
+mod versions;
 
 pub use program::lower;

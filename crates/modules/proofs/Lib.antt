@@ -1,4 +1,5 @@
 pub mod Spelling
+mod Later
 mod Operands
 pub mod Widths
 pub mod Executing

@@ -88,11 +88,11 @@ channels-there h names all fits =
 
 pub module-hierarchy : (m : ModuleContents) → Fits module_file m → IsHierarchy m.hierarchy
 unfolding module_file contents
-module-hierarchy m fits = is-hierarchy m.hierarchy fits.0.0
+module-hierarchy m fits = is-hierarchy m.hierarchy fits.0.1.0
 
 pub module-labels : (m : ModuleContents) → Fits module_file m → All (λ channel. IsLabelOf m.hierarchy channel.label) m.channels
 unfolding module_file contents declared
-module-labels m fits = channels-there m.hierarchy m.exceptions m.channels fits.0.1.0.1
+module-labels m fits = channels-there m.hierarchy m.exceptions m.channels fits.0.1.1.0.1
 
 -- the label of a channel, also of one that is not there
 label_of_number : (h : PrincipalHierarchy) → IsHierarchy h → (channels : List ChannelContents) → All (λ channel. IsLabelOf h channel.label) channels → (k : ℕ)

@@ -1,62 +1,73 @@
--- Each instruction whose operand fits has a spelling, which is as long as the instruction is wide.
-use Rattle.std.proofs.Common.{◌≡◌, ℕ, ◌^◌, ◌<◌, ℤ, true, false, List, [], ◌∷◌, length, Some, refl, ap, ◌∙◌, arith, length-append, lit<}
-use Rattle.std.specs.Prelude.{FitsSigned}
+-- Each instruction that a version has and whose operand fits has a spelling there, which is as long as the instruction is wide.
+use Rattle.std.proofs.Common.{◌≡◌, ℕ, ◌^◌, ◌<◌, ℤ, true, false, List, [], ◌∷◌, length, Option, None, Some, refl, ap, ◌∙◌, arith, length-append, lit<}
+use Rattle.std.specs.Prelude.{FitsSigned, IsTrue}
 use Rattle.std.specs.Int.{w32, cast_signed, cast_unsigned, to_be_bytes, from_be_bytes}
+use Rattle.std.specs.List.{AllByRecursion}
+use Rattle.std.proofs.lemmas.List.Elements.{All-nil, All-cons}
 use Rattle.std.proofs.lemmas.Int.{to_z-of_z}
 use Rattle.std.proofs.lemmas.Nat.{from_be_bytes-to_be_bytes_4}
 use Rattle.std.proofs.Math.Facts.{Fits-of_z, Fits-lt-pow}
-use Rattle.modules.specs.declared.instruction.Arithmetic.TheVariants.{Add, Subtract, Multiply, Divide, Remainder}
+use Rattle.modules.specs.declared.instruction.Arithmetic.TheVariants.{Add, Subtract, Multiply, Divide, Remainder, BitAnd, BitOr, BitXor, ShiftLeft, ShiftRight, ShiftRightUnsigned}
 use Rattle.modules.specs.declared.instruction.Comparison.TheVariants.{Less, AtMost, Greater, AtLeast, Equal, NotEqual}
 use Rattle.modules.specs.declared.instruction.Instruction.{Instruction}
 use Rattle.modules.specs.declared.instruction.Instruction.TheVariants.{Push, PushBoolean, Pop, Load, Store, LoadGlobal, StoreGlobal, LoadElement, StoreElement, LoadGlobalElement, StoreGlobalElement, Clear, Compute, Negate, Not, Compare, SameBoolean, OtherBoolean, Jump, JumpIfFalse, Call, Return, ReturnValue, Receive, Send, Throw}
 use Rattle.modules.specs.Code.{width_of, code_length}
 use Rattle.modules.specs.Form.{IsCoded, spelled_instruction, spelled_code}
-use Rattle.modules.specs.Opcodes.{OperandFits, row_of, instructions}
+use Rattle.modules.specs.Opcodes.{HasCodeOf, OperandFits, exists_in, has_instruction, row_of, instructions}
+use Rattle.modules.specs.declared.version.Version.{Version}
+use Rattle.modules.specs.declared.version.Version.TheVariants.{One, Two}
 
 -- ---- widths
 
-pub spelled-width : (x : Instruction) → length (spelled_instruction instructions x) ≡ width_of x
+pub spelled-width : (version : Version) (x : Instruction) → length (spelled_instruction (instructions version) x) ≡ width_of x
 unfolding instructions
-spelled-width (Push n) = refl
-spelled-width (PushBoolean b) = refl
-spelled-width Pop = refl
-spelled-width (Load slot) = refl
-spelled-width (Store slot) = refl
-spelled-width (LoadGlobal slot) = refl
-spelled-width (StoreGlobal slot) = refl
-spelled-width (LoadElement slot) = refl
-spelled-width (StoreElement slot) = refl
-spelled-width (LoadGlobalElement slot) = refl
-spelled-width (StoreGlobalElement slot) = refl
-spelled-width (Clear slot) = refl
-spelled-width (Compute Add) = refl
-spelled-width (Compute Subtract) = refl
-spelled-width (Compute Multiply) = refl
-spelled-width (Compute Divide) = refl
-spelled-width (Compute Remainder) = refl
-spelled-width Negate = refl
-spelled-width Not = refl
-spelled-width (Compare Less) = refl
-spelled-width (Compare AtMost) = refl
-spelled-width (Compare Greater) = refl
-spelled-width (Compare AtLeast) = refl
-spelled-width (Compare Equal) = refl
-spelled-width (Compare NotEqual) = refl
-spelled-width SameBoolean = refl
-spelled-width OtherBoolean = refl
-spelled-width (Jump target) = refl
-spelled-width (JumpIfFalse target) = refl
-spelled-width (Call procedure) = refl
-spelled-width Return = refl
-spelled-width ReturnValue = refl
-spelled-width (Receive channel) = refl
-spelled-width (Send channel) = refl
-spelled-width (Throw exception) = refl
+spelled-width version (Push n) = refl
+spelled-width version (PushBoolean b) = refl
+spelled-width version Pop = refl
+spelled-width version (Load slot) = refl
+spelled-width version (Store slot) = refl
+spelled-width version (LoadGlobal slot) = refl
+spelled-width version (StoreGlobal slot) = refl
+spelled-width version (LoadElement slot) = refl
+spelled-width version (StoreElement slot) = refl
+spelled-width version (LoadGlobalElement slot) = refl
+spelled-width version (StoreGlobalElement slot) = refl
+spelled-width version (Clear slot) = refl
+spelled-width version (Compute Add) = refl
+spelled-width version (Compute Subtract) = refl
+spelled-width version (Compute Multiply) = refl
+spelled-width version (Compute Divide) = refl
+spelled-width version (Compute Remainder) = refl
+spelled-width version (Compute BitAnd) = refl
+spelled-width version (Compute BitOr) = refl
+spelled-width version (Compute BitXor) = refl
+spelled-width version (Compute ShiftLeft) = refl
+spelled-width version (Compute ShiftRight) = refl
+spelled-width version (Compute ShiftRightUnsigned) = refl
+spelled-width version Negate = refl
+spelled-width version Not = refl
+spelled-width version (Compare Less) = refl
+spelled-width version (Compare AtMost) = refl
+spelled-width version (Compare Greater) = refl
+spelled-width version (Compare AtLeast) = refl
+spelled-width version (Compare Equal) = refl
+spelled-width version (Compare NotEqual) = refl
+spelled-width version SameBoolean = refl
+spelled-width version OtherBoolean = refl
+spelled-width version (Jump target) = refl
+spelled-width version (JumpIfFalse target) = refl
+spelled-width version (Call procedure) = refl
+spelled-width version Return = refl
+spelled-width version ReturnValue = refl
+spelled-width version (Receive channel) = refl
+spelled-width version (Send channel) = refl
+spelled-width version (Throw exception) = refl
 
-pub spelled-length : (code : List Instruction) → length (spelled_code instructions code) ≡ code_length code
-spelled-length [] = refl
-spelled-length (x ∷ xs) =
-    length-append (spelled_instruction instructions x) (spelled_code instructions xs) ∙ omega (arith, spelled-width x, spelled-length xs)
+pub spelled-length : (version : Version) (code : List Instruction) → length (spelled_code (instructions version) code) ≡ code_length code
+spelled-length version [] = refl
+spelled-length version (x ∷ xs) =
+    length-append (spelled_instruction (instructions version) x) (spelled_code (instructions version) xs)
+    ∙ omega (arith, spelled-width version x, spelled-length version xs)
 
 -- ---- spellings
 
@@ -68,41 +79,78 @@ int-back n fits =
     let small : cast_unsigned w32 n < 2 ^ 32 = Fits-lt-pow (Fits-of_z fits) in
     ap (cast_signed w32) (number-back (cast_unsigned w32 n) small) ∙ to_z-of_z w32 n fits
 
-pub is_spelled : (x : Instruction) → OperandFits (row_of x).operand → IsCoded instructions x
+pub is_spelled : (version : Version) (x : Instruction) → IsTrue (has_instruction version x) → OperandFits (row_of x).operand → IsCoded (instructions version) x
 unfolding instructions
-is_spelled (Push n) fits = record { byte = lit< tt; width = refl; itself = ap (λ k. Some (Push k)) (int-back n fits) }
-is_spelled (PushBoolean false) fits = record { byte = lit< tt; width = refl; itself = refl }
-is_spelled (PushBoolean true) fits = record { byte = lit< tt; width = refl; itself = refl }
-is_spelled Pop fits = record { byte = lit< tt; width = refl; itself = refl }
-is_spelled (Load slot) fits = record { byte = lit< tt; width = refl; itself = ap (λ k. Some (Load k)) (number-back slot fits) }
-is_spelled (Store slot) fits = record { byte = lit< tt; width = refl; itself = ap (λ k. Some (Store k)) (number-back slot fits) }
-is_spelled (LoadGlobal slot) fits = record { byte = lit< tt; width = refl; itself = ap (λ k. Some (LoadGlobal k)) (number-back slot fits) }
-is_spelled (StoreGlobal slot) fits = record { byte = lit< tt; width = refl; itself = ap (λ k. Some (StoreGlobal k)) (number-back slot fits) }
-is_spelled (LoadElement slot) fits = record { byte = lit< tt; width = refl; itself = ap (λ k. Some (LoadElement k)) (number-back slot fits) }
-is_spelled (StoreElement slot) fits = record { byte = lit< tt; width = refl; itself = ap (λ k. Some (StoreElement k)) (number-back slot fits) }
-is_spelled (LoadGlobalElement slot) fits = record { byte = lit< tt; width = refl; itself = ap (λ k. Some (LoadGlobalElement k)) (number-back slot fits) }
-is_spelled (StoreGlobalElement slot) fits = record { byte = lit< tt; width = refl; itself = ap (λ k. Some (StoreGlobalElement k)) (number-back slot fits) }
-is_spelled (Clear slot) fits = record { byte = lit< tt; width = refl; itself = ap (λ k. Some (Clear k)) (number-back slot fits) }
-is_spelled (Compute Add) fits = record { byte = lit< tt; width = refl; itself = refl }
-is_spelled (Compute Subtract) fits = record { byte = lit< tt; width = refl; itself = refl }
-is_spelled (Compute Multiply) fits = record { byte = lit< tt; width = refl; itself = refl }
-is_spelled (Compute Divide) fits = record { byte = lit< tt; width = refl; itself = refl }
-is_spelled (Compute Remainder) fits = record { byte = lit< tt; width = refl; itself = refl }
-is_spelled Negate fits = record { byte = lit< tt; width = refl; itself = refl }
-is_spelled Not fits = record { byte = lit< tt; width = refl; itself = refl }
-is_spelled (Compare Less) fits = record { byte = lit< tt; width = refl; itself = refl }
-is_spelled (Compare AtMost) fits = record { byte = lit< tt; width = refl; itself = refl }
-is_spelled (Compare Greater) fits = record { byte = lit< tt; width = refl; itself = refl }
-is_spelled (Compare AtLeast) fits = record { byte = lit< tt; width = refl; itself = refl }
-is_spelled (Compare Equal) fits = record { byte = lit< tt; width = refl; itself = refl }
-is_spelled (Compare NotEqual) fits = record { byte = lit< tt; width = refl; itself = refl }
-is_spelled SameBoolean fits = record { byte = lit< tt; width = refl; itself = refl }
-is_spelled OtherBoolean fits = record { byte = lit< tt; width = refl; itself = refl }
-is_spelled (Jump target) fits = record { byte = lit< tt; width = refl; itself = ap (λ k. Some (Jump k)) (number-back target fits) }
-is_spelled (JumpIfFalse target) fits = record { byte = lit< tt; width = refl; itself = ap (λ k. Some (JumpIfFalse k)) (number-back target fits) }
-is_spelled (Call procedure) fits = record { byte = lit< tt; width = refl; itself = ap (λ k. Some (Call k)) (number-back procedure fits) }
-is_spelled Return fits = record { byte = lit< tt; width = refl; itself = refl }
-is_spelled ReturnValue fits = record { byte = lit< tt; width = refl; itself = refl }
-is_spelled (Receive channel) fits = record { byte = lit< tt; width = refl; itself = ap (λ k. Some (Receive k)) (number-back channel fits) }
-is_spelled (Send channel) fits = record { byte = lit< tt; width = refl; itself = ap (λ k. Some (Send k)) (number-back channel fits) }
-is_spelled (Throw exception) fits = record { byte = lit< tt; width = refl; itself = ap (λ k. Some (Throw k)) (number-back exception fits) }
+is_spelled version (Push n) has fits = record { byte = lit< tt; width = refl; itself = ap (λ k. Some (Push k)) (int-back n fits) }
+is_spelled version (PushBoolean false) has fits = record { byte = lit< tt; width = refl; itself = refl }
+is_spelled version (PushBoolean true) has fits = record { byte = lit< tt; width = refl; itself = refl }
+is_spelled version Pop has fits = record { byte = lit< tt; width = refl; itself = refl }
+is_spelled version (Load slot) has fits = record { byte = lit< tt; width = refl; itself = ap (λ k. Some (Load k)) (number-back slot fits) }
+is_spelled version (Store slot) has fits = record { byte = lit< tt; width = refl; itself = ap (λ k. Some (Store k)) (number-back slot fits) }
+is_spelled version (LoadGlobal slot) has fits = record { byte = lit< tt; width = refl; itself = ap (λ k. Some (LoadGlobal k)) (number-back slot fits) }
+is_spelled version (StoreGlobal slot) has fits = record { byte = lit< tt; width = refl; itself = ap (λ k. Some (StoreGlobal k)) (number-back slot fits) }
+is_spelled version (LoadElement slot) has fits = record { byte = lit< tt; width = refl; itself = ap (λ k. Some (LoadElement k)) (number-back slot fits) }
+is_spelled version (StoreElement slot) has fits = record { byte = lit< tt; width = refl; itself = ap (λ k. Some (StoreElement k)) (number-back slot fits) }
+is_spelled version (LoadGlobalElement slot) has fits = record { byte = lit< tt; width = refl; itself = ap (λ k. Some (LoadGlobalElement k)) (number-back slot fits) }
+is_spelled version (StoreGlobalElement slot) has fits = record { byte = lit< tt; width = refl; itself = ap (λ k. Some (StoreGlobalElement k)) (number-back slot fits) }
+is_spelled version (Clear slot) has fits = record { byte = lit< tt; width = refl; itself = ap (λ k. Some (Clear k)) (number-back slot fits) }
+is_spelled version (Compute Add) has fits = record { byte = lit< tt; width = refl; itself = refl }
+is_spelled version (Compute Subtract) has fits = record { byte = lit< tt; width = refl; itself = refl }
+is_spelled version (Compute Multiply) has fits = record { byte = lit< tt; width = refl; itself = refl }
+is_spelled version (Compute Divide) has fits = record { byte = lit< tt; width = refl; itself = refl }
+is_spelled version (Compute Remainder) has fits = record { byte = lit< tt; width = refl; itself = refl }
+is_spelled One (Compute BitAnd) has fits = absurd cc
+is_spelled Two (Compute BitAnd) has fits = record { byte = lit< tt; width = refl; itself = refl }
+is_spelled One (Compute BitOr) has fits = absurd cc
+is_spelled Two (Compute BitOr) has fits = record { byte = lit< tt; width = refl; itself = refl }
+is_spelled One (Compute BitXor) has fits = absurd cc
+is_spelled Two (Compute BitXor) has fits = record { byte = lit< tt; width = refl; itself = refl }
+is_spelled One (Compute ShiftLeft) has fits = absurd cc
+is_spelled Two (Compute ShiftLeft) has fits = record { byte = lit< tt; width = refl; itself = refl }
+is_spelled One (Compute ShiftRight) has fits = absurd cc
+is_spelled Two (Compute ShiftRight) has fits = record { byte = lit< tt; width = refl; itself = refl }
+is_spelled One (Compute ShiftRightUnsigned) has fits = absurd cc
+is_spelled Two (Compute ShiftRightUnsigned) has fits = record { byte = lit< tt; width = refl; itself = refl }
+is_spelled version Negate has fits = record { byte = lit< tt; width = refl; itself = refl }
+is_spelled version Not has fits = record { byte = lit< tt; width = refl; itself = refl }
+is_spelled version (Compare Less) has fits = record { byte = lit< tt; width = refl; itself = refl }
+is_spelled version (Compare AtMost) has fits = record { byte = lit< tt; width = refl; itself = refl }
+is_spelled version (Compare Greater) has fits = record { byte = lit< tt; width = refl; itself = refl }
+is_spelled version (Compare AtLeast) has fits = record { byte = lit< tt; width = refl; itself = refl }
+is_spelled version (Compare Equal) has fits = record { byte = lit< tt; width = refl; itself = refl }
+is_spelled version (Compare NotEqual) has fits = record { byte = lit< tt; width = refl; itself = refl }
+is_spelled version SameBoolean has fits = record { byte = lit< tt; width = refl; itself = refl }
+is_spelled version OtherBoolean has fits = record { byte = lit< tt; width = refl; itself = refl }
+is_spelled version (Jump target) has fits = record { byte = lit< tt; width = refl; itself = ap (λ k. Some (Jump k)) (number-back target fits) }
+is_spelled version (JumpIfFalse target) has fits = record { byte = lit< tt; width = refl; itself = ap (λ k. Some (JumpIfFalse k)) (number-back target fits) }
+is_spelled version (Call procedure) has fits = record { byte = lit< tt; width = refl; itself = ap (λ k. Some (Call k)) (number-back procedure fits) }
+is_spelled version Return has fits = record { byte = lit< tt; width = refl; itself = refl }
+is_spelled version ReturnValue has fits = record { byte = lit< tt; width = refl; itself = refl }
+is_spelled version (Receive channel) has fits = record { byte = lit< tt; width = refl; itself = ap (λ k. Some (Receive k)) (number-back channel fits) }
+is_spelled version (Send channel) has fits = record { byte = lit< tt; width = refl; itself = ap (λ k. Some (Send k)) (number-back channel fits) }
+is_spelled version (Throw exception) has fits = record { byte = lit< tt; width = refl; itself = ap (λ k. Some (Throw k)) (number-back exception fits) }
+
+-- ---- versions
+
+no_width : (found : Option ℕ) (n : ℕ) → found ≡ None → found ≡ Some n → ⊥
+no_width found n none some = cc (none, some)
+
+pub in_latest : (since : Version) → IsTrue (exists_in since Two)
+in_latest One = refl
+in_latest Two = refl
+
+-- an instruction that has a spelling in a version is one that the version has
+pub has_spelled : (version : Version) (x : Instruction) → IsCoded (instructions version) x → IsTrue (has_instruction version x)
+unfolding instructions
+has_spelled One (Compute BitAnd) coded = absurd (no_width _ 0 refl coded.width)
+has_spelled One (Compute BitOr) coded = absurd (no_width _ 0 refl coded.width)
+has_spelled One (Compute BitXor) coded = absurd (no_width _ 0 refl coded.width)
+has_spelled One (Compute ShiftLeft) coded = absurd (no_width _ 0 refl coded.width)
+has_spelled One (Compute ShiftRight) coded = absurd (no_width _ 0 refl coded.width)
+has_spelled One (Compute ShiftRightUnsigned) coded = absurd (no_width _ 0 refl coded.width)
+has_spelled One _ coded = refl
+has_spelled Two x coded = in_latest (row_of x).since
+
+pub all_have : (version : Version) (code : List Instruction) → AllByRecursion (IsCoded (instructions version)) code → HasCodeOf version code
+all_have version [] coded = All-nil _
+all_have version (x ∷ code) coded = All-cons (λ i. IsTrue (has_instruction version i)) x code (has_spelled version x coded.0) (all_have version code coded.1)

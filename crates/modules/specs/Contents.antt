@@ -5,6 +5,7 @@ use Rattle.principals.specs.ActsFor.{PrincipalHierarchy}
 use Rattle.labels.specs.Label.{Label}
 use Rattle.modules.specs.declared.instruction.Instruction.{Instruction}
 use Rattle.modules.specs.declared.value.Kind.{Kind}
+use Rattle.modules.specs.declared.version.Version.{Version}
 use Rattle.modules.specs.declared.declaration.Slot.{Slot}
 use Rattle.modules.specs.declared.declaration.Global.{Global}
 use Rattle.modules.specs.declared.declaration.Handler.{Handler}
@@ -25,9 +26,10 @@ pub record ProcedureContents : Type 0 where
   pub code : List Instruction
   pub handlers : List Handler
 
--- a module: the hierarchy, the names of the declared exceptions, which are numbered from 3, the channels, the globals, the
+-- a module: the version of its file, the hierarchy, the names of the declared exceptions, which are numbered from 3, the channels, the globals, the
 -- procedures, and the number of the procedure where a run starts
 pub record ModuleContents : Type 0 where
+  pub version : Version
   pub hierarchy : PrincipalHierarchy
   pub exceptions : List (List ℕ)
   pub channels : List ChannelContents

@@ -13,7 +13,10 @@ use Rattle.lexer.specs.Words.{is_name_text}
 use Rattle.principals.specs.ActsFor.{PrincipalHierarchy}
 use Rattle.labels.specs.Label.{ReaderPolicy, Label}
 use Rattle.labels.specs.Canonical.{policy_cmp}
-use Rattle.modules.specs.declared.fault.FormatDefect.TheVariants.{Magic, Version, BadValue, NotCanonical}
+use Rattle.modules.specs.declared.fault.FormatDefect.TheVariants.{Magic, BadValue, NotCanonical}
+use Rattle.modules.specs.declared.fault.FormatDefect.TheVariants as defect
+use Rattle.modules.specs.declared.version.Version.{Version}
+use Rattle.modules.specs.declared.version.Version.TheVariants.{One, Two}
 use Rattle.modules.specs.declared.value.Kind.{Kind}
 use Rattle.modules.specs.declared.value.Kind.TheVariants as kind
 use Rattle.modules.specs.declared.declaration.Slot.{Slot}
@@ -233,15 +236,15 @@ handler =
 unfoldable pub handlers : Form (List Handler)
 handlers = Counted any (λ before. handler)
 
-unfoldable pub procedure : Form ProcedureContents
-procedure =
+unfoldable pub procedure : Version → Form ProcedureContents
+procedure version =
     Named
     (λ fields. record { returned = fields.0; parameters = fields.1.0; slots = fields.1.1.0; code = fields.1.1.1.0; handlers = fields.1.1.1.1 })
     (λ p. (p.returned, (p.parameters, (p.slots, (p.code, p.handlers)))))
-    (Then returned (λ _. Then Number (λ parameters. Then (slots parameters) (λ _. Then (Code instructions) (λ _. handlers)))))
+    (Then returned (λ _. Then Number (λ parameters. Then (slots parameters) (λ _. Then (Code (instructions version)) (λ _. handlers)))))
 
-unfoldable pub procedures : Form (List ProcedureContents)
-procedures = Counted any (λ before. procedure)
+unfoldable pub procedures : Version → Form (List ProcedureContents)
+procedures version = Counted any (λ before. procedure version)
 
 -- ---- modules
 
@@ -253,23 +256,36 @@ may_start (Some procedure) = procedure.parameters == 0 && is_none procedure.retu
 unfoldable pub main : List ProcedureContents → Form ℕ
 main procedures = Checked BadValue (λ number. may_start (slice_get procedures number)) Number
 
--- the four bytes `FLOB`, and the version
+-- the four bytes `FLOB`
 abbrev pub magic : ℕ
 magic = 0x464c4f42
 
-abbrev pub version : ℕ
-version = 1
+-- a version and its number
+abbrev pub version_of : ℕ → Version
+version_of number = if number == 1 then One else Two
+
+abbrev pub version_number : Version → ℕ
+version_number One = 1
+version_number Two = 2
+
+unfoldable pub version : Form Version
+version = Named version_of version_number (Checked defect.Version (λ number. number == 1 || number == 2) Number)
 
 -- the globals, the procedures, and the number of the one where a run starts
-unfoldable pub program : Form (List Global × (List ProcedureContents × ℕ))
-program = Then globals (λ _. Then procedures main)
+unfoldable pub program : Version → Form (List Global × (List ProcedureContents × ℕ))
+program version = Then globals (λ _. Then (procedures version) main)
 
-unfoldable pub contents : Form ModuleContents
-contents =
-    Named
-    (λ fields. record { hierarchy = fields.0; exceptions = fields.1.0.0; channels = fields.1.0.1; globals = fields.1.1.0; procedures = fields.1.1.1.0; main = fields.1.1.1.1 })
-    (λ m. (m.hierarchy, ((m.exceptions, m.channels), (m.globals, (m.procedures, m.main)))))
-    (Then hierarchy (λ h. Then (declared (length h.names)) (λ _. program)))
+-- what stands behind the version: the hierarchy, the names of the declared exceptions and the channels, and the program
+abbrev pub FieldsOfVersion : Type 0
+FieldsOfVersion = PrincipalHierarchy × ((List (List ℕ) × List ChannelContents) × (List Global × (List ProcedureContents × ℕ)))
+
+unfoldable pub contents : Version → Form FieldsOfVersion
+contents version = Then hierarchy (λ h. Then (declared (length h.names)) (λ _. program version))
 
 unfoldable pub module_file : Form ModuleContents
-module_file = Marked Magic magic (Marked Version version contents)
+module_file =
+    Marked Magic magic
+    (Named
+    (λ fields. record { version = fields.0; hierarchy = fields.1.0; exceptions = fields.1.1.0.0; channels = fields.1.1.0.1; globals = fields.1.1.1.0; procedures = fields.1.1.1.1.0; main = fields.1.1.1.1.1 })
+    (λ m. (m.version, (m.hierarchy, ((m.exceptions, m.channels), (m.globals, (m.procedures, m.main))))))
+    (Then version contents))

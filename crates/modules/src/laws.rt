@@ -6,16 +6,38 @@ ghost use Rattle.modules.specs.Contents.{ModuleContents};
 ghost use Rattle.modules.specs.Form.{Fits, IsCoded};
 ghost use Rattle.modules.specs.Format.{module_file};
 ghost use Rattle.modules.specs.Isolated.{IsIsolated, StaysIsolated, channel_label, channel_label_under, module_view};
-ghost use Rattle.modules.specs.Opcodes.{instructions, OperandFits, row_of};
+ghost use Rattle.modules.specs.Machine.{after_steps};
+ghost use Rattle.modules.specs.Opcodes.{has_instruction, HasCodeOf, instructions, OperandFits, row_of};
 ghost use Rattle.modules.specs.declared.instruction.Instruction.{Instruction};
+ghost use Rattle.modules.specs.declared.version.Version.TheVariants.{Two};
+ghost use Rattle.modules.specs.declared.version.Version.{Version};
 ghost use Rattle.principals.specs.ActsFor.{IsHierarchy};
-ghost use Rattle.std.specs.Prelude.{List, ℕ, ◌≡◌};
+ghost use Rattle.std.specs.Prelude.{All, IsTrue, List, ℕ, ℤ, ◌≡◌};
 
-/// Each instruction whose operand fits has a spelling: its opcode is a byte, which is followed by as many bytes as its operand
-/// has, and the two spell that instruction again.
+/// Each instruction that a version has and whose operand fits has a spelling there: its opcode is a byte, which is followed by as
+/// many bytes as its operand has, and the two spell that instruction again. An instruction that a version does not have has none.
 pub fn instructions_are_spelled()
-    ensures { (instruction : Instruction) → OperandFits (row_of instruction).operand
-        → IsCoded instructions instruction }
+    ensures spelled { (version : Version) (instruction : Instruction)
+        → IsTrue (has_instruction version instruction) → OperandFits (row_of instruction).operand
+        → IsCoded (instructions version) instruction }
+    ensures none { (version : Version) (instruction : Instruction)
+        → IsCoded (instructions version) instruction
+        → IsTrue (has_instruction version instruction) }
+{}
+
+/// A module that has a spelling has instructions of its version alone.
+pub fn modules_have_instructions_of_their_version()
+    ensures { (m : ModuleContents) → Fits module_file m
+        → All (λ procedure. HasCodeOf m.version procedure.code) m.procedures }
+{}
+
+/// The version of a module says which instructions there are, and nothing else: a module that has a spelling has one as a file of the
+/// last version too, and runs are the same in each.
+pub fn versions_keep_modules()
+    ensures spelled { (m : ModuleContents) → Fits module_file m →
+        Fits module_file (record m { version = Two }) }
+    ensures runs { (m : ModuleContents) (version : Version) (world : ℕ → List ℤ) (n : ℕ) →
+        after_steps (record m { version = version }) world n ≡ after_steps m world n }
 {}
 
 /// A module that has a spelling has a hierarchy. Under that hierarchy of its own its channels have the labels that are written, and

@@ -12,6 +12,7 @@ pub mod module;
 pub mod opcode;
 pub mod procedure;
 pub mod value;
+pub mod version;
 
 pub use channel::Channel;
 pub use code::code_length;
@@ -21,3 +22,4 @@ pub use instruction::{Arithmetic, Comparison, Instruction};
 pub use module::Module;
 pub use procedure::Procedure;
 pub use value::{Cell, Kind};
+pub use version::Version;

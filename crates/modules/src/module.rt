@@ -7,12 +7,14 @@ ghost use Rattle.std.specs.String.{string_bytes};
 use crate::channel::Channel;
 use crate::declaration::Global;
 use crate::procedure::Procedure;
+use crate::version::Version;
 use principals::Hierarchy;
 use std::marker::Model;
 
 /// A module that has a spelling as bytes.
 #[derive(Debug, Drop)]
 pub struct Module {
+    version: Version,
     hierarchy: Hierarchy,
     exceptions: Vec<String>,
     channels: Vec<Channel>,
@@ -31,6 +33,7 @@ impl Model for Module {
     ghost Value = { ModuleContents };
 
     ghost view = { λ m. record {
+      version = m.version;
       hierarchy = m.hierarchy;
       exceptions = map (λ name. string_bytes name) m.exceptions.items;
       channels = m.channels.items;
@@ -40,6 +43,7 @@ impl Model for Module {
     } };
 
     ghost invariant = { λ m. Fits module_file (record {
+      version = m.version;
       hierarchy = m.hierarchy;
       exceptions = map (λ name. string_bytes name) m.exceptions.items;
       channels = m.channels.items;
@@ -50,11 +54,12 @@ impl Model for Module {
 }
 
 impl Module {
-    /// The module of the given fields: the hierarchy, the names of the declared exceptions, which are numbered from 3, the
+    /// The module of the given fields: the version of its file, the hierarchy, the names of the declared exceptions, which are numbered from 3, the
     /// channels, the globals, the procedures, and the number of the procedure where a run starts.
     ///
     /// Precondition: the module has a spelling.
     pub fn new(
+        version: Version,
         hierarchy: Hierarchy,
         exceptions: Vec<String>,
         channels: Vec<Channel>,
@@ -63,6 +68,7 @@ impl Module {
         main: u32,
     ) -> Module
         requires { Fits module_file (record {
+          version = version;
           hierarchy = hierarchy;
           exceptions = map (λ name. string_bytes name) exceptions.items;
           channels = channels.items;
@@ -71,6 +77,7 @@ impl Module {
           main = main;
         }) }
         ensures { result ≡ record {
+          version = version;
           hierarchy = hierarchy;
           exceptions = map (λ name. string_bytes name) exceptions.items;
           channels = channels.items;
@@ -80,6 +87,7 @@ impl Module {
         } }
     {
         Module {
+            version,
             hierarchy,
             exceptions,
             channels,
@@ -87,6 +95,13 @@ impl Module {
             procedures,
             main,
         }
+    }
+
+    /// The version of the module's file, which says what instructions there are.
+    pub fn version(&self) -> Version
+        ensures { result ≡ self.now.version }
+    {
+        self.version
     }
 
     /// The principals, and who acts for whom.

@@ -2,6 +2,7 @@ ghost use Rattle.modules.specs.Opcodes.{arithmetic_opcode, comparison_opcode, fl
 ghost use Rattle.std.specs.Prelude.{IfSome, length, ◌<◌, ◌≡◌, ◌≤◌};
 
 use crate::instruction::{Arithmetic, Comparison, Instruction};
+use crate::version::Version;
 use byteorder::{BigEndian, ByteOrder};
 
 /// What stands behind an opcode: nothing, an int, a boolean, or the number of what the instruction names.
@@ -90,8 +91,8 @@ pub fn row_of(instruction: Instruction) -> Row
 }
 
 fn arithmetic_row(operator: Arithmetic) -> Row
-    ensures byte { result.byte ≡ (arithmetic_opcode operator).0 }
-    ensures name { result.name.now ≡ (arithmetic_opcode operator).1 }
+    ensures byte { result.byte ≡ (arithmetic_opcode operator).1 }
+    ensures name { result.name.now ≡ (arithmetic_opcode operator).2 }
     ensures operand { result.operand ≡ Operand.Absent }
 {
     match operator {
@@ -100,6 +101,12 @@ fn arithmetic_row(operator: Arithmetic) -> Row
         Arithmetic::Multiply => plain_row(0x12, "MUL"),
         Arithmetic::Divide => plain_row(0x13, "DIV"),
         Arithmetic::Remainder => plain_row(0x14, "REM"),
+        Arithmetic::BitAnd => plain_row(0x28, "AND"),
+        Arithmetic::BitOr => plain_row(0x29, "OR"),
+        Arithmetic::BitXor => plain_row(0x2a, "XOR"),
+        Arithmetic::ShiftLeft => plain_row(0x2b, "SHL"),
+        Arithmetic::ShiftRight => plain_row(0x2c, "SHR"),
+        Arithmetic::ShiftRightUnsigned => plain_row(0x2d, "USHR"),
     }
 }
 
@@ -166,6 +173,12 @@ fn plain_instruction(opcode: u8) -> Option<Instruction>
         0x1e => Some(Instruction::OtherBoolean),
         0x23 => Some(Instruction::Return),
         0x24 => Some(Instruction::ReturnValue),
+        0x28 => Some(Instruction::Compute(Arithmetic::BitAnd)),
+        0x29 => Some(Instruction::Compute(Arithmetic::BitOr)),
+        0x2a => Some(Instruction::Compute(Arithmetic::BitXor)),
+        0x2b => Some(Instruction::Compute(Arithmetic::ShiftLeft)),
+        0x2c => Some(Instruction::Compute(Arithmetic::ShiftRight)),
+        0x2d => Some(Instruction::Compute(Arithmetic::ShiftRightUnsigned)),
         _ => None,
     }
 }
@@ -193,9 +206,9 @@ pub fn instruction_of(opcode: u8, operand: &[u8]) -> Option<Instruction>
     }
 }
 
-/// How many bytes of operand follow an opcode, or none where there is no such opcode.
-pub fn width_after(opcode: u8) -> Option<usize>
-    ensures width { result ≡ width_after opcode }
+/// How many bytes of operand follow an opcode in a file of the version, or none where that has no such opcode.
+pub fn width_after(version: Version, opcode: u8) -> Option<usize>
+    ensures width { result ≡ width_after version opcode }
     ensures wide { IfSome result (λ width. 1 < width → 4 ≤ width) }
 {
     match opcode {
@@ -234,6 +247,10 @@ pub fn width_after(opcode: u8) -> Option<usize>
         | 0x25
         | 0x26
         | 0x27 => Some(4),
+        0x28 | 0x29 | 0x2a | 0x2b | 0x2c | 0x2d => match version {
+            Version::One => None,
+            Version::Two => Some(0),
+        },
         _ => None,
     }
 }

@@ -5,9 +5,8 @@ use Rattle.std.specs.List.{All}
 use Rattle.lexer.specs.declared.token.Kind.TheVariants as kinds
 use Rattle.syntax.specs.declared.tree.BinaryOperator.{BinaryOperator}
 use Rattle.syntax.specs.declared.line.Line.{Line}
-use Rattle.syntax.specs.declared.line.Line.TheVariants.{Product, Sum, Relation, Equality, Conjunction, Disjunction}
 use Rattle.syntax.specs.Form.{Form, level, only}
-use Rattle.syntax.specs.Grammar.{optional, chain, others_of, grouped, name, index, integer, variable, parenthesised, primary, signed, unary, term, sum, relation, equality, conjunction, expression, variable_tree, operand_of, expressions, arguments}
+use Rattle.syntax.specs.Grammar.{optional, chain, chains, lines, behind_line, others_of, grouped, name, index, integer, variable, parenthesised, primary, signed, unary, expression, variable_tree, operand_of, expressions, arguments}
 use Rattle.syntax.specs.Nesting.{IsNestedExpression}
 use Rattle.syntax.specs.Nodes.{expression_nodes}
 use Rattle.syntax.specs.Symbol.{Expression, Arguments}
@@ -161,37 +160,17 @@ module _ (fits : ℕ → Type 0) (word : List ℕ → Type 0) (number : ℕ → 
     unfolding unary
     unary_fits tree k h = elim h [ inl one ↦ signed_fits tree k one | inr one ↦ primary_fits tree k one ]
 
-    term_fits : (tree : ExpressionTree) (k : ℕ) → Having term tree k → Fitted tree k
-    unfolding term
-    term_fits tree k h = chain_fits Product unary unary_fits tree k h
-
-    sum_fits : (tree : ExpressionTree) (k : ℕ) → Having sum tree k → Fitted tree k
-    unfolding sum
-    sum_fits tree k h = chain_fits Sum term term_fits tree k h
-
-    relation_fits : (tree : ExpressionTree) (k : ℕ) → Having relation tree k → Fitted tree k
-    unfolding relation
-    relation_fits tree k h = chain_fits Relation sum sum_fits tree k h
-
-    equality_fits : (tree : ExpressionTree) (k : ℕ) → Having equality tree k → Fitted tree k
-    unfolding equality
-    equality_fits tree k h = chain_fits Equality relation relation_fits tree k h
-
-    conjunction_fits : (tree : ExpressionTree) (k : ℕ) → Having conjunction tree k → Fitted tree k
-    unfolding conjunction
-    conjunction_fits tree k h = chain_fits Conjunction equality equality_fits tree k h
+    chains_fit : (list : List Line) (tree : ExpressionTree) (k : ℕ) → Having (chains list unary) tree k → Fitted tree k
+    chains_fit [] tree k h = unary_fits tree k h
+    chains_fit (line ∷ tighter) tree k h = chain_fits line (chains tighter unary) (chains_fit tighter) tree k h
 
     pub expression_fits : (tree : ExpressionTree) (k : ℕ) → Having expression tree k → Fitted tree k
     unfolding expression
-    expression_fits tree k h = chain_fits Disjunction conjunction conjunction_fits tree k h
+    expression_fits tree k h = chains_fit lines tree k h
 
     pub operand_fits : (line : Line) (tree : ExpressionTree) (k : ℕ) → Having (operand_of line) tree k → Fitted tree k
-    operand_fits Product tree k h = unary_fits tree k h
-    operand_fits Sum tree k h = term_fits tree k h
-    operand_fits Relation tree k h = sum_fits tree k h
-    operand_fits Equality tree k h = relation_fits tree k h
-    operand_fits Conjunction tree k h = equality_fits tree k h
-    operand_fits Disjunction tree k h = conjunction_fits tree k h
+    unfolding operand_of
+    operand_fits line tree k h = chains_fit (behind_line line lines) tree k h
 
     pub unary_symbol_fits : (tree : ExpressionTree) (k : ℕ) → Having unary tree k → Fitted tree k
     unary_symbol_fits tree k h = unary_fits tree k h

@@ -1,6 +1,6 @@
 -- Names, labels, integers and base types fit.
-use Rattle.std.proofs.Common.{◌≡◌, ℕ, ◌+◌, List, [], ◌∷◌, length, Bool, true, false, cond, refl, sym, subst, inl, inr, sum_by, arith}
-use Rattle.std.specs.Prelude.{Option, None, Some}
+use Rattle.std.proofs.Common.{◌≡◌, ℕ, ◌+◌, List, [], ◌∷◌, length, Bool, refl, sym, subst, inl, inr, sum_by, arith}
+use Rattle.std.specs.Prelude.{Option, Some}
 use Rattle.std.specs.List.{All}
 use Rattle.std.proofs.lemmas.List.Sums.{sum_by-cons}
 use Rattle.std.proofs.lemmas.Option.{cond_some}
@@ -8,10 +8,10 @@ use Rattle.lexer.specs.declared.token.Kind.{Kind}
 use Rattle.lexer.specs.declared.token.Kind.TheVariants as kinds
 use Rattle.syntax.specs.declared.tree.BaseType.{BaseType}
 use Rattle.syntax.specs.Form.{Form, ◌·◌, only, shape, same_kind}
-use Rattle.syntax.specs.Grammar.{at, ◌▸◌, name, readers, policy, policies, label, optional_label, base, integer, truth, size}
-use Rattle.syntax.specs.Nodes.{policy_nodes, label_nodes, optional_label_nodes}
-use Rattle.syntax.specs.Tree.{NameTree, PolicyTree, LabelTree, SizeTree}
-use Rattle.syntax.specs.Written.{IsWrittenName, IsWrittenPolicy, IsWrittenLabel, IsWrittenOptionalLabel, IsWrittenSize}
+use Rattle.syntax.specs.Grammar.{at, ◌▸◌, name, readers, optional_readers, component, components, label, optional_label, base, integer, truth, size}
+use Rattle.syntax.specs.Nodes.{component_nodes, label_nodes, optional_label_nodes}
+use Rattle.syntax.specs.Tree.{NameTree, ComponentTree, component_of, LabelTree, SizeTree}
+use Rattle.syntax.specs.Written.{IsWrittenName, IsWrittenComponent, IsWrittenLabel, IsWrittenOptionalLabel, IsWrittenSize}
 use Rattle.parser.proofs.SameKind.{same_kind-equal}
 use Rattle.parser.proofs.Fits.{Fit, Has, from_at, from_after, from_before, some_fit}
 
@@ -49,31 +49,45 @@ module _ (fits : ℕ → Type 0) (word : List ℕ → Type 0) (number : ℕ → 
   unfolding readers
   readers_fit trees k h = some_fit fits word number room kinds.Comma name (IsWrittenName fits word number) (λ one. 1) Nothing name_fits trees k h
 
-  policy_fits : (tree : PolicyTree) (k : ℕ) → Having policy tree k → Fit (IsWrittenPolicy fits word number tree) (policy_nodes tree) (Nothing tree) k
-  unfolding policy
-  policy_fits tree k h =
-      let both = h.1 in
-      let front = from_before fits word number room name kinds.Colon h.0.0 both.0 both.2 in
-      let owner = name_fits h.0.0 front.0 front.1 in
-      let others = readers_fit h.0.1 both.1 both.3 in
-      subst (λ t. Fit (IsWrittenPolicy fits word number t) (policy_nodes t) (Nothing t) k) (sym h.2) (record {
-        written = (owner.written, others.written);
-        few = omega (arith, owner.few, others.few, ones h.0.1, front.2, both.4);
+  abbrev FitComponent : ComponentTree → ℕ → Type 0
+  FitComponent tree k = Fit (IsWrittenComponent fits word number tree) (component_nodes tree) (Nothing tree) k
+
+  -- a name, and readers behind it or none
+  with_readers : (owner : NameTree) (found : Option (List NameTree)) (i j : ℕ) → Fit (IsWrittenName fits word number owner) 1 (Nothing owner) i → Having optional_readers found j → FitComponent (component_of owner found) (i + j)
+  unfolding optional_readers
+  with_readers owner found i j front (inl h) =
+      let inner = from_after fits word number room kinds.Colon readers h.0 j h.1 in
+      let others = readers_fit h.0 inner.0 inner.1 in
+      subst (λ (o : Option (List NameTree)). FitComponent (component_of owner o) (i + j)) (sym h.2) (record {
+        written = (front.written, others.written);
+        few = omega (arith, front.few, others.few, ones h.0, inner.2);
+        nested = tt;
+      })
+  with_readers owner found i j front (inr h) =
+      subst (λ (o : Option (List NameTree)). FitComponent (component_of owner o) (i + j)) (sym h.0) (record {
+        written = front.written;
+        few = omega (arith, front.few);
         nested = tt;
       })
 
-  policies_fit : (trees : List PolicyTree) (k : ℕ) → Having policies trees k → Fit (All (IsWrittenPolicy fits word number) trees) (sum_by policy_nodes trees) (All Nothing trees) k
-  unfolding policies
-  policies_fit trees k h =
-      some_fit fits word number room kinds.Semicolon policy (IsWrittenPolicy fits word number) policy_nodes Nothing policy_fits trees k h
+  component_fits : (tree : ComponentTree) (k : ℕ) → Having component tree k → FitComponent tree k
+  unfolding component
+  component_fits tree k h =
+      let both = h.1 in
+      subst (λ t. FitComponent t k) (sym h.2) (subst (FitComponent (component_of h.0.0 h.0.1)) (sym both.4) (with_readers h.0.0 h.0.1 both.0 both.1 (name_fits h.0.0 both.0 both.2) both.3))
+
+  components_fit : (trees : List ComponentTree) (k : ℕ) → Having components trees k → Fit (All (IsWrittenComponent fits word number) trees) (sum_by component_nodes trees) (All Nothing trees) k
+  unfolding components
+  components_fit trees k h =
+      some_fit fits word number room kinds.Semicolon component (IsWrittenComponent fits word number) component_nodes Nothing component_fits trees k h
 
   pub label_fits : (tree : LabelTree) (k : ℕ) → Having label tree k → Fit (IsWrittenLabel fits word number tree) (1 + label_nodes tree) (Nothing tree) k
   unfolding label
   label_fits tree k h =
-      let inner = from_before fits word number room (at kinds.OpenBrace · policies) kinds.CloseBrace h.0 k h.1 in
+      let inner = from_before fits word number room (at kinds.OpenBrace · components) kinds.CloseBrace h.0 k h.1 in
       let both = inner.1 in
       let here = from_at fits word number room kinds.OpenBrace h.0.0 both.0 both.2 in
-      let list = policies_fit h.0.1 both.1 both.3 in
+      let list = components_fit h.0.1 both.1 both.3 in
       subst (λ t. Fit (IsWrittenLabel fits word number t) (1 + label_nodes t) (Nothing t) k) (sym h.2) (record {
         written = (here.0, list.written);
         few = omega (arith, list.few, here.1, both.4, inner.2);

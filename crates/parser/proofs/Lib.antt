@@ -22,6 +22,7 @@ pub mod Programs
 pub mod Refusals
 pub mod Rights
 pub mod SameKind
+pub mod Signs
 pub mod Spelled
 pub mod Steps
 pub mod Tokens

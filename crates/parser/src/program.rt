@@ -2,7 +2,7 @@ ghost use Rattle.common.specs.Answers.{Answers, IfRefused};
 ghost use Rattle.std.specs.Prelude.{◌≡◌, ◌≤◌, length, IfErr, IfOk};
 ghost use Rattle.lexer.specs.Terminal.{IsTerminated, terminals_of};
 ghost use Rattle.syntax.specs.Grammar.{SpellsProgram, program};
-ghost use Rattle.syntax.specs.Laws.{SpellsOneTree, SpelledIsTerminated, SpelledHasFewNodes, SpelledIsNested, SpelledIsWritten};
+ghost use Rattle.syntax.specs.Laws.{SpellsOneTree, SpelledIsTerminated, SpelledHasFewNodes, SpelledIsNested, SpelledIsWritten, EachIsThere};
 ghost use Rattle.syntax.specs.Nodes.{program_nodes};
 ghost use Rattle.syntax.specs.Tree.{ProgramTree, program_tree};
 ghost use Rattle.parser.specs.Laws.{IsSpelledOrRefused, IsNotSpelledAndRefused, HasOneRefusal};
@@ -66,13 +66,15 @@ pub fn parse(alloc: Global, tokens: &[Token<'_>]) -> Result<Program, ParseFault>
 
 /// The laws that tokens spell at most one tree, that what they spell ends in the one end marker, and that the tree has at most as
 /// many nodes as there are tokens and is nested at most 64 levels deep; and, where each token has the text of its kind, that it
-/// has its names, integers and places of the tokens.
+/// has its names, integers and places of the tokens. And the grammar has a token for each operator, base type, truth value and
+/// direction.
 pub fn spelling_laws()
     ensures one_tree { SpellsOneTree }
     ensures terminated { SpelledIsTerminated }
     ensures few_nodes { SpelledHasFewNodes }
     ensures nested { SpelledIsNested }
     ensures written { SpelledIsWritten }
+    ensures each_there { EachIsThere }
 {}
 
 /// The law that each list of tokens with its end marker has either one tree or one refusal.

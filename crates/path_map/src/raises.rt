@@ -152,5 +152,5 @@ fn is_zero(literal: u32) -> bool
 pub fn is_division(operator: Operator) -> bool
     ensures { result ≡ is_division operator }
 {
-    matches!(operator, Operator::Divide | Operator::Remainder)
+    matches!(operator, Operator::Divide(_))
 }

@@ -11,9 +11,10 @@ use Rattle.lexer.specs.Listing as listing
 use Rattle.lexer.specs.Listing.{IsSliceOf, IsSpelled}
 use Rattle.lexer.specs.Terminal.{Terminal}
 use Rattle.lexer.specs.declared.token.Kind.TheVariants.{Name, End}
+use Rattle.common.specs.declared.limits.TheConstants.{MAX_TEXT}
 use Rattle.principals.specs.ActsFor.{PrincipalHierarchy}
-use Rattle.principals.specs.HierarchyText.{Entry, Nonterminal, Derives, Finish, Declaration, Relation, OneMore, Last, declared, IsHierarchyOf}
-use Rattle.principals.specs.Laws.{IsNameWithin}
+use Rattle.principals.specs.HierarchyText.{Entry, Nonterminal, Derives, Finish, Declaration, Relation, OneMore, Last, declared, IsHierarchyForm, IsHierarchyOf}
+use Rattle.principals.specs.Named.{IsNameWithin, IsKeptName}
 
 -- the text of a token is UTF-8
 abbrev IsText : Terminal → Type 0
@@ -60,9 +61,20 @@ name_within text token slice spelled characters kind = record {
   short = slice_short text token slice;
 }
 
+-- the names that a text declares
+declared_named : (text : List ℕ) (tokens : List Terminal) (entries : List Entry) → IsUtf8 text → IsCut text tokens → IsHierarchyForm tokens entries →
+    All (IsNameWithin (length text)) (declared entries)
+declared_named text tokens entries ok cut form =
+    let each = listed text tokens ok cut in
+    let texts = token_texts text tokens ok cut in
+    declared_hold (IsNameWithin (length text)) _ tokens entries form (λ k d lt. name_within text (get_or tokens k d) (each.slices k d lt) (each.spelled k d lt) (texts k d lt))
+
 pub names_are_names : (text : List ℕ) (hierarchy : PrincipalHierarchy) → IsUtf8 text → IsHierarchyOf text hierarchy → All (IsNameWithin (length text)) hierarchy.names
 names_are_names text hierarchy ok h =
-    let tokens = h.has_entries.tokens in
-    let each = listed text tokens ok h.has_entries.cut in
-    let texts = token_texts text tokens ok h.has_entries.cut in
-    subst (All (IsNameWithin (length text))) (sym h.described.names) (declared_hold (IsNameWithin (length text)) _ tokens h.entries h.has_entries.form (λ k d lt. name_within text (get_or tokens k d) (each.slices k d lt) (each.spelled k d lt) (texts k d lt)))
+    subst (All (IsNameWithin (length text))) (sym h.described.names) (declared_named text h.has_entries.tokens h.entries ok h.has_entries.cut h.has_entries.form)
+
+pub declared_kept : (text : List ℕ) (tokens : List Terminal) (entries : List Entry) → IsUtf8 text → length text ≤ MAX_TEXT → IsCut text tokens → IsHierarchyForm tokens entries →
+    All IsKeptName (declared entries)
+declared_kept text tokens entries ok short cut form k d lt =
+    let is = declared_named text tokens entries ok cut form k d lt in
+    record { named = is.named; characters = is.characters; short = omega (arith, is.short, short) }

@@ -1,4 +1,5 @@
 pub mod ActsFor
+pub mod Named
 pub mod Table
 pub mod Inside
 pub mod Defects

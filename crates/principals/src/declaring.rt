@@ -3,11 +3,12 @@
 ghost use Rattle.common.specs.Answers.{IfRefused};
 ghost use Rattle.lexer.specs.Terminal.{terminal_of};
 ghost use Rattle.principals.specs.ActsFor.{IsHierarchy};
-ghost use Rattle.principals.specs.HierarchyText.{Declares, IsDescribedBy, IsEntryRefusal, IsFirstRefusal, Relates, refusal_for};
+ghost use Rattle.principals.specs.HierarchyText.{Declares, IsDescribedBy, IsEntryRefusal, IsFirstRefusal, Relates, declared, refusal_for};
+ghost use Rattle.principals.specs.Named.{IsKeptName};
 ghost use Rattle.principals.specs.Reading.{entries_of};
 ghost use Rattle.principals.specs.Table.{names_of};
 ghost use Rattle.principals.specs.declared.fault.HierarchyDefect.TheVariants.{UnknownPrincipal};
-ghost use Rattle.std.specs.Prelude.{Contains, IfErr, IfOk, OnOk, Some, [], ◌∷◌, ◌++◌, length, slice_get, ◌<◌, ◌≡◌, ◌≤◌};
+ghost use Rattle.std.specs.Prelude.{All, Contains, IfErr, IfOk, OnOk, Some, [], ◌∷◌, ◌++◌, length, slice_get, ◌<◌, ◌≡◌, ◌≤◌};
 
 use crate::Hierarchy;
 use crate::fault::{HierFault, HierarchyDefect, HierarchyRefusal};
@@ -83,6 +84,7 @@ pub(crate) fn hierarchy_of(
     alloc: Global,
     statements: &[Statement<'_>],
 ) -> Result<Hierarchy, HierFault>
+    requires { All IsKeptName (declared (entries_of statements.now)) }
     ensures described { IfOk result (IsDescribedBy (entries_of statements.now)) }
     ensures kept { IfOk result IsHierarchy }
     ensures first_fault { IfErr result (IfRefused (IsFirstRefusal (entries_of statements.now))) }

@@ -2,8 +2,9 @@
 #![tactic(auto)]
 
 ghost use Rattle.principals.specs.ActsFor.{acts_for, ActsFor, AllBelow, AllDifferent, HasName, IsHierarchy, number_of};
+ghost use Rattle.principals.specs.Named.{IsKeptName};
 ghost use Rattle.principals.specs.Table.{has, names_of};
-ghost use Rattle.std.specs.Prelude.{Contains, IfOk, IsTrue, None, Some, length, map, option_map, slice_get, string_bytes, vec_len, ℕ, ◌↔◌, ◌≡◌, ◌≤◌};
+ghost use Rattle.std.specs.Prelude.{All, Contains, IfOk, IsTrue, None, Some, length, map, option_map, slice_get, string_bytes, vec_len, ℕ, ◌↔◌, ◌≡◌, ◌≤◌};
 
 mod contained;
 mod declaring;
@@ -75,7 +76,8 @@ fn number_names(alloc: Global, names: Vec<String>) -> Result<IndexSet<String>, A
 impl Hierarchy {
     /// The hierarchy of these names and written pairs, where `(a, b)` says that `a` acts for `b`.
     ///
-    /// Precondition: at most 256 names, all different, and numbers of principals that are there.
+    /// Precondition: at most 256 names, all different, which are names of the language such as a module file holds, and numbers of
+    /// principals that are there.
     pub fn of(
         alloc: Global,
         names: Vec<String>,
@@ -83,6 +85,7 @@ impl Hierarchy {
     ) -> Result<Hierarchy, AllocError>
         requires few { vec_len names ≤ MAX_PRINCIPALS }
         requires different { AllDifferent (map (λ name. string_bytes name) names.items) }
+        requires named { All IsKeptName (map (λ name. string_bytes name) names.items) }
         requires there { AllBelow (vec_len names) pairs.items }
         ensures names { IfOk result (λ hierarchy.
             hierarchy.names ≡ map (λ name. string_bytes name) names.items) }
@@ -100,6 +103,7 @@ impl Hierarchy {
     ) -> Result<Hierarchy, AllocError>
         requires few { length (names_of names) ≤ MAX_PRINCIPALS }
         requires different { AllDifferent (names_of names) }
+        requires named { All IsKeptName (names_of names) }
         requires there { AllBelow (length (names_of names)) pairs.items }
         ensures names { IfOk result (λ hierarchy. hierarchy.names ≡ names_of names) }
         ensures pairs { IfOk result (λ hierarchy. hierarchy.pairs ≡ pairs.items) }
@@ -116,6 +120,7 @@ impl Hierarchy {
     pub fn count(&self) -> u32
         ensures count { result ≡ length self.now.names }
         ensures kept { IsHierarchy self.now }
+        ensures named { All IsKeptName self.now.names }
     {
         self.names.len() as u32
     }

@@ -4,7 +4,7 @@ use Rattle.std.specs.Prelude.{ℕ, List, [], ◌∷◌, ◌++◌, Bool, true, fa
 use Rattle.std.specs.List.{list_any, list_all}
 use Rattle.resolved.specs.declared.expression.Prefix.TheVariants.{Negate}
 use Rattle.resolved.specs.declared.expression.Operator.{Operator}
-use Rattle.resolved.specs.declared.expression.Operator.TheVariants.{Add, Subtract, Multiply, Divide, Remainder, LessThan, AtMost, GreaterThan, AtLeast, Equal, Unequal, Same, Different}
+use Rattle.resolved.specs.declared.expression.Operator.TheVariants.{Compute, Divide, Bits, Compare, Match}
 use Rattle.resolved.specs.declared.statement.Exit.{Exit}
 use Rattle.resolved.specs.declared.statement.Exit.TheVariants.{Normal, Return, Break, Continue, Throw}
 use Rattle.resolved.specs.Tree.{Expression, Integer, Logical, Read, Element, Unary, Binary, Short, Statement, Assign, Clear, Store, Receive, Send, Call, If, While, Leave, ReturnWith, Try, Nested, Block, Empty, Then, Handlers, NoMore, Catch}
@@ -73,19 +73,11 @@ divisor_can_raise (Short connective d e) = true
 
 -- whether an operator divides
 abbrev pub is_division : Operator → Bool
-is_division Add = false
-is_division Subtract = false
-is_division Multiply = false
-is_division Divide = true
-is_division Remainder = true
-is_division LessThan = false
-is_division AtMost = false
-is_division GreaterThan = false
-is_division AtLeast = false
-is_division Equal = false
-is_division Unequal = false
-is_division Same = false
-is_division Different = false
+is_division (Compute computation) = false
+is_division (Divide division) = true
+is_division (Bits operator) = false
+is_division (Compare relation) = false
+is_division (Match sameness) = false
 
 -- the exceptions of an access with this index, and of an operator with this right operand
 abbrev pub index_raises : Expression → (length : ℕ) → List ℕ

@@ -5,6 +5,7 @@ pub mod Exceptions
 pub mod Value
 pub mod SourceState
 pub mod Meaning
+pub mod BitUse
 pub mod Ends
 pub mod Defects
 pub mod EndFaults

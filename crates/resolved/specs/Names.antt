@@ -4,7 +4,7 @@ use Rattle.std.specs.Prelude.{ℕ, List, ◌++◌, map, All}
 use Rattle.common.specs.Exceptions.{built_in_names}
 use Rattle.common.specs.declared.limits.TheConstants.{MAX_TEXT}
 use Rattle.principals.specs.ActsFor.{AllDifferent, IsHierarchy}
-use Rattle.principals.specs.Laws.{IsNameWithin}
+use Rattle.principals.specs.Named.{IsNameWithin, IsKeptName}
 use Rattle.labels.specs.Canonical.{IsCanonicalLabel}
 use Rattle.resolved.specs.Program.{Program, ChannelEntry}
 
@@ -16,11 +16,11 @@ IsShortName name = IsNameWithin MAX_TEXT name
 abbrev pub kept_names : Program → List (List ℕ)
 kept_names program = program.exceptions ++ map (λ (entry : ChannelEntry). entry.name) program.channels
 
--- the principals have different names, and pairs are of principals that are there; exceptions and channels have different names,
+-- the principals have different names such as a file holds, and pairs are of principals that are there; exceptions and channels have different names,
 -- which no built-in exception has; and the labels of channels are in the one form in which labels are kept
 pub record HasNames (program : Program) : Type 0 where
   pub hierarchy : IsHierarchy program.hierarchy
-  pub principals : All IsShortName program.hierarchy.names
+  pub principals : All IsKeptName program.hierarchy.names
   pub items : All IsShortName (kept_names program)
   pub different : AllDifferent (built_in_names ++ kept_names program)
   pub labels : All (λ (entry : ChannelEntry). IsCanonicalLabel entry.label) program.channels

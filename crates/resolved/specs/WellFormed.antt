@@ -17,7 +17,7 @@ use Rattle.resolved.specs.declared.expression.Variable.TheVariants.{Global, Loca
 use Rattle.resolved.specs.declared.expression.Prefix.{Prefix}
 use Rattle.resolved.specs.declared.expression.Prefix.TheVariants.{Negate, Not}
 use Rattle.resolved.specs.declared.expression.Operator.{Operator}
-use Rattle.resolved.specs.declared.expression.Operator.TheVariants.{Add, Subtract, Multiply, Divide, Remainder, LessThan, AtMost, GreaterThan, AtLeast, Equal, Unequal, Same, Different}
+use Rattle.resolved.specs.declared.expression.Operator.TheVariants.{Compute, Divide, Bits, Compare, Match}
 use Rattle.common.specs.declared.direction.Direction.{Direction}
 use Rattle.common.specs.declared.direction.Direction.TheVariants.{Input, Output}
 use Rattle.resolved.specs.declared.statement.Exit.{Exit}
@@ -40,34 +40,18 @@ prefix_base Negate = Int
 prefix_base Not = Boolean
 
 abbrev pub operand_base : Operator → Base
-operand_base Add = Int
-operand_base Subtract = Int
-operand_base Multiply = Int
-operand_base Divide = Int
-operand_base Remainder = Int
-operand_base LessThan = Int
-operand_base AtMost = Int
-operand_base GreaterThan = Int
-operand_base AtLeast = Int
-operand_base Equal = Int
-operand_base Unequal = Int
-operand_base Same = Boolean
-operand_base Different = Boolean
+operand_base (Compute computation) = Int
+operand_base (Divide division) = Int
+operand_base (Bits operator) = Int
+operand_base (Compare relation) = Int
+operand_base (Match sameness) = Boolean
 
 abbrev pub result_base : Operator → Base
-result_base Add = Int
-result_base Subtract = Int
-result_base Multiply = Int
-result_base Divide = Int
-result_base Remainder = Int
-result_base LessThan = Boolean
-result_base AtMost = Boolean
-result_base GreaterThan = Boolean
-result_base AtLeast = Boolean
-result_base Equal = Boolean
-result_base Unequal = Boolean
-result_base Same = Boolean
-result_base Different = Boolean
+result_base (Compute computation) = Int
+result_base (Divide division) = Int
+result_base (Bits operator) = Int
+result_base (Compare relation) = Boolean
+result_base (Match sameness) = Boolean
 
 -- 301 unknown name, 403 wrong use: what a variable is that is there, a base type, and a length if it is an array
 pub record VariableType : Type 0 where

@@ -31,22 +31,61 @@ pub enum Prefix {
 /// An operator that always evaluates both operands.
 #[derive(Clone, Copy, Debug, PartialEq, Eq)]
 pub enum Operator {
+    /// A number of two numbers.
+    Compute(Computation),
+    /// A number of two numbers, or the exception `Arith` where the divisor is 0.
+    Divide(Division),
+    /// A number of the bits of two numbers.
+    Bits(BitOperator),
+    /// A truth value of two numbers.
+    Compare(Relation),
+    /// A truth value of two truth values.
+    Match(Sameness),
+}
+
+/// `+`, `-` and `*`.
+#[derive(Clone, Copy, Debug, PartialEq, Eq)]
+pub enum Computation {
     Add,
     Subtract,
     Multiply,
-    Divide,
+}
+
+/// `/` and `%`.
+#[derive(Clone, Copy, Debug, PartialEq, Eq)]
+pub enum Division {
+    Quotient,
     Remainder,
+}
+
+/// `&`, `|`, `^`, `<<`, `>>` and `>>>`.
+#[derive(Clone, Copy, Debug, PartialEq, Eq)]
+pub enum BitOperator {
+    BitAnd,
+    BitOr,
+    BitXor,
+    ShiftLeft,
+    /// Fills with the sign.
+    ShiftRight,
+    /// Fills with zeros.
+    ShiftRightUnsigned,
+}
+
+/// `<`, `<=`, `>` and `>=`, and `==` and `!=` on numbers.
+#[derive(Clone, Copy, Debug, PartialEq, Eq)]
+pub enum Relation {
     LessThan,
     AtMost,
     GreaterThan,
     AtLeast,
-    /// `==` on numbers.
     Equal,
-    /// `!=` on numbers.
     Unequal,
-    /// `==` on truth values.
+}
+
+/// `==` and `!=` on truth values.
+#[derive(Clone, Copy, Debug, PartialEq, Eq)]
+pub enum Sameness {
     Same,
-    /// `!=` on truth values.
     Different,
 }
 

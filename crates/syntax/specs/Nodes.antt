@@ -3,14 +3,15 @@
 -- numbers of nodes stay small where texts do.
 -- Source: our own.
 use Rattle.std.specs.Prelude.{ℕ, ◌+◌, Option, None, Some, length, sum_by}
-use Rattle.syntax.specs.Tree.{PolicyTree, LabelTree, ExpressionTree, IntegerTree, TruthTree, VariableTree, ElementTree, UnaryTree, BinaryTree, CallTree, RightTree, ReceivedTree, CalledTree, ValueTree, StatementTree, DeclareTree, DeclareArrayTree, AssignTree, AssignElementTree, CallTree', ReceiveTree, SendTree, IfTree, IfElseTree, WhileTree, BreakTree, ContinueTree, ThrowTree, ReturnTree, TryTree, NestedTree, BlockTree, BlockOf, StatementTrees, NoStatement, StatementThen, CatchTrees, NoCatch, CatchThen, WrittenResultTree, NothingTree, ResultTree, ParameterTree, ThrownTree, ProcedureTree, ItemTree, ChannelItem, ExceptionItem, GlobalItem, ProcedureItem, ProgramTree}
+use Rattle.syntax.specs.Tree.{ComponentTree, PolicyComponent, VariableComponent, LabelTree, ExpressionTree, IntegerTree, TruthTree, VariableTree, ElementTree, UnaryTree, BinaryTree, CallTree, RightTree, ReceivedTree, CalledTree, ValueTree, StatementTree, DeclareTree, DeclareArrayTree, AssignTree, AssignElementTree, CallTree', ReceiveTree, SendTree, IfTree, IfElseTree, WhileTree, BreakTree, ContinueTree, ThrowTree, ReturnTree, TryTree, NestedTree, BlockTree, BlockOf, StatementTrees, NoStatement, StatementThen, CatchTrees, NoCatch, CatchThen, WrittenResultTree, NothingTree, ResultTree, ParameterTree, ThrownTree, ProcedureTree, ItemTree, ChannelItem, ExceptionItem, GlobalItem, ProcedureItem, ProgramTree}
 
--- itself, the owner and the readers
-abbrev pub policy_nodes : PolicyTree → ℕ
-policy_nodes policy = 2 + length policy.readers
+-- a policy is a node beside its owner and its readers, a variable one together with its name
+abbrev pub component_nodes : ComponentTree → ℕ
+component_nodes (PolicyComponent owner readers) = 2 + length readers
+component_nodes (VariableComponent name) = 1
 
 abbrev pub label_nodes : LabelTree → ℕ
-label_nodes label = 1 + sum_by policy_nodes label.policies
+label_nodes label = 1 + sum_by component_nodes label.components
 
 abbrev pub optional_label_nodes : Option LabelTree → ℕ
 optional_label_nodes None = 0

@@ -3,7 +3,8 @@
 -- Source: the usual abstract syntax of a small imperative language with exceptions; that labels are written in it is of Myers 1999.
 use Rattle.std.specs.Prelude.{ℕ, Bool, List, [], ◌∷◌, map, Option, None, Some, string_bytes}
 use Rattle.syntax.specs.declared.tree.Name.{Name}
-use Rattle.syntax.specs.declared.tree.WrittenPolicy.{WrittenPolicy}
+use Rattle.syntax.specs.declared.tree.Component.{Component}
+use Rattle.syntax.specs.declared.tree.Component.TheVariants as components
 use Rattle.syntax.specs.declared.tree.WrittenLabel.{WrittenLabel}
 use Rattle.syntax.specs.declared.tree.BaseType.{BaseType}
 use Rattle.syntax.specs.declared.tree.UnaryOperator.{UnaryOperator}
@@ -38,13 +39,19 @@ pub record NameTree : Type 0 where
   pub at : ℕ
   pub text : List ℕ
 
-pub record PolicyTree : Type 0 where
-  pub owner : NameTree
-  pub readers : List NameTree
+-- a component of a label: a policy with its owner and its readers, or a variable, for the policies of its label
+pub data ComponentTree : Type 0 where
+  PolicyComponent : (owner : NameTree) (readers : List NameTree) → ComponentTree
+  VariableComponent : NameTree → ComponentTree
+
+-- a name with readers behind it owns a policy, and one without them is that of a variable
+abbrev pub component_of : NameTree → Option (List NameTree) → ComponentTree
+component_of name None = VariableComponent name
+component_of name (Some readers) = PolicyComponent name readers
 
 pub record LabelTree : Type 0 where
   pub at : ℕ
-  pub policies : List PolicyTree
+  pub components : List ComponentTree
 
 pub data ExpressionTree : Type 0 where
   IntegerTree : (at value : ℕ) → ExpressionTree
@@ -225,11 +232,12 @@ item_at (ProcedureItem procedure) = procedure.at
 abbrev pub name_tree : Name → NameTree
 name_tree name = record { at = name.at; text = string_bytes name.text }
 
-abbrev pub policy_tree : WrittenPolicy → PolicyTree
-policy_tree policy = record { owner = name_tree policy.owner; readers = map name_tree policy.readers.items }
+abbrev pub component_tree : Component → ComponentTree
+component_tree (components.Policy owner readers) = PolicyComponent (name_tree owner) (map name_tree readers.items)
+component_tree (components.Variable name) = VariableComponent (name_tree name)
 
 abbrev pub label_tree : WrittenLabel → LabelTree
-label_tree label = record { at = label.at; policies = map policy_tree label.policies.items }
+label_tree label = record { at = label.at; components = map component_tree label.components.items }
 
 abbrev pub optional_label_tree : Option WrittenLabel → Option LabelTree
 optional_label_tree None = None

@@ -4,7 +4,7 @@
 use Rattle.std.specs.Prelude.{ℕ, ◌≤◌, List, Option, None, Some, length, IsTrue, All}
 use Rattle.common.specs.declared.limits.TheConstants.{MAX_INTEGER}
 use Rattle.lexer.specs.Words.{is_name_text}
-use Rattle.syntax.specs.Tree.{NameTree, PolicyTree, LabelTree, ExpressionTree, IntegerTree, TruthTree, VariableTree, ElementTree, UnaryTree, BinaryTree, CallTree, RightTree, ReceivedTree, CalledTree, ValueTree, SizeTree, StatementTree, DeclareTree, DeclareArrayTree, AssignTree, AssignElementTree, CallTree', ReceiveTree, SendTree, IfTree, IfElseTree, WhileTree, BreakTree, ContinueTree, ThrowTree, ReturnTree, TryTree, NestedTree, BlockTree, BlockOf, StatementTrees, NoStatement, StatementThen, CatchTrees, NoCatch, CatchThen, ChannelTree, ConstantTree, IntegerConstant, TruthConstant, GlobalValueTree, ScalarTree, ArrayTree, GlobalTree, WrittenResultTree, NothingTree, ResultTree, ParameterTree, ThrownTree, ProcedureTree, ItemTree, ChannelItem, ExceptionItem, GlobalItem, ProcedureItem, ProgramTree}
+use Rattle.syntax.specs.Tree.{NameTree, ComponentTree, PolicyComponent, VariableComponent, LabelTree, ExpressionTree, IntegerTree, TruthTree, VariableTree, ElementTree, UnaryTree, BinaryTree, CallTree, RightTree, ReceivedTree, CalledTree, ValueTree, SizeTree, StatementTree, DeclareTree, DeclareArrayTree, AssignTree, AssignElementTree, CallTree', ReceiveTree, SendTree, IfTree, IfElseTree, WhileTree, BreakTree, ContinueTree, ThrowTree, ReturnTree, TryTree, NestedTree, BlockTree, BlockOf, StatementTrees, NoStatement, StatementThen, CatchTrees, NoCatch, CatchThen, ChannelTree, ConstantTree, IntegerConstant, TruthConstant, GlobalValueTree, ScalarTree, ArrayTree, GlobalTree, WrittenResultTree, NothingTree, ResultTree, ParameterTree, ThrownTree, ProcedureTree, ItemTree, ChannelItem, ExceptionItem, GlobalItem, ProcedureItem, ProgramTree}
 
 -- no place is refused
 abbrev pub Anywhere : ℕ → Type 0
@@ -23,11 +23,12 @@ module _ (fits : ℕ → Type 0) (word : List ℕ → Type 0) (number : ℕ → 
   abbrev pub IsWrittenName : NameTree → Type 0
   IsWrittenName name = fits name.at × word name.text
 
-  abbrev pub IsWrittenPolicy : PolicyTree → Type 0
-  IsWrittenPolicy policy = IsWrittenName policy.owner × All IsWrittenName policy.readers
+  abbrev pub IsWrittenComponent : ComponentTree → Type 0
+  IsWrittenComponent (PolicyComponent owner readers) = IsWrittenName owner × All IsWrittenName readers
+  IsWrittenComponent (VariableComponent name) = IsWrittenName name
 
   abbrev pub IsWrittenLabel : LabelTree → Type 0
-  IsWrittenLabel label = fits label.at × All IsWrittenPolicy label.policies
+  IsWrittenLabel label = fits label.at × All IsWrittenComponent label.components
 
   abbrev pub IsWrittenOptionalLabel : Option LabelTree → Type 0
   IsWrittenOptionalLabel None = Unit {0}

@@ -5,10 +5,18 @@ pub enum Line {
     Product,
     /// `+` and `-`
     Sum,
+    /// `<<`, `>>` and `>>>`
+    Shift,
     /// `<`, `<=`, `>` and `>=`
     Relation,
     /// `==` and `!=`
     Equality,
+    /// `&`
+    BitAnd,
+    /// `^`
+    BitXor,
+    /// `|`
+    BitOr,
     /// `&&`
     Conjunction,
     /// `||`

@@ -13,18 +13,20 @@ pub struct Name {
     pub text: String,
 }
 
-/// A policy as it is written: the owner, and the readers that the owner names.
+/// A component of a label.
 #[derive(Debug, Drop)]
-pub struct WrittenPolicy {
-    pub owner: Name,
-    pub readers: Vec<Name>,
+pub enum Component {
+    /// A policy: the owner, and the readers that the owner names.
+    Policy { owner: Name, readers: Vec<Name> },
+    /// A variable, for the policies of its label.
+    Variable(Name),
 }
 
-/// A label as it is written: its policies, in the order of the text.
+/// A label as it is written: its components, in the order of the text.
 #[derive(Debug, Drop)]
 pub struct WrittenLabel {
     pub at: usize,
-    pub policies: Vec<WrittenPolicy>,
+    pub components: Vec<Component>,
 }
 
 /// The type of a value without its label.
@@ -59,6 +61,12 @@ pub enum BinaryOperator {
     NotEqualTo,
     And,
     Or,
+    BitAnd,
+    BitOr,
+    BitXor,
+    ShiftLeft,
+    ShiftRight,
+    ShiftRightUnsigned,
 }
 
 /// An expression. Parentheses leave no trace.

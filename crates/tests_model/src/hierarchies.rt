@@ -1,6 +1,7 @@
 //! Lookups by number and by name in a hierarchy, and the laws of acts-for.
 
 use common::limits::MAX_TEXT;
+use lexer::is_name;
 use principals::laws::Relation;
 use principals::{HierFault, Hierarchy, laws};
 use std::alloc::Global;
@@ -94,7 +95,9 @@ fn contains_by_name(rt: HostRuntime) -> Result<(), Fail> {
 #[test]
 fn takes_names_and_pairs(rt: HostRuntime) -> Result<(), Fail> {
     let alloc = rt.alloc();
-    let names = vec![in alloc; String::from_str(alloc, "A")?]?;
+    let name = "A";
+    assert!(rt; is_name(name));
+    let names = vec![in alloc; String::from_str(alloc, name)?]?;
     let pairs = vec![in alloc; (0, 0)]?;
     let hierarchy = Hierarchy::of(alloc, names, pairs)?;
     assert_eq!(rt; hierarchy.find("A"), Some(0));

@@ -6,6 +6,7 @@ use common::{Direction, OrNoMemory};
 use listing::write_listing;
 use modules::{
     Arithmetic, Cell, Comparison, Global, Handler, Instruction, Kind, Module, Procedure, Slot,
+    Version,
 };
 use std::alloc::Global as Heap;
 use std::io::Cursor;
@@ -16,6 +17,13 @@ const SENDS: [u8; 76] = [
     70, 76, 79, 66, 0, 0, 0, 1, 0, 0, 0, 0, 0, 0, 0, 0, 0, 0, 0, 0, 0, 0, 0, 1, 1, 0, 0, 0, 3, 112,
     117, 98, 0, 0, 0, 0, 0, 0, 0, 0, 0, 0, 0, 1, 0, 0, 0, 0, 0, 0, 0, 0, 0, 0, 0, 0, 11, 1, 0, 0,
     0, 7, 38, 0, 0, 0, 0, 35, 0, 0, 0, 0, 0, 0, 0, 0,
+];
+
+// The same of version 2, with a procedure that sends (7 ^ 33) << 33.
+const BITS: [u8; 88] = [
+    70, 76, 79, 66, 0, 0, 0, 2, 0, 0, 0, 0, 0, 0, 0, 0, 0, 0, 0, 0, 0, 0, 0, 1, 1, 0, 0, 0, 3, 112,
+    117, 98, 0, 0, 0, 0, 0, 0, 0, 0, 0, 0, 0, 1, 0, 0, 0, 0, 0, 0, 0, 0, 0, 0, 0, 0, 23, 1, 0, 0,
+    0, 7, 1, 0, 0, 0, 33, 42, 1, 0, 0, 0, 33, 43, 38, 0, 0, 0, 0, 35, 0, 0, 0, 0, 0, 0, 0, 0,
 ];
 
 // A, B and C, who acts for both; an input `q` for everyone and an output `p` with two policies; and one procedure with a
@@ -51,6 +59,8 @@ fn the_laws_are_called(_rt: HostRuntime) {
     common::laws::limits_are_as_written();
     common::laws::built_in_exceptions_are_as_written();
     modules::laws::instructions_are_spelled();
+    modules::laws::modules_have_instructions_of_their_version();
+    modules::laws::versions_keep_modules();
     verifier::safety::modules_without_a_defect_are_never_stuck();
     verifier::safety::refused_modules_have_a_defect();
     verifier::safety::frames_stay_within_their_depth();
@@ -59,11 +69,29 @@ fn the_laws_are_called(_rt: HostRuntime) {
 
 #[test]
 fn writes_what_it_read(rt: HostRuntime) -> Result<(), Fail> {
-    for bytes in [SENDS.as_slice(), THREE.as_slice(), MANY.as_slice()] {
+    let files = [
+        SENDS.as_slice(),
+        BITS.as_slice(),
+        THREE.as_slice(),
+        MANY.as_slice(),
+    ];
+    for bytes in files {
         let module = decode(rt.alloc(), bytes)?;
         let written = encode(rt.alloc(), &module)?;
         assert!(rt; written.as_slice() == bytes);
     }
+    Ok(())
+}
+
+#[test]
+fn keeps_the_version(rt: HostRuntime) -> Result<(), Fail> {
+    let one = decode(rt.alloc(), &SENDS)?;
+    assert!(rt; one.version() == Version::One && one.version().number() == 1);
+    let mut later = SENDS;
+    later[7] = 2;
+    let two = decode(rt.alloc(), &later)?;
+    assert!(rt; two.version() == Version::Two && two.version().number() == 2);
+    assert!(rt; encode(rt.alloc(), &two)?.as_slice() == later.as_slice());
     Ok(())
 }
 
@@ -186,6 +214,12 @@ fn prints_names_and_operands(rt: HostRuntime) -> Result<(), Fail> {
         (Instruction::LoadGlobal(4294967295), "GLOAD 4294967295"),
         (Instruction::StoreElement(0), "ASTORE 0"),
         (Instruction::Compute(Arithmetic::Remainder), "REM"),
+        (Instruction::Compute(Arithmetic::BitAnd), "AND"),
+        (Instruction::Compute(Arithmetic::BitOr), "OR"),
+        (Instruction::Compute(Arithmetic::BitXor), "XOR"),
+        (Instruction::Compute(Arithmetic::ShiftLeft), "SHL"),
+        (Instruction::Compute(Arithmetic::ShiftRight), "SHR"),
+        (Instruction::Compute(Arithmetic::ShiftRightUnsigned), "USHR"),
         (Instruction::Compare(Comparison::AtMost), "LE"),
         (Instruction::OtherBoolean, "BNE"),
         (Instruction::JumpIfFalse(10), "JFALSE 10"),

@@ -9,7 +9,7 @@ use std::alloc::Global;
 use std::test::Fail;
 
 // Each cause with its number and its words, as the formats fix them.
-const CAUSES: [(Cause, u32, &str); 26] = [
+const CAUSES: [(Cause, u32, &str); 27] = [
     (Cause::NotUtf8, 100, "not UTF-8"),
     (Cause::Lex(LexDefect::NoToken), 101, "no token"),
     (
@@ -52,6 +52,11 @@ const CAUSES: [(Cause, u32, &str); 26] = [
         "unknown principal",
     ),
     (Cause::Name(TypeDefect::NoProperMain), 304, "no proper main"),
+    (
+        Cause::Name(TypeDefect::LabelNotWritten),
+        305,
+        "label not written",
+    ),
     (Cause::Name(TypeDefect::WrongType), 401, "wrong type"),
     (
         Cause::Name(TypeDefect::WrongArgumentCount),
@@ -108,12 +113,14 @@ fn a_refused_growth_changes_no_answer(rt: HostRuntime) -> Result<(), Fail> {
 }
 
 #[test]
-fn gives_the_least_label_of_a_local(rt: HostRuntime) -> Result<(), Fail> {
+fn gives_the_label_of_a_local(rt: HostRuntime) -> Result<(), Fail> {
     let source = b"void main() { int{Alice:} x = 1; int a = x; int b = 0; }";
     match check_texts(rt.alloc(), b"principal Alice;", source) {
         Ok(checked) => {
-            assert_eq!(rt; checked.label(rt.alloc(), 0, 1)?.policies().len(), 1);
-            assert_eq!(rt; checked.label(rt.alloc(), 0, 2)?.policies().len(), 0);
+            for (slot, want) in [(0, Some(1)), (1, Some(1)), (2, Some(0)), (3, None)] {
+                let label = checked.label(rt.alloc(), 0, slot)?;
+                assert_eq!(rt; label.map(|label| label.policies().len()), want);
+            }
         }
         Err(_) => assert!(rt; false, "refused"),
     }

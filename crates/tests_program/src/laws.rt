@@ -36,13 +36,6 @@ fn laws_of_compiling(_rt: HostRuntime) {
     types::laws::hierarchies_and_channel_labels_are_kept();
     types::laws::numbers_read_as_names();
     layout::laws::layout_keeps_runs();
-    lowering::laws::graphs_keep_meaning();
-    lowering::laws::modules_keep_meaning();
-    lowering::laws::graphs_have_positions();
-    lowering::laws::graphs_have_direct_jumps();
-    lowering::laws::graphs_fit_the_file();
-    lowering::laws::modules_have_no_defect();
-    lowering::laws::modules_are_never_stuck();
     checker::places_agree();
     parser::spelling_laws();
     parser::one_reading();

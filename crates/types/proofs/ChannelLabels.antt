@@ -1,82 +1,140 @@
 -- The labels of the channels of a program are canonical, and its hierarchy is the one under which it is resolved.
-use Rattle.std.proofs.Common.{◌≡◌, refl, List, [], ◌∷◌, ◌++◌, Ok}
-use Rattle.std.specs.Prelude.{All, IfOk, codes}
-use Rattle.std.proofs.lemmas.List.Elements.{All-nil, All-cons, All-append}
+use Rattle.std.proofs.Common.{◌≡◌, refl, sym, subst, ℕ, zero, suc, List, [], ◌∷◌, ◌++◌, Ok}
+use Rattle.std.specs.Prelude.{All, IfOk, IfSome, Option, Some, None, slice_get, codes}
+use Rattle.std.proofs.lemmas.List.Elements.{All-nil, All-cons, All-head, All-tail, All-append}
+use Rattle.std.proofs.lemmas.Result.{IfOk-weaker}
 use Rattle.principals.specs.ActsFor.{PrincipalHierarchy}
+use Rattle.labels.specs.Label.{ReaderPolicy, Label}
 use Rattle.labels.specs.Canonical.{IsCanonicalPolicy, IsCanonicalLabel}
 use Rattle.labels.proofs.Written.{IsCanonicalPolicy-written, IsCanonicalLabel-written}
-use Rattle.syntax.specs.Tree.{PolicyTree, LabelTree, ChannelTree, ItemTree, ChannelItem, ExceptionItem, GlobalItem, ProcedureItem, ProgramTree}
-use Rattle.resolved.specs.Program.{Program, ChannelEntry}
-use Rattle.types.specs.Finding.{Finding, along, put_last}
-use Rattle.types.specs.Labels.{principal_finding, readers_finding, policy_finding, policies_finding, label_finding}
-use Rattle.types.specs.Resolution.{TopLevel, top_finding, channel_finding, global_finding, procedure_entry_finding, Tables, next_item, no_tables, items_finding, main_finding, global_cells_finding, frames_finding, resolution}
+use Rattle.syntax.specs.Tree.{NameTree, ComponentTree, PolicyComponent, VariableComponent, LabelTree, ItemTree, ChannelItem, ExceptionItem, GlobalItem, ProcedureItem, ProgramTree}
+use Rattle.resolved.specs.declared.expression.Variable.{Variable}
+use Rattle.resolved.specs.declared.expression.Variable.TheVariants.{Global, Local}
+use Rattle.resolved.specs.Program.{Program, ChannelEntry, GlobalEntry}
+use Rattle.types.specs.Environment.{variable_finding}
+use Rattle.types.specs.Expressions.{base_of}
+use Rattle.types.specs.Finding.{along}
+use Rattle.types.specs.Labels.{LabelScope, principal_finding, readers_finding, policy_finding, global_label, slot_label, variable_label_finding, named_label_finding, component_finding, next_component, components_finding, label_finding}
+use Rattle.types.specs.Resolution.{TopLevel, top_finding, heads, channel_finding, first_finding, global_finding, procedure_entry_finding, Tables, next_item, no_tables, items_finding, main_finding, global_cells_finding, frames_finding, resolution}
 use Rattle.types.proofs.Passing.{then_finds, any_finds}
 
--- what is found of each element is of one kind
-each_found : {X A : Type 0} (look : X → Finding A) (P : A → Type 0) → ((x : X) → IfOk (look x) P) → (found : List A) (xs : List X) → All P found
-    → IfOk (along (put_last look) found xs) (All P)
-each_found look P h found [] all = all
-each_found look P h found (x ∷ xs) all =
-    then_finds (put_last look found x) (λ next. along (put_last look) next xs) (All P) _
-    (then_finds (look x) (λ made. Ok (found ++ made ∷ [])) P _ (h x) (λ made is. All-append P found (made ∷ []) all (All-cons P made [] is (All-nil P))))
-    (λ next every. each_found look P h next xs every)
+abbrev IsCanonicalChannel : ChannelEntry → Type 0
+IsCanonicalChannel entry = IsCanonicalLabel entry.label
 
-abbrev IsCanonicalEntry : ChannelEntry → Type 0
-IsCanonicalEntry entry = IsCanonicalLabel entry.label
+abbrev IsCanonicalGlobal : GlobalEntry → Type 0
+IsCanonicalGlobal entry = IsCanonicalLabel entry.label
 
-abbrev HasCanonicalChannels : Tables → Type 0
-HasCanonicalChannels tables = All IsCanonicalEntry tables.channels
+record HasCanonicalLabels (tables : Tables) : Type 0 where
+  pub channels : All IsCanonicalChannel tables.channels
+  pub globals : All IsCanonicalGlobal tables.globals
+
+all_there : {X : Type 0} (P : X → Type 0) (xs : List X) (n : ℕ) → All P xs → IfSome (slice_get xs n) P
+all_there P [] n all = tt
+all_there P (x ∷ xs) zero all = All-head P x xs all
+all_there P (x ∷ xs) (suc n) all = all_there P xs n (All-tail P x xs all)
+
+policy_canonical : (h : PrincipalHierarchy) (owner : NameTree) (readers : List NameTree) → IfOk (policy_finding h owner readers) IsCanonicalPolicy
+unfolding policy_finding
+policy_canonical h owner readers =
+    then_finds (principal_finding h owner) _ (λ one. Unit {0}) _ (any_finds (principal_finding h owner)) (λ number nothing.
+    then_finds (readers_finding h readers) _ (λ one. Unit {0}) _ (any_finds (readers_finding h readers)) (λ numbers nothing.
+    IsCanonicalPolicy-written number numbers))
+
+-- ---- labels that may name globals alone
+
+module _ (scope : LabelScope) (globals : (number : ℕ) → IfSome (slice_get scope.globals number) IsCanonicalGlobal) (no_slots : scope.slots ≡ []) where
+  global_canonical : (number at : ℕ) → IfOk (global_label (slice_get scope.globals number) at) IsCanonicalLabel
+  global_canonical number at = go (slice_get scope.globals number) (globals number)
+    where
+      go : (found : Option GlobalEntry) → IfSome found IsCanonicalGlobal → IfOk (global_label found at) IsCanonicalLabel
+      go None is = tt
+      go (Some entry) is = is
+
+  no_slot : (number at : ℕ) → IfOk (slot_label (slice_get scope.slots number) at) IsCanonicalLabel
+  no_slot number at = subst (λ slots. IfOk (slot_label (slice_get slots number) at) IsCanonicalLabel) (sym no_slots) tt
+
+  variable_canonical : (variable : Variable) (at : ℕ) → IfOk (variable_label_finding scope variable at) IsCanonicalLabel
+  unfolding variable_label_finding
+  variable_canonical (Global number) at = global_canonical number at
+  variable_canonical (Local number) at = no_slot number at
+
+  named_canonical : (name : NameTree) → IfOk (named_label_finding scope name) IsCanonicalLabel
+  unfolding named_label_finding
+  named_canonical name =
+      then_finds (variable_finding (scope.names name.text) name.at) _ (λ one. Unit {0}) _ (any_finds (variable_finding (scope.names name.text) name.at))
+      (λ variable nothing. variable_canonical variable name.at)
+
+  component_canonical : (component : ComponentTree) → IfOk (component_finding scope component) (All IsCanonicalPolicy)
+  unfolding component_finding
+  component_canonical (PolicyComponent owner readers) =
+      then_finds (policy_finding scope.hierarchy owner readers) _ IsCanonicalPolicy (All IsCanonicalPolicy) (policy_canonical scope.hierarchy owner readers)
+      (λ policy is. All-cons IsCanonicalPolicy policy [] is (All-nil IsCanonicalPolicy))
+  component_canonical (VariableComponent name) =
+      IfOk-weaker (named_label_finding scope name) IsCanonicalLabel (All IsCanonicalPolicy) (λ label is. is.each_canonical) (named_canonical name)
+
+  components_canonical : (found : List ReaderPolicy) (components : List ComponentTree) → All IsCanonicalPolicy found
+      → IfOk (along (next_component scope) found components) (All IsCanonicalPolicy)
+  components_canonical found [] all = all
+  components_canonical found (component ∷ components) all =
+      then_finds (next_component scope found component) (λ next. along (next_component scope) next components) (All IsCanonicalPolicy) _
+      (then_finds (component_finding scope component) _ (All IsCanonicalPolicy) _ (component_canonical component)
+      (λ policies are. All-append IsCanonicalPolicy found policies all are))
+      (λ next every. components_canonical next components every)
+
+  pub label_canonical : (label : LabelTree) → IfOk (label_finding scope label) IsCanonicalLabel
+  unfolding label_finding components_finding
+  label_canonical label =
+      then_finds (along (next_component scope) [] label.components) _ (All IsCanonicalPolicy) _
+      (components_canonical [] label.components (All-nil IsCanonicalPolicy)) IsCanonicalLabel-written
+
+-- ---- items
 
 module _ (h : PrincipalHierarchy) where
-  policy_canonical : (policy : PolicyTree) → IfOk (policy_finding h policy) IsCanonicalPolicy
-  unfolding policy_finding
-  policy_canonical policy =
-      then_finds (principal_finding h policy.owner) _ (λ one. Unit {0}) _ (any_finds (principal_finding h policy.owner)) (λ owner nothing.
-      then_finds (readers_finding h policy.readers) _ (λ one. Unit {0}) _ (any_finds (readers_finding h policy.readers)) (λ readers nothing.
-      IsCanonicalPolicy-written owner readers))
-
-  label_canonical : (label : LabelTree) → IfOk (label_finding h label) IsCanonicalLabel
-  unfolding label_finding policies_finding
-  label_canonical label =
-      then_finds (along (put_last (policy_finding h)) [] label.policies) _ (All IsCanonicalPolicy) _
-      (each_found (policy_finding h) IsCanonicalPolicy policy_canonical [] label.policies (All-nil IsCanonicalPolicy)) IsCanonicalLabel-written
-
-  channel_canonical : (channel : ChannelTree) → IfOk (channel_finding h channel) IsCanonicalEntry
-  unfolding channel_finding
-  channel_canonical channel =
-      then_finds (label_finding h channel.label) _ IsCanonicalLabel IsCanonicalEntry (label_canonical channel.label) (λ label is. is)
-
-  item_canonical : (top : TopLevel) (tables : Tables) (item : ItemTree) → HasCanonicalChannels tables → IfOk (next_item h top tables item) HasCanonicalChannels
-  unfolding next_item
+  item_canonical : (top : TopLevel) (tables : Tables) (item : ItemTree) → HasCanonicalLabels tables → IfOk (next_item h top tables item) HasCanonicalLabels
+  unfolding next_item channel_finding global_finding
   item_canonical top tables (ChannelItem channel) kept =
-      then_finds (channel_finding h channel) _ IsCanonicalEntry HasCanonicalChannels (channel_canonical channel)
-      (λ entry is. All-append IsCanonicalEntry tables.channels (entry ∷ []) kept (All-cons IsCanonicalEntry entry [] is (All-nil IsCanonicalEntry)))
-  item_canonical top tables (ExceptionItem at name) kept = kept
+      then_finds (channel_finding (heads h top tables.globals) channel) _ IsCanonicalChannel HasCanonicalLabels
+      (then_finds (label_finding (heads h top tables.globals) channel.label) _ IsCanonicalLabel IsCanonicalChannel
+      (label_canonical (heads h top tables.globals) (λ number. all_there IsCanonicalGlobal tables.globals number kept.globals) refl channel.label) (λ label is. is))
+      (λ entry is. record {
+        channels = All-append IsCanonicalChannel tables.channels (entry ∷ []) kept.channels (All-cons IsCanonicalChannel entry [] is (All-nil IsCanonicalChannel));
+        globals = kept.globals;
+      })
+  item_canonical top tables (ExceptionItem at name) kept = record { channels = kept.channels; globals = kept.globals }
   item_canonical top tables (GlobalItem global) kept =
-      then_finds (global_finding h global) _ (λ one. Unit {0}) HasCanonicalChannels (any_finds (global_finding h global)) (λ entry nothing. kept)
+      then_finds (global_finding (heads h top tables.globals) global) _ IsCanonicalGlobal HasCanonicalLabels
+      (then_finds (label_finding (heads h top tables.globals) global.label) _ IsCanonicalLabel IsCanonicalGlobal
+      (label_canonical (heads h top tables.globals) (λ number. all_there IsCanonicalGlobal tables.globals number kept.globals) refl global.label) (λ label is.
+      then_finds (first_finding (base_of global.base) global.value) _ (λ one. Unit {0}) IsCanonicalGlobal (any_finds (first_finding (base_of global.base) global.value))
+      (λ value nothing. is)))
+      (λ entry is. record {
+        channels = kept.channels;
+        globals = All-append IsCanonicalGlobal tables.globals (entry ∷ []) kept.globals (All-cons IsCanonicalGlobal entry [] is (All-nil IsCanonicalGlobal));
+      })
   item_canonical top tables (ProcedureItem procedure) kept =
-      then_finds (procedure_entry_finding h top procedure) _ (λ one. Unit {0}) HasCanonicalChannels (any_finds (procedure_entry_finding h top procedure))
-      (λ entry nothing. kept)
+      then_finds (procedure_entry_finding (heads h top tables.globals) top.signatures procedure) _ (λ one. Unit {0}) HasCanonicalLabels
+      (any_finds (procedure_entry_finding (heads h top tables.globals) top.signatures procedure))
+      (λ entry nothing. record { channels = kept.channels; globals = kept.globals })
 
-  items_canonical : (top : TopLevel) (tables : Tables) (items : List ItemTree) → HasCanonicalChannels tables
-      → IfOk (along (next_item h top) tables items) HasCanonicalChannels
+  items_canonical : (top : TopLevel) (tables : Tables) (items : List ItemTree) → HasCanonicalLabels tables
+      → IfOk (along (next_item h top) tables items) HasCanonicalLabels
   items_canonical top tables [] kept = kept
   items_canonical top tables (item ∷ items) kept =
-      then_finds (next_item h top tables item) (λ next. along (next_item h top) next items) HasCanonicalChannels _ (item_canonical top tables item kept)
+      then_finds (next_item h top tables item) (λ next. along (next_item h top) next items) HasCanonicalLabels _ (item_canonical top tables item kept)
       (λ next kept_next. items_canonical top next items kept_next)
 
   pub record KeepsChannels (program : Program) : Type 0 where
     pub hierarchy : program.hierarchy ≡ h
-    pub labels : All IsCanonicalEntry program.channels
+    pub labels : All IsCanonicalChannel program.channels
 
   pub channels_kept : (written : ProgramTree) → IfOk (resolution h written) KeepsChannels
   unfolding resolution items_finding
   channels_kept written =
       then_finds (top_finding written.items) _ (λ one. Unit {0}) _ (any_finds (top_finding written.items)) (λ top nothing.
-      then_finds (along (next_item h top) no_tables written.items) _ HasCanonicalChannels _
-      (items_canonical top no_tables written.items (All-nil IsCanonicalEntry)) (λ tables kept.
+      then_finds (along (next_item h top) no_tables written.items) _ HasCanonicalLabels _
+      (items_canonical top no_tables written.items (record { channels = All-nil IsCanonicalChannel; globals = All-nil IsCanonicalGlobal })) (λ tables kept.
       then_finds (main_finding (top.names (codes "main")) tables.procedures) _ (λ one. Unit {0}) _
       (any_finds (main_finding (top.names (codes "main")) tables.procedures)) (λ main nothing.
       then_finds (global_cells_finding written.items) _ (λ one. Unit {0}) _ (any_finds (global_cells_finding written.items)) (λ cells nothing.
       then_finds (frames_finding tables.procedures) _ (λ one. Unit {0}) _ (any_finds (frames_finding tables.procedures)) (λ done nothing.
-      record { hierarchy = refl; labels = kept })))))
+      record { hierarchy = refl; labels = kept.channels })))))

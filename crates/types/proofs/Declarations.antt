@@ -13,13 +13,18 @@ use Rattle.types.specs.declared.scope.Meaning.{Meaning}
 use Rattle.types.specs.declared.scope.Meaning.TheVariants.{Scalar, Array}
 use Rattle.types.specs.Finding.{IsRefusalOf, give}
 use Rattle.types.specs.Environment.{fresh_finding}
-use Rattle.types.specs.Labels.{optional_label_finding}
-use Rattle.types.specs.Statements.{Setting, Point, with_local, scalar_slot, array_slot, assigned_finding, size_finding, declare_finding, declare_array_finding}
+use Rattle.types.specs.Labels.{LabelScope, optional_label_finding}
+use Rattle.types.specs.Statements.{Setting, Point, label_scope, with_local, scalar_slot, array_slot, assigned_finding, size_finding, declare_finding, declare_array_finding}
 use Rattle.types.proofs.Loops.{then_ok, fails_later, fails_second}
 use Rattle.types.proofs.Tables.{ok_inside}
 
+-- a label by what the place that it stands at is seen as
+pub labelled : (label : Option LabelTree) (written : Option Label) (seen scope : LabelScope) → seen ≡ scope → optional_label_finding seen label ≡ Ok written
+    → optional_label_finding scope label ≡ Ok written
+labelled label written seen scope same found = subst (λ one. optional_label_finding one label ≡ Ok written) same found
+
 module _ (setting : Setting) (point : Point) (at : ℕ) (base : Base) (label : Option LabelTree) (name : NameTree) (written : Option Label)
-    (found : Option Meaning) (number : ℕ) (labelled : optional_label_finding setting.hierarchy label ≡ Ok written)
+    (found : Option Meaning) (number : ℕ) (written_is : optional_label_finding (label_scope setting point) label ≡ Ok written)
     (looked : found ≡ point.names name.text) (new : fresh_finding found name.at ≡ Ok tt) (next : number ≡ length point.slots) where
   fresh_there : fresh_finding (point.names name.text) name.at ≡ Ok tt
   fresh_there = sym (ap (λ one. fresh_finding one name.at) looked) ∙ new
@@ -30,7 +35,7 @@ module _ (setting : Setting) (point : Point) (at : ℕ) (base : Base) (label : O
       → declare_array_finding setting point at base label name size ≡ Ok (after, Clear at number)
   unfolding declare_array_finding
   array_declared after slot size cells sized entry declared =
-      then_ok _ _ written labelled ∙ then_ok _ _ tt fresh_there ∙ then_ok _ _ cells sized
+      then_ok _ _ written written_is ∙ then_ok _ _ tt fresh_there ∙ then_ok _ _ cells sized
       ∙ ap (λ m. Ok (with_local point (array_slot at base written name.text cells) (Array (Local m) base cells), Clear at m)) (sym next)
       ∙ ap (λ one. Ok (with_local point one (Array (Local number) base cells), Clear at number)) (sym entry)
       ∙ ap (λ one. Ok (one, Clear at number)) (ok_inside _ _ declared)
@@ -41,7 +46,7 @@ module _ (setting : Setting) (point : Point) (at : ℕ) (base : Base) (label : O
       → declare_finding setting point at base label name value ≡ Ok (after, statement)
   unfolding declare_finding
   scalar_declared after slot value statement assigned entry declared =
-      then_ok _ _ written labelled ∙ then_ok _ _ tt fresh_there
+      then_ok _ _ written written_is ∙ then_ok _ _ tt fresh_there
       ∙ then_ok _ _ statement (ap (λ m. assigned_finding setting.signatures point.names at (Local m) base value) (sym next) ∙ assigned)
       ∙ ap (λ m. Ok (with_local point (scalar_slot at base written name.text) (Scalar (Local m) base), statement)) (sym next)
       ∙ ap (λ one. Ok (with_local point one (Scalar (Local number) base), statement)) (sym entry)
@@ -51,6 +56,6 @@ module _ (setting : Setting) (point : Point) (at : ℕ) (base : Base) (label : O
       → IfRefused (IsRefusalOf (declare_finding setting point at base label name value)) fault
   unfolding declare_finding
   scalar_refused value fault wrong =
-      fails_second _ _ written fault labelled
+      fails_second _ _ written fault written_is
       (fails_second _ _ tt fault fresh_there
       (fails_later _ _ fault (subst (λ m. IfRefused (IsRefusalOf (assigned_finding setting.signatures point.names at (Local m) base value)) fault) next wrong)))

@@ -15,10 +15,10 @@ use Rattle.types.specs.declared.scope.Meaning.{Meaning}
 use Rattle.types.specs.declared.scope.Meaning.TheVariants.{Exception}
 use Rattle.types.specs.Finding.{along}
 use Rattle.types.specs.Environment.{Environment, declaring, fresh_finding}
-use Rattle.types.specs.Labels.{label_finding, optional_label_finding}
+use Rattle.types.specs.Labels.{LabelScope, label_finding, optional_label_finding}
 use Rattle.types.specs.Laws.{IsProperName, item_names}
-use Rattle.types.specs.Statements.{block_finding}
-use Rattle.types.specs.Resolution.{TopLevel, built_in, item_name, item_meaning, next_name, top_finding, channel_finding, first_finding, global_finding, result_finding, parameters_finding, throws_finding, procedure_entry_finding, Tables, next_item, no_tables, items_finding, main_finding, global_cells_finding, frames_finding, resolution}
+use Rattle.types.specs.Statements.{Signature, block_finding}
+use Rattle.types.specs.Resolution.{TopLevel, built_in, item_name, item_meaning, next_name, top_finding, heads, channel_finding, first_finding, global_finding, result_finding, parameters_finding, throws_finding, procedure_entry_finding, Tables, next_item, no_tables, items_finding, main_finding, global_cells_finding, frames_finding, resolution}
 use Rattle.types.proofs.Passing.{then_finds, any_finds}
 
 -- ---- lists
@@ -203,32 +203,32 @@ pub record TableNames (named : ItemNames) (tables : Tables) : Type 0 where
   pub globals : map global_name tables.globals ≡ named.globals
   pub procedures : map procedure_name tables.procedures ≡ named.procedures
 
-pub channel_named : (h : PrincipalHierarchy) (channel : ChannelTree) → IfOk (channel_finding h channel) (λ (entry : ChannelEntry). entry.name ≡ channel.name.text)
+pub channel_named : (scope : LabelScope) (channel : ChannelTree) → IfOk (channel_finding scope channel) (λ (entry : ChannelEntry). entry.name ≡ channel.name.text)
 unfolding channel_finding
-channel_named h channel = then_finds (label_finding h channel.label) _ (λ one. Unit {0}) _ (any_finds (label_finding h channel.label)) (λ one nothing. refl)
+channel_named scope channel = then_finds (label_finding scope channel.label) _ (λ one. Unit {0}) _ (any_finds (label_finding scope channel.label)) (λ one nothing. refl)
 
-pub global_named : (h : PrincipalHierarchy) (global : GlobalTree) → IfOk (global_finding h global) (λ (entry : GlobalEntry). entry.name ≡ global.name.text)
+pub global_named : (scope : LabelScope) (global : GlobalTree) → IfOk (global_finding scope global) (λ (entry : GlobalEntry). entry.name ≡ global.name.text)
 unfolding global_finding
-global_named h global =
-    then_finds (label_finding h global.label) _ (λ one. Unit {0}) _ (any_finds (label_finding h global.label)) (λ label nothing.
+global_named scope global =
+    then_finds (label_finding scope global.label) _ (λ one. Unit {0}) _ (any_finds (label_finding scope global.label)) (λ label nothing.
     then_finds (first_finding _ global.value) _ (λ one. Unit {0}) _ (any_finds (first_finding _ global.value)) (λ value nothing. refl))
 
-procedure_named : (h : PrincipalHierarchy) (top : TopLevel) (procedure : ProcedureTree)
-    → IfOk (procedure_entry_finding h top procedure) (λ (entry : ProcedureEntry). entry.name ≡ procedure.name.text)
+procedure_named : (scope : LabelScope) (signatures : List Signature) (procedure : ProcedureTree)
+    → IfOk (procedure_entry_finding scope signatures procedure) (λ (entry : ProcedureEntry). entry.name ≡ procedure.name.text)
 unfolding procedure_entry_finding
-procedure_named h top procedure =
-    then_finds (result_finding h procedure.result) _ (λ one. Unit {0}) _ (any_finds (result_finding h procedure.result)) (λ result nothing.
-    then_finds (optional_label_finding h procedure.begin) _ (λ one. Unit {0}) _ (any_finds (optional_label_finding h procedure.begin)) (λ begin nothing.
-    then_finds (parameters_finding h top.names procedure.parameters) _ (λ one. Unit {0}) _ (any_finds (parameters_finding h top.names procedure.parameters)) (λ point nothing.
-    then_finds (optional_label_finding h procedure.end) _ (λ one. Unit {0}) _ (any_finds (optional_label_finding h procedure.end)) (λ end nothing.
-    then_finds (throws_finding h top.names procedure.throws) _ (λ one. Unit {0}) _ (any_finds (throws_finding h top.names procedure.throws)) (λ throws nothing.
+procedure_named scope signatures procedure =
+    then_finds (result_finding scope procedure.result) _ (λ one. Unit {0}) _ (any_finds (result_finding scope procedure.result)) (λ result nothing.
+    then_finds (optional_label_finding scope procedure.begin) _ (λ one. Unit {0}) _ (any_finds (optional_label_finding scope procedure.begin)) (λ begin nothing.
+    then_finds (parameters_finding scope procedure.parameters) _ (λ one. Unit {0}) _ (any_finds (parameters_finding scope procedure.parameters)) (λ point nothing.
+    then_finds (optional_label_finding scope procedure.end) _ (λ one. Unit {0}) _ (any_finds (optional_label_finding scope procedure.end)) (λ end nothing.
+    then_finds (throws_finding scope procedure.throws) _ (λ one. Unit {0}) _ (any_finds (throws_finding scope procedure.throws)) (λ throws nothing.
     then_finds (block_finding _ point procedure.body) _ (λ one. Unit {0}) _ (any_finds (block_finding _ point procedure.body)) (λ done nothing. refl))))))
 
 item_named : (h : PrincipalHierarchy) (top : TopLevel) (named : ItemNames) (tables : Tables) (item : ItemTree) → TableNames named tables
     → IfOk (next_item h top tables item) (TableNames (names_with named item))
 unfolding next_item
 item_named h top named tables (ChannelItem channel) kept =
-    then_finds (channel_finding h channel) _ (λ (entry : ChannelEntry). entry.name ≡ channel.name.text) _ (channel_named h channel) (λ entry same. record {
+    then_finds (channel_finding (heads h top tables.globals) channel) _ (λ (entry : ChannelEntry). entry.name ≡ channel.name.text) _ (channel_named (heads h top tables.globals) channel) (λ entry same. record {
       exceptions = kept.exceptions;
       channels = map_push channel_name tables.channels entry ∙ (λ i. kept.channels i ++ same i ∷ []);
       globals = kept.globals;
@@ -241,14 +241,14 @@ item_named h top named tables (ExceptionItem at name) kept = record {
   procedures = kept.procedures;
 }
 item_named h top named tables (GlobalItem global) kept =
-    then_finds (global_finding h global) _ (λ (entry : GlobalEntry). entry.name ≡ global.name.text) _ (global_named h global) (λ entry same. record {
+    then_finds (global_finding (heads h top tables.globals) global) _ (λ (entry : GlobalEntry). entry.name ≡ global.name.text) _ (global_named (heads h top tables.globals) global) (λ entry same. record {
       exceptions = kept.exceptions;
       channels = kept.channels;
       globals = map_push global_name tables.globals entry ∙ (λ i. kept.globals i ++ same i ∷ []);
       procedures = kept.procedures;
     })
 item_named h top named tables (ProcedureItem procedure) kept =
-    then_finds (procedure_entry_finding h top procedure) _ (λ (entry : ProcedureEntry). entry.name ≡ procedure.name.text) _ (procedure_named h top procedure)
+    then_finds (procedure_entry_finding (heads h top tables.globals) top.signatures procedure) _ (λ (entry : ProcedureEntry). entry.name ≡ procedure.name.text) _ (procedure_named (heads h top tables.globals) top.signatures procedure)
     (λ entry same. record {
       exceptions = kept.exceptions;
       channels = kept.channels;

@@ -4,6 +4,7 @@ use Rattle.std.specs.Prelude.{bytes_eq, string_bytes}
 use Rattle.std.specs.List.{list_any}
 use Rattle.std.proofs.lemmas.List.{take-append-le, drop-append-le, take-append-drop, length-take, map-append}
 use Rattle.std.proofs.Math.Seq.{take-length, drop-length}
+use Rattle.resolved.specs.ProgramOf.{global_entry}
 use Rattle.types.specs.declared.body.Body.{Body}
 use Rattle.types.specs.Views.{IsLater, found_in, setting_of, signature_view, texts_of, without}
 use Rattle.types.proofs.Tables.{without_both}
@@ -12,6 +13,7 @@ pub later_same : (body : Body) → IsLater body body
 later_same body = record {
   hierarchy = refl;
   top = refl;
+  globals = refl;
   result = refl;
   declared = take-length body.declared.items;
   locals = λ name. ap (λ gone. without (texts_of gone) (found_in body.locals) name) (sym (drop-length body.declared.items));
@@ -31,6 +33,7 @@ later_through first second third p q =
     record {
       hierarchy = q.hierarchy ∙ p.hierarchy;
       top = q.top ∙ p.top;
+      globals = q.globals ∙ p.globals;
       result = q.result ∙ p.result;
       declared = ap (take n) (sym split) ∙ take-append-le n b (drop m c) short ∙ p.declared;
       locals = λ name. p.locals name
@@ -42,6 +45,7 @@ later_through first second third p q =
 pub setting_same : (before after : Body) → IsLater before after → setting_of after ≡ setting_of before
 setting_same before after later = λ i. record {
   hierarchy = later.hierarchy i;
+  globals = map global_entry (later.globals i);
   signatures = map signature_view (later.top i).signatures.items;
   result = later.result i;
 }

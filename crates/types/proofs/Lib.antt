@@ -1,9 +1,11 @@
+mod AloneLabels
 mod Along
 mod ChannelLabels
 mod Declarations
 mod Frames
 mod Holding
 mod ItemNames
+mod LabelSizes
 mod NamedMeanings
 mod JoinAll
 mod Later

@@ -15,11 +15,11 @@ use Rattle.types.specs.declared.scope.Meaning.{Meaning}
 use Rattle.types.specs.declared.scope.Meaning.TheVariants.{Input, Output, Exception, Procedure, Scalar, Array}
 use Rattle.types.specs.Finding.{Finding, give, require, along}
 use Rattle.types.specs.Environment.{Environment, ScalarUse, ArrayUse, declaring, fresh_finding, scalar_finding, array_finding, input_finding, output_finding, exception_finding}
-use Rattle.types.specs.Labels.{label_finding, optional_label_finding}
+use Rattle.types.specs.Labels.{LabelScope, label_finding, optional_label_finding}
 use Rattle.types.specs.Expressions.{Typed, base_of, expression_finding, typed_finding}
 use Rattle.types.specs.Laws.{channel_names, global_names, MeaningHasName}
-use Rattle.types.specs.Statements.{Setting, Point, with_local, CallUse, call_finding, assigned_finding, scalar_slot, array_slot, declare_finding, size_finding, declare_array_finding, assign_finding, store_finding, call_statement_finding, receive_finding, send_finding, throw_finding, returned_finding, return_finding, staying, in_loop, behind_block, statement_finding, block_finding, statements_finding, catches_finding}
-use Rattle.types.specs.Resolution.{TopLevel, result_finding, result_base_of, next_parameter, parameters_finding, is_thrown, next_thrown, throws_finding, procedure_entry_finding, channel_finding, global_finding, Tables, next_item, no_tables, items_finding, top_finding, main_finding, global_cells_finding, frames_finding, program_with, resolution}
+use Rattle.types.specs.Statements.{Signature, Setting, Point, label_scope, with_local, CallUse, call_finding, assigned_finding, scalar_slot, array_slot, declare_finding, size_finding, declare_array_finding, assign_finding, store_finding, call_statement_finding, receive_finding, send_finding, throw_finding, returned_finding, return_finding, staying, in_loop, behind_block, statement_finding, block_finding, statements_finding, catches_finding}
+use Rattle.types.specs.Resolution.{TopLevel, heads, setting_within, result_finding, result_base_of, next_parameter, parameters_finding, is_thrown, next_thrown, throws_finding, procedure_entry_finding, channel_finding, global_finding, Tables, next_item, no_tables, items_finding, top_finding, main_finding, global_cells_finding, frames_finding, program_with, resolution}
 use Rattle.types.specs.ReadBack.{NameScope, top_scope, with_declared, leaving_block, innermost, IsChannel, IsException, IsProcedure, IsVariable, ReadsExpression, ReadsArguments, ReadsRight, ReadsStatement, ReadDeclare, ReadDeclareArray, ReadAssign, ReadStore, ReadCall, ReadReceive, ReadSend, ReadIf, ReadIfElse, ReadWhile, ReadBreak, ReadContinue, ReadThrow, ReadReturn, ReadReturnValue, ReadTry, ReadNested, ReadsBlock, ReadBlock, ReadsStatements, ReadNoStatement, ReadStatement, ReadsCatches, ReadNoCatch, ReadCatch, ReadsThrows, ReadNoThrown, ReadThrown, with_parameters, slot_declaration, ReadsProcedure, ReadsItems, ReadNoItem, ReadChannel, ReadException, ReadGlobal, ReadProcedure}
 use Rattle.types.proofs.ItemNames.{channel_name, global_name, channel_named, global_named}
 use Rattle.types.proofs.NamedMeanings.{finds_itself}
@@ -162,7 +162,7 @@ module _ (program : Program) where
   unfolding declare_finding
   declare_reads setting scope point at base label name right matches =
       let target = Local (length point.slots) in
-      then_finds (optional_label_finding setting.hierarchy label) _ (λ one. Unit {0}) _ (any_finds (optional_label_finding setting.hierarchy label)) (λ written nothing.
+      then_finds (optional_label_finding (label_scope setting point) label) _ (λ one. Unit {0}) _ (any_finds (optional_label_finding (label_scope setting point) label)) (λ written nothing.
       then_finds (fresh_finding (point.names name.text) name.at) _ (λ one. Unit {0}) _ (any_finds (fresh_finding (point.names name.text) name.at)) (λ one nothing.
       then_finds (assigned_finding setting.signatures point.names at target (base_of base) right) _ (ReadsRight program scope at target right) _
       (right_reads program scope point.names matches.agrees setting.signatures at target (base_of base) right) (λ s reads. record {
@@ -178,7 +178,7 @@ module _ (program : Program) where
   unfolding declare_array_finding
   declare_array_reads setting scope point at base label name size matches =
       let target = Local (length point.slots) in
-      then_finds (optional_label_finding setting.hierarchy label) _ (λ one. Unit {0}) _ (any_finds (optional_label_finding setting.hierarchy label)) (λ written nothing.
+      then_finds (optional_label_finding (label_scope setting point) label) _ (λ one. Unit {0}) _ (any_finds (optional_label_finding (label_scope setting point) label)) (λ written nothing.
       then_finds (fresh_finding (point.names name.text) name.at) _ (λ one. Unit {0}) _ (any_finds (fresh_finding (point.names name.text) name.at)) (λ one nothing.
       then_finds (size_finding size) _ (λ one. Unit {0}) _ (any_finds (size_finding size)) (λ length_of nothing. record {
         after = with_declared scope name at;
@@ -304,18 +304,18 @@ module _ (program : Program) where
 
   -- ---- procedures
 
-  parameters_read : (h : PrincipalHierarchy) (scope : NameScope) (point : Point) (parameters : List ParameterTree) → Matches scope point
-      → IfOk (along (next_parameter h) point parameters) (Matches (with_parameters scope parameters))
-  parameters_read h scope point [] matches = matches
-  parameters_read h scope point (parameter ∷ parameters) matches =
+  parameters_read : (labels : LabelScope) (scope : NameScope) (point : Point) (parameters : List ParameterTree) → Matches scope point
+      → IfOk (along (next_parameter labels) point parameters) (Matches (with_parameters scope parameters))
+  parameters_read labels scope point [] matches = matches
+  parameters_read labels scope point (parameter ∷ parameters) matches =
       let inside = with_declared scope parameter.name parameter.at in
-      then_finds (next_parameter h point parameter) (λ next. along (next_parameter h) next parameters) (Matches inside) _
-      (then_finds (label_finding h parameter.label) _ (λ one. Unit {0}) _ (any_finds (label_finding h parameter.label)) (λ label nothing.
+      then_finds (next_parameter labels point parameter) (λ next. along (next_parameter labels) next parameters) (Matches inside) _
+      (then_finds (label_finding labels parameter.label) _ (λ one. Unit {0}) _ (any_finds (label_finding labels parameter.label)) (λ label nothing.
       then_finds (fresh_finding (point.names parameter.name.text) parameter.name.at) _ (λ one. Unit {0}) _
       (any_finds (fresh_finding (point.names parameter.name.text) parameter.name.at)) (λ one nothing.
       local_matches scope point parameter.name (scalar_slot parameter.at (base_of parameter.base) (Some label) parameter.name.text)
       (Scalar (Local (length point.slots)) (base_of parameter.base)) matches refl (λ other is. is))))
-      (λ next matches_next. parameters_read h (with_declared scope parameter.name parameter.at) next parameters matches_next)
+      (λ next matches_next. parameters_read labels (with_declared scope parameter.name parameter.at) next parameters matches_next)
 
   -- behind those that were found before
   record ThrowsRead (before : List ThrownEntry) (written : List ThrownTree) (found : List ThrownEntry) : Type 0 where
@@ -323,41 +323,41 @@ module _ (program : Program) where
     pub found_is : found ≡ before ++ more
     pub reads : ReadsThrows program written more
 
-  throws_read : (h : PrincipalHierarchy) (names : Environment) → Agrees program top_scope names → (before : List ThrownEntry) (written : List ThrownTree)
-      → IfOk (along (next_thrown h names) before written) (ThrowsRead before written)
-  throws_read h names agrees before [] = record { more = []; found_is = sym (append-nil before); reads = ReadNoThrown }
-  throws_read h names agrees before (thrown ∷ written) =
-      then_finds (next_thrown h names before thrown) (λ next. along (next_thrown h names) next written)
+  throws_read : (labels : LabelScope) → Agrees program top_scope labels.names → (before : List ThrownEntry) (written : List ThrownTree)
+      → IfOk (along (next_thrown labels) before written) (ThrowsRead before written)
+  throws_read labels agrees before [] = record { more = []; found_is = sym (append-nil before); reads = ReadNoThrown }
+  throws_read labels agrees before (thrown ∷ written) =
+      then_finds (next_thrown labels before thrown) (λ next. along (next_thrown labels) next written)
       (λ next. (entry : ThrownEntry) × (next ≡ before ++ entry ∷ []) × IsException program top_scope thrown.name entry.exception) _
-      (then_finds (exception_finding (names thrown.name.text) thrown.name.at) _ (IsException program top_scope thrown.name) _
-      (exception_reads program top_scope names agrees thrown.name) (λ exception is.
+      (then_finds (exception_finding (labels.names thrown.name.text) thrown.name.at) _ (IsException program top_scope thrown.name) _
+      (exception_reads program top_scope labels.names agrees thrown.name) (λ exception is.
       then_finds (require (not (is_thrown before exception)) _ thrown.name.at) _ (λ one. Unit {0}) _
       (any_finds (require (not (is_thrown before exception)) _ thrown.name.at)) (λ one nothing.
-      then_finds (label_finding h thrown.label) _ (λ one. Unit {0}) _ (any_finds (label_finding h thrown.label))
+      then_finds (label_finding labels thrown.label) _ (λ one. Unit {0}) _ (any_finds (label_finding labels thrown.label))
       (λ label nothing. (record { exception = exception; label = label }, refl, is)))))
       (λ next parts.
       let (entry, same, first) = parts in
-      IfOk-weaker (along (next_thrown h names) next written) (ThrowsRead next written) (ThrowsRead before (thrown ∷ written))
+      IfOk-weaker (along (next_thrown labels) next written) (ThrowsRead next written) (ThrowsRead before (thrown ∷ written))
       (λ found rest. record {
         more = entry ∷ rest.more;
         found_is = rest.found_is ∙ ap (λ one. one ++ rest.more) same ∙ append_assoc before (entry ∷ []) rest.more;
         reads = ReadThrown first rest.reads;
       })
-      (throws_read h names agrees next written))
+      (throws_read labels agrees next written))
 
-  procedure_read : (h : PrincipalHierarchy) (top : TopLevel) (written : ProcedureTree) → Agrees program top_scope top.names
-      → IfOk (procedure_entry_finding h top written) (ReadsProcedure program written)
+  procedure_read : (labels : LabelScope) (signatures : List Signature) (written : ProcedureTree) → Agrees program top_scope labels.names
+      → IfOk (procedure_entry_finding labels signatures written) (ReadsProcedure program written)
   unfolding procedure_entry_finding parameters_finding throws_finding
-  procedure_read h top written agrees =
-      let setting : Setting = record { hierarchy = h; signatures = top.signatures; result = result_base_of written.result } in
-      let first : Point = record { names = top.names; slots = []; loops = 0 } in
-      then_finds (result_finding h written.result) _ (λ one. Unit {0}) _ (any_finds (result_finding h written.result)) (λ result nothing.
-      then_finds (optional_label_finding h written.begin) _ (λ one. Unit {0}) _ (any_finds (optional_label_finding h written.begin)) (λ begin nothing.
-      then_finds (along (next_parameter h) first written.parameters) _ (Matches (with_parameters top_scope written.parameters)) _
-      (parameters_read h top_scope first written.parameters (record { agrees = agrees; declared = refl })) (λ point matches.
-      then_finds (optional_label_finding h written.end) _ (λ one. Unit {0}) _ (any_finds (optional_label_finding h written.end)) (λ end nothing.
-      then_finds (along (next_thrown h top.names) [] written.throws) _ (ThrowsRead [] written.throws) _
-      (throws_read h top.names agrees [] written.throws) (λ throws thrown.
+  procedure_read labels signatures written agrees =
+      let setting = setting_within labels signatures written in
+      let first : Point = record { names = labels.names; slots = []; loops = 0 } in
+      then_finds (result_finding labels written.result) _ (λ one. Unit {0}) _ (any_finds (result_finding labels written.result)) (λ result nothing.
+      then_finds (optional_label_finding labels written.begin) _ (λ one. Unit {0}) _ (any_finds (optional_label_finding labels written.begin)) (λ begin nothing.
+      then_finds (along (next_parameter labels) first written.parameters) _ (Matches (with_parameters top_scope written.parameters)) _
+      (parameters_read labels top_scope first written.parameters (record { agrees = agrees; declared = refl })) (λ point matches.
+      then_finds (optional_label_finding labels written.end) _ (λ one. Unit {0}) _ (any_finds (optional_label_finding labels written.end)) (λ end nothing.
+      then_finds (along (next_thrown labels) [] written.throws) _ (ThrowsRead [] written.throws) _
+      (throws_read labels agrees [] written.throws) (λ throws thrown.
       then_finds (block_finding setting point written.body) _ (BlockRead (with_parameters top_scope written.parameters) written.body) _
       (block_reads setting (with_parameters top_scope written.parameters) point written.body matches) (λ done read. record {
         place = refl;
@@ -391,7 +391,7 @@ module _ (program : Program) where
     step : (before : Tables) (item : ItemTree) (items : List ItemTree) → IfOk (next_item h top before item) (Step before item items)
     unfolding next_item
     step before (ChannelItem channel) items =
-        then_finds (channel_finding h channel) _ (λ (entry : ChannelEntry). entry.name ≡ channel.name.text) _ (channel_named h channel)
+        then_finds (channel_finding (heads h top before.globals) channel) _ (λ (entry : ChannelEntry). entry.name ≡ channel.name.text) _ (channel_named (heads h top before.globals) channel)
         (λ entry named tables rest. record {
           channels = channel.name.text ∷ rest.channels;
           exceptions = rest.exceptions;
@@ -415,7 +415,7 @@ module _ (program : Program) where
       reads = ReadException rest.reads;
     }
     step before (GlobalItem global) items =
-        then_finds (global_finding h global) _ (λ (entry : GlobalEntry). entry.name ≡ global.name.text) _ (global_named h global)
+        then_finds (global_finding (heads h top before.globals) global) _ (λ (entry : GlobalEntry). entry.name ≡ global.name.text) _ (global_named (heads h top before.globals) global)
         (λ entry named tables rest. record {
           channels = rest.channels;
           exceptions = rest.exceptions;
@@ -428,7 +428,7 @@ module _ (program : Program) where
           reads = ReadGlobal rest.reads;
         })
     step before (ProcedureItem written) items =
-        then_finds (procedure_entry_finding h top written) _ (ReadsProcedure program written) _ (procedure_read h top written agrees)
+        then_finds (procedure_entry_finding (heads h top before.globals) top.signatures written) _ (ReadsProcedure program written) _ (procedure_read (heads h top before.globals) top.signatures written agrees)
         (λ entry reads tables rest. record {
           channels = rest.channels;
           exceptions = rest.exceptions;

@@ -11,7 +11,12 @@ use Rattle.resolved.specs.declared.expression.Base.{Base}
 use Rattle.resolved.specs.declared.expression.Base.TheVariants.{Int, Boolean}
 use Rattle.resolved.specs.declared.expression.Variable.{Variable}
 use Rattle.resolved.specs.declared.expression.Variable.TheVariants.{Global, Local}
-use Rattle.resolved.specs.declared.expression.Operator.TheVariants as operators
+use Rattle.resolved.specs.declared.expression.Operator.TheVariants.{Compute, Divide, Bits, Compare, Match}
+use Rattle.resolved.specs.declared.expression.Computation.TheVariants as computations
+use Rattle.resolved.specs.declared.expression.Division.TheVariants as divisions
+use Rattle.resolved.specs.declared.expression.BitOperator.TheVariants as bits
+use Rattle.resolved.specs.declared.expression.Relation.TheVariants as relations
+use Rattle.resolved.specs.declared.expression.Sameness.TheVariants as samenesses
 use Rattle.resolved.specs.declared.expression.Connective.TheVariants as connectives
 use Rattle.resolved.specs.Program.{Program}
 use Rattle.resolved.specs.Tree.{Expression, Call}
@@ -175,19 +180,25 @@ module _ (program : Program) where
 
     combined_reads : (at : ℕ) (operator : BinaryOperator) (base : Base) (left right : ExpressionTree) (d e : Expression) → Reads left d → Reads right e
         → Reads (BinaryTree at operator left right) (combined (use_of operator) base d e)
-    combined_reads at binary.Multiply base left right d e p q = ReadBinary {made = operators.Multiply} refl p q
-    combined_reads at binary.Divide base left right d e p q = ReadBinary {made = operators.Divide} refl p q
-    combined_reads at binary.Remainder base left right d e p q = ReadBinary {made = operators.Remainder} refl p q
-    combined_reads at binary.Add base left right d e p q = ReadBinary {made = operators.Add} refl p q
-    combined_reads at binary.Subtract base left right d e p q = ReadBinary {made = operators.Subtract} refl p q
-    combined_reads at binary.LessThan base left right d e p q = ReadBinary {made = operators.LessThan} refl p q
-    combined_reads at binary.AtMost base left right d e p q = ReadBinary {made = operators.AtMost} refl p q
-    combined_reads at binary.GreaterThan base left right d e p q = ReadBinary {made = operators.GreaterThan} refl p q
-    combined_reads at binary.AtLeast base left right d e p q = ReadBinary {made = operators.AtLeast} refl p q
-    combined_reads at binary.EqualTo Int left right d e p q = ReadBinary {made = operators.Equal} refl p q
-    combined_reads at binary.EqualTo Boolean left right d e p q = ReadBinary {made = operators.Same} refl p q
-    combined_reads at binary.NotEqualTo Int left right d e p q = ReadBinary {made = operators.Unequal} refl p q
-    combined_reads at binary.NotEqualTo Boolean left right d e p q = ReadBinary {made = operators.Different} refl p q
+    combined_reads at binary.Multiply base left right d e p q = ReadBinary {made = Compute computations.Multiply} refl p q
+    combined_reads at binary.Divide base left right d e p q = ReadBinary {made = Divide divisions.Quotient} refl p q
+    combined_reads at binary.Remainder base left right d e p q = ReadBinary {made = Divide divisions.Remainder} refl p q
+    combined_reads at binary.Add base left right d e p q = ReadBinary {made = Compute computations.Add} refl p q
+    combined_reads at binary.Subtract base left right d e p q = ReadBinary {made = Compute computations.Subtract} refl p q
+    combined_reads at binary.LessThan base left right d e p q = ReadBinary {made = Compare relations.LessThan} refl p q
+    combined_reads at binary.AtMost base left right d e p q = ReadBinary {made = Compare relations.AtMost} refl p q
+    combined_reads at binary.GreaterThan base left right d e p q = ReadBinary {made = Compare relations.GreaterThan} refl p q
+    combined_reads at binary.AtLeast base left right d e p q = ReadBinary {made = Compare relations.AtLeast} refl p q
+    combined_reads at binary.BitAnd base left right d e p q = ReadBinary {made = Bits bits.BitAnd} refl p q
+    combined_reads at binary.BitOr base left right d e p q = ReadBinary {made = Bits bits.BitOr} refl p q
+    combined_reads at binary.BitXor base left right d e p q = ReadBinary {made = Bits bits.BitXor} refl p q
+    combined_reads at binary.ShiftLeft base left right d e p q = ReadBinary {made = Bits bits.ShiftLeft} refl p q
+    combined_reads at binary.ShiftRight base left right d e p q = ReadBinary {made = Bits bits.ShiftRight} refl p q
+    combined_reads at binary.ShiftRightUnsigned base left right d e p q = ReadBinary {made = Bits bits.ShiftRightUnsigned} refl p q
+    combined_reads at binary.EqualTo Int left right d e p q = ReadBinary {made = Compare relations.Equal} refl p q
+    combined_reads at binary.EqualTo Boolean left right d e p q = ReadBinary {made = Match samenesses.Same} refl p q
+    combined_reads at binary.NotEqualTo Int left right d e p q = ReadBinary {made = Compare relations.Unequal} refl p q
+    combined_reads at binary.NotEqualTo Boolean left right d e p q = ReadBinary {made = Match samenesses.Different} refl p q
     combined_reads at binary.And base left right d e p q = ReadShort {made = connectives.And} refl p q
     combined_reads at binary.Or base left right d e p q = ReadShort {made = connectives.Or} refl p q
 

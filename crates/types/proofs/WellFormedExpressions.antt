@@ -203,6 +203,12 @@ module _ (program : Program) (procedure : ProcedureEntry) (signatures : List Sig
   combined_fits binary.AtMost base d e = and_from (has_base program procedure Int d) (has_base program procedure Int e)
   combined_fits binary.GreaterThan base d e = and_from (has_base program procedure Int d) (has_base program procedure Int e)
   combined_fits binary.AtLeast base d e = and_from (has_base program procedure Int d) (has_base program procedure Int e)
+  combined_fits binary.BitAnd base d e = and_from (has_base program procedure Int d) (has_base program procedure Int e)
+  combined_fits binary.BitOr base d e = and_from (has_base program procedure Int d) (has_base program procedure Int e)
+  combined_fits binary.BitXor base d e = and_from (has_base program procedure Int d) (has_base program procedure Int e)
+  combined_fits binary.ShiftLeft base d e = and_from (has_base program procedure Int d) (has_base program procedure Int e)
+  combined_fits binary.ShiftRight base d e = and_from (has_base program procedure Int d) (has_base program procedure Int e)
+  combined_fits binary.ShiftRightUnsigned base d e = and_from (has_base program procedure Int d) (has_base program procedure Int e)
   combined_fits binary.EqualTo Int d e = and_from (has_base program procedure Int d) (has_base program procedure Int e)
   combined_fits binary.EqualTo Boolean d e = and_from (has_base program procedure Boolean d) (has_base program procedure Boolean e)
   combined_fits binary.NotEqualTo Int d e = and_from (has_base program procedure Int d) (has_base program procedure Int e)
@@ -221,6 +227,12 @@ module _ (program : Program) (procedure : ProcedureEntry) (signatures : List Sig
   combined_nodes binary.AtMost base d e = refl
   combined_nodes binary.GreaterThan base d e = refl
   combined_nodes binary.AtLeast base d e = refl
+  combined_nodes binary.BitAnd base d e = refl
+  combined_nodes binary.BitOr base d e = refl
+  combined_nodes binary.BitXor base d e = refl
+  combined_nodes binary.ShiftLeft base d e = refl
+  combined_nodes binary.ShiftRight base d e = refl
+  combined_nodes binary.ShiftRightUnsigned base d e = refl
   combined_nodes binary.EqualTo base d e = refl
   combined_nodes binary.NotEqualTo base d e = refl
   combined_nodes binary.And base d e = refl

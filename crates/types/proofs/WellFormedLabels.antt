@@ -1,6 +1,6 @@
--- The labels that are found: they are of principals that are there, and no longer than the written ones.
-use Rattle.std.proofs.Common.{◌≡◌, refl, ◌∙◌, Ok, ℕ, suc, ◌+◌, ◌≤◌, List, [], ◌∷◌, ◌++◌, length, Bool, true, false, arith}
-use Rattle.std.specs.Prelude.{IfOk, Option, Some, None, cond, filter, sum_by, nat_lt, not, bytes_eq, ◌==◌}
+-- The labels that are found are of principals that are there.
+use Rattle.std.proofs.Common.{◌≡◌, refl, ◌∙◌, Ok, ℕ, zero, suc, ◌+◌, ◌≤◌, List, [], ◌∷◌, ◌++◌, length, Bool, true, false, arith}
+use Rattle.std.specs.Prelude.{IfOk, IfSome, Option, Some, None, cond, filter, slice_get, sum_by, nat_lt, not, bytes_eq, ◌==◌}
 use Rattle.std.specs.List.{list_all}
 use Rattle.std.specs.declared.cmp.Ordering.{Ordering}
 use Rattle.std.specs.declared.cmp.Ordering.TheVariants.{Less, Equal, Greater}
@@ -15,14 +15,16 @@ use Rattle.principals.specs.ActsFor.{PrincipalHierarchy, number_of}
 use Rattle.labels.specs.Label.{ReaderPolicy, Label}
 use Rattle.labels.specs.Sets.{by_order, with_element, ascending_set}
 use Rattle.labels.specs.Canonical.{policy_cmp, readers_beside, joined}
-use Rattle.syntax.specs.Tree.{NameTree, PolicyTree, LabelTree}
-use Rattle.syntax.specs.Nodes.{policy_nodes, label_nodes as written_nodes}
-use Rattle.resolved.specs.Program.{ThrownEntry}
-use Rattle.resolved.specs.WellFormed.{policy_fits, label_fits, written_fits, label_nodes}
+use Rattle.syntax.specs.Tree.{NameTree, ComponentTree, PolicyComponent, VariableComponent, LabelTree}
+use Rattle.resolved.specs.declared.expression.Variable.{Variable}
+use Rattle.resolved.specs.declared.expression.Variable.TheVariants.{Global, Local}
+use Rattle.resolved.specs.Program.{GlobalEntry, SlotEntry, ThrownEntry}
+use Rattle.resolved.specs.WellFormed.{policy_fits, label_fits, written_fits}
+use Rattle.types.specs.Environment.{variable_finding}
 use Rattle.types.specs.Finding.{Finding, along, put_last}
-use Rattle.types.specs.Labels.{principal_found, principal_finding, readers_finding, policy_finding, policies_finding, label_finding, optional_label_finding}
+use Rattle.types.specs.Labels.{LabelScope, principal_found, principal_finding, readers_finding, policy_finding, global_label, written_found, slot_label, variable_label_finding, named_label_finding, component_finding, next_component, components_finding, label_finding, optional_label_finding}
 use Rattle.types.specs.Resolution.{joined_all}
-use Rattle.types.proofs.Passing.{then_finds}
+use Rattle.types.proofs.Passing.{then_finds, any_finds}
 
 -- ---- ascending sets
 
@@ -68,12 +70,17 @@ with_element_sum weight cmp x (y ∷ ys) = go (with_element_sum weight cmp x ys)
     go deeper Equal = omega arith
     go deeper Greater = omega (arith, sum_by-cons weight y ys, sum_by-cons weight y (with_element cmp x ys))
 
-set_sum : {X : Type 0} (weight : X → ℕ) (cmp : X → X → Ordering) (xs : List X) → sum_by weight (ascending_set cmp xs) ≤ sum_by weight xs
+pub set_sum : {X : Type 0} (weight : X → ℕ) (cmp : X → X → Ordering) (xs : List X) → sum_by weight (ascending_set cmp xs) ≤ sum_by weight xs
 set_sum weight cmp [] = omega arith
 set_sum weight cmp (x ∷ xs) =
     omega (arith, with_element_sum weight cmp x (ascending_set cmp xs), set_sum weight cmp xs, sum_by-cons weight x xs)
 
 -- ---- what is found of each element
+
+pub passes_there : {X : Type 0} (test : X → Bool) (xs : List X) (n : ℕ) → list_all test xs ≡ true → IfSome (slice_get xs n) (λ x. test x ≡ true)
+passes_there test [] n all = tt
+passes_there test (x ∷ xs) zero all = (and_parts (test x) (list_all test xs) all).0
+passes_there test (x ∷ xs) (suc n) all = passes_there test xs n (and_parts (test x) (list_all test xs) all).1
 
 pub all_pushed : {X : Type 0} (test : X → Bool) (xs : List X) (x : X) → list_all test xs ≡ true → test x ≡ true → list_all test (xs ++ x ∷ []) ≡ true
 all_pushed test xs x e f = list_all-append test xs (x ∷ []) ∙ and_from (list_all test xs) (list_all test (x ∷ [])) e (and_from (test x) true f refl)
@@ -114,43 +121,29 @@ module _ (h : PrincipalHierarchy) where
       go None e = tt
       go (Some number) e = (lt-ltb number (length h.names) (position-Some (bytes_eq name.text) h.names number [] e).0, omega arith)
 
-  abbrev policy_weight : ReaderPolicy → ℕ
+  abbrev pub policy_weight : ReaderPolicy → ℕ
   policy_weight policy = 1 + length policy.readers
 
-  policy_there : (policy : PolicyTree) → IfOk (policy_finding h policy) (λ found. (policy_fits h found ≡ true) × (policy_weight found ≤ policy_nodes policy))
+  pub policy_there : (owner : NameTree) (readers : List NameTree)
+      → IfOk (policy_finding h owner readers) (λ found. (policy_fits h found ≡ true) × (policy_weight found ≤ 2 + length readers))
   unfolding policy_finding readers_finding
-  policy_there policy =
-      then_finds (principal_finding h policy.owner) _ (λ number. (is_there number ≡ true) × (1 ≤ 1)) _ (principal_there policy.owner) (λ owner owner_there.
-      then_finds (along (put_last (principal_finding h)) [] policy.readers) _
-      (λ readers. (list_all is_there readers ≡ true) × (sum_by one_of readers ≤ 0 + sum_by one_of policy.readers)) _
-      (each_passes (principal_finding h) is_there one_of one_of principal_there [] policy.readers refl) (λ readers readers_there. (
-        and_from (is_there owner) (list_all is_there (readers_beside owner readers)) owner_there.0
-            (filter_all is_there (λ reader. not (reader == owner)) (ascending_set nat_cmp readers) (set_all is_there nat_cmp readers readers_there.0)),
+  policy_there owner readers =
+      then_finds (principal_finding h owner) _ (λ number. (is_there number ≡ true) × (1 ≤ 1)) _ (principal_there owner) (λ number owner_there.
+      then_finds (along (put_last (principal_finding h)) [] readers) _
+      (λ numbers. (list_all is_there numbers ≡ true) × (sum_by one_of numbers ≤ 0 + sum_by one_of readers)) _
+      (each_passes (principal_finding h) is_there one_of one_of principal_there [] readers refl) (λ numbers readers_there. (
+        and_from (is_there number) (list_all is_there (readers_beside number numbers)) owner_there.0
+            (filter_all is_there (λ reader. not (reader == number)) (ascending_set nat_cmp numbers) (set_all is_there nat_cmp numbers readers_there.0)),
         omega (
           arith,
-          filtered_length (λ reader. not (reader == owner)) (ascending_set nat_cmp readers),
-          set_sum one_of nat_cmp readers,
-          ones (ascending_set nat_cmp readers),
+          filtered_length (λ reader. not (reader == number)) (ascending_set nat_cmp numbers),
+          set_sum one_of nat_cmp numbers,
+          ones (ascending_set nat_cmp numbers),
+          ones numbers,
           ones readers,
-          ones policy.readers,
           readers_there.1,
         ),
       )))
-
-  pub label_there : (label : LabelTree) → IfOk (label_finding h label) (λ found. (label_fits h found ≡ true) × (1 + label_nodes found ≤ written_nodes label))
-  unfolding label_finding policies_finding
-  label_there label =
-      then_finds (along (put_last (policy_finding h)) [] label.policies) _
-      (λ policies. (list_all (policy_fits h) policies ≡ true) × (sum_by policy_weight policies ≤ 0 + sum_by policy_nodes label.policies)) _
-      (each_passes (policy_finding h) (policy_fits h) policy_weight policy_nodes policy_there [] label.policies refl)
-      (λ policies there. (set_all (policy_fits h) policy_cmp policies there.0, omega (arith, set_sum policy_weight policy_cmp policies, there.1)))
-
-  pub optional_label_there : (label : Option LabelTree) → IfOk (optional_label_finding h label) (λ found. written_fits h found ≡ true)
-  unfolding optional_label_finding
-  optional_label_there None = refl
-  optional_label_there (Some label) =
-      then_finds (label_finding h label) _ (λ found. (label_fits h found ≡ true) × (1 + label_nodes found ≤ written_nodes label)) _ (label_there label)
-      (λ found there. there.0)
 
   pub joined_all_there : (label : Label) (throws : List ThrownEntry) → label_fits h label ≡ true
       → list_all (λ (thrown : ThrownEntry). label_fits h thrown.label) throws ≡ true → label_fits h (joined_all label throws) ≡ true
@@ -161,3 +154,74 @@ module _ (h : PrincipalHierarchy) where
       (set_all (policy_fits h) policy_cmp (label ++ thrown.label)
       (list_all-append (policy_fits h) label thrown.label ∙ and_from (list_all (policy_fits h) label) (list_all (policy_fits h) thrown.label) e parts.0))
       parts.1
+
+-- what a label may name is of principals that are there
+abbrev pub GlobalsFit : PrincipalHierarchy → List GlobalEntry → Type 0
+GlobalsFit h globals = list_all (λ (entry : GlobalEntry). label_fits h entry.label) globals ≡ true
+
+abbrev pub SlotsFit : PrincipalHierarchy → List SlotEntry → Type 0
+SlotsFit h slots = list_all (λ (slot : SlotEntry). written_fits h slot.written) slots ≡ true
+
+module _ (scope : LabelScope) (globals_fit : GlobalsFit scope.hierarchy scope.globals) (slots_fit : SlotsFit scope.hierarchy scope.slots) where
+  abbrev h : PrincipalHierarchy
+  h = scope.hierarchy
+
+  abbrev Fits : Label → Type 0
+  Fits label = label_fits h label ≡ true
+
+  global_there : (number at : ℕ) → IfOk (global_label (slice_get scope.globals number) at) Fits
+  global_there number at =
+      go (slice_get scope.globals number) (passes_there (λ (entry : GlobalEntry). label_fits h entry.label) scope.globals number globals_fit)
+    where
+      go : (found : Option GlobalEntry) → IfSome found (λ (entry : GlobalEntry). label_fits h entry.label ≡ true) → IfOk (global_label found at) Fits
+      go None fit = tt
+      go (Some entry) fit = fit
+
+  slot_there : (number at : ℕ) → IfOk (slot_label (slice_get scope.slots number) at) Fits
+  slot_there number at =
+      go (slice_get scope.slots number) (passes_there (λ (slot : SlotEntry). written_fits h slot.written) scope.slots number slots_fit)
+    where
+      of_written : (written : Option Label) → written_fits h written ≡ true → IfOk (written_found written at) Fits
+      of_written None fit = tt
+      of_written (Some label) fit = fit
+
+      go : (found : Option SlotEntry) → IfSome found (λ (slot : SlotEntry). written_fits h slot.written ≡ true) → IfOk (slot_label found at) Fits
+      go None fit = tt
+      go (Some slot) fit = of_written slot.written fit
+
+  variable_there : (variable : Variable) (at : ℕ) → IfOk (variable_label_finding scope variable at) Fits
+  unfolding variable_label_finding
+  variable_there (Global number) at = global_there number at
+  variable_there (Local number) at = slot_there number at
+
+  named_there : (name : NameTree) → IfOk (named_label_finding scope name) Fits
+  unfolding named_label_finding
+  named_there name =
+      then_finds (variable_finding (scope.names name.text) name.at) _ (λ one. Unit {0}) _ (any_finds (variable_finding (scope.names name.text) name.at))
+      (λ variable nothing. variable_there variable name.at)
+
+  component_there : (component : ComponentTree) → IfOk (component_finding scope component) Fits
+  unfolding component_finding
+  component_there (PolicyComponent owner readers) =
+      then_finds (policy_finding h owner readers) _ (λ found. (policy_fits h found ≡ true) × (policy_weight h found ≤ 2 + length readers)) Fits
+      (policy_there h owner readers) (λ policy there. and_from (policy_fits h policy) true there.0 refl)
+  component_there (VariableComponent name) = named_there name
+
+  components_there : (found : List ReaderPolicy) (components : List ComponentTree) → Fits found → IfOk (along (next_component scope) found components) Fits
+  components_there found [] fit = fit
+  components_there found (component ∷ components) fit =
+      then_finds (next_component scope found component) (λ next. along (next_component scope) next components) Fits _
+      (then_finds (component_finding scope component) _ Fits _ (component_there component) (λ policies there.
+      list_all-append (policy_fits h) found policies ∙ and_from (list_all (policy_fits h) found) (list_all (policy_fits h) policies) fit there))
+      (λ next fit_next. components_there next components fit_next)
+
+  pub label_there : (label : LabelTree) → IfOk (label_finding scope label) Fits
+  unfolding label_finding components_finding
+  label_there label =
+      then_finds (along (next_component scope) [] label.components) _ Fits _ (components_there [] label.components refl)
+      (λ policies there. set_all (policy_fits h) policy_cmp policies there)
+
+  pub optional_label_there : (label : Option LabelTree) → IfOk (optional_label_finding scope label) (λ found. written_fits h found ≡ true)
+  unfolding optional_label_finding
+  optional_label_there None = refl
+  optional_label_there (Some label) = then_finds (label_finding scope label) _ Fits _ (label_there label) (λ found there. there)

@@ -14,20 +14,20 @@ use Rattle.syntax.specs.Tree.{WrittenResultTree, NothingTree, ResultTree, Parame
 use Rattle.syntax.specs.Written.{IsInteger, IsWrittenProcedure}
 use Rattle.resolved.specs.declared.expression.Base.{Base}
 use Rattle.resolved.specs.declared.expression.Variable.TheVariants.{Local}
-use Rattle.resolved.specs.Program.{Program, ProcedureEntry, SlotEntry, ResultEntry, ThrownEntry}
+use Rattle.resolved.specs.Program.{Program, GlobalEntry, ProcedureEntry, SlotEntry, ResultEntry, ThrownEntry}
 use Rattle.resolved.specs.Tree.{Block}
-use Rattle.resolved.specs.WellFormed.{is_exception, label_fits, written_fits, result_fits, size_fits, parameter_fits, throws_fit, block_loops, counts_from, procedure_fits, label_nodes, procedure_nodes}
+use Rattle.resolved.specs.WellFormed.{is_exception, label_fits, written_fits, result_fits, size_fits, parameter_fits, throws_fit, block_loops, counts_from, procedure_fits, procedure_nodes}
 use Rattle.resolved.proofs.WellFormedParts.{procedure_from_parts}
 use Rattle.types.specs.declared.scope.Meaning.TheVariants.{Exception, Scalar}
 use Rattle.types.specs.Finding.{require, along}
 use Rattle.types.specs.Environment.{Environment, fresh_finding, exception_finding}
-use Rattle.types.specs.Labels.{label_finding, optional_label_finding}
+use Rattle.types.specs.Labels.{LabelScope, label_finding, optional_label_finding}
 use Rattle.types.specs.Expressions.{base_of}
 use Rattle.types.specs.Statements.{Signature, Setting, Point, scalar_slot, block_finding}
-use Rattle.types.specs.Resolution.{TopLevel, result_base_of, signature_of, result_finding, next_parameter, parameters_finding, is_thrown, next_thrown, throws_finding, begin_label_of, end_label_of, procedure_entry_finding, frame_cells}
+use Rattle.types.specs.Resolution.{TopLevel, heads, setting_within, result_base_of, signature_of, result_finding, next_parameter, parameters_finding, is_thrown, next_thrown, throws_finding, begin_label_of, end_label_of, procedure_entry_finding, frame_cells}
 use Rattle.types.proofs.Passing.{then_finds, require_finds, any_finds, finds_for_all}
 use Rattle.types.proofs.WellFormedExpressions.{given_base, slot_base, Signed, Stands, Means, means_declaring, exception_found}
-use Rattle.types.proofs.WellFormedLabels.{label_there, optional_label_there, joined_all_there, all_pushed}
+use Rattle.types.proofs.WellFormedLabels.{GlobalsFit, SlotsFit, label_there, optional_label_there, joined_all_there, all_pushed}
 use Rattle.types.proofs.WellFormedStatements.{slot_fits, IsPrefix, IsWellFormedBlock, prefix_before, local_there, block_keeps}
 use Rattle.common.specs.declared.limits.TheConstants.{MAX_CELLS}
 
@@ -81,23 +81,23 @@ record Begun (program : Program) (procedure : ProcedureEntry) (setting : Setting
   pub no_loops : point.loops ≡ 0
   pub means : IsPrefix program procedure setting point.slots → Means program procedure setting.signatures names → Means program procedure setting.signatures point.names
 
-parameters_begin : (program : Program) (procedure : ProcedureEntry) (setting : Setting) (names : Environment) (bases all : List Base) (point : Point) (parameters : List ParameterTree)
+parameters_begin : (program : Program) (procedure : ProcedureEntry) (setting : Setting) (scope : LabelScope) (same : scope.hierarchy ≡ setting.hierarchy) (globals_fit : GlobalsFit scope.hierarchy scope.globals)
+    (slots_fit : SlotsFit scope.hierarchy scope.slots) (names : Environment) (bases all : List Base) (point : Point) (parameters : List ParameterTree)
     → all ≡ bases ++ map parameter_base parameters → Begun program procedure setting names bases point
-    → IfOk (along (next_parameter setting.hierarchy) point parameters) (Begun program procedure setting names all)
-parameters_begin program procedure setting names bases all point [] e begun =
+    → IfOk (along (next_parameter scope) point parameters) (Begun program procedure setting names all)
+parameters_begin program procedure setting scope same globals_fit slots_fit names bases all point [] e begun =
     subst (λ one. Begun program procedure setting names one point) (sym (e ∙ append-nil bases)) begun
-parameters_begin program procedure setting names bases all point (parameter ∷ parameters) e begun =
+parameters_begin program procedure setting scope same globals_fit slots_fit names bases all point (parameter ∷ parameters) e begun =
     let base = parameter_base parameter in
-    then_finds (next_parameter setting.hierarchy point parameter) (λ next. along (next_parameter setting.hierarchy) next parameters)
+    then_finds (next_parameter scope point parameter) (λ next. along (next_parameter scope) next parameters)
     (Begun program procedure setting names (bases ++ base ∷ [])) _
-    (then_finds (label_finding setting.hierarchy parameter.label) _
-    (λ found. (label_fits setting.hierarchy found ≡ true) × (1 + label_nodes found ≤ tree.label_nodes parameter.label)) _
-    (label_there setting.hierarchy parameter.label) (λ label there.
+    (then_finds (label_finding scope parameter.label) _ (λ found. label_fits scope.hierarchy found ≡ true) _
+    (label_there scope globals_fit slots_fit parameter.label) (λ label there.
     then_finds (fresh_finding (point.names parameter.name.text) parameter.name.at) _ (λ one. Unit {0}) _
     (any_finds (fresh_finding (point.names parameter.name.text) parameter.name.at)) (λ one nothing.
     let slot = scalar_slot parameter.at base (Some label) parameter.name.text in
     record {
-      slots_fit = all_pushed (slot_fits setting) point.slots slot begun.slots_fit (and_from true (label_fits setting.hierarchy label) refl there.0);
+      slots_fit = all_pushed (slot_fits setting) point.slots slot begun.slots_fit (and_from true (label_fits setting.hierarchy label) refl (subst (λ h. label_fits h label ≡ true) same there));
       parameters_fit = all_pushed parameter_fits point.slots slot begun.parameters_fit refl;
       bases_are = map_push slot_base point.slots slot ∙ ap (λ one. one ++ base ∷ []) begun.bases_are;
       no_loops = begun.no_loops;
@@ -107,7 +107,7 @@ parameters_begin program procedure setting names bases all point (parameter ∷ 
           (begun.means (prefix_before program procedure setting point.slots (slot ∷ []) (point.slots ++ slot ∷ []) refl is) means);
     })))
     (λ next begun_next.
-    parameters_begin program procedure setting names (bases ++ base ∷ []) all next parameters
+    parameters_begin program procedure setting scope same globals_fit slots_fit names (bases ++ base ∷ []) all next parameters
     (e ∙ sym (append_assoc bases (base ∷ []) (map parameter_base parameters))) begun_next)
 
 -- exceptions that are there where names mean what they do
@@ -116,40 +116,41 @@ record AreWellFormedThrows (program : Program) (procedure : ProcedureEntry) (sig
   pub labels : list_all (λ (thrown : ThrownEntry). label_fits h thrown.label) throws ≡ true
   pub few : length throws ≤ nodes
 
-throws_keep : (program : Program) (procedure : ProcedureEntry) (signatures : List Signature) (h : PrincipalHierarchy) (names : Environment) (before nodes : ℕ) (throws : List ThrownEntry) (written : List ThrownTree)
-    → nodes ≡ before + sum_by tree.thrown_nodes written → AreWellFormedThrows program procedure signatures h names before throws
-    → IfOk (along (next_thrown h names) throws written) (AreWellFormedThrows program procedure signatures h names nodes)
-throws_keep program procedure signatures h names before nodes throws [] e kept =
+throws_keep : (program : Program) (procedure : ProcedureEntry) (signatures : List Signature) (scope : LabelScope) (globals_fit : GlobalsFit scope.hierarchy scope.globals)
+    (slots_fit : SlotsFit scope.hierarchy scope.slots) (before nodes : ℕ) (throws : List ThrownEntry) (written : List ThrownTree)
+    → nodes ≡ before + sum_by tree.thrown_nodes written → AreWellFormedThrows program procedure signatures scope.hierarchy scope.names before throws
+    → IfOk (along (next_thrown scope) throws written) (AreWellFormedThrows program procedure signatures scope.hierarchy scope.names nodes)
+throws_keep program procedure signatures scope globals_fit slots_fit before nodes throws [] e kept =
     record { fit = kept.fit; labels = kept.labels; few = omega (arith, e, kept.few) }
-throws_keep program procedure signatures h names before nodes throws (thrown ∷ written) e kept =
-    then_finds (next_thrown h names throws thrown) (λ next. along (next_thrown h names) next written)
-    (AreWellFormedThrows program procedure signatures h names (before + tree.thrown_nodes thrown)) _
-    (then_finds (exception_finding (names thrown.name.text) thrown.name.at) _
-    (λ number. Means program procedure signatures names → Stands program procedure signatures (Exception number)) _
-    (exception_found program procedure signatures names thrown.name) (λ exception stands.
+throws_keep program procedure signatures scope globals_fit slots_fit before nodes throws (thrown ∷ written) e kept =
+    then_finds (next_thrown scope throws thrown) (λ next. along (next_thrown scope) next written)
+    (AreWellFormedThrows program procedure signatures scope.hierarchy scope.names (before + tree.thrown_nodes thrown)) _
+    (then_finds (exception_finding (scope.names thrown.name.text) thrown.name.at) _
+    (λ number. Means program procedure signatures scope.names → Stands program procedure signatures (Exception number)) _
+    (exception_found program procedure signatures scope.names thrown.name) (λ exception stands.
     then_finds (require (not (is_thrown throws exception)) _ thrown.name.at) _ (λ one. not (is_thrown throws exception) ≡ true) _
     (require_finds (not (is_thrown throws exception)) _ thrown.name.at) (λ one absent.
-    then_finds (label_finding h thrown.label) _ (λ found. (label_fits h found ≡ true) × (1 + label_nodes found ≤ tree.label_nodes thrown.label)) _
-    (label_there h thrown.label) (λ label there.
+    then_finds (label_finding scope thrown.label) _ (λ found. label_fits scope.hierarchy found ≡ true) _
+    (label_there scope globals_fit slots_fit thrown.label) (λ label there.
     let new : ThrownEntry = record { exception = exception; label = label } in
     record {
       fit =
           λ same means. throws_pushed program throws new (kept.fit same means) (not-true (is_thrown throws exception) absent) (stands means)
-          (subst (λ one. label_fits one label ≡ true) (sym same) there.0);
-      labels = all_pushed (λ (thrown : ThrownEntry). label_fits h thrown.label) throws new kept.labels there.0;
+          (subst (λ one. label_fits one label ≡ true) (sym same) there);
+      labels = all_pushed (λ (thrown : ThrownEntry). label_fits scope.hierarchy thrown.label) throws new kept.labels there;
       few = omega (arith, length-append throws (new ∷ []), kept.few);
     }))))
     (λ next kept_next.
-    throws_keep program procedure signatures h names (before + tree.thrown_nodes thrown) nodes next written
+    throws_keep program procedure signatures scope globals_fit slots_fit (before + tree.thrown_nodes thrown) nodes next written
     (omega (arith, e, sum_by-cons tree.thrown_nodes thrown written)) kept_next)
 
-result_there : (h : PrincipalHierarchy) (finding : WrittenResultTree)
-    → IfOk (result_finding h finding) (λ found. (result_fits h found ≡ true) × (given_base found ≡ result_base_of finding))
+result_there : (scope : LabelScope) (globals_fit : GlobalsFit scope.hierarchy scope.globals) (slots_fit : SlotsFit scope.hierarchy scope.slots) (finding : WrittenResultTree)
+    → IfOk (result_finding scope finding) (λ found. (result_fits scope.hierarchy found ≡ true) × (given_base found ≡ result_base_of finding))
 unfolding result_finding
-result_there h NothingTree = (refl, refl)
-result_there h (ResultTree base label) =
-    then_finds (label_finding h label) _ (λ found. (label_fits h found ≡ true) × (1 + label_nodes found ≤ tree.label_nodes label)) _ (label_there h label)
-    (λ found there. (there.0, refl))
+result_there scope globals_fit slots_fit NothingTree = (refl, refl)
+result_there scope globals_fit slots_fit (ResultTree base label) =
+    then_finds (label_finding scope label) _ (λ found. label_fits scope.hierarchy found ≡ true) _ (label_there scope globals_fit slots_fit label)
+    (λ found there. (there, refl))
 
 begin_there : (h : PrincipalHierarchy) (written : Option Label) → written_fits h written ≡ true → label_fits h (begin_label_of written) ≡ true
 begin_there h None e = refl
@@ -180,17 +181,17 @@ record Place (h : PrincipalHierarchy) (top : TopLevel) (result : Option Base) : 
   pub procedure : ProcedureEntry
   pub value : given_base procedure.result ≡ result
 
-abbrev setting_for : PrincipalHierarchy → TopLevel → ProcedureTree → Setting
-setting_for h top written = record { hierarchy = h; signatures = top.signatures; result = result_base_of written.result }
+abbrev setting_for : PrincipalHierarchy → TopLevel → List GlobalEntry → ProcedureTree → Setting
+setting_for h top globals written = setting_within (heads h top globals) top.signatures written
 
 -- what was found of the parts of a procedure
-record AreWellFormedParts (h : PrincipalHierarchy) (top : TopLevel) (written : ProcedureTree) (result : Option ResultEntry) (begin : Option Label) (point : Point) (end : Option Label) (throws : List ThrownEntry) (done : Point × Block) : Type 0 where
+record AreWellFormedParts (h : PrincipalHierarchy) (top : TopLevel) (globals : List GlobalEntry) (written : ProcedureTree) (result : Option ResultEntry) (begin : Option Label) (point : Point) (end : Option Label) (throws : List ThrownEntry) (done : Point × Block) : Type 0 where
   pub result_there : (result_fits h result ≡ true) × (given_base result ≡ result_base_of written.result)
   pub begin_there : written_fits h begin ≡ true
-  pub begun : (place : Place h top (result_base_of written.result)) → Begun place.program place.procedure (setting_for h top written) top.names (map parameter_base written.parameters) point
+  pub begun : (place : Place h top (result_base_of written.result)) → Begun place.program place.procedure (setting_for h top globals written) top.names (map parameter_base written.parameters) point
   pub end_there : written_fits h end ≡ true
   pub throws_kept : (place : Place h top (result_base_of written.result)) → AreWellFormedThrows place.program place.procedure top.signatures h top.names (sum_by tree.thrown_nodes written.throws) throws
-  pub done_kept : (place : Place h top (result_base_of written.result)) → IsWellFormedBlock place.program place.procedure (setting_for h top written) point (tree.block_nodes written.body) done
+  pub done_kept : (place : Place h top (result_base_of written.result)) → IsWellFormedBlock place.program place.procedure (setting_for h top globals written) point (tree.block_nodes written.body) done
 
 abbrev entry_with : ProcedureTree → Option ResultEntry → Option Label → Option Label → List ThrownEntry → Point × Block → ProcedureEntry
 entry_with written result begin end throws done = record {
@@ -210,9 +211,9 @@ parameters_cost : (parameters : List ParameterTree) → length parameters ≤ su
 parameters_cost [] = omega arith
 parameters_cost (parameter ∷ parameters) = omega (arith, sum_by-cons tree.parameter_nodes parameter parameters, parameters_cost parameters)
 
-module _ (h : PrincipalHierarchy) (top : TopLevel) (written : ProcedureTree) (result : Option ResultEntry) (begin : Option Label) (point : Point) (end : Option Label) (throws : List ThrownEntry) (done : Point × Block) (parts : AreWellFormedParts h top written result begin point end throws done) where
+module _ (h : PrincipalHierarchy) (top : TopLevel) (globals : List GlobalEntry) (globals_fit : GlobalsFit h globals) (written : ProcedureTree) (result : Option ResultEntry) (begin : Option Label) (point : Point) (end : Option Label) (throws : List ThrownEntry) (done : Point × Block) (parts : AreWellFormedParts h top globals written result begin point end throws done) where
   abbrev setting : Setting
-  setting = setting_for h top written
+  setting = setting_for h top globals written
 
   abbrev entry : ProcedureEntry
   entry = entry_with written result begin end throws done
@@ -232,7 +233,7 @@ module _ (h : PrincipalHierarchy) (top : TopLevel) (written : ProcedureTree) (re
       let whole : IsPrefix world.program entry setting done.0.slots = ([], sym (append-nil done.0.slots)) in
       let all : list_all (slot_fits setting) done.0.slots ≡ true =
       ap (list_all (slot_fits setting)) kept.slots ∙ list_all-append (slot_fits setting) point.slots kept.more
-      ∙ and_from (list_all (slot_fits setting) point.slots) (list_all (slot_fits setting) kept.more) begun.slots_fit kept.slots_fit in
+      ∙ and_from (list_all (slot_fits setting) point.slots) (list_all (slot_fits setting) kept.more) begun.slots_fit (kept.slots_fit (globals_fit, begun.slots_fit)) in
       let before : IsPrefix world.program entry setting point.slots =
       prefix_before world.program entry setting point.slots kept.more done.0.slots kept.slots whole in
       let begins : label_fits h (begin_label_of begin) ≡ true = begin_there h begin parts.begin_there in
@@ -292,35 +293,36 @@ module _ (h : PrincipalHierarchy) (top : TopLevel) (written : ProcedureTree) (re
 some_program : PrincipalHierarchy → Program
 some_program h = record { hierarchy = h; channels = []; exceptions = []; globals = []; procedures = []; main = 0 }
 
-pub procedure_keeps : (placed : ℕ → Type 0) (word : List ℕ → Type 0) (h : PrincipalHierarchy) (top : TopLevel) (written : ProcedureTree) → IsWrittenProcedure placed word IsInteger written
-    → IfOk (procedure_entry_finding h top written) (IsWellFormedProcedure h top written)
+pub procedure_keeps : (placed : ℕ → Type 0) (word : List ℕ → Type 0) (h : PrincipalHierarchy) (top : TopLevel) (globals : List GlobalEntry) → GlobalsFit h globals → (written : ProcedureTree)
+    → IsWrittenProcedure placed word IsInteger written → IfOk (procedure_entry_finding (heads h top globals) top.signatures written) (IsWellFormedProcedure h top written)
 unfolding procedure_entry_finding parameters_finding throws_finding
-procedure_keeps placed word h top written is =
-    let setting = setting_for h top written in
+procedure_keeps placed word h top globals globals_fit written is =
+    let setting = setting_for h top globals written in
+    let scope = heads h top globals in
     let Here = Place h top (result_base_of written.result) in
     let begin_point : Point = record { names = top.names; slots = []; loops = 0 } in
-    then_finds (result_finding h written.result) _ (λ found. (result_fits h found ≡ true) × (given_base found ≡ result_base_of written.result)) _
-    (result_there h written.result) (λ result result_is.
-    then_finds (optional_label_finding h written.begin) _ (λ found. written_fits h found ≡ true) _ (optional_label_there h written.begin) (λ begin begin_is.
-    then_finds (along (next_parameter h) begin_point written.parameters) _
+    then_finds (result_finding scope written.result) _ (λ found. (result_fits h found ≡ true) × (given_base found ≡ result_base_of written.result)) _
+    (result_there scope globals_fit refl written.result) (λ result result_is.
+    then_finds (optional_label_finding scope written.begin) _ (λ found. written_fits h found ≡ true) _ (optional_label_there scope globals_fit refl written.begin) (λ begin begin_is.
+    then_finds (along (next_parameter scope) begin_point written.parameters) _
     (λ point. (place : Here) → Begun place.program place.procedure setting top.names (map parameter_base written.parameters) point) _
-    (finds_for_all (along (next_parameter h) begin_point written.parameters)
+    (finds_for_all (along (next_parameter scope) begin_point written.parameters)
     (λ (place : Here) point. Begun place.program place.procedure setting top.names (map parameter_base written.parameters) point)
-    (λ place. parameters_begin place.program place.procedure setting top.names [] (map parameter_base written.parameters) begin_point written.parameters refl
+    (λ place. parameters_begin place.program place.procedure setting scope refl globals_fit refl top.names [] (map parameter_base written.parameters) begin_point written.parameters refl
     (record { slots_fit = refl; parameters_fit = refl; bases_are = refl; no_loops = refl; means = λ is means. means }))) (λ point begun.
-    then_finds (optional_label_finding h written.end) _ (λ found. written_fits h found ≡ true) _ (optional_label_there h written.end) (λ end end_is.
-    then_finds (along (next_thrown h top.names) [] written.throws) _
+    then_finds (optional_label_finding scope written.end) _ (λ found. written_fits h found ≡ true) _ (optional_label_there scope globals_fit refl written.end) (λ end end_is.
+    then_finds (along (next_thrown scope) [] written.throws) _
     (λ throws. (place : Here) → AreWellFormedThrows place.program place.procedure top.signatures h top.names (sum_by tree.thrown_nodes written.throws) throws) _
-    (finds_for_all (along (next_thrown h top.names) [] written.throws)
+    (finds_for_all (along (next_thrown scope) [] written.throws)
     (λ (place : Here) throws. AreWellFormedThrows place.program place.procedure top.signatures h top.names (sum_by tree.thrown_nodes written.throws) throws)
-    (λ place. throws_keep place.program place.procedure top.signatures h top.names 0 (sum_by tree.thrown_nodes written.throws) [] written.throws (omega arith)
+    (λ place. throws_keep place.program place.procedure top.signatures scope globals_fit refl 0 (sum_by tree.thrown_nodes written.throws) [] written.throws (omega arith)
     (record { fit = λ same means. refl; labels = refl; few = omega arith }))) (λ throws throws_kept.
     then_finds (block_finding setting point written.body) _
     (λ done. (place : Here) → IsWellFormedBlock place.program place.procedure setting point (tree.block_nodes written.body) done) _
     (finds_for_all (block_finding setting point written.body)
     (λ (place : Here) done. IsWellFormedBlock place.program place.procedure setting point (tree.block_nodes written.body) done)
     (λ place. block_keeps place.program place.procedure setting placed word place.value point written.body is.body)) (λ done done_kept.
-    let parts : AreWellFormedParts h top written result begin point end throws done = record {
+    let parts : AreWellFormedParts h top globals written result begin point end throws done = record {
       result_there = result_is;
       begin_there = begin_is;
       begun = begun;
@@ -329,7 +331,7 @@ procedure_keeps placed word h top written is =
       done_kept = done_kept;
     } in
     record {
-      fits = λ world few. parts_fit h top written result begin point end throws done parts world few;
-      signed = parts_signed h top written result begin point end throws done parts (some_program h);
-      few = parts_few h top written result begin point end throws done parts (some_program h);
+      fits = λ world few. parts_fit h top globals globals_fit written result begin point end throws done parts world few;
+      signed = parts_signed h top globals globals_fit written result begin point end throws done parts (some_program h);
+      few = parts_few h top globals globals_fit written result begin point end throws done parts (some_program h);
     }))))))

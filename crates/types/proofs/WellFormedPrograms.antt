@@ -1,18 +1,19 @@
 -- The program that a tree stands for is well formed.
 use Rattle.std.proofs.Common.{◌≡◌, refl, sym, ◌∙◌, subst, ap, ℕ, zero, suc, ◌+◌, ◌<◌, ◌≤◌, List, [], ◌∷◌, ◌++◌, map, length, Bool, true, false, cond, IsTrue, arith}
-use Rattle.std.specs.Prelude.{All, IfOk, Option, Some, None, option_map, ◌==◌, ◌&&◌, ◌||◌, is_none, slice_get, slice_index_or, bytes_eq, codes, nat_le, nat_lt, sum_by}
+use Rattle.std.specs.Prelude.{All, IfOk, IfSome, Option, Some, None, option_map, ◌==◌, ◌&&◌, ◌||◌, is_none, slice_get, slice_index_or, bytes_eq, codes, nat_le, nat_lt, sum_by}
 use Rattle.std.specs.List.{list_all}
 use Rattle.std.proofs.lemmas.Bool.{le-leb, leb-true, lt-ltb, and_from, and_parts}
 use Rattle.std.proofs.lemmas.List.{length-append, length-map, map_push}
 use Rattle.std.proofs.lemmas.List.Elements.{All-head, All-tail}
-use Rattle.std.proofs.lemmas.List.Sums.{sum_by-cons, sum_by_push}
+use Rattle.std.proofs.lemmas.List.Sums.{sum_by-append, sum_by-cons, sum_by_push}
 use Rattle.std.proofs.lemmas.Option.{slice_get-map}
 use Rattle.std.proofs.lemmas.Result.{IfOk-weaker}
 use Rattle.principals.specs.ActsFor.{PrincipalHierarchy, IsHierarchy}
+use Rattle.labels.specs.Label.{ReaderPolicy, Label}
 use Rattle.common.specs.declared.direction.Direction.{Direction}
 use Rattle.common.specs.declared.direction.Direction.TheVariants as directions
 use Rattle.syntax.specs.Nodes as tree
-use Rattle.syntax.specs.Tree.{ConstantTree, IntegerConstant, TruthConstant, GlobalValueTree, ScalarTree, ArrayTree, GlobalTree, ChannelTree, ItemTree, ChannelItem, ExceptionItem, GlobalItem, ProcedureItem, ProgramTree}
+use Rattle.syntax.specs.Tree.{ConstantTree, IntegerConstant, TruthConstant, GlobalValueTree, ScalarTree, ArrayTree, GlobalTree, LabelTree, ChannelTree, ItemTree, ChannelItem, ExceptionItem, GlobalItem, ProcedureItem, ProgramTree}
 use Rattle.syntax.specs.Written.{IsInteger, IsWritten, IsWrittenItem}
 use Rattle.resolved.specs.declared.expression.Base.{Base}
 use Rattle.resolved.specs.declared.expression.Base.TheVariants.{Int, Boolean}
@@ -28,10 +29,11 @@ use Rattle.types.specs.Environment.{Environment, declaring, fresh_finding}
 use Rattle.types.specs.Labels.{label_finding}
 use Rattle.types.specs.Expressions.{base_of}
 use Rattle.types.specs.Statements.{Signature, signature_at, size_finding}
-use Rattle.types.specs.Resolution.{TopLevel, nothing_declared, built_in, item_name, channel_meaning, global_meaning, item_meaning, signature_of, counted, next_name, top_finding, channel_finding, constant_value, constant_base, constant_at, FirstValue, first_finding, global_finding, Tables, next_item, no_tables, items_finding, procedure_entry_finding, main_entry_finding, main_finding, global_cells, next_global_cells, global_cells_finding, frame_cells, next_frame, frames_finding, program_with, resolution}
+use Rattle.types.specs.Resolution.{TopLevel, nothing_declared, built_in, item_name, channel_meaning, global_meaning, item_meaning, signature_of, counted, next_name, top_finding, heads, channel_finding, constant_value, constant_base, constant_at, FirstValue, first_finding, global_finding, Tables, next_item, no_tables, items_finding, procedure_entry_finding, main_entry_finding, main_finding, global_cells, next_global_cells, global_cells_finding, frame_cells, next_frame, frames_finding, program_with, resolution}
 use Rattle.types.proofs.Passing.{then_finds, if_finds, require_finds, any_finds}
 use Rattle.types.proofs.WellFormedExpressions.{given_base, slot_base, Signed, Stands}
-use Rattle.types.proofs.WellFormedLabels.{label_there, all_pushed}
+use Rattle.types.proofs.WellFormedLabels.{GlobalsFit, label_there, all_pushed}
+use Rattle.types.proofs.LabelSizes.{policies_weight, IsOf, is_of_more, label_small, both_find, label_of}
 use Rattle.types.proofs.WellFormedProcedures.{World, IsWellFormedProcedure, procedure_keeps}
 use Rattle.common.proofs.Cases.{there_at}
 use Rattle.common.specs.declared.limits.TheConstants.{MAX_ELEMENTS, MAX_CELLS, MAX_PRINCIPALS}
@@ -256,12 +258,30 @@ built_in_kept = record {
 
 -- ---- channels and globals
 
-channel_there : (h : PrincipalHierarchy) (channel : ChannelTree)
-    → IfOk (channel_finding h channel) (λ (entry : ChannelEntry). (label_fits h entry.label ≡ true) × (entry.direction ≡ channel.direction) × (1 + label_nodes entry.label ≤ tree.label_nodes channel.label))
+-- a label before which these policies are written: it is of them and of others, which are written in it
+abbrev LabelThere : PrincipalHierarchy → List ReaderPolicy → LabelTree → Label → Type 0
+LabelThere h written label found =
+    (label_fits h found ≡ true) × (more : List ReaderPolicy) × (1 + policies_weight more ≤ tree.label_nodes label) × IsOf (written ++ more) found
+
+-- what the labels of items may name: globals whose labels fit, and are of policies that are written before
+record KnownGlobals (h : PrincipalHierarchy) (written : List ReaderPolicy) (globals : List GlobalEntry) : Type 0 where
+  pub fit : GlobalsFit h globals
+  pub known : (number : ℕ) → IfSome (slice_get globals number) (λ (entry : GlobalEntry). IsOf written entry.label)
+
+head_label : (h : PrincipalHierarchy) (top : TopLevel) (globals : List GlobalEntry) (written : List ReaderPolicy) → KnownGlobals h written globals → (label : LabelTree)
+    → IfOk (label_finding (heads h top globals) label) (LabelThere h written label)
+head_label h top globals written known label =
+    IfOk-weaker (label_finding (heads h top globals) label) _ (LabelThere h written label) (λ found parts. (parts.0, parts.1.0, parts.1.1, parts.1.2))
+    (both_find (label_finding (heads h top globals) label) (λ found. label_fits h found ≡ true)
+    (λ found. (more : List ReaderPolicy) × (1 + policies_weight more ≤ tree.label_nodes label) × IsOf (written ++ more) found)
+    (label_there (heads h top globals) known.fit refl label) (label_of (heads h top globals) written known.known refl label))
+
+channel_there : (h : PrincipalHierarchy) (top : TopLevel) (globals : List GlobalEntry) (written : List ReaderPolicy) → KnownGlobals h written globals → (channel : ChannelTree)
+    → IfOk (channel_finding (heads h top globals) channel) (λ (entry : ChannelEntry). LabelThere h written channel.label entry.label × (entry.direction ≡ channel.direction))
 unfolding channel_finding
-channel_there h channel =
-    then_finds (label_finding h channel.label) _ (λ found. (label_fits h found ≡ true) × (1 + label_nodes found ≤ tree.label_nodes channel.label)) _
-    (label_there h channel.label) (λ label there. (there.0, refl, there.1))
+channel_there h top globals written known channel =
+    then_finds (label_finding (heads h top globals) channel.label) _ (LabelThere h written channel.label) _ (head_label h top globals written known channel.label)
+    (λ label there. (there, refl))
 
 -- the first value is of the type, and that of an array is zero
 abbrev IsWellFormedFirst : Base → GlobalValueTree → FirstValue → Type 0
@@ -294,26 +314,25 @@ first_there base (ArrayTree size) =
 abbrev global_fits : PrincipalHierarchy → GlobalEntry → Bool
 global_fits h entry = size_fits entry.size && label_fits h entry.label && first_fits entry
 
-global_there : (h : PrincipalHierarchy) (global : GlobalTree)
-    → IfOk (global_finding h global) (λ (entry : GlobalEntry). (global_fits h entry ≡ true) × (variable_of entry ≡ declared_variable global))
+global_there : (h : PrincipalHierarchy) (top : TopLevel) (globals : List GlobalEntry) (written : List ReaderPolicy) → KnownGlobals h written globals → (global : GlobalTree)
+    → IfOk (global_finding (heads h top globals) global)
+    (λ (entry : GlobalEntry). (global_fits h entry ≡ true) × (variable_of entry ≡ declared_variable global) × LabelThere h written global.label entry.label)
 unfolding global_finding
-global_there h global =
+global_there h top globals written known global =
     let base = base_of global.base in
-    then_finds (label_finding h global.label) _ (λ found. (label_fits h found ≡ true) × (1 + label_nodes found ≤ tree.label_nodes global.label)) _
-    (label_there h global.label) (λ label there.
+    then_finds (label_finding (heads h top globals) global.label) _ (LabelThere h written global.label) _
+    (head_label h top globals written known global.label) (λ label there.
     then_finds (first_finding base global.value) _ (IsWellFormedFirst base global.value) _ (first_there base global.value) (λ value kept. (
       and_from (size_fits value.size && label_fits h label) (same_base (base_of_value value.first) base && (is_none value.size || is_zero_value value.first))
           (and_from (size_fits value.size) (label_fits h label) kept.0 there.0) kept.1,
       (λ i. record { base = base; size = kept.2 i }),
+      there,
     )))
 
 -- ---- the tables
 
 abbrev channel_fits : PrincipalHierarchy → ChannelEntry → Bool
 channel_fits h entry = label_fits h entry.label
-
-abbrev channel_nodes : ChannelEntry → ℕ
-channel_nodes entry = 1 + label_nodes entry.label
 
 abbrev frame_fits : ProcedureEntry → Bool
 frame_fits entry = nat_le (frame_cells entry.slots) MAX_CELLS
@@ -322,22 +341,32 @@ frame_fits entry = nat_le (frame_cells entry.slots) MAX_CELLS
 abbrev ProcedureFits : PrincipalHierarchy → TopLevel → ProcedureEntry → Type 0
 ProcedureFits h top entry = (world : World h top) → frame_fits entry ≡ true → procedure_fits world.program entry ≡ true
 
--- as many channels as the nodes of all their labels at most, and no label with more
-few_channels : (channels : List ChannelEntry) → length channels ≤ sum_by channel_nodes channels
-few_channels [] = omega arith
-few_channels (entry ∷ channels) = omega (arith, few_channels channels, sum_by-cons channel_nodes entry channels)
+-- labels of these policies, and no label with more nodes than they have
+abbrev ChannelOf : List ReaderPolicy → ChannelEntry → Type 0
+ChannelOf written entry = IsOf written entry.label
 
-labels_small : (limit : ℕ) (channels : List ChannelEntry) → sum_by channel_nodes channels ≤ limit
+abbrev GlobalOf : List ReaderPolicy → GlobalEntry → Type 0
+GlobalOf written entry = IsOf written entry.label
+
+labels_small : (limit : ℕ) (written : List ReaderPolicy) (channels : List ChannelEntry) → Each (ChannelOf written) channels → policies_weight written ≤ limit
     → list_all (λ (entry : ChannelEntry). nat_le (label_nodes entry.label) limit) channels ≡ true
-labels_small limit [] few = refl
-labels_small limit (entry ∷ channels) few =
-    and_from (nat_le (label_nodes entry.label) limit) _ (le-leb (label_nodes entry.label) limit (omega (arith, few, sum_by-cons channel_nodes entry channels)))
-    (labels_small limit channels (omega (arith, few, sum_by-cons channel_nodes entry channels)))
+labels_small limit written [] each few = refl
+labels_small limit written (entry ∷ channels) each few =
+    and_from (nat_le (label_nodes entry.label) limit) _ (le-leb (label_nodes entry.label) limit (omega (arith, few, label_small written entry.label each.0)))
+    (labels_small limit written channels each.1 few)
 
--- what is counted of the tables: their entries, and the nodes of the channels' labels, which the text has too
+channels_of_more : (written more : List ReaderPolicy) (channels : List ChannelEntry) → Each (ChannelOf written) channels → Each (ChannelOf (written ++ more)) channels
+channels_of_more written more [] each = tt
+channels_of_more written more (entry ∷ channels) each = (is_of_more written more entry.label each.0, channels_of_more written more channels each.1)
+
+globals_of_more : (written more : List ReaderPolicy) (globals : List GlobalEntry) → Each (GlobalOf written) globals → Each (GlobalOf (written ++ more)) globals
+globals_of_more written more [] each = tt
+globals_of_more written more (entry ∷ globals) each = (is_of_more written more entry.label each.0, globals_of_more written more globals each.1)
+
+-- what is counted of the tables: their entries, which the text has too
 abbrev table_nodes : Tables → ℕ
 table_nodes tables =
-    sum_by channel_nodes tables.channels + length tables.exceptions + length tables.globals + sum_by procedure_nodes tables.procedures
+    length tables.channels + length tables.exceptions + length tables.globals + sum_by procedure_nodes tables.procedures
 
 record AreWellFormedTables (h : PrincipalHierarchy) (top : TopLevel) (shape : Shape) (nodes : ℕ) (tables : Tables) : Type 0 where
   pub directions : map way_of tables.channels ≡ shape.directions
@@ -348,26 +377,57 @@ record AreWellFormedTables (h : PrincipalHierarchy) (top : TopLevel) (shape : Sh
   pub globals_fit : list_all (global_fits h) tables.globals ≡ true
   pub procedures_fit : Each (ProcedureFits h top) tables.procedures
   pub few : table_nodes tables ≤ nodes
+  pub written : List ReaderPolicy
+  pub few_written : policies_weight written ≤ nodes
+  pub channels_of : Each (ChannelOf written) tables.channels
+  pub globals_of : Each (GlobalOf written) tables.globals
+
+known_globals : (h : PrincipalHierarchy) (top : TopLevel) (shape : Shape) (nodes : ℕ) (tables : Tables) (kept : AreWellFormedTables h top shape nodes tables)
+    → KnownGlobals h kept.written tables.globals
+known_globals h top shape nodes tables kept = record {
+  fit = all_labels_fit tables.globals kept.globals_fit;
+  known = λ number. each_there (GlobalOf kept.written) tables.globals number kept.globals_of;
+}
+  where
+    each_there : {X : Type 0} (P : X → Type 0) (xs : List X) (n : ℕ) → Each P xs → IfSome (slice_get xs n) P
+    each_there P [] n all = tt
+    each_there P (x ∷ xs) zero all = all.0
+    each_there P (x ∷ xs) (suc n) all = each_there P xs n all.1
+
+    all_labels_fit : (globals : List GlobalEntry) → list_all (global_fits h) globals ≡ true → GlobalsFit h globals
+    all_labels_fit [] fit = refl
+    all_labels_fit (entry ∷ globals) fit =
+        let parts = and_parts (global_fits h entry) (list_all (global_fits h) globals) fit in
+        let own = and_parts (size_fits entry.size && label_fits h entry.label) (first_fits entry) parts.0 in
+        and_from (label_fits h entry.label) _ (and_parts (size_fits entry.size) (label_fits h entry.label) own.0).1 (all_labels_fit globals parts.1)
 
 signed_is : (entry : ProcedureEntry) (signature : Signature) → Signed entry signature → signature_from entry ≡ signature
 signed_is entry signature signed = λ i. record { parameters = signed.parameters i; result = signed.value i }
 
 module _ (placed : ℕ → Type 0) (word : List ℕ → Type 0) (h : PrincipalHierarchy) (top : TopLevel) where
+  abbrev weight : ReaderPolicy → ℕ
+  weight policy = 1 + length policy.readers
+
   item_kept : (shape : Shape) (nodes : ℕ) (tables : Tables) (item : ItemTree) → IsWrittenItem placed word IsInteger item → AreWellFormedTables h top shape nodes tables
       → IfOk (next_item h top tables item) (AreWellFormedTables h top (shape_with shape item) (nodes + tree.item_nodes item))
   unfolding next_item
   item_kept shape nodes tables (ChannelItem channel) is kept =
-      then_finds (channel_finding h channel) _
-      (λ (entry : ChannelEntry). (label_fits h entry.label ≡ true) × (entry.direction ≡ channel.direction) × (1 + label_nodes entry.label ≤ tree.label_nodes channel.label)) _
-      (channel_there h channel) (λ entry there. record {
+      then_finds (channel_finding (heads h top tables.globals) channel) _
+      (λ (entry : ChannelEntry). LabelThere h kept.written channel.label entry.label × (entry.direction ≡ channel.direction)) _
+      (channel_there h top tables.globals kept.written (known_globals h top shape nodes tables kept) channel) (λ entry there. record {
         directions = map_push way_of tables.channels entry ∙ (λ i. kept.directions i ++ there.1 i ∷ []);
         exceptions = kept.exceptions;
         variables = kept.variables;
         signatures = kept.signatures;
-        channels_fit = all_pushed (channel_fits h) tables.channels entry kept.channels_fit there.0;
+        channels_fit = all_pushed (channel_fits h) tables.channels entry kept.channels_fit there.0.0;
         globals_fit = kept.globals_fit;
         procedures_fit = kept.procedures_fit;
-        few = omega (arith, kept.few, sum_by_push channel_nodes tables.channels entry, there.2);
+        few = omega (arith, kept.few, length-append tables.channels (entry ∷ []));
+        written = kept.written ++ there.0.1;
+        few_written = omega (arith, kept.few_written, there.0.2, sum_by-append weight kept.written there.0.1);
+        channels_of =
+            each_pushed (ChannelOf (kept.written ++ there.0.1)) tables.channels entry (channels_of_more kept.written there.0.1 tables.channels kept.channels_of) there.0.3;
+        globals_of = globals_of_more kept.written there.0.1 tables.globals kept.globals_of;
       })
   item_kept shape nodes tables (ExceptionItem at name) is kept = record {
     directions = kept.directions;
@@ -378,10 +438,15 @@ module _ (placed : ℕ → Type 0) (word : List ℕ → Type 0) (h : PrincipalHi
     globals_fit = kept.globals_fit;
     procedures_fit = kept.procedures_fit;
     few = omega (arith, kept.few, length-append tables.exceptions (name.text ∷ []));
+    written = kept.written;
+    few_written = omega (arith, kept.few_written);
+    channels_of = kept.channels_of;
+    globals_of = kept.globals_of;
   }
   item_kept shape nodes tables (GlobalItem global) is kept =
-      then_finds (global_finding h global) _ (λ (entry : GlobalEntry). (global_fits h entry ≡ true) × (variable_of entry ≡ declared_variable global)) _
-      (global_there h global) (λ entry there. record {
+      then_finds (global_finding (heads h top tables.globals) global) _
+      (λ (entry : GlobalEntry). (global_fits h entry ≡ true) × (variable_of entry ≡ declared_variable global) × LabelThere h kept.written global.label entry.label) _
+      (global_there h top tables.globals kept.written (known_globals h top shape nodes tables kept) global) (λ entry there. record {
         directions = kept.directions;
         exceptions = kept.exceptions;
         variables = map_push variable_of tables.globals entry ∙ (λ i. kept.variables i ++ there.1 i ∷ []);
@@ -390,9 +455,15 @@ module _ (placed : ℕ → Type 0) (word : List ℕ → Type 0) (h : PrincipalHi
         globals_fit = all_pushed (global_fits h) tables.globals entry kept.globals_fit there.0;
         procedures_fit = kept.procedures_fit;
         few = omega (arith, kept.few, length-append tables.globals (entry ∷ []));
+        written = kept.written ++ there.2.1;
+        few_written = omega (arith, kept.few_written, there.2.2, sum_by-append weight kept.written there.2.1);
+        channels_of = channels_of_more kept.written there.2.1 tables.channels kept.channels_of;
+        globals_of =
+            each_pushed (GlobalOf (kept.written ++ there.2.1)) tables.globals entry (globals_of_more kept.written there.2.1 tables.globals kept.globals_of) there.2.3;
       })
   item_kept shape nodes tables (ProcedureItem procedure) is kept =
-      then_finds (procedure_entry_finding h top procedure) _ (IsWellFormedProcedure h top procedure) _ (procedure_keeps placed word h top procedure is)
+      then_finds (procedure_entry_finding (heads h top tables.globals) top.signatures procedure) _ (IsWellFormedProcedure h top procedure) _
+      (procedure_keeps placed word h top tables.globals (known_globals h top shape nodes tables kept).fit procedure is)
       (λ entry there. record {
         directions = kept.directions;
         exceptions = kept.exceptions;
@@ -404,6 +475,10 @@ module _ (placed : ℕ → Type 0) (word : List ℕ → Type 0) (h : PrincipalHi
         globals_fit = kept.globals_fit;
         procedures_fit = each_pushed (ProcedureFits h top) tables.procedures entry kept.procedures_fit there.fits;
         few = omega (arith, kept.few, sum_by_push procedure_nodes tables.procedures entry, there.few);
+        written = kept.written;
+        few_written = omega (arith, kept.few_written);
+        channels_of = kept.channels_of;
+        globals_of = kept.globals_of;
       })
 
   items_kept : (shape : Shape) (before nodes : ℕ) (tables : Tables) (items : List ItemTree) → nodes ≡ before + sum_by tree.item_nodes items
@@ -418,6 +493,10 @@ module _ (placed : ℕ → Type 0) (word : List ℕ → Type 0) (h : PrincipalHi
     globals_fit = kept.globals_fit;
     procedures_fit = kept.procedures_fit;
     few = omega (arith, e, kept.few);
+    written = kept.written;
+    few_written = omega (arith, e, kept.few_written);
+    channels_of = kept.channels_of;
+    globals_of = kept.globals_of;
   }
   items_kept shape before nodes tables (item ∷ items) e all kept =
       then_finds (next_item h top tables item) (λ next. along (next_item h top) next items)
@@ -565,8 +644,8 @@ module _ (h : PrincipalHierarchy) (top : TopLevel) (shape : Shape) (nodes : ℕ)
             (le-leb (sum_by entry_cells tables.globals) MAX_CELLS (omega (arith, mapped_cells tables.globals, same, cells_are, few_cells)));
         procedures_fit = all_fit h top world tables.procedures kept.procedures_fit frames;
         main_is = main_is;
-        nodes_fit = le-leb (program_nodes program) node_limit (omega (arith, kept.few, few_nodes, few_channels tables.channels));
-        labels_fit = labels_small node_limit tables.channels (omega (arith, kept.few, few_nodes));
+        nodes_fit = le-leb (program_nodes program) node_limit (omega (arith, kept.few, few_nodes));
+        labels_fit = labels_small node_limit kept.written tables.channels kept.channels_of (omega (arith, kept.few_written, few_nodes));
       })
 
 -- ---- the whole
@@ -588,6 +667,10 @@ resolution_keeps placed word h written hierarchy is few =
       globals_fit = refl;
       procedures_fit = tt;
       few = omega arith;
+      written = [];
+      few_written = omega arith;
+      channels_of = tt;
+      globals_of = tt;
     })) (λ tables kept.
     then_finds (main_finding (top.names (codes "main")) tables.procedures) _ (λ main. main_fits (slice_get tables.procedures main) ≡ true) _
     (main_found (top.names (codes "main")) tables.procedures) (λ main main_is.

@@ -28,10 +28,10 @@ use Rattle.types.specs.Finding.{Finding, require, along}
 use Rattle.types.specs.Environment.{Environment, ScalarUse, ArrayUse, fresh_finding, scalar_finding, array_finding, input_finding, output_finding, exception_finding, procedure_finding}
 use Rattle.types.specs.Labels.{optional_label_finding}
 use Rattle.types.specs.Expressions.{Typed, base_of, expression_finding, typed_finding}
-use Rattle.types.specs.Statements.{Setting, Point, signature_at, next_argument, arguments_finding, CallUse, applied_finding, call_finding, gives_base, assigned_finding, scalar_slot, array_slot, declare_finding, size_finding, declare_array_finding, assign_finding, store_finding, call_statement_finding, receive_finding, send_finding, throw_finding, returned_finding, return_finding, staying, in_loop, behind_block, statement_finding, block_finding, statements_finding, catches_finding}
-use Rattle.types.proofs.Passing.{then_finds, if_finds, require_finds, any_finds}
+use Rattle.types.specs.Statements.{Setting, Point, label_scope, signature_at, next_argument, arguments_finding, CallUse, applied_finding, call_finding, gives_base, assigned_finding, scalar_slot, array_slot, declare_finding, size_finding, declare_array_finding, assign_finding, store_finding, call_statement_finding, receive_finding, send_finding, throw_finding, returned_finding, return_finding, staying, in_loop, behind_block, statement_finding, block_finding, statements_finding, catches_finding}
+use Rattle.types.proofs.Passing.{then_finds, if_finds, require_finds, any_finds, finds_for_all}
 use Rattle.types.proofs.WellFormedExpressions.{given_base, slot_base, scalar_type, array_type, Stands, Means, means_declaring, scalar_found, array_found, input_found, output_found, exception_found, procedure_found, IsWellFormedTyped, IsWellFormedExpression, expression_keeps, typed_keeps}
-use Rattle.types.proofs.WellFormedLabels.{optional_label_there}
+use Rattle.types.proofs.WellFormedLabels.{GlobalsFit, SlotsFit, optional_label_there}
 use Rattle.common.specs.declared.limits.TheConstants.{MAX_ELEMENTS}
 
 -- ---- lists
@@ -61,6 +61,14 @@ abbrev pub slot_fits : (setting : Setting) → SlotEntry → Bool
 slot_fits setting slot = size_fits slot.size && written_fits setting.hierarchy slot.written
 
 module _ (program : Program) (procedure : ProcedureEntry) (setting : Setting) where
+  pub written_fit : (slots : List SlotEntry) → list_all (slot_fits setting) slots ≡ true → SlotsFit setting.hierarchy slots
+  written_fit [] fit = refl
+  written_fit (slot ∷ slots) fit =
+      let parts = and_parts (slot_fits setting slot) (list_all (slot_fits setting) slots) fit in
+      let own = and_parts (size_fits slot.size) (written_fits setting.hierarchy slot.written) parts.0 in
+      and_from (written_fits setting.hierarchy slot.written) (list_all (λ (other : SlotEntry). written_fits setting.hierarchy other.written) slots) own.1
+      (written_fit slots parts.1)
+
   abbrev MeansHere : Environment → Type 0
   MeansHere names = Means program procedure setting.signatures names
 
@@ -73,12 +81,16 @@ module _ (program : Program) (procedure : ProcedureEntry) (setting : Setting) wh
   abbrev pub IsPrefix : List SlotEntry → Type 0
   IsPrefix slots = (rest : List SlotEntry) × (procedure.slots ≡ slots ++ rest)
 
-  -- From one point to another: the slots that were taken fit, the loops count up, and there are few enough nodes; and if those slots
+  -- the globals that are declared before fit, and the slots so far do
+  abbrev pub FitBefore : Point → Type 0
+  FitBefore point = GlobalsFit setting.hierarchy setting.globals × (list_all (slot_fits setting) point.slots ≡ true)
+
+  -- From one point to another: the slots that were taken fit where those before do, the loops count up, and there are few enough nodes; and if those slots
   -- are the procedure's and what is in scope before stands for entries, then what was found fits, and what is in scope behind does.
   pub record Kept (point after : Point) (test : Bool) (loops : List ℕ) (nodes written : ℕ) : Type 0 where
     pub more : List SlotEntry
     pub slots : after.slots ≡ point.slots ++ more
-    pub slots_fit : list_all (slot_fits setting) more ≡ true
+    pub slots_fit : FitBefore point → list_all (slot_fits setting) more ≡ true
     pub loops_count : counts_from point.loops loops ≡ true
     pub loops_all : after.loops ≡ point.loops + length loops
     pub few : length more + nodes ≤ written
@@ -112,7 +124,7 @@ module _ (program : Program) (procedure : ProcedureEntry) (setting : Setting) wh
   nothing_keeps point = record {
     more = [];
     slots = sym (append-nil point.slots);
-    slots_fit = refl;
+    slots_fit = λ before. refl;
     loops_count = refl;
     loops_all = omega arith;
     few = omega arith;
@@ -125,8 +137,11 @@ module _ (program : Program) (procedure : ProcedureEntry) (setting : Setting) wh
     more = first.more ++ second.more;
     slots = second.slots ∙ ap (λ one. one ++ second.more) first.slots ∙ append_assoc p.slots first.more second.more;
     slots_fit =
+        λ before. let between : list_all (slot_fits setting) q.slots ≡ true =
+        ap (list_all (slot_fits setting)) first.slots ∙ list_all-append (slot_fits setting) p.slots first.more
+        ∙ and_from (list_all (slot_fits setting) p.slots) (list_all (slot_fits setting) first.more) before.1 (first.slots_fit before) in
         list_all-append (slot_fits setting) first.more second.more
-        ∙ and_from (list_all (slot_fits setting) first.more) (list_all (slot_fits setting) second.more) first.slots_fit second.slots_fit;
+        ∙ and_from (list_all (slot_fits setting) first.more) (list_all (slot_fits setting) second.more) (first.slots_fit before) (second.slots_fit (before.0, between));
     loops_count = counts_both p.loops k l first.loops_count (subst (λ one. counts_from one l ≡ true) first.loops_all second.loops_count);
     loops_all = omega (arith, first.loops_all, second.loops_all, length-append k l);
     few = omega (arith, first.few, second.few, length-append first.more second.more);
@@ -468,7 +483,7 @@ module _ (program : Program) (procedure : ProcedureEntry) (setting : Setting) wh
       plain_keeps point nodes statement kept = record {
         more = [];
         slots = sym (append-nil point.slots);
-        slots_fit = refl;
+        slots_fit = λ before. refl;
         loops_count = subst (λ loops. counts_from point.loops loops ≡ true) (sym kept.no_loops) refl;
         loops_all =
             let none : length (statement_loops statement) ≡ 0 = ap length kept.no_loops in
@@ -483,13 +498,19 @@ module _ (program : Program) (procedure : ProcedureEntry) (setting : Setting) wh
       staying_keeps point nodes looked h =
           then_finds looked _ (IsWellFormedPlain point.names nodes) _ h (λ statement kept. plain_keeps point nodes statement kept)
 
+      local_label_there : (point : Point) (label : Option LabelTree)
+          → IfOk (optional_label_finding (label_scope setting point) label) (λ found. FitBefore point → written_fits setting.hierarchy found ≡ true)
+      local_label_there point label =
+          finds_for_all (optional_label_finding (label_scope setting point) label) (λ (before : FitBefore point) found. written_fits setting.hierarchy found ≡ true)
+          (λ before. optional_label_there (label_scope setting point) before.0 (written_fit point.slots before.1) label)
+
       declare_keeps : (point : Point) (at : ℕ) (base : Base) (label : Option LabelTree) (name : NameTree) (right : RightTree) → IsWrittenRight placed word IsInteger right
           → IfOk (declare_finding setting point at base label name right) (IsWellFormedStatement point (2 + (tree.optional_label_nodes label + tree.right_nodes right)))
       unfolding declare_finding
       declare_keeps point at base label name right written_right =
           let target = Local (length point.slots) in
-          then_finds (optional_label_finding setting.hierarchy label) _ (λ found. written_fits setting.hierarchy found ≡ true) _
-          (optional_label_there setting.hierarchy label) (λ written there.
+          then_finds (optional_label_finding (label_scope setting point) label) _ (λ found. FitBefore point → written_fits setting.hierarchy found ≡ true) _
+          (local_label_there point label) (λ written there.
           then_finds (fresh_finding (point.names name.text) name.at) _ (λ one. Unit {0}) _ (any_finds (fresh_finding (point.names name.text) name.at)) (λ one nothing.
           then_finds (assigned_finding setting.signatures point.names at target base right) _ (IsWellFormedAssigned point.names target base (1 + tree.right_nodes right)) _
           (assigned_keeps point.names at target base right written_right) (λ statement kept.
@@ -497,7 +518,7 @@ module _ (program : Program) (procedure : ProcedureEntry) (setting : Setting) wh
           record {
             more = slot ∷ [];
             slots = refl;
-            slots_fit = and_from (slot_fits setting slot) true there refl;
+            slots_fit = λ before. and_from (slot_fits setting slot) true (there before) refl;
             loops_count = subst (λ loops. counts_from point.loops loops ≡ true) (sym kept.no_loops) refl;
             loops_all =
                 let none : length (statement_loops statement) ≡ 0 = ap length kept.no_loops in
@@ -514,8 +535,8 @@ module _ (program : Program) (procedure : ProcedureEntry) (setting : Setting) wh
       unfolding declare_array_finding size_finding
       declare_array_keeps point at base label name size =
           let target = Local (length point.slots) in
-          then_finds (optional_label_finding setting.hierarchy label) _ (λ found. written_fits setting.hierarchy found ≡ true) _
-          (optional_label_there setting.hierarchy label) (λ written there.
+          then_finds (optional_label_finding (label_scope setting point) label) _ (λ found. FitBefore point → written_fits setting.hierarchy found ≡ true) _
+          (local_label_there point label) (λ written there.
           then_finds (fresh_finding (point.names name.text) name.at) _ (λ one. Unit {0}) _ (any_finds (fresh_finding (point.names name.text) name.at)) (λ one nothing.
           then_finds (size_finding size) _ (λ length_of. size_fits (Some length_of) ≡ true) _
           (if_finds (nat_lt 0 size.size && nat_le size.size MAX_ELEMENTS) size.size _ size.at _ (λ fit. fit)) (λ length_of fit.
@@ -523,7 +544,8 @@ module _ (program : Program) (procedure : ProcedureEntry) (setting : Setting) wh
           record {
             more = slot ∷ [];
             slots = refl;
-            slots_fit = and_from (slot_fits setting slot) true (and_from (size_fits (Some length_of)) (written_fits setting.hierarchy written) fit there) refl;
+            slots_fit =
+                λ before. and_from (slot_fits setting slot) true (and_from (size_fits (Some length_of)) (written_fits setting.hierarchy written) fit (there before)) refl;
             loops_count = refl;
             loops_all = omega arith;
             few = omega arith;

@@ -53,6 +53,16 @@ array_finding (Some (Output channel)) at = refuse refusals.WrongUse at
 array_finding (Some (Exception number)) at = refuse refusals.WrongUse at
 array_finding (Some (Procedure number)) at = refuse refusals.WrongUse at
 
+-- a variable, scalar or array
+unfoldable pub variable_finding : Option Meaning → (at : ℕ) → Finding Variable
+variable_finding None at = refuse refusals.UnknownName at
+variable_finding (Some (Scalar variable base)) at = give variable
+variable_finding (Some (Array variable base size)) at = give variable
+variable_finding (Some (Input channel)) at = refuse refusals.WrongUse at
+variable_finding (Some (Output channel)) at = refuse refusals.WrongUse at
+variable_finding (Some (Exception number)) at = refuse refusals.WrongUse at
+variable_finding (Some (Procedure number)) at = refuse refusals.WrongUse at
+
 -- an input, an output, an exception and a procedure, by their numbers
 unfoldable pub input_finding : Option Meaning → (at : ℕ) → Finding ℕ
 input_finding None at = refuse refusals.UnknownName at

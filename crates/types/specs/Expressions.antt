@@ -13,7 +13,12 @@ use Rattle.resolved.specs.declared.expression.Base.{Base}
 use Rattle.resolved.specs.declared.expression.Base.TheVariants.{Int, Boolean}
 use Rattle.resolved.specs.declared.expression.Prefix.{Prefix}
 use Rattle.resolved.specs.declared.expression.Prefix.TheVariants as prefixes
-use Rattle.resolved.specs.declared.expression.Operator.TheVariants as operators
+use Rattle.resolved.specs.declared.expression.Operator.TheVariants.{Compute, Divide, Bits, Compare, Match}
+use Rattle.resolved.specs.declared.expression.Computation.TheVariants as computations
+use Rattle.resolved.specs.declared.expression.Division.TheVariants as divisions
+use Rattle.resolved.specs.declared.expression.BitOperator.TheVariants as bits
+use Rattle.resolved.specs.declared.expression.Relation.TheVariants as relations
+use Rattle.resolved.specs.declared.expression.Sameness.TheVariants as samenesses
 use Rattle.resolved.specs.declared.expression.Connective.TheVariants as connectives
 use Rattle.resolved.specs.Tree.{Expression, Integer, Logical, Read, Element, Unary, Binary, Short}
 use Rattle.resolved.specs.WellFormed.{same_base, prefix_base, result_base}
@@ -34,17 +39,23 @@ prefix_of unary.Not = prefixes.Not
 -- what an operator is made to: one of two numbers, one of two values of either type, by that type, or one of two truth values that
 -- may leave its right operand alone
 abbrev pub use_of : BinaryOperator → OperatorUse
-use_of binary.Multiply = OfNumbers operators.Multiply
-use_of binary.Divide = OfNumbers operators.Divide
-use_of binary.Remainder = OfNumbers operators.Remainder
-use_of binary.Add = OfNumbers operators.Add
-use_of binary.Subtract = OfNumbers operators.Subtract
-use_of binary.LessThan = OfNumbers operators.LessThan
-use_of binary.AtMost = OfNumbers operators.AtMost
-use_of binary.GreaterThan = OfNumbers operators.GreaterThan
-use_of binary.AtLeast = OfNumbers operators.AtLeast
-use_of binary.EqualTo = OfEither operators.Equal operators.Same
-use_of binary.NotEqualTo = OfEither operators.Unequal operators.Different
+use_of binary.Multiply = OfNumbers (Compute computations.Multiply)
+use_of binary.Divide = OfNumbers (Divide divisions.Quotient)
+use_of binary.Remainder = OfNumbers (Divide divisions.Remainder)
+use_of binary.Add = OfNumbers (Compute computations.Add)
+use_of binary.Subtract = OfNumbers (Compute computations.Subtract)
+use_of binary.LessThan = OfNumbers (Compare relations.LessThan)
+use_of binary.AtMost = OfNumbers (Compare relations.AtMost)
+use_of binary.GreaterThan = OfNumbers (Compare relations.GreaterThan)
+use_of binary.AtLeast = OfNumbers (Compare relations.AtLeast)
+use_of binary.BitAnd = OfNumbers (Bits bits.BitAnd)
+use_of binary.BitOr = OfNumbers (Bits bits.BitOr)
+use_of binary.BitXor = OfNumbers (Bits bits.BitXor)
+use_of binary.ShiftLeft = OfNumbers (Bits bits.ShiftLeft)
+use_of binary.ShiftRight = OfNumbers (Bits bits.ShiftRight)
+use_of binary.ShiftRightUnsigned = OfNumbers (Bits bits.ShiftRightUnsigned)
+use_of binary.EqualTo = OfEither relations.Equal samenesses.Same
+use_of binary.NotEqualTo = OfEither relations.Unequal samenesses.Different
 use_of binary.And = OfTruths connectives.And
 use_of binary.Or = OfTruths connectives.Or
 
@@ -82,7 +93,7 @@ value_base (OfTruths connective) = Boolean
 -- the operator on its operands, which have this type
 abbrev pub combined : OperatorUse → Base → (left right : Expression) → Expression
 combined (OfNumbers operator) base d e = Binary operator d e
-combined (OfEither of_numbers of_truths) base d e = Binary (by_base base of_numbers of_truths) d e
+combined (OfEither of_numbers of_truths) base d e = Binary (by_base base (Compare of_numbers) (Match of_truths)) d e
 combined (OfTruths connective) base d e = Short connective d e
 
 unfoldable pub expression_finding : Environment → ExpressionTree → Finding Typed

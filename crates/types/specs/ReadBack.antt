@@ -16,7 +16,12 @@ use Rattle.resolved.specs.declared.expression.Variable.TheVariants.{Global, Loca
 use Rattle.resolved.specs.declared.expression.Prefix.{Prefix}
 use Rattle.resolved.specs.declared.expression.Prefix.TheVariants as prefixes
 use Rattle.resolved.specs.declared.expression.Operator.{Operator}
-use Rattle.resolved.specs.declared.expression.Operator.TheVariants as operators
+use Rattle.resolved.specs.declared.expression.Operator.TheVariants.{Compute, Divide, Bits, Compare, Match}
+use Rattle.resolved.specs.declared.expression.Computation.TheVariants as computations
+use Rattle.resolved.specs.declared.expression.Division.TheVariants as divisions
+use Rattle.resolved.specs.declared.expression.BitOperator.TheVariants as bits
+use Rattle.resolved.specs.declared.expression.Relation.TheVariants as relations
+use Rattle.resolved.specs.declared.expression.Sameness.TheVariants as samenesses
 use Rattle.resolved.specs.declared.expression.Connective.{Connective}
 use Rattle.resolved.specs.declared.expression.Connective.TheVariants as connectives
 use Rattle.resolved.specs.declared.statement.Exit.TheVariants as exits
@@ -94,19 +99,25 @@ written_prefix prefixes.Negate = unary.Negate
 written_prefix prefixes.Not = unary.Not
 
 abbrev pub written_operator : Operator → BinaryOperator
-written_operator operators.Add = binary.Add
-written_operator operators.Subtract = binary.Subtract
-written_operator operators.Multiply = binary.Multiply
-written_operator operators.Divide = binary.Divide
-written_operator operators.Remainder = binary.Remainder
-written_operator operators.LessThan = binary.LessThan
-written_operator operators.AtMost = binary.AtMost
-written_operator operators.GreaterThan = binary.GreaterThan
-written_operator operators.AtLeast = binary.AtLeast
-written_operator operators.Equal = binary.EqualTo
-written_operator operators.Unequal = binary.NotEqualTo
-written_operator operators.Same = binary.EqualTo
-written_operator operators.Different = binary.NotEqualTo
+written_operator (Compute computations.Add) = binary.Add
+written_operator (Compute computations.Subtract) = binary.Subtract
+written_operator (Compute computations.Multiply) = binary.Multiply
+written_operator (Divide divisions.Quotient) = binary.Divide
+written_operator (Divide divisions.Remainder) = binary.Remainder
+written_operator (Bits bits.BitAnd) = binary.BitAnd
+written_operator (Bits bits.BitOr) = binary.BitOr
+written_operator (Bits bits.BitXor) = binary.BitXor
+written_operator (Bits bits.ShiftLeft) = binary.ShiftLeft
+written_operator (Bits bits.ShiftRight) = binary.ShiftRight
+written_operator (Bits bits.ShiftRightUnsigned) = binary.ShiftRightUnsigned
+written_operator (Compare relations.LessThan) = binary.LessThan
+written_operator (Compare relations.AtMost) = binary.AtMost
+written_operator (Compare relations.GreaterThan) = binary.GreaterThan
+written_operator (Compare relations.AtLeast) = binary.AtLeast
+written_operator (Compare relations.Equal) = binary.EqualTo
+written_operator (Compare relations.Unequal) = binary.NotEqualTo
+written_operator (Match samenesses.Same) = binary.EqualTo
+written_operator (Match samenesses.Different) = binary.NotEqualTo
 
 abbrev pub written_connective : Connective → BinaryOperator
 written_connective connectives.And = binary.And

@@ -23,9 +23,9 @@ use Rattle.types.specs.declared.scope.Meaning.{Meaning}
 use Rattle.types.specs.declared.scope.Meaning.TheVariants as meanings
 use Rattle.types.specs.Finding.{Finding, give, refuse, give_if, require, along, ◌>>=◌}
 use Rattle.types.specs.Environment.{Environment, declaring, fresh_finding, exception_finding}
-use Rattle.types.specs.Labels.{label_finding, optional_label_finding}
+use Rattle.types.specs.Labels.{LabelScope, label_finding, optional_label_finding}
 use Rattle.types.specs.Expressions.{base_of}
-use Rattle.types.specs.Statements.{Signature, Point, with_local, scalar_slot, size_finding, block_finding}
+use Rattle.types.specs.Statements.{Signature, Setting, Point, with_local, scalar_slot, size_finding, block_finding}
 use Rattle.common.specs.declared.limits.TheConstants.{MAX_CELLS}
 
 -- ---- the names of the items
@@ -104,9 +104,13 @@ top_finding items = along next_name built_in items
 
 -- ---- channels and globals
 
-unfoldable pub channel_finding : PrincipalHierarchy → ChannelTree → Finding ChannelEntry
-channel_finding h channel = do
-  label ← label_finding h channel.label
+-- what the labels of an item may name, but for those within the body of a procedure: the globals that are declared before it
+abbrev pub heads : PrincipalHierarchy → TopLevel → List GlobalEntry → LabelScope
+heads h top globals = record { hierarchy = h; names = top.names; globals = globals; slots = [] }
+
+unfoldable pub channel_finding : LabelScope → ChannelTree → Finding ChannelEntry
+channel_finding scope channel = do
+  label ← label_finding scope channel.label
   give (record { direction = channel.direction; name = channel.name.text; label = label })
 
 abbrev pub constant_value : ConstantTree → Value
@@ -134,9 +138,9 @@ first_finding base (ArrayTree size) = do
   size_of ← size_finding size
   give (record { size = Some size_of; first = zero_value base })
 
-unfoldable pub global_finding : PrincipalHierarchy → GlobalTree → Finding GlobalEntry
-global_finding h global = do
-  label ← label_finding h global.label
+unfoldable pub global_finding : LabelScope → GlobalTree → Finding GlobalEntry
+global_finding scope global = do
+  label ← label_finding scope global.label
   value ← first_finding (base_of global.base) global.value
   give (record {
     name = global.name.text;
@@ -151,40 +155,40 @@ global_finding h global = do
 abbrev pub result_entry : Base → Label → Option ResultEntry
 result_entry base label = Some (record { base = base; label = label })
 
-unfoldable pub result_finding : PrincipalHierarchy → WrittenResultTree → Finding (Option ResultEntry)
-result_finding h NothingTree = give None
-result_finding h (ResultTree base label) = do
-  written ← label_finding h label
+unfoldable pub result_finding : LabelScope → WrittenResultTree → Finding (Option ResultEntry)
+result_finding scope NothingTree = give None
+result_finding scope (ResultTree base label) = do
+  written ← label_finding scope label
   give (result_entry (base_of base) written)
 
--- a parameter, which takes the next slot and is in scope in the body
+-- a parameter, which takes the next slot and is in scope in the body; no label before the body names it
 abbrev pub with_parameter : Point → ParameterTree → Label → Point
 with_parameter point parameter label =
     with_local point (scalar_slot parameter.at (base_of parameter.base) (Some label) parameter.name.text)
     (meanings.Scalar (Local (length point.slots)) (base_of parameter.base))
 
-abbrev pub next_parameter : PrincipalHierarchy → Point → ParameterTree → Finding Point
-next_parameter h point parameter = do
-  label ← label_finding h parameter.label
+abbrev pub next_parameter : LabelScope → Point → ParameterTree → Finding Point
+next_parameter scope point parameter = do
+  label ← label_finding scope parameter.label
   _ ← fresh_finding (point.names parameter.name.text) parameter.name.at
   give (with_parameter point parameter label)
 
-unfoldable pub parameters_finding : PrincipalHierarchy → Environment → List ParameterTree → Finding Point
-parameters_finding h names parameters = along (next_parameter h) (record { names = names; slots = []; loops = 0 }) parameters
+unfoldable pub parameters_finding : LabelScope → List ParameterTree → Finding Point
+parameters_finding scope parameters = along (next_parameter scope) (record { names = scope.names; slots = []; loops = 0 }) parameters
 
 -- an exception that a procedure may let out, which is none of those that it names before (302)
 abbrev pub is_thrown : List ThrownEntry → ℕ → Bool
 is_thrown throws exception = list_any (λ (thrown : ThrownEntry). thrown.exception == exception) throws
 
-abbrev pub next_thrown : PrincipalHierarchy → Environment → List ThrownEntry → ThrownTree → Finding (List ThrownEntry)
-next_thrown h names throws thrown = do
-  exception ← exception_finding (names thrown.name.text) thrown.name.at
+abbrev pub next_thrown : LabelScope → List ThrownEntry → ThrownTree → Finding (List ThrownEntry)
+next_thrown scope throws thrown = do
+  exception ← exception_finding (scope.names thrown.name.text) thrown.name.at
   _ ← require (not (is_thrown throws exception)) refusals.DeclaredTwice thrown.name.at
-  label ← label_finding h thrown.label
+  label ← label_finding scope thrown.label
   give (throws ++ record { exception = exception; label = label } ∷ [])
 
-unfoldable pub throws_finding : PrincipalHierarchy → Environment → List ThrownTree → Finding (List ThrownEntry)
-throws_finding h names throws = along (next_thrown h names) [] throws
+unfoldable pub throws_finding : LabelScope → List ThrownTree → Finding (List ThrownEntry)
+throws_finding scope throws = along (next_thrown scope) [] throws
 
 -- a label joined by those of exceptions
 abbrev pub joined_all : Label → List ThrownEntry → Label
@@ -199,14 +203,23 @@ begin_label_of written = unwrap_or written []
 abbrev pub end_label_of : Option Label → Label → List ThrownEntry → Label
 end_label_of written begin throws = unwrap_or written (joined_all begin throws)
 
-unfoldable pub procedure_entry_finding : PrincipalHierarchy → TopLevel → ProcedureTree → Finding ProcedureEntry
-procedure_entry_finding h top procedure = do
-  result ← result_finding h procedure.result
-  begin ← optional_label_finding h procedure.begin
-  point ← parameters_finding h top.names procedure.parameters
-  end ← optional_label_finding h procedure.end
-  throws ← throws_finding h top.names procedure.throws
-  inner ← block_finding (record { hierarchy = h; signatures = top.signatures; result = result_base_of procedure.result }) point procedure.body
+-- what does not change within the body of a procedure whose labels before it may name this
+abbrev pub setting_within : LabelScope → List Signature → ProcedureTree → Setting
+setting_within scope signatures procedure = record {
+  hierarchy = scope.hierarchy;
+  globals = scope.globals;
+  signatures = signatures;
+  result = result_base_of procedure.result;
+}
+
+unfoldable pub procedure_entry_finding : LabelScope → List Signature → ProcedureTree → Finding ProcedureEntry
+procedure_entry_finding scope signatures procedure = do
+  result ← result_finding scope procedure.result
+  begin ← optional_label_finding scope procedure.begin
+  point ← parameters_finding scope procedure.parameters
+  end ← optional_label_finding scope procedure.end
+  throws ← throws_finding scope procedure.throws
+  inner ← block_finding (setting_within scope signatures procedure) point procedure.body
   give (record {
     at = procedure.name.at;
     name = procedure.name.text;
@@ -231,14 +244,14 @@ pub record Tables : Type 0 where
 
 unfoldable pub next_item : PrincipalHierarchy → TopLevel → Tables → ItemTree → Finding Tables
 next_item h top tables (ChannelItem channel) = do
-  entry ← channel_finding h channel
+  entry ← channel_finding (heads h top tables.globals) channel
   give (record tables { channels = tables.channels ++ entry ∷ [] })
 next_item h top tables (ExceptionItem at name) = give (record tables { exceptions = tables.exceptions ++ name.text ∷ [] })
 next_item h top tables (GlobalItem global) = do
-  entry ← global_finding h global
+  entry ← global_finding (heads h top tables.globals) global
   give (record tables { globals = tables.globals ++ entry ∷ [] })
 next_item h top tables (ProcedureItem procedure) = do
-  entry ← procedure_entry_finding h top procedure
+  entry ← procedure_entry_finding (heads h top tables.globals) top.signatures procedure
   give (record tables { procedures = tables.procedures ++ entry ∷ [] })
 
 abbrev pub no_tables : Tables

@@ -1,5 +1,5 @@
 -- The resolved statements that the written ones of a body stand for. Names are tested where they stand, from the left: 301, 302 and 403
--- of names, 303 in labels, 401 of types, 402 where a call has too many or too few arguments, 703 where an array has a size that is
+-- of names, 303 and 305 in labels, 401 of types, 402 where a call has too many or too few arguments, 703 where an array has a size that is
 -- none.
 -- Source: our own, block structure in the usual sense: a local's scope runs from the end of its declaration to the end of its block.
 use Rattle.std.specs.Prelude.{ℕ, ◌+◌, List, [], ◌∷◌, ◌++◌, length, Bool, false, ◌==◌, ◌&&◌, nat_lt, nat_le, is_none, Option, Some, None, slice_index_or, Ok}
@@ -12,14 +12,14 @@ use Rattle.resolved.specs.declared.expression.Variable.{Variable}
 use Rattle.resolved.specs.declared.expression.Variable.TheVariants.{Local}
 use Rattle.resolved.specs.declared.statement.Exit.TheVariants as exits
 use Rattle.resolved.specs.Tree.{Expression, Statement, Assign, Clear, Store, Receive, Send, Call, If, While, Leave, ReturnWith, Try, Nested, Block, Empty, Then, Handlers, NoMore, Catch}
-use Rattle.resolved.specs.Program.{SlotEntry}
+use Rattle.resolved.specs.Program.{GlobalEntry, SlotEntry}
 use Rattle.resolved.specs.WellFormed.{same_base}
 use Rattle.types.specs.declared.fault.TypeDefect.TheVariants as refusals
 use Rattle.types.specs.declared.scope.Meaning.{Meaning}
 use Rattle.types.specs.declared.scope.Meaning.TheVariants.{Scalar, Array}
 use Rattle.types.specs.Finding.{Finding, give, refuse, give_if, require, and_then, along, ◌>>=◌}
 use Rattle.types.specs.Environment.{Environment, declaring, fresh_finding, scalar_finding, array_finding, input_finding, output_finding, exception_finding, procedure_finding}
-use Rattle.types.specs.Labels.{optional_label_finding}
+use Rattle.types.specs.Labels.{LabelScope, optional_label_finding}
 use Rattle.types.specs.Expressions.{Typed, base_of, expression_finding, typed_finding}
 use Rattle.common.specs.declared.limits.TheConstants.{MAX_ELEMENTS}
 
@@ -28,10 +28,11 @@ pub record Signature : Type 0 where
   pub parameters : List Base
   pub result : Option Base
 
--- what does not change within a body: the hierarchy, the signatures of the procedures by their numbers, and the type of the value that
--- is to be returned, if one is
+-- what does not change within a body: the hierarchy, the globals that are declared before the procedure, the signatures of the
+-- procedures by their numbers, and the type of the value that is to be returned, if one is
 pub record Setting : Type 0 where
   pub hierarchy : PrincipalHierarchy
+  pub globals : List GlobalEntry
   pub signatures : List Signature
   pub result : Option Base
 
@@ -40,6 +41,15 @@ pub record Point : Type 0 where
   pub names : Environment
   pub slots : List SlotEntry
   pub loops : ℕ
+
+-- what the label of a local may name at a point: each variable in scope, but for the globals that are declared behind the procedure
+abbrev pub label_scope : Setting → Point → LabelScope
+label_scope setting point = record {
+  hierarchy = setting.hierarchy;
+  names = point.names;
+  globals = setting.globals;
+  slots = point.slots;
+}
 
 -- the point behind the declaration of a local, which takes the next slot
 abbrev pub with_local : Point → SlotEntry → Meaning → Point
@@ -114,7 +124,7 @@ array_slot at base label name size = record { base = base; size = Some size; wri
 -- the name of a local is tested before its right side, where the local is not in scope yet
 unfoldable pub declare_finding : Setting → Point → (at : ℕ) → Base → Option LabelTree → NameTree → RightTree → Finding (Point × Statement)
 declare_finding setting point at base label name value = do
-  written ← optional_label_finding setting.hierarchy label
+  written ← optional_label_finding (label_scope setting point) label
   _ ← fresh_finding (point.names name.text) name.at
   statement ← assigned_finding setting.signatures point.names at (Local (length point.slots)) base value
   give (with_local point (scalar_slot at base written name.text) (Scalar (Local (length point.slots)) base), statement)
@@ -125,7 +135,7 @@ size_finding size = give_if (nat_lt 0 size.size && nat_le size.size MAX_ELEMENTS
 
 unfoldable pub declare_array_finding : Setting → Point → (at : ℕ) → Base → Option LabelTree → NameTree → SizeTree → Finding (Point × Statement)
 declare_array_finding setting point at base label name size = do
-  written ← optional_label_finding setting.hierarchy label
+  written ← optional_label_finding (label_scope setting point) label
   _ ← fresh_finding (point.names name.text) name.at
   length_of ← size_finding size
   give (

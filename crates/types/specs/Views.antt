@@ -20,6 +20,7 @@ use Rattle.types.specs.declared.expression.TypedExpression.{TypedExpression}
 use Rattle.common.specs.Answers.{Answers}
 use Rattle.common.specs.declared.fault.OrNoMemory.{OrNoMemory}
 use Rattle.types.specs.declared.fault.TypeRefusal.{TypeRefusal}
+use Rattle.types.specs.declared.label.LabelPlace.{LabelPlace}
 use Rattle.types.specs.declared.program.ItemTables.{ItemTables}
 use Rattle.types.specs.declared.scope.Meaning.{Meaning}
 use Rattle.types.specs.declared.scope.FoundArray.{FoundArray}
@@ -29,6 +30,7 @@ use Rattle.types.specs.declared.top.CodeSignature.{CodeSignature}
 use Rattle.types.specs.declared.top.TopNames.{TopNames}
 use Rattle.types.specs.Finding.{Finding, IsRefusalOf}
 use Rattle.types.specs.Environment.{Environment, ScalarUse, ArrayUse}
+use Rattle.types.specs.Labels.{LabelScope}
 use Rattle.types.specs.Expressions.{Typed}
 use Rattle.types.specs.Statements.{Signature, Setting, Point, CallUse}
 use Rattle.types.specs.Resolution.{TopLevel, Tables, FirstValue}
@@ -64,6 +66,15 @@ scalar_use scalar = record { variable = scalar.variable; base = scalar.base }
 abbrev pub array_use : FoundArray → ArrayUse
 array_use array = record { variable = array.variable; base = array.base; size = array.size }
 
+-- the locals that a label may name, and else the items
+abbrev pub label_scope_of : LabelPlace → LabelScope
+label_scope_of place = record {
+  hierarchy = place.hierarchy.now;
+  names = λ name. or_else (found_in place.locals.now name) (found_in place.top.now name);
+  globals = map global_entry place.globals.now;
+  slots = map slot_entry place.slots.now;
+}
+
 -- ---- bodies
 
 abbrev pub signature_view : CodeSignature → Signature
@@ -76,7 +87,12 @@ abbrev pub signatures_of : Body → List Signature
 signatures_of body = map signature_view body.top.now.signatures.items
 
 abbrev pub setting_of : Body → Setting
-setting_of body = record { hierarchy = body.hierarchy.now; signatures = signatures_of body; result = body.result }
+setting_of body = record {
+  hierarchy = body.hierarchy.now;
+  globals = map global_entry body.globals.now;
+  signatures = signatures_of body;
+  result = body.result;
+}
 
 abbrev pub point_of : Body → Point
 point_of body = record { names = names_of body; slots = map slot_entry body.slots.items; loops = body.loops }
@@ -86,6 +102,7 @@ point_of body = record { names = names_of body; slots = map slot_entry body.slot
 pub record IsLater (before after : Body) : Type 0 where
   pub hierarchy : after.hierarchy.now ≡ before.hierarchy.now
   pub top : after.top.now ≡ before.top.now
+  pub globals : after.globals.now ≡ before.globals.now
   pub result : after.result ≡ before.result
   pub declared : take (length before.declared.items) after.declared.items ≡ before.declared.items
   pub locals : (name : List ℕ) → found_in before.locals name ≡ without (texts_of (drop (length before.declared.items) after.declared.items)) (found_in after.locals) name

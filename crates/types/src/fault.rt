@@ -17,6 +17,8 @@ pub enum TypeDefect {
     UnknownPrincipal,
     /// 304: no procedure is called `main`, or it has parameters or a value.
     NoProperMain,
+    /// 305: a label that names a local which is written without one.
+    LabelNotWritten,
     /// 401: a value of another type than its place wants.
     WrongType,
     /// 402: a call with more or fewer arguments than its procedure has parameters.
@@ -30,7 +32,7 @@ pub enum TypeDefect {
 }
 
 impl TypeDefect {
-    /// The number that the defect is reported by: 301 to 304, 401 to 403, 703 or 704.
+    /// The number that the defect is reported by: 301 to 305, 401 to 403, 703 or 704.
     pub fn number(self) -> u32
         ensures { result ≡ name_defect_number self }
     {
@@ -39,6 +41,7 @@ impl TypeDefect {
             TypeDefect::DeclaredTwice => 302,
             TypeDefect::UnknownPrincipal => 303,
             TypeDefect::NoProperMain => 304,
+            TypeDefect::LabelNotWritten => 305,
             TypeDefect::WrongType => 401,
             TypeDefect::WrongArgumentCount => 402,
             TypeDefect::WrongUse => 403,
@@ -56,6 +59,7 @@ impl TypeDefect {
             TypeDefect::DeclaredTwice => "declared twice",
             TypeDefect::UnknownPrincipal => UNKNOWN_PRINCIPAL_WORDS,
             TypeDefect::NoProperMain => "no proper main",
+            TypeDefect::LabelNotWritten => "label not written",
             TypeDefect::WrongType => "wrong type",
             TypeDefect::WrongArgumentCount => "wrong argument count",
             TypeDefect::WrongUse => "wrong use",

@@ -2,7 +2,7 @@
 
 ghost use Rattle.types.specs.Resolution as spec;
 ghost use Rattle.types.specs.Resolution.{channel_finding, first_finding, global_finding};
-ghost use Rattle.types.specs.Views.{Resolves, first_view};
+ghost use Rattle.types.specs.Views.{Resolves, first_view, label_scope_of};
 ghost use Rattle.resolved.specs.ProgramOf.{channel_entry, global_entry};
 ghost use Rattle.resolved.specs.Value.{zero_value};
 ghost use Rattle.std.specs.Prelude.{◌≡◌};
@@ -11,34 +11,31 @@ ghost use Rattle.syntax.specs.Written.{Anywhere, IsInteger, IsNameWithin, IsWrit
 ghost use Rattle.common.specs.declared.limits.TheConstants.{MAX_TEXT};
 
 use crate::fault::{TypeDefect, TypeFault, TypeRefusal};
-use crate::label::resolve_label;
+use crate::label::LabelPlace;
 use crate::operator::{base_of, is_same};
 use crate::statement::resolve_size;
 use common::OrNoMemory;
-use principals::Hierarchy;
 use resolved::expression::{Base, Value};
 use resolved::tables::{Channel, GlobalVariable};
-use std::alloc::Global;
 use syntax::{Constant, GlobalValue};
 
 /// Resolves the declaration of a channel.
 ///
 /// # Errors
 ///
-/// 303 where its label names a principal that the hierarchy lacks; or out of memory.
+/// 301, 303, 305 and 403 in its label; or out of memory.
 #[tactic(auto, unfolding(crate::specs::Resolution::channel_finding))]
 pub fn resolve_channel(
-    alloc: Global,
-    hierarchy: &Hierarchy,
+    place: &LabelPlace<'_>,
     written: &syntax::Channel,
 ) -> Result<Channel, TypeFault>
     ensures { Resolves channel_entry result
-        (channel_finding hierarchy.now (channel_tree written.now)) }
+        (channel_finding (label_scope_of place.now) (channel_tree written.now)) }
 {
-    let label = resolve_label(alloc, hierarchy, &written.label)?;
+    let label = place.resolve(&written.label)?;
     Ok(Channel {
         direction: written.direction,
-        name: String::from_str(alloc, written.name.text.as_str())?,
+        name: String::from_str(place.alloc, written.name.text.as_str())?,
         label,
     })
 }
@@ -111,24 +108,23 @@ fn resolve_first_value(base: Base, value: &GlobalValue) -> Result<(Option<u32>, 
 ///
 /// # Errors
 ///
-/// 303 where its label names a principal that the hierarchy lacks, 401 where its first value has another type than the global,
+/// 301, 303, 305 and 403 in its label, 401 where its first value has another type than the global,
 /// 703 where it is an array of another length than 1 to 65,536; or out of memory.
 #[tactic(auto, unfolding(crate::specs::Resolution::global_finding))]
 pub fn resolve_global(
-    alloc: Global,
-    hierarchy: &Hierarchy,
+    place: &LabelPlace<'_>,
     written: &syntax::GlobalVariable,
 ) -> Result<GlobalVariable, TypeFault>
     requires small { IsWrittenGlobalValue Anywhere (IsNameWithin MAX_TEXT) IsInteger
         (global_value_tree written.now.value) }
     ensures { Resolves global_entry result
-        (global_finding hierarchy.now (global_tree written.now)) }
+        (global_finding (label_scope_of place.now) (global_tree written.now)) }
 {
-    let label = resolve_label(alloc, hierarchy, &written.label)?;
+    let label = place.resolve(&written.label)?;
     let base = base_of(written.base);
     let (size, first) = resolve_first_value(base, &written.value)?;
     Ok(GlobalVariable {
-        name: String::from_str(alloc, written.name.text.as_str())?,
+        name: String::from_str(place.alloc, written.name.text.as_str())?,
         base,
         size,
         label,

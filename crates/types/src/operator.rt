@@ -5,7 +5,11 @@ ghost use Rattle.resolved.specs.WellFormed.{prefix_base, result_base, same_base}
 ghost use Rattle.resolved.specs.TreeOf.{expression_of};
 ghost use Rattle.std.specs.Prelude.{IfOk, ◌≡◌};
 
-use resolved::expression::{Base, Connective, Expression, Operator, Prefix};
+use resolved::expression::Operator::{Bits, Compare, Compute, Divide, Match};
+use resolved::expression::{
+    Base, BitOperator, Computation, Connective, Division, Expression, Operator, Prefix, Relation,
+    Sameness,
+};
 use std::alloc::{AllocError, Global};
 use syntax::{BaseType, BinaryOperator, UnaryOperator};
 
@@ -14,8 +18,8 @@ use syntax::{BaseType, BinaryOperator, UnaryOperator};
 pub enum OperatorUse {
     /// An operator on two numbers.
     OfNumbers(Operator),
-    /// An operator on two values of one type: the one on numbers, and the one on truth values.
-    OfEither(Operator, Operator),
+    /// An operator on two values of one type: what it compares numbers to, and truth values.
+    OfEither(Relation, Sameness),
     /// An operator on two truth values, which may leave its right operand alone.
     OfTruths(Connective),
 }
@@ -55,19 +59,8 @@ pub fn base_of_result(operator: Operator) -> Base
     ensures { result ≡ result_base operator }
 {
     match operator {
-        Operator::Add
-        | Operator::Subtract
-        | Operator::Multiply
-        | Operator::Divide
-        | Operator::Remainder => Base::Int,
-        Operator::LessThan
-        | Operator::AtMost
-        | Operator::GreaterThan
-        | Operator::AtLeast
-        | Operator::Equal
-        | Operator::Unequal
-        | Operator::Same
-        | Operator::Different => Base::Boolean,
+        Compute(_) | Divide(_) | Bits(_) => Base::Int,
+        Compare(_) | Match(_) => Base::Boolean,
     }
 }
 
@@ -76,17 +69,25 @@ pub fn use_of(operator: BinaryOperator) -> OperatorUse
     ensures { result ≡ spec.use_of operator }
 {
     match operator {
-        BinaryOperator::Multiply => OperatorUse::OfNumbers(Operator::Multiply),
-        BinaryOperator::Divide => OperatorUse::OfNumbers(Operator::Divide),
-        BinaryOperator::Remainder => OperatorUse::OfNumbers(Operator::Remainder),
-        BinaryOperator::Add => OperatorUse::OfNumbers(Operator::Add),
-        BinaryOperator::Subtract => OperatorUse::OfNumbers(Operator::Subtract),
-        BinaryOperator::LessThan => OperatorUse::OfNumbers(Operator::LessThan),
-        BinaryOperator::AtMost => OperatorUse::OfNumbers(Operator::AtMost),
-        BinaryOperator::GreaterThan => OperatorUse::OfNumbers(Operator::GreaterThan),
-        BinaryOperator::AtLeast => OperatorUse::OfNumbers(Operator::AtLeast),
-        BinaryOperator::EqualTo => OperatorUse::OfEither(Operator::Equal, Operator::Same),
-        BinaryOperator::NotEqualTo => OperatorUse::OfEither(Operator::Unequal, Operator::Different),
+        BinaryOperator::Multiply => OperatorUse::OfNumbers(Compute(Computation::Multiply)),
+        BinaryOperator::Divide => OperatorUse::OfNumbers(Divide(Division::Quotient)),
+        BinaryOperator::Remainder => OperatorUse::OfNumbers(Divide(Division::Remainder)),
+        BinaryOperator::Add => OperatorUse::OfNumbers(Compute(Computation::Add)),
+        BinaryOperator::Subtract => OperatorUse::OfNumbers(Compute(Computation::Subtract)),
+        BinaryOperator::LessThan => OperatorUse::OfNumbers(Compare(Relation::LessThan)),
+        BinaryOperator::AtMost => OperatorUse::OfNumbers(Compare(Relation::AtMost)),
+        BinaryOperator::GreaterThan => OperatorUse::OfNumbers(Compare(Relation::GreaterThan)),
+        BinaryOperator::AtLeast => OperatorUse::OfNumbers(Compare(Relation::AtLeast)),
+        BinaryOperator::BitAnd => OperatorUse::OfNumbers(Bits(BitOperator::BitAnd)),
+        BinaryOperator::BitOr => OperatorUse::OfNumbers(Bits(BitOperator::BitOr)),
+        BinaryOperator::BitXor => OperatorUse::OfNumbers(Bits(BitOperator::BitXor)),
+        BinaryOperator::ShiftLeft => OperatorUse::OfNumbers(Bits(BitOperator::ShiftLeft)),
+        BinaryOperator::ShiftRight => OperatorUse::OfNumbers(Bits(BitOperator::ShiftRight)),
+        BinaryOperator::ShiftRightUnsigned => OperatorUse::OfNumbers(Bits(
+            BitOperator::ShiftRightUnsigned,
+        )),
+        BinaryOperator::EqualTo => OperatorUse::OfEither(Relation::Equal, Sameness::Same),
+        BinaryOperator::NotEqualTo => OperatorUse::OfEither(Relation::Unequal, Sameness::Different),
         BinaryOperator::And => OperatorUse::OfTruths(Connective::And),
         BinaryOperator::Or => OperatorUse::OfTruths(Connective::Or),
     }
@@ -143,8 +144,8 @@ pub fn combine(
     Ok(match used {
         OperatorUse::OfNumbers(operator) => Expression::Binary(operator, left, right),
         OperatorUse::OfEither(on_numbers, on_truths) => match base {
-            Base::Int => Expression::Binary(on_numbers, left, right),
-            Base::Boolean => Expression::Binary(on_truths, left, right),
+            Base::Int => Expression::Binary(Compare(on_numbers), left, right),
+            Base::Boolean => Expression::Binary(Match(on_truths), left, right),
         },
         OperatorUse::OfTruths(connective) => Expression::Short(connective, left, right),
     })

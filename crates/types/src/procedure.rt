@@ -1,40 +1,39 @@
 //! Procedures.
 
 ghost use Rattle.indexmap.specs.IndexSet.{contains};
-ghost use Rattle.labels.specs.Canonical.{IsCanonicalLabel, IsCanonicalPolicy};
 ghost use Rattle.types.specs.Finding.{along};
-ghost use Rattle.types.specs.Resolution.{begin_label_of, end_label_of, is_thrown, joined_all, next_parameter, next_thrown, procedure_entry_finding, result_finding, throws_finding};
-ghost use Rattle.types.specs.Views.{Resolves, IsLater, found_in, point_of, taken, throws_view, top_view};
-ghost use Rattle.resolved.specs.ProgramOf.{procedure_entry, result_entry, thrown_entry};
-ghost use Rattle.std.specs.Prelude.{All, IfOk, OnOk, length, map, nat_eq, ◌++◌, ◌+◌, ◌<◌, ◌≡◌, ℕ};
+ghost use Rattle.types.specs.Resolution.{begin_label_of, end_label_of, heads, is_thrown, joined_all, next_parameter, next_thrown, procedure_entry_finding, result_finding, throws_finding};
+ghost use Rattle.types.specs.Views.{Resolves, IsLater, label_scope_of, point_of, taken, throws_view, top_view};
+ghost use Rattle.resolved.specs.ProgramOf.{global_entry, procedure_entry, result_entry, thrown_entry};
+ghost use Rattle.std.specs.Prelude.{IfOk, OnOk, length, map, nat_eq, ◌+◌, ◌<◌, ◌≡◌, ℕ};
 ghost use Rattle.syntax.specs.Limits.{most_nodes};
 ghost use Rattle.syntax.specs.Nodes.{procedure_nodes};
 ghost use Rattle.syntax.specs.Tree.{written_result_tree, parameter_tree, procedure_tree, thrown_tree};
 
 use crate::body::Body;
 use crate::fault::{TypeDefect, TypeFault, TypeRefusal};
-use crate::label::{resolve_label, resolve_optional_label};
+use crate::label::{LabelPlace, add_policies};
 use crate::operator::base_of;
-use crate::scope::{Meaning, find, require_exception, require_fresh};
+use crate::scope::{Meaning, require_exception, require_fresh};
 use crate::top::{TopNames, result_of};
 use common::OrNoMemory;
 use indexmap::IndexSet;
-use labels::{Label, Policy};
+use labels::Label;
 use principals::Hierarchy;
 use resolved::expression::Variable;
-use resolved::tables::{Procedure, ResultType, Thrown};
+use resolved::tables::{GlobalVariable, Procedure, ResultType, Thrown};
 use std::alloc::{AllocError, Global};
+use std::collections::BTreeMap;
 use syntax::{Parameter, WrittenResult};
 
 /// The value of a procedure, if it gives one, with its label.
 #[tactic(auto, unfolding(crate::specs::Resolution::result_finding))]
 fn resolve_result(
-    alloc: Global,
-    hierarchy: &Hierarchy,
+    place: &LabelPlace<'_>,
     written: &WrittenResult,
 ) -> Result<Option<ResultType>, TypeFault>
     ensures { Resolves result_entry result
-        (result_finding hierarchy.now (written_result_tree written.now)) }
+        (result_finding (label_scope_of place.now) (written_result_tree written.now)) }
 {
     match written {
         WrittenResult::Nothing => Ok(None),
@@ -42,7 +41,7 @@ fn resolve_result(
             base,
             label: written,
         } => {
-            let label = resolve_label(alloc, hierarchy, written)?;
+            let label = place.resolve(written)?;
             Ok(Some(ResultType {
                 base: base_of(*base),
                 label,
@@ -53,15 +52,19 @@ fn resolve_result(
 
 impl<'a> Body<'a> {
     /// Declares the next parameter.
-    fn declare_parameter(&mut self, written: &Parameter) -> Result<(), TypeFault>
+    fn declare_parameter(
+        &mut self,
+        place: &LabelPlace<'_>,
+        written: &Parameter,
+    ) -> Result<(), TypeFault>
         requires room { taken self.old < most_nodes }
         ensures made { Resolves (λ _. point_of self.new) result
-            (next_parameter self.old.hierarchy.now (point_of self.old)
+            (next_parameter (label_scope_of place.now) (point_of self.old)
             (parameter_tree written.now)) }
         ensures later { OnOk result (IsLater self.old self.new) }
         ensures grows { OnOk result (taken self.new ≡ taken self.old + 1) }
     {
-        let label = resolve_label(self.alloc, self.hierarchy, &written.label)?;
+        let label = place.resolve(&written.label)?;
         require_fresh(self.look_up(&written.name), written.name.at)?;
         let base = base_of(written.base);
         let variable = Variable::Local(self.slots.len() as u32);
@@ -71,16 +74,20 @@ impl<'a> Body<'a> {
     }
 
     /// Declares parameters.
-    fn declare_parameters(&mut self, written: &[Parameter]) -> Result<(), TypeFault>
+    fn declare_parameters(
+        &mut self,
+        place: &LabelPlace<'_>,
+        written: &[Parameter],
+    ) -> Result<(), TypeFault>
         requires room { taken self.old + length written.now < most_nodes }
         ensures made { Resolves (λ _. point_of self.new) result
-            (along (next_parameter self.old.hierarchy.now) (point_of self.old)
+            (along (next_parameter (label_scope_of place.now)) (point_of self.old)
             (map parameter_tree written.now)) }
         ensures later { OnOk result (IsLater self.old self.new) }
         ensures grows { OnOk result (taken self.new ≡ taken self.old + length written.now) }
     {
         for one in written {
-            self.declare_parameter(one)?;
+            self.declare_parameter(place, one)?;
         }
         Ok(())
     }
@@ -88,9 +95,7 @@ impl<'a> Body<'a> {
 
 /// Puts an exception that a procedure declares behind those that are named before it, which are the ones of the set.
 fn add_thrown(
-    alloc: Global,
-    hierarchy: &Hierarchy,
-    top: &TopNames,
+    place: &LabelPlace<'_>,
     seen: &mut IndexSet<u32>,
     throws: &mut Vec<Thrown>,
     written: &syntax::Thrown,
@@ -98,20 +103,20 @@ fn add_thrown(
     requires same { (number : ℕ) → contains nat_eq seen.old number ≡
         is_thrown (throws_view throws.old) number }
     ensures made { Resolves (λ _. throws_view throws.new) result
-        (next_thrown hierarchy.now (found_in top.now.names) (throws_view throws.old)
+        (next_thrown (label_scope_of place.now) (throws_view throws.old)
         (thrown_tree written.now)) }
     ensures same { OnOk result ((number : ℕ) → contains nat_eq seen.new number ≡
         is_thrown (throws_view throws.new) number) }
 {
     let name = &written.name;
-    let number = require_exception(find(&top.names, name.text.as_str()), name.at)?;
+    let number = require_exception(place.look_up(name), name.at)?;
     if !seen.insert(number)? {
         return Err(OrNoMemory::Refused(TypeRefusal {
             defect: TypeDefect::DeclaredTwice,
             at: name.at,
         }));
     }
-    let label = resolve_label(alloc, hierarchy, &written.label)?;
+    let label = place.resolve(&written.label)?;
     throws.push(Thrown {
         exception: number,
         label,
@@ -122,18 +127,16 @@ fn add_thrown(
 /// The exceptions that a procedure declares in `throws`.
 #[tactic(auto, unfolding(crate::specs::Resolution::throws_finding))]
 fn resolve_throws(
-    alloc: Global,
-    hierarchy: &Hierarchy,
-    top: &TopNames,
+    place: &LabelPlace<'_>,
     written: &[syntax::Thrown],
 ) -> Result<Vec<Thrown>, TypeFault>
     ensures { Resolves throws_view result
-        (throws_finding hierarchy.now (found_in top.now.names) (map thrown_tree written.now)) }
+        (throws_finding (label_scope_of place.now) (map thrown_tree written.now)) }
 {
-    let mut seen = IndexSet::new(alloc);
-    let mut throws = Vec::new(alloc);
+    let mut seen = IndexSet::new(place.alloc);
+    let mut throws = Vec::new(place.alloc);
     for one in written {
-        add_thrown(alloc, hierarchy, top, &mut seen, &mut throws, one)?;
+        add_thrown(place, &mut seen, &mut throws, one)?;
     }
     Ok(throws)
 }
@@ -146,19 +149,6 @@ fn make_begin_label(alloc: Global, written: Option<Label>) -> Label
         Some(label) => label,
         None => Label::least(alloc),
     }
-}
-
-/// Puts the policies of a label behind others.
-fn add_policies(policies: &mut Vec<Policy>, label: &Label) -> Result<(), AllocError>
-    requires canonical { All IsCanonicalPolicy policies.old.items }
-    ensures added { OnOk result (policies.new.items ≡ policies.old.items ++ label.now) }
-    ensures canonical { OnOk result (All IsCanonicalPolicy policies.new.items) }
-    ensures label { OnOk result (IsCanonicalLabel label.now) }
-{
-    for policy in label.policies() {
-        policies.push(policy.clone()?)?;
-    }
-    Ok(())
 }
 
 /// A label joined by those of exceptions. The policies of all are put in order once, so that many exceptions take no longer than
@@ -196,25 +186,29 @@ fn make_end_label(
 /// # Errors
 ///
 /// The first fault of, in this order, the label of its value, its begin label, its parameters, its end label, its declared
-/// exceptions and the statements of its body: 301 to 303, 401 to 403 or 703; or out of memory. The cells of its frame are not
+/// exceptions and the statements of its body: 301 to 303, 305, 401 to 403 or 703; or out of memory. The cells of its frame are not
 /// counted here.
 #[tactic(auto, unfolding(crate::specs::Resolution::procedure_entry_finding))]
 pub fn resolve_procedure<'a>(
     alloc: Global,
     hierarchy: &'a Hierarchy,
     top: &'a TopNames,
+    globals: &'a [GlobalVariable],
     written: &syntax::Procedure,
 ) -> Result<Procedure, TypeFault>
     requires room { procedure_nodes (procedure_tree written.now) < most_nodes }
-    ensures { Resolves procedure_entry result (procedure_entry_finding hierarchy.now
-        (top_view top.now) (procedure_tree written.now)) }
+    ensures { Resolves procedure_entry result (procedure_entry_finding
+        (heads hierarchy.now (top_view top.now) (map global_entry globals.now))
+        (top_view top.now).signatures (procedure_tree written.now)) }
 {
-    let value = resolve_result(alloc, hierarchy, &written.result)?;
-    let begin = resolve_optional_label(alloc, hierarchy, &written.begin)?;
-    let mut body = Body::new(alloc, hierarchy, top, result_of(&written.result));
-    body.declare_parameters(&written.parameters)?;
-    let end = resolve_optional_label(alloc, hierarchy, &written.end)?;
-    let throws = resolve_throws(alloc, hierarchy, top, &written.throws)?;
+    let no_locals = BTreeMap::new(alloc);
+    let place = LabelPlace::of_item(alloc, hierarchy, top, globals, &no_locals);
+    let value = resolve_result(&place, &written.result)?;
+    let begin = place.resolve_optional(&written.begin)?;
+    let mut body = Body::new(alloc, hierarchy, top, globals, result_of(&written.result));
+    body.declare_parameters(&place, &written.parameters)?;
+    let end = place.resolve_optional(&written.end)?;
+    let throws = resolve_throws(&place, &written.throws)?;
     let statements = body.resolve_block(&written.body)?;
     let begin_label = make_begin_label(alloc, begin);
     let end_label = make_end_label(alloc, end, &begin_label, &throws)?;

@@ -16,6 +16,7 @@ ghost use Rattle.common.specs.declared.limits.TheConstants.{MAX_TEXT};
 use crate::cells::{count_global_cells, limit_frames};
 use crate::fault::{TypeDefect, TypeFault, TypeRefusal};
 use crate::item::{resolve_channel, resolve_global};
+use crate::label::LabelPlace;
 use crate::procedure::resolve_procedure;
 use crate::scope::{Meaning, find};
 use crate::top::TopNames;
@@ -25,6 +26,7 @@ use principals::Hierarchy;
 use resolved::program::Core;
 use resolved::tables::{Channel, GlobalVariable, Procedure};
 use std::alloc::Global;
+use std::collections::BTreeMap;
 use syntax::{Item, Program};
 
 /// The tables of a program.
@@ -64,16 +66,22 @@ impl ItemTables {
             (next_item hierarchy.now (top_view top.now) (tables_view self.old)
             (item_tree item.now)) }
     {
+        let no_locals = BTreeMap::new(alloc);
+        let globals = self.globals.as_slice();
+        let place = LabelPlace::of_item(alloc, hierarchy, top, globals, &no_locals);
         match item {
-            Item::Channel(one) => self.channels.push(resolve_channel(alloc, hierarchy, one)?)?,
+            Item::Channel(one) => self.channels.push(resolve_channel(&place, one)?)?,
             Item::Exception { name, .. } => {
                 self.exceptions
                     .push(String::from_str(alloc, name.text.as_str())?)?
             }
-            Item::Global(one) => self.globals.push(resolve_global(alloc, hierarchy, one)?)?,
+            Item::Global(one) => {
+                let global = resolve_global(&place, one)?;
+                self.globals.push(global)?;
+            }
             Item::Procedure(one) => {
                 self.procedures
-                    .push(resolve_procedure(alloc, hierarchy, top, one)?)?
+                    .push(resolve_procedure(alloc, hierarchy, top, globals, one)?)?
             }
         }
         Ok(())

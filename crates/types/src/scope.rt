@@ -1,6 +1,6 @@
 //! What names stand for, and the uses that places make of them.
 
-ghost use Rattle.types.specs.Environment.{array_finding, declaring, exception_finding, fresh_finding, input_finding, output_finding, procedure_finding, scalar_finding};
+ghost use Rattle.types.specs.Environment.{array_finding, declaring, exception_finding, fresh_finding, input_finding, output_finding, procedure_finding, scalar_finding, variable_finding};
 ghost use Rattle.types.specs.Finding.{give};
 ghost use Rattle.types.specs.Views.{Resolves, array_use, found_in, itself, scalar_use, texts_of, without};
 ghost use Rattle.std.specs.Prelude.{OnOk, List, ◌≡◌, None, ℕ};
@@ -135,6 +135,28 @@ pub fn require_array(found: Option<Meaning>, at: usize) -> Result<FoundArray, Ty
             base,
             size,
         }),
+        Some(_) => Err(OrNoMemory::Refused(TypeRefusal {
+            defect: TypeDefect::WrongUse,
+            at,
+        })),
+    }
+}
+
+/// Requires that a name stands for a variable, scalar or array, and gives it.
+///
+/// # Errors
+///
+/// 301 where it stands for nothing, 403 where it stands for something else than a variable.
+#[tactic(auto, unfolding(crate::specs::Environment::variable_finding))]
+pub fn require_variable(found: Option<Meaning>, at: usize) -> Result<Variable, TypeFault>
+    ensures { Resolves itself result (variable_finding found at) }
+{
+    match found {
+        None => Err(OrNoMemory::Refused(TypeRefusal {
+            defect: TypeDefect::UnknownName,
+            at,
+        })),
+        Some(Meaning::Scalar(variable, _) | Meaning::Array(variable, _, _)) => Ok(variable),
         Some(_) => Err(OrNoMemory::Refused(TypeRefusal {
             defect: TypeDefect::WrongUse,
             at,

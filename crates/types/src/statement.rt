@@ -11,7 +11,6 @@ ghost use Rattle.syntax.specs.Tree.{call_tree, expression_tree, name_tree, optio
 
 use crate::body::Body;
 use crate::fault::{TypeDefect, TypeFault, TypeRefusal};
-use crate::label::resolve_optional_label;
 use crate::operator::is_same;
 use crate::scope::{
     Meaning, require_array, require_exception, require_fresh, require_input, require_output,
@@ -180,7 +179,8 @@ impl<'a> Body<'a> {
     ///
     /// # Errors
     ///
-    /// 303 in its label, 302 where its name is in scope already, then 301 and 401 to 403 in its first value; or out of memory.
+    /// 301, 303, 305 and 403 in its label, 302 where its name is in scope already, then 301 and 401 to 403 in its first value; or
+    /// out of memory.
     #[tactic(auto, unfolding(crate::specs::Statements::declare_finding))]
     pub fn declare_scalar(
         &mut self,
@@ -197,7 +197,7 @@ impl<'a> Body<'a> {
         ensures later { OnOk result (IsLater self.old self.new) }
         ensures grows { OnOk result (taken self.new ≡ taken self.old + 1) }
     {
-        let written = resolve_optional_label(self.alloc, self.hierarchy, label)?;
+        let written = self.label_place().resolve_optional(label)?;
         require_fresh(self.look_up(name), name.at)?;
         let variable = Variable::Local(self.slots.len() as u32);
         let statement = self.resolve_right_side(at, variable, base, value)?;
@@ -211,7 +211,8 @@ impl<'a> Body<'a> {
     ///
     /// # Errors
     ///
-    /// 303 in its label, 302 where its name is in scope already, then 703 where its length is not 1 to 65,536; or out of memory.
+    /// 301, 303, 305 and 403 in its label, 302 where its name is in scope already, then 703 where its length is not 1 to 65,536; or
+    /// out of memory.
     #[tactic(auto, unfolding(crate::specs::Statements::declare_array_finding))]
     pub fn declare_array(
         &mut self,
@@ -228,7 +229,7 @@ impl<'a> Body<'a> {
         ensures later { OnOk result (IsLater self.old self.new) }
         ensures grows { OnOk result (taken self.new ≡ taken self.old + 1) }
     {
-        let label = resolve_optional_label(self.alloc, self.hierarchy, written)?;
+        let label = self.label_place().resolve_optional(written)?;
         require_fresh(self.look_up(name), name.at)?;
         let length = resolve_size(size)?;
         let number = self.slots.len() as u32;

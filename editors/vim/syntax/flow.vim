@@ -11,8 +11,8 @@ syntax keyword flowChannel send receive
 syntax keyword flowTruth true false
 syntax keyword flowBuiltIn Arith Bounds End
 syntax match flowNumber /\<\d\+\>/
-" A label stands directly behind a type, a name or a closing parenthesis: {Alice: Bob; Carol:}
-syntax match flowLabel /{\s*\(\k\+\s*:\s*\(\k\+\s*\(,\s*\k\+\s*\)*\)\?\(;\s*\k\+\s*:\s*\(\k\+\s*\(,\s*\k\+\s*\)*\)\?\)*\)\?}/
+" A label stands directly behind a type, a name or a closing parenthesis: {Alice: Bob; x}
+syntax match flowLabel /{\s*\(\k\+\s*\(:\s*\(\k\+\s*\(,\s*\k\+\s*\)*\)\?\)\?\(;\s*\k\+\s*\(:\s*\(\k\+\s*\(,\s*\k\+\s*\)*\)\?\)\?\)*\)\?}/
 syntax region flowComment start="/\*" end="\*/"
 syntax match flowComment "//.*$"
 

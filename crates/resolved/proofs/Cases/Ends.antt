@@ -4,7 +4,9 @@ use Rattle.std.specs.Prelude.{Some, None}
 use Rattle.std.specs.Int.{int_wrap}
 use Rattle.resolved.specs.declared.expression.Base.TheVariants.{Int}
 use Rattle.resolved.specs.declared.expression.Variable.TheVariants.{Local}
-use Rattle.resolved.specs.declared.expression.Operator.TheVariants.{Subtract, Multiply, Divide, Remainder}
+use Rattle.resolved.specs.declared.expression.Operator.TheVariants.{Compute, Divide}
+use Rattle.resolved.specs.declared.expression.Computation.TheVariants.{Subtract, Multiply}
+use Rattle.resolved.specs.declared.expression.Division.TheVariants.{Quotient, Remainder}
 use Rattle.resolved.specs.declared.expression.Prefix.TheVariants.{Negate}
 use Rattle.resolved.specs.declared.statement.Exit.TheVariants.{Normal, Return, Break, Continue, Throw}
 use Rattle.resolved.specs.Tree.{Logical, Element, Unary, Binary, Store, Receive, Send, Call, Leave, ReturnWith, Empty, NoMore, Catch}
@@ -20,8 +22,8 @@ fault defect at = record { defect = defect; at = at } ∷ []
 
 -- a nonzero literal divisor, or a minus sign before one, cannot raise; 0 and two signs can
 divisors : map raises (
-    Binary Divide (var 0) (int 2) ∷ Binary Remainder (var 0) (minus 2) ∷ Binary Divide (var 0) (int 0) ∷ Binary Divide (var 0) (minus 0)
-    ∷ Binary Divide (var 0) (Unary Negate (minus 2)) ∷ Binary Multiply (var 0) (var 1) ∷ [])
+    Binary (Divide Quotient) (var 0) (int 2) ∷ Binary (Divide Remainder) (var 0) (minus 2) ∷ Binary (Divide Quotient) (var 0) (int 0) ∷ Binary (Divide Quotient) (var 0) (minus 0)
+    ∷ Binary (Divide Quotient) (var 0) (Unary Negate (minus 2)) ∷ Binary (Compute Multiply) (var 0) (var 1) ∷ [])
     ≡ [] ∷ [] ∷ (arith ∷ []) ∷ (arith ∷ []) ∷ (arith ∷ []) ∷ [] ∷ []
 unfolding int_wrap
 divisors = refl
@@ -42,7 +44,7 @@ loop_ends = refl
 
 -- `try { int y = 1 / x; throw Oops; } catch (Arith) { return; }`
 try_ends : statement_ends (main_program [] []) (
-    try_to (set_to 1 (Binary Divide (int 1) (var 0)) ∷ Leave 0 (Throw oops) ∷ []) (on arith (ReturnWith 0 None ∷ [])))
+    try_to (set_to 1 (Binary (Divide Quotient) (int 1) (var 0)) ∷ Leave 0 (Throw oops) ∷ []) (on arith (ReturnWith 0 None ∷ [])))
     ≡ Throw oops ∷ Return ∷ []
 unfolding int_wrap
 try_ends = refl
@@ -83,7 +85,7 @@ caught_before = refl
 
 -- `a[z - 1] = 1;` cannot raise `Arith`
 no_arith : end_faults (main_program (int_slot [] ∷ array_slot 2 [] ∷ []) (
-    try_to (Store 0 (Local 1) 2 (Binary Subtract (var 0) (int 1)) (int 1) ∷ []) (Catch 8 arith Empty (Catch 9 bounds Empty NoMore)) ∷ []))
+    try_to (Store 0 (Local 1) 2 (Binary (Compute Subtract) (var 0) (int 1)) (int 1) ∷ []) (Catch 8 arith Empty (Catch 9 bounds Empty NoMore)) ∷ []))
     ≡ fault NeverRaised 8
 unfolding int_wrap
 no_arith = refl

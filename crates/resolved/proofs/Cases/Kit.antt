@@ -9,7 +9,8 @@ use Rattle.labels.specs.Constraints.{holds, label_lattice}
 use Rattle.labels.specs.declared.sent.Pair.{Pair}
 use Rattle.resolved.specs.declared.expression.Base.TheVariants.{Int}
 use Rattle.resolved.specs.declared.expression.Variable.TheVariants.{Local}
-use Rattle.resolved.specs.declared.expression.Operator.TheVariants.{GreaterThan}
+use Rattle.resolved.specs.declared.expression.Operator.TheVariants.{Compare}
+use Rattle.resolved.specs.declared.expression.Relation.TheVariants.{GreaterThan}
 use Rattle.resolved.specs.declared.expression.Prefix.TheVariants.{Negate}
 use Rattle.common.specs.declared.direction.Direction.TheVariants.{Input, Output}
 use Rattle.resolved.specs.declared.statement.Exit.TheVariants.{Normal, Throw}
@@ -71,7 +72,7 @@ abbrev pub send_public : Expression → Statement
 send_public e = Send 0 pub_channel e
 
 abbrev pub positive : Expression → Expression
-positive e = Binary GreaterThan e (Integer 0)
+positive e = Binary (Compare GreaterThan) e (Integer 0)
 
 abbrev pub block : List Statement → Block
 block [] = Empty

@@ -4,7 +4,10 @@ use Rattle.std.specs.Prelude.{ℤ, pos, negsuc, Some, None}
 use Rattle.std.specs.Int.{int_wrap}
 use Rattle.resolved.specs.declared.expression.Base.TheVariants.{Int}
 use Rattle.resolved.specs.declared.expression.Variable.TheVariants.{Global, Local}
-use Rattle.resolved.specs.declared.expression.Operator.TheVariants.{Add, Subtract, Multiply, Divide, Remainder, LessThan, Equal}
+use Rattle.resolved.specs.declared.expression.Operator.TheVariants.{Compute, Divide, Compare}
+use Rattle.resolved.specs.declared.expression.Computation.TheVariants.{Add, Subtract, Multiply}
+use Rattle.resolved.specs.declared.expression.Division.TheVariants.{Quotient, Remainder}
+use Rattle.resolved.specs.declared.expression.Relation.TheVariants.{LessThan, Equal}
 use Rattle.resolved.specs.declared.expression.Connective.TheVariants.{And, Or}
 use Rattle.resolved.specs.declared.expression.Prefix.TheVariants.{Negate}
 use Rattle.resolved.specs.declared.expression.Value.TheVariants.{Number}
@@ -25,18 +28,18 @@ one_number = refl
 
 -- the least number by -1, and the quotients and remainders of numbers with signs
 division : run 1 0 (main_program [] (
-    send_public (Binary Divide (Binary Subtract (minus 2147483647) (int 1)) (minus 1))
-    ∷ send_public (Binary Remainder (Binary Subtract (minus 2147483647) (int 1)) (minus 1))
-    ∷ send_public (Binary Divide (minus 7) (int 2)) ∷ send_public (Binary Remainder (minus 7) (int 2))
-    ∷ send_public (Binary Remainder (int 7) (minus 2)) ∷ [])) silence
+    send_public (Binary (Divide Quotient) (Binary (Compute Subtract) (minus 2147483647) (int 1)) (minus 1))
+    ∷ send_public (Binary (Divide Remainder) (Binary (Compute Subtract) (minus 2147483647) (int 1)) (minus 1))
+    ∷ send_public (Binary (Divide Quotient) (minus 7) (int 2)) ∷ send_public (Binary (Divide Remainder) (minus 7) (int 2))
+    ∷ send_public (Binary (Divide Remainder) (int 7) (minus 2)) ∷ [])) silence
     ≡ (negsuc 2147483647 ∷ pos 0 ∷ negsuc 2 ∷ negsuc 0 ∷ pos 1 ∷ [], finished)
 unfolding int_wrap
 division = refl
 
 -- sums, products and the sign wrap
 wrapping : run 1 0 (main_program [] (
-    send_public (Binary Add (int 2147483647) (int 1)) ∷ send_public (Binary Multiply (int 65536) (int 65536))
-    ∷ send_public (Unary Negate (Binary Add (int 2147483647) (int 1))) ∷ [])) silence
+    send_public (Binary (Compute Add) (int 2147483647) (int 1)) ∷ send_public (Binary (Compute Multiply) (int 65536) (int 65536))
+    ∷ send_public (Unary Negate (Binary (Compute Add) (int 2147483647) (int 1))) ∷ [])) silence
     ≡ (negsuc 2147483647 ∷ pos 0 ∷ negsuc 2147483647 ∷ [], finished)
 unfolding int_wrap
 wrapping = refl
@@ -45,7 +48,7 @@ wrapping = refl
 -- the left operand raises first
 left_operand_first : run 1 0 (main_program (int_slot [] ∷ array_slot 2 [] ∷ int_slot [] ∷ []) (
     set_to 0 (int 0) ∷ Clear 0 1
-    ∷ try_to (set_to 2 (Binary Add (Binary Divide (int 1) (var 0)) (Element (Local 1) 2 (Binary Subtract (var 0) (int 1)))) ∷ [])
+    ∷ try_to (set_to 2 (Binary (Compute Add) (Binary (Divide Quotient) (int 1) (var 0)) (Element (Local 1) 2 (Binary (Compute Subtract) (var 0) (int 1)))) ∷ [])
     (Catch 0 arith (block (send_public (int 1) ∷ [])) (on bounds (send_public (int 2) ∷ []))) ∷ [])) silence
     ≡ (pos 1 ∷ [], finished)
 unfolding int_wrap
@@ -54,7 +57,7 @@ left_operand_first = refl
 -- the same with `a[z - 1] = 1 / z;` as the block: the value is evaluated before the range is tested
 value_before_range : run 1 0 (main_program (int_slot [] ∷ array_slot 2 [] ∷ []) (
     set_to 0 (int 0) ∷ Clear 0 1
-    ∷ try_to (Store 0 (Local 1) 2 (Binary Subtract (var 0) (int 1)) (Binary Divide (int 1) (var 0)) ∷ [])
+    ∷ try_to (Store 0 (Local 1) 2 (Binary (Compute Subtract) (var 0) (int 1)) (Binary (Divide Quotient) (int 1) (var 0)) ∷ [])
     (Catch 0 arith (block (send_public (int 1) ∷ [])) (on bounds (send_public (int 2) ∷ []))) ∷ [])) silence
     ≡ (pos 1 ∷ [], finished)
 unfolding int_wrap
@@ -62,7 +65,7 @@ value_before_range = refl
 
 -- the first argument raises first, and before the call
 first_argument_first : run 1 0 (main_program (int_slot [] ∷ array_slot 1 [] ∷ []) (
-    try_to (Call 0 9 (Element (Local 1) 1 (int 1) ∷ Binary Divide (int 1) (var 0) ∷ []) None ∷ [])
+    try_to (Call 0 9 (Element (Local 1) 1 (int 1) ∷ Binary (Divide Quotient) (int 1) (var 0) ∷ []) None ∷ [])
     (Catch 0 arith (block (send_public (int 1) ∷ [])) (on bounds (send_public (int 2) ∷ []))) ∷ [])) silence
     ≡ (pos 2 ∷ [], finished)
 unfolding int_wrap
@@ -70,9 +73,9 @@ first_argument_first = refl
 
 -- `if (false && 1 / 0 == 1) { send pub, 1; } if (true || 1 / 0 == 1) { send pub, 2; } if (true && 1 / 0 == 1) { }`
 short_circuit : run 1 0 (main_program [] (
-    if_then (Short And (Logical false) (Binary Equal (Binary Divide (int 1) (int 0)) (int 1))) (send_public (int 1) ∷ [])
-    ∷ if_then (Short Or (Logical true) (Binary Equal (Binary Divide (int 1) (int 0)) (int 1))) (send_public (int 2) ∷ [])
-    ∷ if_then (Short And (Logical true) (Binary Equal (Binary Divide (int 1) (int 0)) (int 1))) [] ∷ [])) silence
+    if_then (Short And (Logical false) (Binary (Compare Equal) (Binary (Divide Quotient) (int 1) (int 0)) (int 1))) (send_public (int 1) ∷ [])
+    ∷ if_then (Short Or (Logical true) (Binary (Compare Equal) (Binary (Divide Quotient) (int 1) (int 0)) (int 1))) (send_public (int 2) ∷ [])
+    ∷ if_then (Short And (Logical true) (Binary (Compare Equal) (Binary (Divide Quotient) (int 1) (int 0)) (int 1))) [] ∷ [])) silence
     ≡ (pos 2 ∷ [], threw arith)
 unfolding int_wrap
 short_circuit = refl
@@ -81,18 +84,18 @@ short_circuit = refl
 -- its end raises
 cleared_each_turn : run 1 3 (main_program (array_slot 2 [] ∷ int_slot [] ∷ []) (
     set_to 1 (int 0)
-    ∷ while_loop (Binary LessThan (var 1) (int 3)) (
-    Clear 0 0 ∷ Store 0 (Local 0) 2 (var 1) (Binary Add (Element (Local 0) 2 (int 0)) (int 5))
-    ∷ send_public (Element (Local 0) 2 (var 1)) ∷ set_to 1 (Binary Add (var 1) (int 1)) ∷ []) ∷ [])) silence
+    ∷ while_loop (Binary (Compare LessThan) (var 1) (int 3)) (
+    Clear 0 0 ∷ Store 0 (Local 0) 2 (var 1) (Binary (Compute Add) (Element (Local 0) 2 (int 0)) (int 5))
+    ∷ send_public (Element (Local 0) 2 (var 1)) ∷ set_to 1 (Binary (Compute Add) (var 1) (int 1)) ∷ []) ∷ [])) silence
     ≡ (pos 5 ∷ pos 5 ∷ [], threw bounds)
 unfolding int_wrap
 cleared_each_turn = refl
 
 -- without the declaration in the loop the elements would stay
 elements_stay : run 1 2 (main_program (array_slot 1 [] ∷ int_slot [] ∷ []) (
-    while_loop (Binary LessThan (var 1) (int 2)) (
-    Store 0 (Local 0) 1 (int 0) (Binary Add (Element (Local 0) 1 (int 0)) (int 5))
-    ∷ send_public (Element (Local 0) 1 (int 0)) ∷ set_to 1 (Binary Add (var 1) (int 1)) ∷ []) ∷ [])) silence
+    while_loop (Binary (Compare LessThan) (var 1) (int 2)) (
+    Store 0 (Local 0) 1 (int 0) (Binary (Compute Add) (Element (Local 0) 1 (int 0)) (int 5))
+    ∷ send_public (Element (Local 0) 1 (int 0)) ∷ set_to 1 (Binary (Compute Add) (var 1) (int 1)) ∷ []) ∷ [])) silence
     ≡ (pos 5 ∷ pos 10 ∷ [], finished)
 unfolding int_wrap
 elements_stay = refl
@@ -118,10 +121,10 @@ out_of_turns = refl
 
 -- turns are counted anew each time a loop is reached: two turns of the inner loop suffice in both turns of the outer one
 turns_counted_anew : run 1 2 (main_program (int_slot [] ∷ int_slot [] ∷ []) (
-    while_loop (Binary LessThan (var 0) (int 2)) (
+    while_loop (Binary (Compare LessThan) (var 0) (int 2)) (
     set_to 1 (int 0)
-    ∷ while_loop (Binary LessThan (var 1) (int 2)) (send_public (var 1) ∷ set_to 1 (Binary Add (var 1) (int 1)) ∷ [])
-    ∷ set_to 0 (Binary Add (var 0) (int 1)) ∷ []) ∷ [])) silence
+    ∷ while_loop (Binary (Compare LessThan) (var 1) (int 2)) (send_public (var 1) ∷ set_to 1 (Binary (Compute Add) (var 1) (int 1)) ∷ [])
+    ∷ set_to 0 (Binary (Compute Add) (var 0) (int 1)) ∷ []) ∷ [])) silence
     ≡ (pos 0 ∷ pos 1 ∷ pos 0 ∷ pos 1 ∷ [], finished)
 unfolding int_wrap
 turns_counted_anew = refl
@@ -136,9 +139,9 @@ stop_is_not_caught = refl
 -- `while (true) { if (i == 1) { i = i + 1; continue; } if (i == 3) { break; } send pub, i; i = i + 1; } send pub, 9;`
 break_and_continue : run 1 5 (main_program (int_slot [] ∷ []) (
     while_loop (Logical true) (
-    if_then (Binary Equal (var 0) (int 1)) (set_to 0 (Binary Add (var 0) (int 1)) ∷ Leave 0 Continue ∷ [])
-    ∷ if_then (Binary Equal (var 0) (int 3)) (Leave 0 Break ∷ [])
-    ∷ send_public (var 0) ∷ set_to 0 (Binary Add (var 0) (int 1)) ∷ [])
+    if_then (Binary (Compare Equal) (var 0) (int 1)) (set_to 0 (Binary (Compute Add) (var 0) (int 1)) ∷ Leave 0 Continue ∷ [])
+    ∷ if_then (Binary (Compare Equal) (var 0) (int 3)) (Leave 0 Break ∷ [])
+    ∷ send_public (var 0) ∷ set_to 0 (Binary (Compute Add) (var 0) (int 1)) ∷ [])
     ∷ send_public (int 9) ∷ [])) silence ≡ (pos 0 ∷ pos 2 ∷ pos 9 ∷ [], finished)
 unfolding int_wrap
 break_and_continue = refl
@@ -172,7 +175,7 @@ first_handler = refl
 recursive : Expression → Program
 recursive n = program (
     procedure [] (try_to (Call 0 1 (n ∷ []) None ∷ []) (on oops (send_public (int 2) ∷ [])) ∷ send_public (int 1) ∷ [])
-    ∷ record (procedure (int_slot [] ∷ []) (if_then (positive (var 0)) (Call 0 1 (Binary Subtract (var 0) (int 1) ∷ []) None ∷ []) ∷ []))
+    ∷ record (procedure (int_slot [] ∷ []) (if_then (positive (var 0)) (Call 0 1 (Binary (Compute Subtract) (var 0) (int 1) ∷ []) None ∷ []) ∷ []))
     { parameters = 1; throws = thrown oops [] }
     ∷ [])
 
@@ -198,7 +201,7 @@ past_the_limit = refl
 -- `global int{} n = 2; void main() { send pub, n; n = n - 1; if (n > 0) { main(); } send pub, 9; }`
 main_calls_itself : run 3 0 (program_with (record { name = []; base = Int; size = None; label = []; first = Number (pos 2) } ∷ []) (
     procedure [] (
-    send_public (Read (Global 0)) ∷ Assign 0 (Global 0) (Binary Subtract (Read (Global 0)) (int 1))
+    send_public (Read (Global 0)) ∷ Assign 0 (Global 0) (Binary (Compute Subtract) (Read (Global 0)) (int 1))
     ∷ if_then (positive (Read (Global 0))) (Call 0 0 [] None ∷ [])
     ∷ send_public (int 9) ∷ [])
     ∷ [])) silence ≡ (pos 2 ∷ pos 1 ∷ pos 9 ∷ pos 9 ∷ [], finished)
@@ -212,7 +215,7 @@ returned_value : run 2 0 (program (
     set_to 0 (int 1) ∷ Call 0 1 (int 6 ∷ []) (Some (Local 1)) ∷ send_public (var 1) ∷ Call 0 1 (int 2 ∷ []) None
     ∷ send_public (var 0) ∷ [])
     ∷ record (procedure (int_slot [] ∷ []) (
-    set_to 0 (Binary Add (var 0) (int 1)) ∷ ReturnWith 0 (Some (var 0)) ∷ send_public (int 5) ∷ []))
+    set_to 0 (Binary (Compute Add) (var 0) (int 1)) ∷ ReturnWith 0 (Some (var 0)) ∷ send_public (int 5) ∷ []))
     { parameters = 1; result = Some (record { base = Int; label = [] }) }
     ∷ [])) silence ≡ (pos 7 ∷ pos 1 ∷ [], finished)
 unfolding int_wrap

@@ -12,7 +12,7 @@ use Rattle.resolved.specs.declared.expression.Variable.{Variable}
 use Rattle.resolved.specs.declared.expression.Prefix.{Prefix}
 use Rattle.resolved.specs.declared.expression.Prefix.TheVariants.{Negate, Not}
 use Rattle.resolved.specs.declared.expression.Operator.{Operator}
-use Rattle.resolved.specs.declared.expression.Operator.TheVariants.{Add, Subtract, Multiply, Divide, Remainder, LessThan, AtMost, GreaterThan, AtLeast, Equal, Unequal, Same, Different}
+use Rattle.resolved.specs.declared.expression.Operator.TheVariants.{Compute, Divide, Bits, Compare, Match}
 use Rattle.resolved.specs.declared.expression.Connective.{Connective}
 use Rattle.resolved.specs.Tree.{Expression, Integer, Logical, Read, Element, Unary, Binary, Short}
 use Rattle.resolved.specs.Program.{Program, ProcedureEntry, SlotEntry}
@@ -45,19 +45,11 @@ unless_zero_gives true z = tt
 unless_zero_gives false z = refl
 
 operator_gives : (operator : Operator) (v w : Value) → GivesBase (result_base operator) (operator_value operator v w)
-operator_gives Add v w = refl
-operator_gives Subtract v w = refl
-operator_gives Multiply v w = refl
-operator_gives Divide v w = unless_zero_gives (is_zero (number_in w)) _
-operator_gives Remainder v w = unless_zero_gives (is_zero (number_in w)) _
-operator_gives LessThan v w = refl
-operator_gives AtMost v w = refl
-operator_gives GreaterThan v w = refl
-operator_gives AtLeast v w = refl
-operator_gives Equal v w = refl
-operator_gives Unequal v w = refl
-operator_gives Same v w = refl
-operator_gives Different v w = refl
+operator_gives (Compute computation) v w = refl
+operator_gives (Divide division) v w = unless_zero_gives (is_zero (number_in w)) _
+operator_gives (Bits operator) v w = refl
+operator_gives (Compare relation) v w = refl
+operator_gives (Match sameness) v w = refl
 
 -- ---- evaluation
 gives_at : (a b : Base) (result : Evaluated Value) → a ≡ b → GivesBase a result → GivesBase b result

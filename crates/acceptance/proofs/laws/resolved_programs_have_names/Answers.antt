@@ -7,7 +7,6 @@ returns-clause-hierarchy c = λ source h program from.
 
 pub returns-clause-names : goal.returns-clause-names
 returns-clause-names c = gives_names (record {
-  principals = c.names_are_names.ensures;
   proper = c.item_names_are_proper_and_different.ensures.proper;
   different = c.item_names_are_proper_and_different.ensures.different;
   utf8 = c.item_names_are_utf8.ensures;

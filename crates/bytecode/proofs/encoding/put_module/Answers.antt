@@ -1,7 +1,8 @@
-use Rattle.std.proofs.Common.{List, subst, ◌++◌, ◌≡◌, ℕ}
+use Rattle.std.proofs.Common.{List, ap, subst, ◌++◌, ◌∙◌, ◌≡◌, ℕ}
 use Rattle.principals.specs.ActsFor.{PrincipalHierarchy}
 use Rattle.modules.specs.Contents.{ChannelContents, ProcedureContents}
 use Rattle.modules.specs.declared.declaration.Global.{Global}
+use Rattle.modules.specs.Format.{version_number}
 use Rattle.bytecode.specs.Writing.{list_bytes, pair_bytes, text_bytes, channel_bytes, variable_bytes, procedure_bytes, number_bytes}
 use Rattle.bytecode.proofs.Written.{module_fits, module_written}
 use Rattle.bytecode.proofs.encoding.put_module.Goals as goal
@@ -38,6 +39,7 @@ put_list-requires-3-clause-each c = rw c.procedures.ensures.procedures (module_f
 
 pub returns-clause-written : goal.returns-clause-written
 returns-clause-written c =
+    let version : ℕ → Type 0 = λ number. c.put_number-2.new.out.items ≡ c.put_number.new.out.items ++ number_bytes number in
     let authority : PrincipalHierarchy → Type 0 = λ h. c.put_hierarchy.new.out.items ≡ c.put_number-2.new.out.items ++ (list_bytes text_bytes h.names ++ list_bytes pair_bytes h.pairs) in
     let names : List (List ℕ) → Type 0 = λ texts. c.put_names.new.out.items ≡ c.put_hierarchy.new.out.items ++ list_bytes text_bytes texts in
     let all : List ChannelContents → Type 0 = λ channels. c.put_list.new.out.items ≡ c.put_names.new.out.items ++ list_bytes channel_bytes channels in
@@ -46,7 +48,7 @@ returns-clause-written c =
     let last : ℕ → Type 0 = λ main. c.put_number-3.new.out.items ≡ c.put_list-3.new.out.items ++ number_bytes main in
     module_written c.args.program.now c.args.out.now.items c.put_number.new.out.items c.put_number-2.new.out.items c.put_hierarchy.new.out.items c.put_names.new.out.items c.put_list.new.out.items c.put_list-2.new.out.items c.put_list-3.new.out.items c.put_number-3.new.out.items
     c.in_ok-put_number.ensures
-    c.in_ok-put_number-2.ensures
+    (subst version (c.number-version.ensures ∙ ap version_number c.version.ensures) c.in_ok-put_number-2.ensures)
     (subst authority c.hierarchy-hierarchy.ensures.hierarchy c.in_ok-put_hierarchy.ensures)
     (subst names c.exceptions.ensures c.in_ok-put_names.ensures)
     (subst all c.channels.ensures c.in_ok-put_list.ensures)

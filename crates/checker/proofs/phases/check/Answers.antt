@@ -14,22 +14,35 @@ returns-in-Err-Refused-clause-rejected c = λ program accepted.
     accepted_refused c.args.hierarchy.now c.args.source.now program c.in-Err-Refused.field-0-0.cause c.in-Err-Refused.field-0-0.at accepted
     (subst (IfRefused (IsFound c.args.hierarchy.now c.args.source.now)) c.in-Err-Refused.field-0-is c.in-Err-Refused.ensures.first_fault)
 
+pub find_labels-requires-clause-names : goal.find_labels-requires-clause-names
+find_labels-requires-clause-names c =
+    c.resolved_programs_have_names.ensures.names c.args.hierarchy.now c.args.source.now (program_of c.in-Ok.analysed.core)
+    c.count-count.ensures.kept c.count-count.ensures.named c.in-Ok.ensures.resolved
+
+pub returns-in-Ok-find_labels-clause-accepted : goal.returns-in-Ok-find_labels-clause-accepted
+returns-in-Ok-find_labels-clause-accepted c =
+    accepted-from c.args.hierarchy.now c.args.source.now c.in-Ok.analysed.core c.in-Ok-find_labels.checked.core c.in-Ok-find_labels.ensures.core c.in-Ok.ensures.resolved c.in-Ok.ensures.ended
+    c.in-Ok-find_labels.ensures.checked.labelled
+
+pub returns-in-Ok-find_labels-clause-least : goal.returns-in-Ok-find_labels-clause-least
+returns-in-Ok-find_labels-clause-least c = c.in-Ok-find_labels.ensures.checked.least
+
 pub returns-in-Ok-find_labels-clause-isolated : goal.returns-in-Ok-find_labels-clause-isolated
 returns-in-Ok-find_labels-clause-isolated c =
     let kept = c.in-Ok-find_labels.checked.core in
     let accepted : IsAccepted c.args.hierarchy.now c.args.source.now (program_of kept) =
     accepted-from c.args.hierarchy.now c.args.source.now c.in-Ok.analysed.core kept c.in-Ok-find_labels.ensures.core c.in-Ok.ensures.resolved c.in-Ok.ensures.ended
-    c.in-Ok-find_labels.ensures.labelled in
-    c.labelled_programs_are_isolated.ensures (program_of kept) accepted.ended c.in-Ok-find_labels.ensures.labelled
+    c.in-Ok-find_labels.ensures.checked.labelled in
+    c.labelled_programs_are_isolated.ensures (program_of kept) accepted.ended c.in-Ok-find_labels.ensures.checked.labelled
 
 pub returns-in-Ok-find_labels-clause-larger : goal.returns-in-Ok-find_labels-clause-larger
 returns-in-Ok-find_labels-clause-larger c =
     let kept = c.in-Ok-find_labels.checked.core in
     let accepted : IsAccepted c.args.hierarchy.now c.args.source.now (program_of kept) =
     accepted-from c.args.hierarchy.now c.args.source.now c.in-Ok.analysed.core kept c.in-Ok-find_labels.ensures.core c.in-Ok.ensures.resolved c.in-Ok.ensures.ended
-    c.in-Ok-find_labels.ensures.labelled in
+    c.in-Ok-find_labels.ensures.checked.labelled in
     let same = c.resolved_programs_have_names.ensures.hierarchy c.args.source.now c.args.hierarchy.now (program_of kept) accepted.resolved in
-    c.labelled_programs_stay_isolated.ensures.by_name (program_of kept) accepted.ended c.in-Ok-find_labels.ensures.labelled
+    c.labelled_programs_stay_isolated.ensures.by_name (program_of kept) accepted.ended c.in-Ok-find_labels.ensures.checked.labelled
     (subst IsHierarchy (sym same) c.count-count.ensures.kept)
 
 pub returns-clause-first_fault : goal.returns-clause-first_fault

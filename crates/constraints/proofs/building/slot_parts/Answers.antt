@@ -1,4 +1,4 @@
-use Rattle.std.proofs.Common.{◌∙◌, ap, map}
+use Rattle.std.proofs.Common.{◌∙◌, ap, map, refl}
 use Rattle.std.proofs.lemmas.List.{take_all}
 use Rattle.resolved.specs.ProgramOf.{slot_entry}
 use Rattle.constraints.specs.Rows.{slot_parts}
@@ -8,7 +8,7 @@ use Rattle.constraints.proofs.building.slot_parts.Goals as goal
 pub loop-i-preserved : goal.loop-i-preserved
 loop-i-preserved c = record {
   grown = grows-then _ _ _ c.loop-i.invariant.grown c.in_ok-slot_part.ensures.grown;
-  meaning = slots-next c.args.slots.now c.loop-i.i c.index-slots-i.result c.args.first _ _ _ _ _ _ c.loop-i-test.true c.index-slots-i.is c.in_ok-number_after.ensures.sum
+  meaning = slots-next c.args.slots.now c.loop-i.i c.index-slots-i.result c.args.first _ _ _ _ _ _ c.loop-i-test.true c.index-slots-i.is refl
       c.in_ok-push.ensures.items c.in_ok-slot_part.ensures.grown c.loop-i.invariant.meaning c.in_ok-slot_part.ensures.meaning;
 }
 

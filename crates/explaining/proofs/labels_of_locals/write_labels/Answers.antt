@@ -1,9 +1,13 @@
-use Rattle.std.proofs.Common.{◌≡◌, ◌<◌, ◌∙◌, List, ap, get_or, length, refl, subst}
+use Rattle.std.proofs.Common.{◌≡◌, ◌<◌, ◌∙◌, List, ap, arith, get_or, length, refl, subst}
 use Rattle.resolved.specs.CoreOf.{program_of}
+use Rattle.resolved.specs.declared.program.Core.{Core}
 use Rattle.resolved.specs.declared.tables.Procedure.{Procedure}
 use Rattle.explaining.specs.Locals.{unlabelled_locals}
 use Rattle.explaining.proofs.Lists.{part_of_none, writes_none, writes_procedure, writes_procedures, writes_some_procedures}
 use Rattle.gathering.proofs.Before.{before-here, before-next}
+use Rattle.gathering.proofs.Few.{core-few}
+use Rattle.resolved.specs.ProgramOf.{slot_entry}
+use Rattle.std.proofs.lemmas.List.{length-map}
 use Rattle.explaining.proofs.labels_of_locals.write_labels.Goals as goal
 use Rattle.channels.proofs.Views.{on_err}
 
@@ -21,8 +25,8 @@ returns-in_err-write_locals-clause-prefix g c =
     let number = c.loop-number.number in
     let here = c.procedure-item.result in
     let within : number < length procedures =
-    subst (λ (list : List Procedure). number < length list) c.deref-procedure-items.ensures.value c.loop-number-test.true in
-    let is : here ≡ get_or procedures number here = c.procedure-item.is ∙ ap (λ list. get_or list number here) c.deref-procedure-items.ensures.value in
+    subst (λ (list : List Procedure). number < length list) (c.deref-procedure-items.ensures.value ∙ ap (λ (core : Core). core.procedures.items) c.core-core.ensures.core) c.loop-number-test.true in
+    let is : here ≡ get_or procedures number here = c.procedure-item.is ∙ ap (λ list. get_or list number here) (c.deref-procedure-items.ensures.value ∙ ap (λ (core : Core). core.procedures.items) c.core-core.ensures.core) in
     on_err c.from_residual-in_err-write_locals.result _
     (writes_some_procedures c.args.source.now c.args.checked.now procedures number here c.as_slice-slots.result.now _ _ _ within is c.as_slice-slots.ensures.value
     c.loop-number.invariant.written _ c.in_ok-marked.ensures c.in_err-write_locals.ensures.prefix)
@@ -33,27 +37,37 @@ loop-number-preserved g c =
     let number = c.loop-number.number in
     let here = c.procedure-item.result in
     let within : number < length procedures =
-    subst (λ (list : List Procedure). number < length list) c.deref-procedure-items.ensures.value c.loop-number-test.true in
-    let is : here ≡ get_or procedures number here = c.procedure-item.is ∙ ap (λ list. get_or list number here) c.deref-procedure-items.ensures.value in
+    subst (λ (list : List Procedure). number < length list) (c.deref-procedure-items.ensures.value ∙ ap (λ (core : Core). core.procedures.items) c.core-core.ensures.core) c.loop-number-test.true in
+    let is : here ≡ get_or procedures number here = c.procedure-item.is ∙ ap (λ list. get_or list number here) (c.deref-procedure-items.ensures.value ∙ ap (λ (core : Core). core.procedures.items) c.core-core.ensures.core) in
     record {
       written =
           writes_procedure c.args.source.now c.args.checked.now procedures number here c.as_slice-slots.result.now _ _ _ within is c.as_slice-slots.ensures.value
           c.loop-number.invariant.written _ c.in_ok-marked.ensures c.in_ok-write_locals.ensures.accepted;
-      counted = before-next procedures number c.loop-number.first c.loop-number.invariant.counted here c.in_ok-first.first within is c.in_ok-first.ensures.sum;
+      counted = before-next procedures number c.loop-number.first c.loop-number.invariant.counted here c.first_after-first.result within is c.first_after-first.ensures;
     }
 
-pub returns-in_err-first-clause-prefix : goal.returns-in_err-first-clause-prefix
-returns-in_err-first-clause-prefix g c =
+pub write_locals-requires-clause-first : goal.write_locals-requires-clause-first
+write_locals-requires-clause-first g c =
+    before-here c.args.checked.now.core.procedures.items c.loop-number.number c.loop-number.first c.loop-number.invariant.counted
+
+pub write_locals-requires-clause-few : goal.write_locals-requires-clause-few
+write_locals-requires-clause-few g c =
     let procedures = c.args.checked.now.core.procedures.items in
     let number = c.loop-number.number in
     let here = c.procedure-item.result in
-    let within : number < length procedures =
-    subst (λ (list : List Procedure). number < length list) c.deref-procedure-items.ensures.value c.loop-number-test.true in
-    let is : here ≡ get_or procedures number here = c.procedure-item.is ∙ ap (λ list. get_or list number here) c.deref-procedure-items.ensures.value in
-    on_err c.from_residual-in_err-first.result _
-    (writes_procedures c.args.source.now c.args.checked.now procedures number here c.as_slice-slots.result.now _ _ _ within is c.as_slice-slots.ensures.value
-    c.loop-number.invariant.written _ c.in_ok-marked.ensures c.in_ok-write_locals.ensures.accepted)
+    let same = c.deref-procedure-items.ensures.value ∙ ap (λ (core : Core). core.procedures.items) c.core-core.ensures.core in
+    let within : number < length procedures = subst (λ (list : List Procedure). number < length list) same c.loop-number-test.true in
+    let is : here ≡ get_or procedures number here = c.procedure-item.is ∙ ap (λ list. get_or list number here) same in
+    let few = core-few c.args.checked.now.core number c.loop-number.first here c.loop-number.invariant.counted within is in
+    omega (arith, few, ap length c.as_slice-slots.ensures.value, length-map here.slots.items slot_entry)
 
-pub write_locals-requires : goal.write_locals-requires
-write_locals-requires g c =
-    before-here c.args.checked.now.core.procedures.items c.loop-number.number c.loop-number.first c.loop-number.invariant.counted
+pub first_after-first-requires : goal.first_after-first-requires
+first_after-first-requires g c =
+    let procedures = c.args.checked.now.core.procedures.items in
+    let number = c.loop-number.number in
+    let here = c.procedure-item.result in
+    let same = c.deref-procedure-items.ensures.value ∙ ap (λ (core : Core). core.procedures.items) c.core-core.ensures.core in
+    let within : number < length procedures = subst (λ (list : List Procedure). number < length list) same c.loop-number-test.true in
+    let is : here ≡ get_or procedures number here = c.procedure-item.is ∙ ap (λ list. get_or list number here) same in
+    let few = core-few c.args.checked.now.core number c.loop-number.first here c.loop-number.invariant.counted within is in
+    omega (arith, few)

@@ -25,6 +25,7 @@ lay_out_procedures-requires-clause-positions c =
 pub new-requires : goal.new-requires
 new-requires c =
     let made : ◌≡◌ {A = ModuleContents} (record {
+      version = c.version.result;
       hierarchy = c.in_ok-hierarchy.hierarchy;
       exceptions = map (λ name. string_bytes name) c.in_ok-exceptions.exceptions.items;
       channels = c.in_ok-channels.channels.items;

@@ -1,8 +1,10 @@
 use Rattle.std.proofs.Common.{◌≡◌, ℕ, map, List, length, sym, ap, ◌∙◌, subst, arith}
+use Rattle.std.specs.Prelude.{All}
 use Rattle.std.specs.String.{string_bytes}
 use Rattle.std.proofs.lemmas.List.{take_all, length-map}
 use Rattle.std.proofs.lemmas.List.Filters.{dedup_is}
 use Rattle.principals.specs.ActsFor.{AllDifferent, AllBelow}
+use Rattle.principals.specs.Named.{IsKeptName}
 use Rattle.labels.specs.Sets.{ascending_set}
 use Rattle.modules.specs.Format.{pair_cmp}
 use Rattle.lowering.proofs.Lists.{copied_more}
@@ -35,6 +37,9 @@ of-requires-clause-few c = omega (arith, count_is c, c.count-kept.ensures.kept.f
 
 pub of-requires-clause-different : goal.of-requires-clause-different
 of-requires-clause-different c = subst AllDifferent (sym (names_are c)) c.count-kept.ensures.kept.different
+
+pub of-requires-clause-named : goal.of-requires-clause-named
+of-requires-clause-named c = subst (All IsKeptName) (sym (names_are c)) c.count-kept.ensures.named
 
 pub of-requires-clause-there : goal.of-requires-clause-there
 of-requires-clause-there c =

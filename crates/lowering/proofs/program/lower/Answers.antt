@@ -1,47 +1,64 @@
-use Rattle.std.proofs.Common.{map, ◌∙◌, ap, sym, subst}
+use Rattle.std.proofs.Common.{◌≡◌, ◌∙◌, ap, sym, subst, []}
 use Rattle.std.specs.Prelude.{All}
-use Rattle.std.specs.String.{string_bytes}
 use Rattle.modules.specs.Contents.{ModuleContents}
-use Rattle.layout.specs.Graph.{IsGraph}
+use Rattle.modules.specs.Form.{Fits}
+use Rattle.modules.specs.Format.{module_file}
+use Rattle.layout.specs.Offsets.{laid_out}
 use Rattle.layout.specs.Runs.{graph_after_steps}
 use Rattle.resolved.specs.CoreOf.{program_of}
-use Rattle.resolved.specs.Program.{GlobalEntry}
-use Rattle.resolved.specs.ProgramOf.{channel_entry, global_entry}
-use Rattle.lowering.specs.Fitting.{IsShortValue}
-use Rattle.lowering.specs.Interface.{channel_contents, global_contents}
+use Rattle.resolved.specs.EndFaults.{end_faults}
+use Rattle.resolved.specs.Names.{HasNames}
+use Rattle.resolved.specs.declared.program.Core.{Core}
+use Rattle.verifier.specs.Refusals.{HasNoDefect}
+use Rattle.verifier.specs.Safety.{IsNeverStuck}
+use Rattle.lowering.specs.Direct.{HasDirectJumps}
+use Rattle.lowering.specs.Graphs.{graph_of}
+use Rattle.lowering.specs.Interface.{HasInterfaceOf}
 use Rattle.lowering.specs.SameMeaning.{SameMeaning}
-use Rattle.lowering.proofs.FittingFile.{graphs-fit}
-use Rattle.lowering.proofs.Inside.{graphs-positioned}
+use Rattle.lowering.proofs.Directs.{graphs-direct}
+use Rattle.lowering.proofs.Faultless.{modules-have-no-defect, modules-run}
+use Rattle.lowering.proofs.Interfaces.{graph-interface}
 use Rattle.lowering.proofs.Keeping.{graphs-keep}
-use Rattle.lowering.proofs.Wholes.{graph-made}
 use Rattle.lowering.proofs.program.lower.Goals as goal
 
-pub new-requires : goal.new-requires
-new-requires c =
-    subst IsGraph
-    (sym (graph-made (program_of c.args.core.now) _ _ _ _ _
-    c.in_ok-hierarchy.ensures
-    (c.in_ok-exceptions.ensures ∙ ap (map (λ name. string_bytes name)) c.deref.ensures.value)
-    (c.in_ok-channels.ensures ∙ ap (λ l. map channel_contents (map channel_entry l)) c.deref-2.ensures.value)
-    (c.in_ok-globals.ensures.exact ∙ ap (λ l. map global_contents (map global_entry l)) c.deref-3.ensures.value)
-    c.in_ok-procedures.ensures))
-    (record {
-      positions = graphs-positioned (program_of c.args.core.now) c.args.core.now.well_formed c.requires.ends;
-      limits = graphs-fit (program_of c.args.core.now) c.args.core.now.well_formed c.requires.ends c.requires.names
-          (subst (λ l. All (λ (entry : GlobalEntry). IsShortValue entry.first) (map global_entry l)) c.deref-3.ensures.value c.in_ok-globals.ensures.short);
-    })
+-- the graph is that of the checked program
+graph_is : (graph : ModuleContents) (lent core : Core) → graph ≡ graph_of (program_of lent) → lent ≡ core → graph ≡ graph_of (program_of core)
+graph_is graph lent core is same = is ∙ ap (λ (one : Core). graph_of (program_of one)) same
 
-pub returns-clause-exact : goal.returns-clause-exact
-returns-clause-exact c =
-    c.new.ensures
-    ∙ graph-made (program_of c.args.core.now) _ _ _ _ _
-    c.in_ok-hierarchy.ensures
-    (c.in_ok-exceptions.ensures ∙ ap (map (λ name. string_bytes name)) c.deref.ensures.value)
-    (c.in_ok-channels.ensures ∙ ap (λ l. map channel_contents (map channel_entry l)) c.deref-2.ensures.value)
-    (c.in_ok-globals.ensures.exact ∙ ap (λ l. map global_contents (map global_entry l)) c.deref-3.ensures.value)
-    c.in_ok-procedures.ensures
+pub make_graph-requires-clause-ends : goal.make_graph-requires-clause-ends
+make_graph-requires-clause-ends c =
+    subst (λ (core : Core). end_faults (program_of core) ≡ []) (sym c.core.ensures.core) c.core.ensures.checked.ended
+
+pub make_graph-requires-clause-names : goal.make_graph-requires-clause-names
+make_graph-requires-clause-names c =
+    subst (λ (core : Core). HasNames (program_of core)) (sym c.core.ensures.core) c.core.ensures.checked.names
 
 pub returns-clause-kept : goal.returns-clause-kept
 returns-clause-kept c =
-    subst (λ (m : ModuleContents). SameMeaning (program_of c.args.core.now) (graph_after_steps m)) (sym (returns-clause-exact c))
-    (graphs-keep (program_of c.args.core.now) c.args.core.now.well_formed c.requires.ends)
+    let core = c.args.checked.now.core in
+    subst (λ (graph : ModuleContents). SameMeaning (program_of core) (graph_after_steps graph)) (sym (graph_is c.in_ok-graph.graph c.core.result.now core c.in_ok-graph.ensures c.core.ensures.core))
+    (graphs-keep (program_of core) core.well_formed c.core.ensures.checked.ended)
+
+pub returns-clause-interface : goal.returns-clause-interface
+returns-clause-interface c =
+    let core = c.args.checked.now.core in
+    subst (HasInterfaceOf (program_of core)) (sym (graph_is c.in_ok-graph.graph c.core.result.now core c.in_ok-graph.ensures c.core.ensures.core)) (graph-interface (program_of core))
+
+pub returns-clause-no_defect : goal.returns-clause-no_defect
+returns-clause-no_defect c =
+    let core = c.args.checked.now.core in
+    subst (λ (graph : ModuleContents). HasNoDefect (laid_out graph)) (sym (graph_is c.in_ok-graph.graph c.core.result.now core c.in_ok-graph.ensures c.core.ensures.core))
+    (modules-have-no-defect (program_of core) core.well_formed c.core.ensures.checked.ended)
+
+pub returns-clause-never_stuck : goal.returns-clause-never_stuck
+returns-clause-never_stuck c =
+    let core = c.args.checked.now.core in
+    subst (λ (graph : ModuleContents). IsNeverStuck (laid_out graph)) (sym (graph_is c.in_ok-graph.graph c.core.result.now core c.in_ok-graph.ensures c.core.ensures.core))
+    (modules-run (program_of core) core.well_formed c.core.ensures.checked.ended
+    (subst (Fits module_file) (graph_is c.in_ok-graph.graph c.core.result.now core c.in_ok-graph.ensures c.core.ensures.core) c.procedures-procedures.ensures.graph.limits))
+
+pub returns-clause-direct : goal.returns-clause-direct
+returns-clause-direct c =
+    let core = c.args.checked.now.core in
+    subst (λ (graph : ModuleContents). All HasDirectJumps graph.procedures) (sym (graph_is c.in_ok-graph.graph c.core.result.now core c.in_ok-graph.ensures c.core.ensures.core))
+    (graphs-direct (program_of core) core.well_formed c.core.ensures.checked.ended)

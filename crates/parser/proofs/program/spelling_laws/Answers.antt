@@ -1,4 +1,5 @@
 use Rattle.parser.proofs.Programs.{one_tree, spelled_terminated}
+use Rattle.parser.proofs.Signs.{each_there}
 use Rattle.parser.proofs.Spelled.{few_nodes, spelled_nested, spelled_written_there}
 use Rattle.parser.proofs.program.spelling_laws.Goals as goal
 
@@ -16,3 +17,6 @@ returns-clause-nested c = spelled_nested
 
 pub returns-clause-written : goal.returns-clause-written
 returns-clause-written c = spelled_written_there
+
+pub returns-clause-each_there : goal.returns-clause-each_there
+returns-clause-each_there c = each_there

@@ -10,6 +10,7 @@ invariant_of-result c =
     let long : length (map (λ name. string_bytes name) keys) ≡ length keys = length-map keys (λ name. string_bytes name) in
     record {
       hierarchy = record { few = c.requires.few; different = c.requires.different; there = c.requires.there };
+      named = c.requires.named;
       rows = c.in_ok-table.ensures.rows ∙ c.len.ensures.len;
       answers = λ a b h.
           let below : a < c.len.result = omega (arith, c.len.ensures.len) in

@@ -1,8 +1,9 @@
 use Rattle.std.proofs.Common.{◌≡◌, ◌<◌, map, length, refl, sym, ap, subst, ◌∙◌}
-use Rattle.std.specs.Prelude.{string_bytes}
+use Rattle.std.specs.Prelude.{All, string_bytes}
 use Rattle.std.proofs.lemmas.Slice.Zip.{AllZip-long}
 use Rattle.principals.specs.ActsFor.{IsHierarchy, acts_for}
 use Rattle.principals.specs.Inside.{hierarchy_of, IsStoredHierarchy}
+use Rattle.principals.specs.Named.{IsKeptName}
 use Rattle.principals.specs.Table.{related}
 use Rattle.principals.specs.declared.Hierarchy.TheInside.{Inside}
 use Rattle.principals.proofs.Names.{same_bytes}
@@ -15,6 +16,7 @@ kept : (old new : Inside) → hierarchy_of new ≡ hierarchy_of old → length n
 kept old new view keys table h =
     record {
       hierarchy = subst IsHierarchy (sym view) h.hierarchy;
+      named = subst (λ x. All IsKeptName x.names) (sym view) h.named;
       rows = ap length table ∙ h.rows ∙ sym keys;
       answers = λ a b l.
           ap (λ x. related x a b) table ∙ h.answers a b (subst (λ x. a < x) keys l) ∙ ap (λ x. acts_for x.pairs a b) (sym view);

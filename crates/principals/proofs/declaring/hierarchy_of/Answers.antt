@@ -1,3 +1,4 @@
+use Rattle.std.specs.Prelude.{All, List}
 use Rattle.std.proofs.Common.{◌≡◌, ◌≤◌, ◌+◌, ◌++◌, ◌∷◌, [], Some, Ok, Err, slice_get, length, take, drop, refl, sym, ap, subst, ◌∙◌, arith}
 use Rattle.std.proofs.lemmas.List.{take_all}
 use Rattle.std.proofs.lemmas.Result.{err_from_is_err_and}
@@ -6,9 +7,11 @@ use Rattle.principals.specs.ActsFor.{AllBelow, AllDifferent}
 use Rattle.common.specs.Answers.{IfRefused}
 use Rattle.common.specs.declared.fault.OrNoMemory.TheVariants.{Refused}
 use Rattle.common.proofs.Casting.{map-answer, mapped-ok, refused-weaker}
-use Rattle.principals.specs.HierarchyText.{Declares, IsEntryRefusal, IsFirstRefusal, Relates}
+use Rattle.principals.specs.HierarchyText.{Declares, IsEntryRefusal, IsFirstRefusal, Relates, declared}
+use Rattle.principals.specs.Named.{IsKeptName}
 use Rattle.principals.specs.Reading.{entry_of, entries_of}
 use Rattle.principals.specs.Table.{names_of}
+use Rattle.principals.specs.declared.reading.Statement.{Statement}
 use Rattle.principals.proofs.Building.{built_name, built_pair, built_described, built_refused, built_same, entries_around, entries_more}
 use Rattle.principals.proofs.declaring.hierarchy_of.Goals as goal
 use Rattle.principals.proofs.declaring.hierarchy_of.Goals.{in-Declares+in_ok-declare-in-Declares, in-Relates+in_ok-pair-in-Relates+in_ok-push-in-Relates}
@@ -74,6 +77,13 @@ loop-statement-preserved c =
           (mapped-ok w.find_pair.result (Ok pair) pair (λ p. slice_get names p.0 ≡ Some left.text) refl w.in_ok-pair-in-Relates.ensures.cases (λ fault no. no) w.find_pair.ensures.left)
           (mapped-ok w.find_pair.result (Ok pair) pair (λ p. slice_get names p.1 ≡ Some right.text) refl w.in_ok-pair-in-Relates.ensures.cases (λ fault no. no) w.find_pair.ensures.right))
     ]
+
+pub close-requires-clause-named : goal.close-requires-clause-named
+close-requires-clause-named c =
+    let statements = c.args.statements.now in
+    let past : length statements ≤ c.loop-statement.statement-index = omega arith in
+    subst (All IsKeptName) (sym c.loop-statement.invariant.same_names)
+    (subst (λ (x : List Statement). All IsKeptName (declared (entries_of x))) (sym (take_all c.loop-statement.statement-index statements past)) c.requires)
 
 pub returns-clause-described : goal.returns-clause-described
 returns-clause-described c =

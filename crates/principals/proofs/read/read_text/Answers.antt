@@ -7,6 +7,7 @@ use Rattle.lexer.specs.Cut.{IsCut, IsTextRefused}
 use Rattle.lexer.specs.Terminal.{terminals_of}
 use Rattle.principals.specs.HierarchyText.{IsFirstRefusal, IsHierarchyForm, IsRefusedText, Long, HasEntries, Wrong}
 use Rattle.principals.specs.Reading.{entries_of, IsFormRefusal}
+use Rattle.principals.proofs.Called.{declared_kept}
 use Rattle.principals.proofs.Uniqueness.{form_refused, tokens_refused}
 use Rattle.principals.proofs.read.read_text.Goals as goal
 
@@ -47,3 +48,13 @@ returns-clause-first_fault c =
     } in
     IfErr-weaker c.hierarchy_of.result (IfRefused (IsFirstRefusal entries)) (IfRefused (IsRefusedText text))
     (λ f h. refused-weaker (IsFirstRefusal entries) (IsRefusedText text) (λ r refused. Wrong entries r has_entries refused) f h) c.hierarchy_of.ensures.first_fault
+
+pub hierarchy_of-requires : goal.hierarchy_of-requires
+hierarchy_of-requires c =
+    let text = c.args.text.now in
+    let entries = entries_of c.as_slice-2.result.now in
+    let tokens = mapped-ok c.lex.result (Ok c.in_ok-tokens.tokens) c.in_ok-tokens.tokens (λ found. IsCut text (terminals_of found.items)) refl
+    c.in_ok-tokens.ensures.cases (λ fault no. no) c.lex.ensures.accepted in
+    declared_kept text (terminals_of c.in_ok-tokens.tokens.items) entries c.utf8.text c.if-text-gt-MAX_TEXT.false tokens
+    (subst (λ x. IsHierarchyForm (terminals_of x) entries) c.as_slice.ensures.value
+    (subst (λ x. IsHierarchyForm (terminals_of c.as_slice.result.now) (entries_of x)) (sym c.as_slice-2.ensures.value) c.in_ok-statements.ensures.form))

@@ -1,11 +1,19 @@
-use Rattle.std.proofs.Common.{refl, ap, subst, ◌∙◌, map}
+use Rattle.std.proofs.Common.{refl, ap, subst, ◌∙◌, ◌≤◌, map, arith}
 use Rattle.std.specs.Prelude.{sum_by}
 use Rattle.constraints.specs.LeftSides.{Written}
 use Rattle.resolved.specs.ProgramOf.{procedure_entry}
-use Rattle.gathering.specs.Names.{own_unknowns}
+use Rattle.gathering.specs.Names.{own_unknowns, real_unknowns}
+use Rattle.gathering.proofs.Few.{real-few}
+use Rattle.resolved.specs.CoreOf.{program_of}
 use Rattle.constraints.specs.Rows.{Means}
 use Rattle.constraints.proofs.Tables.{table-made}
 use Rattle.constraints.proofs.table.Table.of.Goals as goal
+
+pub rows_of-requires : goal.rows_of-requires
+rows_of-requires c =
+    let few : real_unknowns (program_of c.args.core.now) ≤ 1048576 = real-few (program_of c.args.core.now) c.args.core.now.well_formed in
+    let same = ap (λ list. sum_by own_unknowns (map procedure_entry list)) c.deref-3.ensures.value in
+    omega (arith, few, same)
 
 pub invariant_of-result : goal.invariant_of-result
 invariant_of-result c = record {

@@ -3,6 +3,6 @@ use Rattle.syntax.specs.Grammar.{label}
 use Rattle.parser.specs.Reading.{read}
 use Rattle.parser.proofs.cursor.Parser.parse_label.Goals as goal
 
-pub returns-in_err-policies : goal.returns-in_err-policies
+pub returns-in_err-components : goal.returns-in_err-components
 unfolding label read
-returns-in_err-policies c = search rules
+returns-in_err-components c = search rules

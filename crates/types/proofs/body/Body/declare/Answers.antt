@@ -28,6 +28,7 @@ returns-clause-later c =
     record {
       hierarchy = refl;
       top = refl;
+      globals = refl;
       result = refl;
       declared = ap (take (length declared)) c.in_ok-push.ensures.items ∙ take-append_seam declared _;
       locals = without_last declared _ _ _ c.args.meaning (found_in before.locals) (found_in c.insert.new.table) c.in_ok-push.ensures.items same fresh c.in_ok-insert.ensures;

@@ -1,6 +1,4 @@
-use Rattle.std.proofs.Common.{◌≡◌, Ok, subst, arith}
-use Rattle.syntax.specs.Tree.{parameter_tree}
-use Rattle.types.specs.Resolution.{next_parameter}
+use Rattle.std.proofs.Common.{arith}
 use Rattle.types.specs.Views.{point_of}
 use Rattle.types.proofs.Later.{later_through}
 use Rattle.types.proofs.Loops.{goes_further}
@@ -10,9 +8,8 @@ pub loop-one-preserved : goal.loop-one-preserved
 loop-one-preserved c =
     let now = c.loop-one.self in
     let after = c.declare_parameter.new.self in
-    let found = subst (λ h. next_parameter h (point_of now) (parameter_tree c.one-item.result) ≡ Ok (point_of after)) c.loop-one.invariant.later.hierarchy c.in_ok-declare_parameter.ensures.made in
     record {
-      on = goes_further c.loop-one.invariant.on c.one-item.result (point_of after) c.one-item.is c.loop-one-test.true found;
+      on = goes_further c.loop-one.invariant.on c.one-item.result (point_of after) c.one-item.is c.loop-one-test.true c.in_ok-declare_parameter.ensures.made;
       later = later_through c.args.self.now now after c.loop-one.invariant.later c.in_ok-declare_parameter.ensures.later;
       grows = omega (arith, c.loop-one.invariant.grows, c.in_ok-declare_parameter.ensures.grows);
     }

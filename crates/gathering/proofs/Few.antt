@@ -1,0 +1,45 @@
+-- The unknowns of a program are few: their numbers fit 32 bits.
+use Rattle.std.proofs.Common.{◌≡◌, ℕ, ◌+◌, ◌<◌, ◌≤◌, List, length, map, take, get_or, ap, sym, refl, arith, leb-true}
+use Rattle.std.specs.Prelude.{IsTrue, sum_by}
+use Rattle.std.proofs.lemmas.List.{take-map}
+use Rattle.std.proofs.lemmas.List.Recursion.{is_sum_by}
+use Rattle.std.proofs.lemmas.List.Sums.{sum_by-take-le}
+use Rattle.resolved.specs.Program.{Program}
+use Rattle.resolved.specs.ProgramOf.{procedure_entry}
+use Rattle.resolved.specs.WellFormed.{node_limit, procedure_nodes, program_nodes, well_formed}
+use Rattle.resolved.specs.CoreOf.{program_of}
+use Rattle.resolved.specs.declared.program.Core.{Core}
+use Rattle.resolved.specs.declared.tables.Procedure.{Procedure}
+use Rattle.resolved.proofs.WellFormedParts.{program_parts}
+use Rattle.gathering.specs.Names.{own_unknowns, real_unknowns}
+use Rattle.gathering.proofs.Before.{before-next}
+use Rattle.gathering.proofs.Counted.{real-count}
+use Rattle.gathering.proofs.Numbers.{total-sum}
+use Rattle.gathering.proofs.Small.{nodes_in}
+
+-- counted from procedure to procedure
+pub counted-within : (ps : List Procedure) (n first : ℕ) (x : Procedure) → first ≡ sum_by own_unknowns (map procedure_entry (take n ps))
+    → n < length ps → x ≡ get_or ps n x → first + own_unknowns (procedure_entry x) ≤ sum_by own_unknowns (map procedure_entry ps)
+counted-within ps n first x counted within is =
+    let next : first + own_unknowns (procedure_entry x) ≡ sum_by own_unknowns (map procedure_entry (take (n + 1) ps)) =
+    before-next ps n first counted x (first + own_unknowns (procedure_entry x)) within is refl in
+    let front : sum_by own_unknowns (map procedure_entry (take (n + 1) ps)) ≡ sum_by own_unknowns (take (n + 1) (map procedure_entry ps)) =
+    ap (sum_by own_unknowns) (sym (take-map procedure_entry (n + 1) ps)) in
+    omega (arith, next, front, sum_by-take-le own_unknowns (map procedure_entry ps) (n + 1))
+
+-- those of a well-formed program
+pub real-few : (program : Program) → IsTrue (well_formed program) → real_unknowns program ≤ 1048576
+real-few program formed =
+    let parts = program_parts program formed in
+    let i = real-count program program.procedures parts.procedures_fit in
+    let j = total-sum program.procedures in
+    let k : nodes_in program.procedures ≡ sum_by procedure_nodes program.procedures = is_sum_by nodes_in procedure_nodes refl (λ x xs. refl) program.procedures in
+    let l : program_nodes program ≤ node_limit = leb-true (program_nodes program) node_limit parts.nodes_fit in
+    omega (arith, i, j, k, l)
+
+-- so those of a program of the code are, wherever they have been counted to
+pub core-few : (core : Core) (n first : ℕ) (x : Procedure) → first ≡ sum_by own_unknowns (map procedure_entry (take n core.procedures.items))
+    → n < length core.procedures.items → x ≡ get_or core.procedures.items n x → first + own_unknowns (procedure_entry x) ≤ 1048576
+core-few core n first x counted within is =
+    let few : real_unknowns (program_of core) ≤ 1048576 = real-few (program_of core) core.well_formed in
+    omega (arith, few, counted-within core.procedures.items n first x counted within is)

@@ -1,0 +1,40 @@
+use Rattle.std.proofs.Common.{map, ◌∙◌, ap, sym, subst}
+use Rattle.std.specs.Prelude.{All}
+use Rattle.std.specs.String.{string_bytes}
+use Rattle.layout.specs.Graph.{IsGraph}
+use Rattle.resolved.specs.CoreOf.{program_of}
+use Rattle.resolved.specs.Program.{GlobalEntry}
+use Rattle.resolved.specs.ProgramOf.{channel_entry, global_entry}
+use Rattle.lowering.specs.Fitting.{IsShortValue}
+use Rattle.lowering.specs.Interface.{channel_contents, global_contents}
+use Rattle.lowering.proofs.FittingFile.{graphs-fit}
+use Rattle.lowering.proofs.Inside.{graphs-positioned}
+use Rattle.lowering.proofs.Wholes.{graph-made}
+use Rattle.lowering.proofs.program.make_graph.Goals as goal
+
+pub new-requires : goal.new-requires
+new-requires c =
+    subst IsGraph
+    (sym (graph-made (program_of c.args.core.now) _ _ _ _ _ _
+    c.module_version.ensures
+    c.in_ok-hierarchy.ensures
+    (c.in_ok-exceptions.ensures ∙ ap (map (λ name. string_bytes name)) c.deref.ensures.value)
+    (c.in_ok-channels.ensures ∙ ap (λ l. map channel_contents (map channel_entry l)) c.deref-2.ensures.value)
+    (c.in_ok-globals.ensures.exact ∙ ap (λ l. map global_contents (map global_entry l)) c.deref-3.ensures.value)
+    c.in_ok-procedures.ensures))
+    (record {
+      positions = graphs-positioned (program_of c.args.core.now) c.args.core.now.well_formed c.requires.ends;
+      limits = graphs-fit (program_of c.args.core.now) c.args.core.now.well_formed c.requires.ends c.requires.names
+          (subst (λ l. All (λ (entry : GlobalEntry). IsShortValue entry.first) (map global_entry l)) c.deref-3.ensures.value c.in_ok-globals.ensures.short);
+    })
+
+pub returns : goal.returns
+returns c =
+    c.new.ensures
+    ∙ graph-made (program_of c.args.core.now) _ _ _ _ _ _
+    c.module_version.ensures
+    c.in_ok-hierarchy.ensures
+    (c.in_ok-exceptions.ensures ∙ ap (map (λ name. string_bytes name)) c.deref.ensures.value)
+    (c.in_ok-channels.ensures ∙ ap (λ l. map channel_contents (map channel_entry l)) c.deref-2.ensures.value)
+    (c.in_ok-globals.ensures.exact ∙ ap (λ l. map global_contents (map global_entry l)) c.deref-3.ensures.value)
+    c.in_ok-procedures.ensures

@@ -1,0 +1,55 @@
+-- Where programs use the operators on bits.
+-- Source: our own.
+use Rattle.std.specs.Prelude.{List, Bool, true, false, Option, Some, None, ◌||◌}
+use Rattle.std.specs.List.{list_any}
+use Rattle.resolved.specs.declared.expression.Operator.{Operator}
+use Rattle.resolved.specs.declared.expression.Operator.TheVariants.{Compute, Divide, Bits, Compare, Match}
+use Rattle.resolved.specs.Tree.{Expression, Integer, Logical, Read, Element, Unary, Binary, Short, Statement, Assign, Clear, Store, Receive, Send, Call, If, While, Leave, ReturnWith, Try, Nested, Block, Empty, Then, Handlers, NoMore, Catch}
+use Rattle.resolved.specs.Program.{Program, ProcedureEntry}
+
+abbrev pub is_bit_operator : Operator → Bool
+is_bit_operator (Compute computation) = false
+is_bit_operator (Divide division) = false
+is_bit_operator (Bits operator) = true
+is_bit_operator (Compare relation) = false
+is_bit_operator (Match sameness) = false
+
+-- whether one is in an expression, a statement, a block or handlers
+abbrev pub expression_uses_bits : Expression → Bool
+expression_uses_bits (Integer n) = false
+expression_uses_bits (Logical b) = false
+expression_uses_bits (Read x) = false
+expression_uses_bits (Element array length index) = expression_uses_bits index
+expression_uses_bits (Unary prefix e) = expression_uses_bits e
+expression_uses_bits (Binary operator d e) =
+    is_bit_operator operator || expression_uses_bits d || expression_uses_bits e
+expression_uses_bits (Short connective d e) = expression_uses_bits d || expression_uses_bits e
+
+abbrev mutual
+  pub statement_uses_bits : Statement → Bool
+  statement_uses_bits (Assign at x e) = expression_uses_bits e
+  statement_uses_bits (Clear at slot) = false
+  statement_uses_bits (Store at array length index e) = expression_uses_bits index || expression_uses_bits e
+  statement_uses_bits (Receive at channel target) = false
+  statement_uses_bits (Send at channel e) = expression_uses_bits e
+  statement_uses_bits (Call at procedure arguments target) = list_any expression_uses_bits arguments
+  statement_uses_bits (If at e yes_block no_block) =
+      expression_uses_bits e || block_uses_bits yes_block || block_uses_bits no_block
+  statement_uses_bits (While at loop e body) = expression_uses_bits e || block_uses_bits body
+  statement_uses_bits (Leave at exit) = false
+  statement_uses_bits (ReturnWith at None) = false
+  statement_uses_bits (ReturnWith at (Some e)) = expression_uses_bits e
+  statement_uses_bits (Try at block handlers) = block_uses_bits block || handlers_use_bits handlers
+  statement_uses_bits (Nested at block) = block_uses_bits block
+
+  pub block_uses_bits : Block → Bool
+  block_uses_bits Empty = false
+  block_uses_bits (Then statement rest) = statement_uses_bits statement || block_uses_bits rest
+
+  pub handlers_use_bits : Handlers → Bool
+  handlers_use_bits NoMore = false
+  handlers_use_bits (Catch at handled body rest) = block_uses_bits body || handlers_use_bits rest
+
+-- whether a program uses one somewhere
+abbrev pub uses_bits : Program → Bool
+uses_bits program = list_any (λ (procedure : ProcedureEntry). block_uses_bits procedure.body) program.procedures
