@@ -1,4 +1,5 @@
-/* What calls of a host cost in C. Arguments: a hierarchy, a source and a world, as files. A line for each figure: its name and its value. */
+/* What calls of a host cost in C. Arguments: a hierarchy, a source and a world, as files, and `memory` where times are left out. A line for
+   each figure: its name and its value. */
 #define _GNU_SOURCE
 #include <flowc.h>
 #include <malloc.h>
@@ -72,20 +73,36 @@ static void measure(const char *name, void (*call)(void), int calls) {
     printf("%s %.3f\n", name, least);
 }
 
+/* The bytes that are allocated, large blocks among them. */
+static size_t held(void) {
+    struct mallinfo2 info = mallinfo2();
+    return info.uordblks + info.hblkhd;
+}
+
 /* The bytes on the heap for each of 64 sessions, when they are open and when their runs have ended. */
 static void measure_memory(void) {
-    size_t before = mallinfo2().uordblks;
+    size_t before = held();
     uint64_t first = open_session().id;
     for (int at = 1; at < SESSIONS; at++)
         open_session();
-    printf("bytes_open %zu\n", (mallinfo2().uordblks - before) / SESSIONS);
+    printf("bytes_open %zu\n", (held() - before) / SESSIONS);
     for (int at = 0; at < SESSIONS; at++)
         flowc_host_turn(&host, first + at, 1000000);
-    printf("bytes_ended %zu\n", (mallinfo2().uordblks - before) / SESSIONS);
+    printf("bytes_ended %zu\n", (held() - before) / SESSIONS);
+}
+
+static void measure_times(void) {
+    measure("check", check, 1000);
+    measure("compile", compile, 1000);
+    measure("open_close", open_and_close, 2000);
+    measure("turn", turn, 100000);
+    flowc_host_turn(&host, session, 1000000);
+    measure("view", view, 10000);
+    measure("session", open_turn_view_close, 1000);
 }
 
 int main(int count, char **paths) {
-    if (count != 4)
+    if (count != 4 && count != 5)
         return 2;
     hierarchy_size = read_file(paths[1], hierarchy);
     source_size = read_file(paths[2], source);
@@ -94,13 +111,8 @@ int main(int count, char **paths) {
     if (flowc_host_new(&host) != FLOWC_DONE || open_session().status != FLOWC_DONE)
         return 1;
     printf("module_bytes %zu\n", module_size);
-    measure("check", check, 1000);
-    measure("compile", compile, 1000);
-    measure("open_close", open_and_close, 2000);
-    measure("turn", turn, 100000);
-    flowc_host_turn(&host, session, 1000000);
-    measure("view", view, 10000);
-    measure("session", open_turn_view_close, 1000);
+    if (count == 4)
+        measure_times();
     flowc_host_free(&host);
     if (flowc_host_new(&host) != FLOWC_DONE)
         return 1;

@@ -16,6 +16,7 @@ ROOT = os.path.abspath(os.path.join(os.path.dirname(os.path.abspath(__file__)), 
 OUT = os.path.join(ROOT, 'target/library')
 DATA = os.path.join(ROOT, 'examples/payroll')
 LEAST = 1000
+PROCEDURES = 3100
 sys.dont_write_bytecode = True
 sys.path.insert(0, OUT + '/python')
 import flowc
@@ -48,11 +49,26 @@ def made(room):
     return [os.path.join(room, name) for name in ('hierarchy', 'source', 'world')]
 
 
-def in_c(room, paths):
+def large(room):
+    """The same three texts of a module of about 0.7 MB: procedures that compute, branch, loop, call and use arrays."""
+    body = ('int{} f%(n)d(int{} a, int{} b) throws (Bounds{}) {\n    int{} sum = a;\n    int{} row[8];\n    int{} at = 0;\n    while (at < 8) {\n        row[at] = a * at + b;\n'
+            '        sum = sum + row[at];\n        at = at + 1;\n    }\n    if (sum > %(n)d) { sum = sum - b; } else { sum = sum + b %% 7; }\n'
+            '    return sum;\n}\n')
+    calls = ''.join('    total = f%d(total, %d);\n' % (n, n) for n in range(PROCEDURES))
+    texts = {'hierarchy': '', 'world': '',
+             'source': 'output{} out;\n' + ''.join(body % {'n': n} for n in range(PROCEDURES)) + 'void main() throws (Bounds{}) {\n    int{} total = 1;\n' + calls
+                       + '    send out, total;\n}\n'}
+    for name, text in texts.items():
+        with open(os.path.join(room, name), 'w', encoding='utf-8') as file:
+            file.write(text)
+    return [os.path.join(room, name) for name in ('hierarchy', 'source', 'world')]
+
+
+def in_c(room, paths, *words):
     program = os.path.join(room, 'library')
     if not os.path.exists(program):
         subprocess.run(['gcc', '-O2', '-I' + OUT + '/include', ROOT + '/bench/library.c', OUT + '/lib/libflowc.a', '-o', program], check=True)
-    shown = subprocess.run([program, *paths], capture_output=True, text=True, check=True).stdout
+    shown = subprocess.run([program, *paths, *words], capture_output=True, text=True, check=True).stdout
     return {name: float(value) for name, value in (line.split() for line in shown.splitlines())}
 
 
@@ -88,6 +104,11 @@ ROWS = [('check', 'check'), ('compile', 'compile'), ('open, close', 'open_close'
         ('open, turn to the end, view, close', 'session')]
 
 
+def memory(figures):
+    for title, key in (('open', 'bytes_open'), ('that has ended', 'bytes_ended')):
+        print('memory of a session %s: %d bytes, %.1f for each byte of its module' % (title, figures[key], figures[key] / figures['module_bytes']))
+
+
 def report(name, room, paths):
     ways = [in_c(room, paths), in_python(paths), in_program(room, paths)]
     c = ways[0]
@@ -96,8 +117,7 @@ def report(name, room, paths):
         print('%-36s %s' % (title, ' '.join('%10.3f' % way[key] if key in way else '%10s' % '' for way in ways)))
     a_second = 1e6 / c['open_close']
     print('sessions opened and closed a second: %d' % a_second)
-    for title, key in (('open', 'bytes_open'), ('that has ended', 'bytes_ended')):
-        print('memory of a session %s: %d bytes, %.1f for each byte of its module' % (title, c[key], c[key] / c['module_bytes']))
+    memory(c)
     print()
     return a_second
 
@@ -105,7 +125,11 @@ def report(name, room, paths):
 def main():
     with tempfile.TemporaryDirectory() as room:
         report('payroll', room, [os.path.join(DATA, name) for name in ('hierarchy.txt', 'payroll.flow', 'november.txt')])
-        return 0 if report('sums', room, made(room)) >= LEAST else 1
+        status = 0 if report('sums', room, made(room)) >= LEAST else 1
+        figures = in_c(room, large(room), 'memory')
+        print('large, a module of %d bytes' % figures['module_bytes'])
+        memory(figures)
+        return status
 
 
 sys.exit(main())

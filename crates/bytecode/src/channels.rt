@@ -66,6 +66,7 @@ fn read_channels(
         channels.push(channel)?;
         rest = after;
     }
+    channels.shrink_to_fit();
     Ok((channels, rest))
 }
 

@@ -37,7 +37,8 @@ fn read_instruction(
     Ok((instruction, after))
 }
 
-/// The instructions of a version that the next `size` bytes are. Room for them grows with what was read, whatever the size claims.
+/// The instructions of a version that the next `size` bytes are. Room for them grows with what was read, whatever the size claims, and
+/// what is not taken in the end is given back.
 fn read_instructions(
     alloc: Global,
     version: Version,
@@ -56,6 +57,7 @@ fn read_instructions(
         room -= next.width() as u32;
         rest = after;
     }
+    code.shrink_to_fit();
     Ok((code, rest))
 }
 

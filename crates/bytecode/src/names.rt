@@ -82,6 +82,7 @@ pub(crate) fn read_names<'a>(
         names.push(name)?;
         rest = after;
     }
+    names.shrink_to_fit();
     Ok((names, rest))
 }
 

@@ -82,7 +82,7 @@ pub(crate) trait Element {
         ensures holds { IfOk result (λ x. holds self.now state.new (before.now ++ x.0 ∷ [])) };
 }
 
-/// So many fields, one after the other. Nothing is reserved by the count.
+/// So many fields, one after the other. Nothing is reserved by the count, and the list takes no more memory than it needs.
 pub(crate) fn read_each<'a, E: Element>(
     alloc: Global,
     element: &E,
@@ -104,5 +104,6 @@ where
         items.push(item)?;
         rest = after;
     }
+    items.shrink_to_fit();
     Ok((items, rest))
 }

@@ -1,6 +1,3 @@
-mod Lines
-mod Walking
-mod Characters
 mod Flows
 mod Labels
 mod Unknowns

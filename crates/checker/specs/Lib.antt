@@ -1,6 +1,3 @@
-pub mod Position
-pub mod NextPlace
-pub mod Characters
 pub mod Checked
 pub mod Reported
 pub mod Steps

@@ -15,7 +15,7 @@ use Rattle.acceptance.specs.declared.cause.Cause.{Cause}
 use Rattle.acceptance.specs.declared.cause.Cause.TheVariants as causes
 use Rattle.acceptance.specs.declared.cause.Text.{Text}
 use Rattle.acceptance.specs.declared.cause.Text.TheVariants as texts
-use Rattle.checker.specs.Position.{place_at}
+use Rattle.lexer.specs.Position.{place_at}
 use Rattle.checker.specs.declared.fault.RefusedFlow.{RefusedFlow}
 use Rattle.checker.specs.declared.fault.Refusal.{Refusal}
 use Rattle.checker.specs.declared.fault.Step.{Step}

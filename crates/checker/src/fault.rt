@@ -4,11 +4,10 @@ ghost use Rattle.acceptance.specs.Causes.{cause_words};
 ghost use Rattle.checker.specs.Reported as reported;
 ghost use Rattle.std.specs.Prelude.{Some, ◌≡◌};
 
-use crate::position::place_of;
 use acceptance::{Cause, Text};
 use common::OrNoMemory;
 use labels::Policy;
-use lexer::Place;
+use lexer::{Place, place};
 use resolved::program::Core;
 use resolved::target::Target;
 use std::error::Error;
@@ -81,7 +80,7 @@ pub(crate) fn refusal_at(
     Refusal {
         text,
         cause,
-        at: place_of(bytes, at),
+        at: place(bytes, at),
         flow,
     }
 }

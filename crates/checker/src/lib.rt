@@ -8,11 +8,9 @@ pub mod fault;
 mod flow;
 mod found;
 pub mod phases;
-pub mod position;
 pub mod texts;
 
 pub use checked::Checked;
 pub use fault::{Fault, Refusal, RefusedFlow, Step};
 pub use phases::check;
-pub use position::{place_of, places_agree};
 pub use texts::{check_texts, read_hierarchy};

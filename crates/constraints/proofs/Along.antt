@@ -10,7 +10,7 @@ use Rattle.resolved.specs.Ends.{has_end, one_end, statement_ends}
 use Rattle.resolved.specs.Program.{Program}
 use Rattle.resolved.specs.Labelled.{Scope}
 use Rattle.resolved.specs.Tree.{Statement, Block, Empty, Then, Handlers, NoMore, Catch}
-use Rattle.path_map.specs.declared.exits.Exits.{Exits}
+use Rattle.path_map.specs.Exits.{Exits}
 use Rattle.path_map.specs.Exits.{exits_of}
 use Rattle.path_map.specs.Paths.{block_paths, handlers_paths, inner_paths, rest_paths, statement_paths}
 use Rattle.gathering.specs.Names.{NamedAtom, NamedConstraint}

@@ -1,5 +1,5 @@
 -- The pieces of a walk that go into no block.
-use Rattle.std.proofs.Common.{◌≡◌, refl, sym, ap, ◌∙◌, subst, ℕ, suc, ◌+◌, List, [], ◌∷◌, map, drop, get_or, length, arith, Bool, true, false}
+use Rattle.std.proofs.Common.{◌≡◌, refl, sym, ap, ◌∙◌, subst, ℕ, ◌+◌, List, [], ◌∷◌, map, drop, get_or, length, arith, Bool, true, false}
 use Rattle.std.proofs.lemmas.List.{length-map}
 use Rattle.common.proofs.Cases.{same_heads, same_tails}
 use Rattle.labels.specs.Label.{Label}
@@ -9,10 +9,10 @@ use Rattle.resolved.specs.declared.statement.Handler.{Handler}
 use Rattle.resolved.specs.Ends.{handles, one_end}
 use Rattle.resolved.specs.Tree.{Empty}
 use Rattle.resolved.specs.TreeOf.{handlers_of}
-use Rattle.path_map.specs.declared.exits.Exits.{Exits}
+use Rattle.path_map.specs.Exits.{Exits}
 use Rattle.path_map.specs.Exits.{exits_of}
 use Rattle.gathering.specs.Names.{NamedAtom, NamedConstraint}
-use Rattle.gathering.specs.Walk.{block_constraints, flow, handler_count, single}
+use Rattle.gathering.specs.Walk.{block_constraints, flow, single}
 use Rattle.solver.specs.declared.constraints.Atom.{Atom}
 use Rattle.constraints.specs.Added.{IsGatheredAt}
 use Rattle.constraints.specs.Journals.{moments_at, noted_all}
@@ -27,6 +27,7 @@ use Rattle.constraints.specs.declared.takers.Takers.{Takers}
 use Rattle.constraints.proofs.Added.{added-none, added-same}
 use Rattle.constraints.proofs.Noted.{handled-ones, noted-journal, unhandled-stay}
 use Rattle.constraints.proofs.Passed.{alone-walked, passed-same}
+use Rattle.constraints.proofs.Ready.{count-of}
 use Rattle.constraints.proofs.SavedEntries.{undone-length}
 use Rattle.constraints.proofs.Thinned.{walks-exact}
 use Rattle.constraints.proofs.Taken.{numbers-same, try-levels, try-takers}
@@ -91,16 +92,12 @@ module _ (core : Core) (table : List Label) (entries : List Exits) where
   -- the end of one that is
   pub reached-walked : (procedure : ℕ) (reached : Bool) (pc : Atom) (takers : Takers) (n : ℕ) (old new : Progress) → reached ≡ true
       → new.index ≡ old.index → new.number ≡ old.number → new.thrown.items ≡ old.thrown.items → new.journal ≡ old.journal
-      → IsGatheredAt core table pc (λ named. flow (named ∷ []) takers.normal) old.constraints.items new.constraints.items
+      → IsGatheredAt core table pc (λ named. flow (named ∷ []) takers.ends.normal) old.constraints.items new.constraints.items
       → IsWalked core table entries pc takers [] (λ named. block_constraints (scope_of core procedure) reached named (takers_of takers old.thrown.items) n Empty) 0 old new
   reached-walked procedure reached pc takers n old new is index number thrown journal added =
       alone-walked core table entries pc takers (λ named. block_constraints (scope_of core procedure) reached named (takers_of takers old.thrown.items) n Empty) 0 old new index (omega (arith, number)) thrown journal
-      (λ named stands. added-same core table (block_constraints (scope_of core procedure) reached named (takers_of takers old.thrown.items) n Empty) (flow (named ∷ []) takers.normal) old.constraints.items new.constraints.items
+      (λ named stands. added-same core table (block_constraints (scope_of core procedure) reached named (takers_of takers old.thrown.items) n Empty) (flow (named ∷ []) takers.ends.normal) old.constraints.items new.constraints.items
       (ap (λ b. block_constraints (scope_of core procedure) b named (takers_of takers old.thrown.items) n Empty) is) (added named stands))
-
-count-of : (handlers : List Handler) → length handlers ≡ handler_count (handlers_of handlers)
-count-of [] = refl
-count-of (handler ∷ rest) = ap suc (count-of rest)
 
 -- handlers that took their exceptions
 pub try-begun : (takers : Takers) (handlers : List Handler) (thrown noting : List Entry) (first level : ℕ) (old middle new : Progress) (tried : Tried)
@@ -146,4 +143,5 @@ try-begun takers handlers thrown noting first level old middle new tried made fi
           (count ∙ ap (λ (p : Progress). length p.journal.moments.items) made) width
           (λ x none. others x (sym (handled-ones handlers x) ∙ none)) ready;
       number_is = number ∙ (ap (λ (p : Progress). p.number) made ∙ ap (λ n. old.number + n) (count-of handlers));
+      level_is = ap (λ (t : Takers). t.level) inner_is;
     }

@@ -1,9 +1,8 @@
 -- Walks past procedures, one after the other.
-use Rattle.std.proofs.Common.{◌≡◌, refl, sym, ap, ◌∙◌, subst, ℕ, zero, suc, ◌+◌, ◌<◌, ◌≤◌, List, [], ◌∷◌, ◌++◌, map, take, drop, length, get_or, replicate, flat_map, Bool, true, false, arith, append_assoc, append-nil, add-one}
+use Rattle.std.proofs.Common.{◌≡◌, refl, sym, ap, ◌∙◌, subst, ℕ, zero, suc, ◌+◌, ◌*◌, ◌<◌, ◌≤◌, List, [], ◌∷◌, ◌++◌, map, take, drop, length, get_or, replicate, flat_map, Bool, true, false, arith, append_assoc, append-nil, add-one}
 use Rattle.std.specs.Prelude.{Contains, if◌then◌else◌, string_bytes, sum_by}
 use Rattle.principals.proofs.Closure.{none_in_nil}
-use Rattle.std.proofs.lemmas.Bool.{leb-true}
-use Rattle.std.proofs.lemmas.List.{get_or-map, length-map, length-replicate, length-take-le, map-append, take_all}
+use Rattle.std.proofs.lemmas.List.{get_or-map, length-map, length-replicate, length-take-le, map-append, take-map, take_all}
 use Rattle.std.proofs.lemmas.List.Sums.{AllPass-from_list_all, sum_by-cons}
 use Rattle.common.proofs.Cases.{map_next}
 use Rattle.common.specs.declared.exceptions.TheConstants.{BUILT_IN}
@@ -26,15 +25,16 @@ use Rattle.resolved.specs.declared.tables.Thrown.{Thrown}
 use Rattle.resolved.specs.declared.target.Target.TheVariants.{ToBegin, ToEnd}
 use Rattle.path_map.specs.Exits.{exits_of}
 use Rattle.path_map.specs.Paths.{block_paths, program_paths}
-use Rattle.path_map.specs.declared.exits.Exits.{Exits}
+use Rattle.path_map.specs.Exits.{Exits}
 use Rattle.path_map.proofs.Procedures.{next-procedure}
-use Rattle.gathering.specs.Names.{NamedAtom, NamedConstraint, Real}
-use Rattle.gathering.specs.Walk.{at_end, constraints_from, declares, end_constraints, end_takers, has_one_end, inner_atom, inner_block, made_by_block, made_by_procedure, made_from, nowhere, procedure_constraints, program_constraints, rule_constraint, thrown_constraints, thrown_number}
+use Rattle.gathering.specs.Names.{NamedAtom, NamedConstraint, Real, real_unknowns}
+use Rattle.gathering.specs.Walk.{at_end, constraints_from, declares, end_constraints, end_takers, has_one_end, inner_atom, inner_block, made_by_block, made_by_procedure, made_from, nowhere, procedure_constraints, program_constraints, rule_constraint, thrown_constraints, thrown_number, unknown_count}
+use Rattle.gathering.proofs.Counted.{unknowns-counted}
 use Rattle.solver.specs.declared.constraints.Atom.{Atom}
 use Rattle.constraints.specs.Added.{AreAdded, IsPart, Stored}
 use Rattle.constraints.specs.LeftSides.{scope_of}
 use Rattle.constraints.specs.Procedures.{AreDeclaredTakers, HasPassedProcedure, StaysInPlace, IsOf, IsProcedureWalked, end_takers_of, number_in}
-use Rattle.constraints.specs.Ready.{AreThrownInside, IsBlockReady, IsProcedureReady, exception_count}
+use Rattle.constraints.specs.Ready.{AreThrownInside, IsBlockReady, IsProcedureReady, exception_count, most_unknowns}
 use Rattle.constraints.specs.Takers.{AreLevelled, AreWithin, no_entry, takers_of}
 use Rattle.constraints.specs.Thinned.{AreNoted, Thinned, ThinnedWhole}
 use Rattle.constraints.specs.Journals.{AreOrdered, AreUpTo, IsUpToDate, entry_from, moments_at, noted_all}
@@ -47,6 +47,7 @@ use Rattle.constraints.proofs.Added.{added-none, added-same, added-then}
 use Rattle.constraints.proofs.Noted.{declared-ones, noted-journal, undeclared-stay}
 use Rattle.constraints.proofs.Thinned.{thinned-exact, walks-exact, walks-noted, walks-same, walks-then, whole-same, whole-then}
 use Rattle.constraints.proofs.Ready.{thrown-inside}
+use Rattle.constraints.proofs.Small.{program-small}
 use Rattle.constraints.proofs.Declared.{taken-within, takers-at-end, thrown-numbers}
 
 -- ---- a procedure
@@ -176,10 +177,10 @@ pub body-ready : (core : Core) (entries : List Exits) (f barrier level start : �
     → IsProcedureReady core entries f barrier procedure old
     → level ≡ barrier + 1 → throws ≡ procedure.throws.items → block ≡ procedure.body.items
     → takers ≡ end_takers_of old.number barrier level only
-    → middle.index ≡ old.index → length middle.thrown.items ≡ length old.thrown.items
+    → middle.index ≡ old.index → middle.number ≡ (old.number + 1) + length procedure.throws.items → length middle.thrown.items ≡ length old.thrown.items
     → ((b : ℕ) → b < level → AreWithin b old.thrown.items → AreDeclaredTakers (map thrown_entry throws) start level old.thrown.items middle.thrown.items)
     → IsBlockReady core entries f takers (block_of block) middle
-body-ready core entries f barrier level start procedure throws block takers only old middle ready level_is throws_are block_is takers_are index_is wide takes =
+body-ready core entries f barrier level start procedure throws block takers only old middle ready level_is throws_are block_is takers_are index_is number_is wide takes =
     let program : Program = program_of core in
     let entry : ProcedureEntry = here (scope_of core f) in
     let body_is : block_of block ≡ entry.body = ap block_of block_is ∙ ap (λ (p : ProcedureEntry). p.body) (sym ready.is) in
@@ -196,7 +197,31 @@ body-ready core entries f barrier level start procedure throws block takers only
       levelled = subst (λ t. AreLevelled t middle.thrown.items) (sym takers_suc) (levelled old.number barrier only middle.thrown.items inside_suc);
       wide = omega (arith, wide, ready.wide);
       fitting = subst (λ b. block_fits program entry b ≡ true) (sym body_is) (procedure_parts program entry ready.fitting).body_fits;
+      room =
+          let made : made_by_block (block_of block) ≡ made_by_block entry.body = ap made_by_block body_is in
+          let count : length entry.throws ≡ length procedure.throws.items =
+          ap (λ (p : ProcedureEntry). length p.throws) ready.is ∙ length-map procedure.throws.items thrown_entry in
+          let own : made_by_procedure (scope_of core f) ≡ suc (length entry.throws + made_by_block entry.body) = refl in
+          omega (arith, ready.room, made, count, own, number_is);
+      deep =
+          let level_at : takers.level ≡ suc barrier = ap (λ (t : Takers). t.level) takers_suc ∙ end-level old.number barrier only in
+          omega (arith, ready.deep, level_at, number_is);
     }
+  where
+    end-level : (n b : ℕ) (only : Bool) → (end_takers_of n b (suc b) only).level ≡ suc b
+    end-level n b true = refl
+    end-level n b false = refl
+
+-- there are numbers for its end and its exceptions, and a level
+pub procedure-room : (core : Core) (entries : List Exits) (f barrier : ℕ) (procedure : Procedure) (now : Progress)
+    → IsProcedureReady core entries f barrier procedure now
+    → (barrier + 1 ≤ most_unknowns) × ((now.number + 1) + length procedure.throws.items ≤ most_unknowns)
+procedure-room core entries f barrier procedure now ready =
+    let entry : ProcedureEntry = here (scope_of core f) in
+    let count : length entry.throws ≡ length procedure.throws.items =
+    ap (λ (p : ProcedureEntry). length p.throws) ready.is ∙ length-map procedure.throws.items thrown_entry in
+    let own : made_by_procedure (scope_of core f) ≡ suc (length entry.throws + made_by_block entry.body) = refl in
+    (omega (arith, ready.room, ready.deep, own), omega (arith, ready.room, count, own))
 
 -- its declared exceptions have entries
 pub throws-inside : (core : Core) (entries : List Exits) (f barrier : ℕ) (procedure : Procedure) (throws : List Thrown) (now : Progress)
@@ -256,9 +281,6 @@ few-procedures (procedure ∷ rest) =
     let own : procedure_nodes procedure ≡ 1 + length procedure.slots + length procedure.throws + block_nodes procedure.body = refl in
     omega (arith, few-procedures rest, sum_by-cons procedure_nodes procedure rest, own)
 
-program-small : (core : Core) → program_nodes (program_of core) ≤ MAX_TEXT
-program-small core = leb-true (program_nodes (program_of core)) MAX_TEXT (program_parts (program_of core) core.well_formed).nodes_fit
-
 pub procedures-numbered : (core : Core) → length core.procedures.items ≤ MAX_TEXT
 procedures-numbered core =
     omega (arith, program-small core, few-procedures (program_of core).procedures, length-map core.procedures.items procedure_entry)
@@ -268,9 +290,10 @@ exceptions-numbered core = omega (arith, program-small core, length-map core.exc
 
 -- the first procedures were walked past
 pub record ArePassed (core : Core) (table : List Label) (entries : List Exits) (i : ℕ) (progress : Progress) : Type 0 where
-  pub added : ThinnedWhole core table (constraints_from (program_of core) 0 0 (map procedure_entry (take i core.procedures.items))) progress
+  pub added : ThinnedWhole core table (constraints_from (program_of core) 0 (real_unknowns (program_of core)) (map procedure_entry (take i core.procedures.items))) progress
   pub entries_left : drop progress.index entries ≡ map exits_of (paths_of (program_of core) (map procedure_entry (drop i core.procedures.items)))
-  pub number_is : progress.number ≡ made_from (program_of core) 0 (map procedure_entry (take i core.procedures.items))
+  pub number_is : progress.number ≡ real_unknowns (program_of core) + made_from (program_of core) 0 (map procedure_entry (take i core.procedures.items))
+  pub low : i ≤ progress.number
   pub within : AreWithin i progress.thrown.items
   pub wide : exception_count core ≤ length progress.thrown.items
 
@@ -293,7 +316,7 @@ none-noted journal thrown n calls moments rows thrown_are = record {
 }
 
 pub passed-none : (core : Core) (table : List Label) (entries : List Exits) (n : ℕ) (progress : Progress)
-    → entries ≡ map exits_of (program_paths (program_of core)) → progress.index ≡ 0 → progress.number ≡ 0 → progress.constraints.items ≡ []
+    → entries ≡ map exits_of (program_paths (program_of core)) → progress.index ≡ 0 → progress.number ≡ real_unknowns (program_of core) → progress.constraints.items ≡ []
     → progress.thrown.items ≡ replicate n no_entry → n ≡ length core.exceptions.items + BUILT_IN
     → progress.journal.calls.items ≡ [] → ((x : ℕ) → moments_at progress.journal.moments.items x ≡ []) → length progress.journal.moments.items ≡ n
     → ArePassed core table entries 0 progress
@@ -306,7 +329,8 @@ passed-none core table entries n progress mapped index number constraints thrown
         (none-noted progress.journal progress.thrown.items n calls moments rows thrown);
   };
   entries_left = ap (λ k. drop k entries) index ∙ mapped;
-  number_is = number;
+  number_is = omega (arith, number);
+  low = omega arith;
   within = λ x. subst (λ (e : Entry). e.level ≤ 0) (sym (ap (λ list. get_or list x no_entry) thrown ∙ replicate-read n x)) (omega arith);
   wide =
       let width : length progress.thrown.items ≡ n = ap length thrown ∙ length-replicate n no_entry in
@@ -316,13 +340,13 @@ passed-none core table entries n progress mapped index number constraints thrown
 pub passed-added : (core : Core) (table : List Label) (entries : List Exits) (i : ℕ) (progress : Progress) → length core.procedures.items ≤ i
     → ArePassed core table entries i progress → ThinnedWhole core table (program_constraints (program_of core)) progress
 passed-added core table entries i progress all passed =
-    subst (λ list. ThinnedWhole core table (constraints_from (program_of core) 0 0 (map procedure_entry list)) progress)
+    subst (λ list. ThinnedWhole core table (constraints_from (program_of core) 0 (real_unknowns (program_of core)) (map procedure_entry list)) progress)
     (take_all i core.procedures.items all) passed.added
 
 pub passed-number : (core : Core) (table : List Label) (entries : List Exits) (i : ℕ) (progress : Progress) → length core.procedures.items ≤ i
-    → ArePassed core table entries i progress → progress.number ≡ made_from (program_of core) 0 (program_of core).procedures
+    → ArePassed core table entries i progress → progress.number ≡ unknown_count (program_of core)
 passed-number core table entries i progress all passed =
-    passed.number_is ∙ ap (λ list. made_from (program_of core) 0 (map procedure_entry list)) (take_all i core.procedures.items all)
+    passed.number_is ∙ ap (λ list. real_unknowns (program_of core) + made_from (program_of core) 0 (map procedure_entry list)) (take_all i core.procedures.items all)
 
 -- the path map goes on with the paths of the next procedure
 next-goes : (core : Core) (entries : List Exits) (i : ℕ) (procedure : Procedure) (index : ℕ)
@@ -361,22 +385,31 @@ passed-next core table entries i procedure old new inside is walks had =
     let next : map procedure_entry (take (i + 1) procedures) ≡ before ++ procedure_entry procedure ∷ [] = map_next procedure_entry procedures i procedure inside is in
     let made : made_from program 0 (map procedure_entry (take (i + 1) procedures)) ≡ made_from program 0 before + made_by_procedure scope =
     ap (made_from program 0) next ∙ (made-append program 0 before (procedure_entry procedure) ∙ ap (λ g. made_from program 0 before + made_by_procedure (record { program = program; number = g })) count') in
-    let old_number : old.number ≡ made_from program 0 before = had.number_is in
+    let real : ℕ = real_unknowns program in
+    let old_number : old.number ≡ real + made_from program 0 before = had.number_is in
     let new_number : new.number ≡ old.number + made_by_procedure scope = passed.number_is in
-    let start : 0 + made_from program 0 before ≡ old.number = omega (arith, old_number) in
+    let start : real + made_from program 0 before ≡ old.number = omega (arith, old_number) in
     record {
-      added = whole-same core table (constraints_from program 0 0 (map procedure_entry (take (i + 1) procedures)))
-          (constraints_from program 0 0 before ++ procedure_constraints scope old.number) new
-          (ap (constraints_from program 0 0) next
-          ∙ (from-append program 0 0 before (procedure_entry procedure)
-          ∙ (ap (λ g. constraints_from program 0 0 before ++ procedure_constraints (record { program = program; number = g }) (0 + made_from program 0 before)) count'
-          ∙ ap (λ k. constraints_from program 0 0 before ++ procedure_constraints scope k) start)))
-          (whole-then core table (constraints_from program 0 0 before) (procedure_constraints scope old.number) old new had.added passed.added);
+      added = whole-same core table (constraints_from program 0 real (map procedure_entry (take (i + 1) procedures)))
+          (constraints_from program 0 real before ++ procedure_constraints scope old.number) new
+          (ap (constraints_from program 0 real) next
+          ∙ (from-append program 0 real before (procedure_entry procedure)
+          ∙ (ap (λ g. constraints_from program 0 real before ++ procedure_constraints (record { program = program; number = g }) (real + made_from program 0 before)) count'
+          ∙ ap (λ k. constraints_from program 0 real before ++ procedure_constraints scope k) start)))
+          (whole-then core table (constraints_from program 0 real before) (procedure_constraints scope old.number) old new had.added passed.added);
       entries_left = passed.entries_left;
       number_is = omega (arith, made, old_number, new_number);
+      low = (let own : made_by_procedure scope ≡ suc (length (here scope).throws + made_by_block (here scope).body) = refl in omega (arith, had.low, new_number, own));
       within = subst (λ level. AreWithin level new.thrown.items) (sym (add-one i)) passed.within;
       wide = omega (arith, passed.wide, had.wide);
     }
+
+-- the first procedures make no more than all
+made-within : (program : Program) (f n : ℕ) (ps : List ProcedureEntry) → made_from program f (take n ps) ≤ made_from program f ps
+made-within program f zero [] = omega arith
+made-within program f zero (p ∷ ps) = omega arith
+made-within program f (suc n) [] = omega arith
+made-within program f (suc n) (p ∷ ps) = omega (arith, made-within program (suc f) n ps)
 
 -- what the walk past the next procedure asks for
 pub next-ready : (core : Core) (table : List Label) (entries : List Exits) (i : ℕ) (procedure : Procedure) (now : Progress)
@@ -399,4 +432,16 @@ next-ready core table entries i procedure now inside is had =
       fitting = subst (λ entry. procedure_fits program entry ≡ true) same
           (AllPass-from_list_all (procedure_fits program) entries_of (program_parts program core.well_formed).procedures_fit i (procedure_entry procedure)
           (omega (arith, length-map procedures procedure_entry, inside)));
+      room =
+          let before : List ProcedureEntry = map procedure_entry (take i procedures) in
+          let within : i ≤ length procedures = omega (arith, inside) in
+          let count : 0 + length before ≡ i = omega (arith, length-map (take i procedures) procedure_entry, length-take-le i procedures within) in
+          let next : map procedure_entry (take (i + 1) procedures) ≡ before ++ procedure_entry procedure ∷ [] = map_next procedure_entry procedures i procedure inside is in
+          let made : made_from program 0 (map procedure_entry (take (i + 1) procedures)) ≡ made_from program 0 before + made_by_procedure (scope_of core i) =
+          ap (made_from program 0) next ∙ (made-append program 0 before (procedure_entry procedure) ∙ ap (λ g. made_from program 0 before + made_by_procedure (record { program = program; number = g })) count) in
+          let upto : made_from program 0 (map procedure_entry (take (i + 1) procedures)) ≤ made_from program 0 program.procedures =
+          subst (λ list. made_from program 0 list ≤ made_from program 0 program.procedures) (take-map procedure_entry (i + 1) procedures)
+          (made-within program 0 (i + 1) program.procedures) in
+          omega (arith, had.number_is, made, upto, unknowns-counted program core.well_formed, program-small core);
+      deep = had.low;
     }

@@ -150,6 +150,20 @@ pub all-next : (rows : List (Vec Called Global)) (i : ℕ) (row : Vec Called Glo
 all-next rows i row inside is =
     ap all_calls (take_more rows i row inside) ∙ (all-append (take i rows) (get_or rows i row) ∙ ap (λ (v : Vec Called Global). all_calls (take i rows) ++ v.items) (sym is))
 
+pub calls-more : (rows : List (Vec Called Global)) (i : ℕ) (row : Vec Called Global) (own : List Called) → i < length rows → row ≡ get_or rows i row → own ≡ row.items
+    → length (all_calls (take (i + 1) rows)) ≡ length (all_calls (take i rows)) + length own
+calls-more rows i row own inside is same =
+    ap length (all-next rows i row inside is)
+    ∙ (length-append (all_calls (take i rows)) row.items ∙ ap (λ n. length (all_calls (take i rows)) + n) (ap length (sym same)))
+
+-- which are no more than all
+pub calls-upto : (rows : List (Vec Called Global)) (n : ℕ) → length (all_calls (take n rows)) ≤ length (all_calls rows)
+calls-upto [] zero = omega arith
+calls-upto [] (suc n) = omega arith
+calls-upto (row ∷ rows) zero = omega arith
+calls-upto (row ∷ rows) (suc n) =
+    omega (arith, calls-upto rows n, length-append row.items (all_calls (take n rows)), length-append row.items (all_calls rows))
+
 pub row-calls : (rows : List (Vec Called Global)) (i : ℕ) (row : Vec Called Global) (count : ℕ) (calls : List Called) → i < length rows → row ≡ get_or rows i row
     → AreRowsOf count calls rows → AreCallsOf i row.items
 row-calls rows i row count calls inside is are =

@@ -129,7 +129,7 @@ from-upto (m ∷ ms) last call old upto least =
 
 module _ (core : Core) (table : List Label) (procedure : ℕ) (pc : NamedAtom) (takers : Takers) (thrown : List Entry) (number at callee : ℕ) (arguments : List Expression) (target : Option Variable) where
   abbrev called_at : (call : ℕ) → Called
-  called_at call = record { callee = callee; barrier = takers.barrier; own = number; call = call }
+  called_at call = record { callee = callee; barrier = takers.ends.raised; own = number; call = call }
 
   call-thinned : (old new : List Stored) (before after : Journal)
       → AreAdded core table (kept_call (scope_of core procedure) pc (takers_of takers thrown) number at callee arguments target) old new
@@ -178,7 +178,7 @@ module _ (core : Core) (table : List Label) (procedure : ℕ) (pc : NamedAtom) (
               entry = entry.0;
               declared = entry.1;
               taker = found.taker;
-              takes = ap (taker_of takers.barrier) (now entry.0.exception) ∙ (ap (λ x. t (Throw x)) entry.2 ∙ found.takes);
+              takes = ap (taker_of takers.ends.raised) (now entry.0.exception) ∙ (ap (λ x. t (Throw x)) entry.2 ∙ found.takes);
               is = found.is ∙ ap (λ x. raised_flow program callee number x found.taker) (sym entry.2);
             }))
             (Contains-append_cases kept flows c (subst (λ list. Contains list c) splits h));
@@ -196,7 +196,7 @@ module _ (core : Core) (table : List Label) (procedure : ℕ) (pc : NamedAtom) (
             let x : ℕ = raised.entry.exception in
             let declares : Contains (procedure_at program callee).throws raised.entry = subst (λ (k : Called). Contains (procedure_at program k.callee).throws raised.entry) (sym same) raised.declared in
             let takes : t (Throw x) ≡ Some raised.taker =
-            sym (ap (taker_of takers.barrier) (now x)) ∙ subst (λ (k : Called). taker_of k.barrier (entry_at after x k.call) ≡ Some raised.taker) (sym same) raised.takes in
+            sym (ap (taker_of takers.ends.raised) (now x)) ∙ subst (λ (k : Called). taker_of k.barrier (entry_at after x k.call) ≡ Some raised.taker) (sym same) raised.takes in
             let is : c ≡ raised_flow program callee number x raised.taker = subst (λ (k : Called). c ≡ raised_flow program k.callee k.own x raised.taker) (sym same) raised.is in
             inr (subst (λ list. Contains list c) (sym splits) (Contains-append_right kept flows c
             (subst (λ z. Contains flows z) (sym is)

@@ -15,7 +15,7 @@ use Rattle.resolved.specs.Labelled.{Scope, label_of, value_label}
 use Rattle.resolved.specs.Tree.{Expression, Statement, If, While, Try, Block, Handlers}
 use Rattle.resolved.specs.TreeOf.{handlers_of, statement_of}
 use Rattle.resolved.specs.Ends.{block_ends, handles, one_end, raises, statement_ends}
-use Rattle.path_map.specs.declared.exits.Exits.{Exits}
+use Rattle.path_map.specs.Exits.{Exits}
 use Rattle.path_map.specs.Exits.{exits_of}
 use Rattle.path_map.specs.Paths.{block_paths, handlers_paths, inner_paths, rest_paths}
 use Rattle.gathering.specs.Names.{NamedAtom, NamedConstraint, Real, named_atoms}

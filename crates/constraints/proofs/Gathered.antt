@@ -14,23 +14,23 @@ use Rattle.resolved.specs.CoreOf.{program_of}
 use Rattle.resolved.specs.EndFaults.{end_faults}
 use Rattle.resolved.specs.Labelled.{FitsDemands, Labelling, program_demands}
 use Rattle.gathering.specs.Gathered.{AreConstraintsOf, FitsConstraints}
-use Rattle.gathering.specs.Names.{numbered, real_unknowns}
+use Rattle.gathering.specs.Names.{numbered}
 use Rattle.gathering.specs.Walk as walk
-use Rattle.gathering.specs.Walk.{made_from, program_constraints}
+use Rattle.gathering.specs.Walk.{program_constraints, unknown_count}
 use Rattle.gathering.proofs.ReroutedPrograms.{constraints-fit, rerouted-constraints}
 use Rattle.solver.specs.Links.{AreBelow, InRange, IsBelow}
 use Rattle.solver.specs.Constraints.{atom_of, constraint_of}
 use Rattle.solver.specs.declared.constraints.Atom.{Atom}
 use Rattle.solver.specs.declared.constraints.Atom.TheVariants as stored
-use Rattle.constraints.specs.LeftSides.{part, left_parts, wanted}
-use Rattle.constraints.specs.Added.{AreAdded, Stored, stand_for, stands_for, wanted_of}
+use Rattle.constraints.specs.LeftSides.{part, left_parts}
+use Rattle.constraints.specs.Added.{AreAdded, Stored, stand_for, stands_for}
 use Rattle.constraints.specs.Spreading.{AreSpread, Declares}
 use Rattle.constraints.specs.Thinned.{ThinnedWhole}
 use Rattle.constraints.specs.declared.progress.Progress.{Progress}
 use Rattle.constraints.specs.declared.spreading.Made.{Made}
 use Rattle.constraints.proofs.Added.{added-then}
-use Rattle.constraints.proofs.SpreadCalls.{calls-rerouted, spread-below}
-use Rattle.constraints.proofs.Tables.{map-map}
+use Rattle.constraints.proofs.SpreadCalls.{all-numbered, calls-rerouted, spread-below}
+use Rattle.constraints.proofs.Wanted.{wanted, wanted_of}
 
 module _ (l : Lattice Label) (table : List Label) where
   atom-is : (a : Atom) (b : formal.Atom ℕ Label) → part table a ≡ wanted b → atom_of l table a ≡ b
@@ -108,13 +108,13 @@ module _ (table : List Label) (count : ℕ) where
 module _ (core : Core) (table : List Label) (walked : Progress) (old new : Made)
     (whole : ThinnedWhole core table (program_constraints (program_of core)) walked)
     (spread : AreSpread core table walked.journal (Declares core) walked.journal.calls.items old new)
-    (first : old.number ≡ made_from (program_of core) 0 (program_of core).procedures)
+    (first : old.number ≡ unknown_count (program_of core))
     (same : old.constraints.items ≡ walked.constraints.items) where
   stand-for-all : stand_for table new.constraints.items ≡ map wanted_of (map (numbered (program_of core)) (whole.now.kept ++ spread.added))
   stand-for-all =
       added-then core table whole.now.kept spread.added [] old.constraints.items new.constraints.items
       (subst (AreAdded core table whole.now.kept []) (sym same) whole.now.kept_added) spread.are_added
-      ∙ map-map (numbered (program_of core)) wanted_of (whole.now.kept ++ spread.added)
+      ∙ all-numbered core table walked old new whole spread first
 
   pub all-gathered : end_faults (program_of core) ≡ []
       → AreConstraintsOf (program_of core) (map (constraint_of (label_lattice (program_of core).hierarchy) table) new.constraints.items)
@@ -133,8 +133,7 @@ module _ (core : Core) (table : List Label) (walked : Progress) (old new : Made)
   all-fit ended labelling =
       constraints-fit (program_of core) (map (constraint_of (label_lattice (program_of core).hierarchy) table) new.constraints.items) (all-gathered ended) labelling
 
-  pub all-in-range : (unknowns : ℕ) → unknowns ≡ real_unknowns (program_of core) + new.number → InRange (length table) unknowns new.constraints.items
-  all-in-range unknowns is =
-      subst (λ n. InRange (length table) n new.constraints.items) (sym is)
-      (constraints-in-range table (real_unknowns (program_of core) + new.number) new.constraints.items (map (numbered (program_of core)) (whole.now.kept ++ spread.added)) stand-for-all
-      (spread-below core table walked old new whole spread first))
+  pub all-in-range : InRange (length table) new.number new.constraints.items
+  all-in-range =
+      constraints-in-range table new.number new.constraints.items (map (numbered (program_of core)) (whole.now.kept ++ spread.added)) stand-for-all
+      (spread-below core table walked old new whole spread first)

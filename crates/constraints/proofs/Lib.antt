@@ -1,3 +1,5 @@
+pub mod Small
+pub mod Wanted
 pub mod Tables
 pub mod Joined
 pub mod Added

@@ -4,7 +4,7 @@ use Rattle.std.proofs.lemmas.List.{map-append}
 use Rattle.labels.specs.Label.{Label}
 use Rattle.resolved.specs.declared.program.Core.{Core}
 use Rattle.resolved.specs.declared.statement.Exit.{Exit}
-use Rattle.path_map.specs.declared.exits.Exits.{Exits}
+use Rattle.path_map.specs.Exits.{Exits}
 use Rattle.path_map.specs.Exits.{exits_of}
 use Rattle.gathering.specs.Names.{NamedAtom, NamedConstraint}
 use Rattle.solver.specs.declared.constraints.Atom.{Atom}

@@ -1,5 +1,5 @@
 -- What a walk asks for before a piece, from what it asks for before the whole and what it did up to there.
-use Rattle.std.proofs.Common.{◌≡◌, refl, sym, ap, ◌∙◌, subst, ℕ, ◌+◌, ◌<◌, ◌≤◌, List, [], ◌∷◌, ◌++◌, map, drop, get_or, length, arith, Bool, true, ◌&&◌}
+use Rattle.std.proofs.Common.{◌≡◌, refl, sym, ap, ◌∙◌, subst, ℕ, suc, ◌+◌, ◌<◌, ◌≤◌, List, [], ◌∷◌, ◌++◌, map, drop, get_or, length, arith, Bool, true, ◌&&◌}
 use Rattle.std.specs.Prelude.{IsTrue, not, ◌==◌}
 use Rattle.std.specs.List.{All, list_any}
 use Rattle.std.proofs.lemmas.Bool.{and_parts, ltb-true}
@@ -15,19 +15,19 @@ use Rattle.resolved.specs.declared.statement.Statement as S
 use Rattle.resolved.specs.declared.tables.Thrown.{Thrown}
 use Rattle.resolved.specs.Program.{ProcedureEntry, Program, ThrownEntry}
 use Rattle.resolved.specs.ProgramOf.{thrown_entry}
-use Rattle.resolved.specs.Tree.{Expression, Statement, If, While, Try, Block, Then, Handlers, Catch}
+use Rattle.resolved.specs.Tree.{Expression, Statement, If, While, Try, Nested, Block, Then, Handlers, Catch}
 use Rattle.resolved.specs.TreeOf.{block_of, handlers_of, statement_of}
 use Rattle.resolved.specs.declared.expression.Base.TheVariants.{Boolean}
 use Rattle.resolved.specs.Ends.{block_ends, one_end, statement_ends}
 use Rattle.resolved.specs.Labelled.{here}
 use Rattle.resolved.specs.WellFormed.{block_fits, handlers_fit, has_base, is_exception, label_fits, statement_fits, throws_fit}
-use Rattle.path_map.specs.declared.exits.Exits.{Exits}
+use Rattle.path_map.specs.Exits.{Exits}
 use Rattle.path_map.specs.Exits.{exits_of}
 use Rattle.path_map.specs.Paths.{block_paths, handlers_paths, inner_paths, rest_paths, statement_paths}
 use Rattle.gathering.specs.Names.{NamedAtom, NamedConstraint}
-use Rattle.gathering.specs.Walk.{inner_block, made_by_block, made_by_statement, single}
+use Rattle.gathering.specs.Walk.{handler_count, inner_block, made_by_block, made_by_handlers, made_by_statement, single}
 use Rattle.solver.specs.declared.constraints.Atom.{Atom}
-use Rattle.constraints.specs.Ready.{AreHandledInside, AreHandlersReady, AreStatementsReady, IsBlockReady, IsFormReady, IsReady, IsStatementReady, exception_count}
+use Rattle.constraints.specs.Ready.{AreHandledInside, AreHandlersReady, AreStatementsReady, HasRoom, IsBlockReady, IsFormReady, IsReady, IsStatementReady, exception_count}
 use Rattle.constraints.specs.Takers.{AreLevelled, takers_of, undone}
 use Rattle.constraints.specs.LeftSides.{scope_of}
 use Rattle.constraints.specs.Walked.{HasPassed, IsBlockWalked, IsStatementWalked, IsTried, IsWalked, step_constraints}
@@ -38,6 +38,11 @@ use Rattle.constraints.specs.declared.takers.Takers.{Takers}
 use Rattle.constraints.proofs.Passed.{levels-same, paths-then}
 use Rattle.constraints.proofs.SavedEntries.{undone-length}
 
+-- each handler makes one unknown
+pub count-of : (handlers : List Handler) → length handlers ≡ handler_count (handlers_of handlers)
+count-of [] = refl
+count-of (handler ∷ rest) = ap suc (count-of rest)
+
 -- an entry of a path map that has not ended
 pub there-is-next : (entries : List Exits) (i : ℕ) (first : Exits) (rest : List Exits) → drop i entries ≡ first ∷ rest → i < length entries
 there-is-next entries i first rest is =
@@ -46,53 +51,63 @@ there-is-next entries i first rest is =
 
 module _ (core : Core) (entries : List Exits) where
   -- for the first piece of several
-  pub ready-first : (takers : Takers) (first second : List (List Exit)) (fits fitting : Bool) (now : Progress)
-      → IsReady core entries takers (first ++ second) fits now → IsTrue fitting → IsReady core entries takers first fitting now
-  ready-first takers first second fits fitting now ready fit = record {
+  pub ready-first : (takers : Takers) (first second : List (List Exit)) (fits fitting : Bool) (made own more : ℕ) (now : Progress)
+      → IsReady core entries takers (first ++ second) fits made more now → IsTrue fitting → own ≤ made → IsReady core entries takers first fitting own more now
+  ready-first takers first second fits fitting made own more now ready fit within = record {
     left = map exits_of second ++ ready.left;
     goes_on = paths-then first second (drop now.index entries) ready.left ready.goes_on;
     levelled = ready.levelled;
     wide = ready.wide;
     fitting = fit;
+    room = omega (arith, ready.room, within);
+    deep = ready.deep;
   }
 
   -- where only inner unknowns were made
-  pub ready-made : (takers : Takers) (paths : List (List Exit)) (fits : Bool) (k : ℕ) (now made : Progress)
-      → made ≡ record now { number = now.number + k } → IsReady core entries takers paths fits now → IsReady core entries takers paths fits made
-  ready-made takers paths fits k now made made_is ready =
-      let same : IsReady core entries takers paths fits (record now { number = now.number + k }) = record {
+  pub ready-made : (takers : Takers) (paths : List (List Exit)) (fits : Bool) (whole k rest more : ℕ) (now made : Progress)
+      → made ≡ record now { number = now.number + k } → IsReady core entries takers paths fits whole more now → k + rest ≤ whole
+      → IsReady core entries takers paths fits rest (more + k) made
+  ready-made takers paths fits whole k rest more now made made_is ready within =
+      let same : IsReady core entries takers paths fits rest (more + k) (record now { number = now.number + k }) = record {
         left = ready.left;
         goes_on = ready.goes_on;
         levelled = ready.levelled;
         wide = ready.wide;
         fitting = ready.fitting;
+        room = omega (arith, ready.room, within);
+        deep = omega (arith, ready.deep);
       } in
-      subst (IsReady core entries takers paths fits) (sym made_is) same
+      subst (IsReady core entries takers paths fits rest (more + k)) (sym made_is) same
 
   -- where the takers of exceptions are the same
-  pub ready-moved : (takers inner : Takers) (first second : List (List Exit)) (fits fitting : Bool) (old new : Progress)
-      → (ready : IsReady core entries takers (first ++ second) fits old)
+  pub ready-moved : (takers inner : Takers) (first second : List (List Exit)) (fits fitting : Bool) (made own more deeper : ℕ) (old new : Progress)
+      → (ready : IsReady core entries takers (first ++ second) fits made more old)
       → (drop old.index entries ≡ map exits_of first ++ (map exits_of second ++ ready.left) → drop new.index entries ≡ map exits_of second ++ ready.left)
       → new.thrown.items ≡ old.thrown.items → AreLevelled inner old.thrown.items → IsTrue fitting
-      → IsReady core entries inner second fitting new
-  ready-moved takers inner first second fits fitting old new ready moved thrown levelled fit = record {
+      → HasRoom own new → inner.level + deeper ≤ new.number
+      → IsReady core entries inner second fitting own deeper new
+  ready-moved takers inner first second fits fitting made own more deeper old new ready moved thrown levelled fit room deep = record {
     left = ready.left;
     goes_on = moved (paths-then first second (drop old.index entries) ready.left ready.goes_on);
     levelled = levels-same inner old.thrown.items new.thrown.items thrown levelled;
     wide = subst (λ list. exception_count core ≤ length list) (sym thrown) ready.wide;
     fitting = fit;
+    room = room;
+    deep = deep;
   }
 
   -- for what comes behind a piece that was walked past
-  pub ready-then : (table : List Label) (pc : Atom) (takers own inner : Takers) (first second : List (List Exit)) (gathered : NamedAtom → List NamedConstraint) (made : ℕ) (fits fitting : Bool) (old new : Progress)
-      → IsReady core entries takers (first ++ second) fits old
+  pub ready-then : (table : List Label) (pc : Atom) (takers own inner : Takers) (first second : List (List Exit)) (gathered : NamedAtom → List NamedConstraint) (made : ℕ) (fits fitting : Bool) (whole rest more deeper : ℕ) (old new : Progress)
+      → IsReady core entries takers (first ++ second) fits whole more old
       → IsWalked core table entries pc own first gathered made old new
       → AreLevelled own old.thrown.items → AreLevelled inner old.thrown.items → IsTrue fitting
-      → IsReady core entries inner second fitting new
-  ready-then table pc takers own inner first second gathered made fits fitting old new ready walked own_levelled levelled fit =
+      → made + rest ≤ whole → inner.level + deeper ≤ takers.level + (more + made)
+      → IsReady core entries inner second fitting rest deeper new
+  ready-then table pc takers own inner first second gathered made fits fitting whole rest more deeper old new ready walked own_levelled levelled fit within levels =
       let passed : HasPassed core table entries pc gathered made (map exits_of second ++ ready.left) old new =
       walked (map exits_of second ++ ready.left) (paths-then first second (drop old.index entries) ready.left ready.goes_on) own_levelled in
-      ready-moved takers inner first second fits fitting old new ready (λ before. passed.entries_left) passed.thrown_is levelled fit
+      ready-moved takers inner first second fits fitting whole rest more deeper old new ready (λ before. passed.entries_left) passed.thrown_is levelled fit
+      (omega (arith, ready.room, passed.number_is, within)) (omega (arith, ready.deep, passed.number_is, levels))
 
   pub form-ready-at : (procedure : ℕ) (s : S.Statement) (tree : Statement) (takers : Takers) (now : Progress) → statement_of s ≡ tree
       → IsFormReady core entries procedure takers (statement_of s) now → IsFormReady core entries procedure takers tree now
@@ -147,35 +162,38 @@ module _ (core : Core) (table : List Label) (entries : List Exits) (procedure : 
   pub block-goes : (block : Block) (pc : Atom) (takers inner : Takers) (old begun : Progress)
       → IsBlockReady core entries procedure takers block old
       → ((ends : List Exit) → IsWalked core table entries pc takers (ends ∷ []) (λ named. single (one_end ends) named (takers_of takers old.thrown.items) ends) 0 old begun)
-      → ((thrown : List Entry) → AreLevelled takers thrown → AreLevelled inner thrown)
+      → ((thrown : List Entry) → AreLevelled takers thrown → AreLevelled inner thrown) → inner.level ≡ takers.level
       → AreStatementsReady core entries procedure inner block begun
-  block-goes block pc takers inner old begun ready begins levels_are =
+  block-goes block pc takers inner old begun ready begins levels_are level_is =
       let ends : List Exit = block_ends (program_of core) block in
       ready-then core entries table pc takers takers inner (ends ∷ []) (rest_paths (program_of core) block)
-      (λ named. single (one_end ends) named (takers_of takers old.thrown.items) ends) 0 (fits-block block) (fits-block block) old begun ready (begins ends)
-      ready.levelled (levels_are old.thrown.items ready.levelled) ready.fitting
+      (λ named. single (one_end ends) named (takers_of takers old.thrown.items) ends) 0 (fits-block block) (fits-block block) (made_by_block block) (made_by_block block) 0 0 old begun ready (begins ends)
+      ready.levelled (levels_are old.thrown.items ready.levelled) ready.fitting (omega arith) (omega (arith, level_is))
 
   pub statement-goes : (tree : Statement) (pc : Atom) (takers none some inner : Takers) (old begun : Progress)
       → IsStatementReady core entries procedure takers tree old
       → ((ends : List Exit) → IsWalked core table entries pc none (ends ∷ []) (λ named. single (one_end ends) named (takers_of none old.thrown.items) ends) 0 old begun)
       → ((thrown : List Entry) → AreLevelled takers thrown → AreLevelled none thrown)
       → ((thrown : List Entry) → AreLevelled takers thrown → AreLevelled some thrown)
-      → ((thrown : List Entry) → AreLevelled some thrown → AreLevelled inner thrown)
+      → ((thrown : List Entry) → AreLevelled some thrown → AreLevelled inner thrown) → some.level ≡ takers.level → inner.level ≡ some.level
       → IsFormReady core entries procedure inner tree begun
-  statement-goes tree pc takers none some inner old begun ready begins none_levels some_levels levels_are =
+  statement-goes tree pc takers none some inner old begun ready begins none_levels some_levels levels_are some_level inner_level =
       let ends : List Exit = statement_ends (program_of core) tree in
       ready-then core entries table pc takers none inner (ends ∷ []) (inner_paths (program_of core) tree)
-      (λ named. single (one_end ends) named (takers_of none old.thrown.items) ends) 0 (fits-statement tree) (fits-statement tree) old begun ready (begins ends)
+      (λ named. single (one_end ends) named (takers_of none old.thrown.items) ends) 0 (fits-statement tree) (fits-statement tree) (made_by_statement tree) (made_by_statement tree) 1 1 old begun ready (begins ends)
       (none_levels old.thrown.items ready.levelled) (levels_are old.thrown.items (some_levels old.thrown.items ready.levelled)) ready.fitting
+      (omega arith) (omega (arith, some_level, inner_level))
 
   -- the blocks of a branch
-  pub if-goes : (at : ℕ) (e : Expression) (yes_block no_block : Block) (pc : Atom) (takers : Takers) (gathered : NamedAtom → List NamedConstraint) (made : ℕ) (old begun : Progress)
+  pub if-goes : (at : ℕ) (e : Expression) (yes_block no_block : Block) (pc : Atom) (takers : Takers) (gathered : NamedAtom → List NamedConstraint) (old begun : Progress)
       → IsFormReady core entries procedure takers (If at e yes_block no_block) old
-      → IsWalked core table entries pc takers [] gathered made old begun
-      → IsReady core entries takers (block_paths (program_of core) yes_block ++ block_paths (program_of core) no_block) true begun
-  if-goes at e yes_block no_block pc takers gathered made old begun ready walked =
+      → IsWalked core table entries pc takers [] gathered 1 old begun
+      → IsReady core entries takers (block_paths (program_of core) yes_block ++ block_paths (program_of core) no_block) true
+      (made_by_block yes_block + made_by_block no_block) 0 begun
+  if-goes at e yes_block no_block pc takers gathered old begun ready walked =
       ready-then core entries table pc takers takers takers [] (block_paths (program_of core) yes_block ++ block_paths (program_of core) no_block)
-      gathered made (fits-statement (If at e yes_block no_block)) true old begun ready walked ready.levelled ready.levelled refl
+      gathered 1 (fits-statement (If at e yes_block no_block)) true (made_by_statement (If at e yes_block no_block)) (made_by_block yes_block + made_by_block no_block) 1 0
+      old begun ready walked ready.levelled ready.levelled refl (omega arith) (omega arith)
 
   pub if-fits : (at : ℕ) (e : Expression) (yes_block no_block : Block) → IsTrue (fits-statement (If at e yes_block no_block))
       → IsTrue (fits-block yes_block) × IsTrue (fits-block no_block)
@@ -183,36 +201,39 @@ module _ (core : Core) (table : List Label) (entries : List Exits) (procedure : 
       let parts = and-three (has_base (program_of core) (here (scope_of core procedure)) Boolean e) (fits-block yes_block) (fits-block no_block) fit in
       (parts.1, parts.2)
 
-  pub if-first : (at : ℕ) (e : Expression) (yes_block no_block : Block) (pc : Atom) (takers : Takers) (gathered : NamedAtom → List NamedConstraint) (made : ℕ) (old begun : Progress)
+  pub if-first : (at : ℕ) (e : Expression) (yes_block no_block : Block) (pc : Atom) (takers : Takers) (gathered : NamedAtom → List NamedConstraint) (old begun : Progress)
       → IsFormReady core entries procedure takers (If at e yes_block no_block) old
-      → IsWalked core table entries pc takers [] gathered made old begun
+      → IsWalked core table entries pc takers [] gathered 1 old begun
       → IsBlockReady core entries procedure takers yes_block begun
-  if-first at e yes_block no_block pc takers gathered made old begun ready walked =
-      ready-first core entries takers (block_paths (program_of core) yes_block) (block_paths (program_of core) no_block) true (fits-block yes_block) begun
-      (if-goes at e yes_block no_block pc takers gathered made old begun ready walked) (if-fits at e yes_block no_block ready.fitting).0
+  if-first at e yes_block no_block pc takers gathered old begun ready walked =
+      ready-first core entries takers (block_paths (program_of core) yes_block) (block_paths (program_of core) no_block) true (fits-block yes_block)
+      (made_by_block yes_block + made_by_block no_block) (made_by_block yes_block) 0 begun
+      (if-goes at e yes_block no_block pc takers gathered old begun ready walked) (if-fits at e yes_block no_block ready.fitting).0 (omega arith)
 
-  pub if-second : (at : ℕ) (e : Expression) (yes_block no_block : Block) (pc inner : Atom) (takers : Takers) (gathered : NamedAtom → List NamedConstraint) (made : ℕ) (old begun middle : Progress)
+  pub if-second : (at : ℕ) (e : Expression) (yes_block no_block : Block) (pc inner : Atom) (takers : Takers) (gathered : NamedAtom → List NamedConstraint) (old begun middle : Progress)
       → IsFormReady core entries procedure takers (If at e yes_block no_block) old
-      → IsWalked core table entries pc takers [] gathered made old begun
+      → IsWalked core table entries pc takers [] gathered 1 old begun
       → IsBlockWalked core table entries procedure inner takers yes_block begun middle
       → IsBlockReady core entries procedure takers no_block middle
-  if-second at e yes_block no_block pc inner takers gathered made old begun middle ready walked first =
-      let goes : IsReady core entries takers (block_paths (program_of core) yes_block ++ block_paths (program_of core) no_block) true begun =
-      if-goes at e yes_block no_block pc takers gathered made old begun ready walked in
+  if-second at e yes_block no_block pc inner takers gathered old begun middle ready walked first =
+      let goes : IsReady core entries takers (block_paths (program_of core) yes_block ++ block_paths (program_of core) no_block) true
+      (made_by_block yes_block + made_by_block no_block) 0 begun =
+      if-goes at e yes_block no_block pc takers gathered old begun ready walked in
       ready-then core entries table inner takers takers takers (block_paths (program_of core) yes_block) (block_paths (program_of core) no_block)
       (λ named. inner_block (scope_of core procedure) named (takers_of takers begun.thrown.items) begun.number yes_block) (made_by_block yes_block)
-      true (fits-block no_block) begun middle goes first goes.levelled goes.levelled (if-fits at e yes_block no_block ready.fitting).1
+      true (fits-block no_block) (made_by_block yes_block + made_by_block no_block) (made_by_block no_block) 0 0
+      begun middle goes first goes.levelled goes.levelled (if-fits at e yes_block no_block ready.fitting).1 (omega arith) (omega arith)
 
   -- the body of a loop
-  pub while-goes : (at loop : ℕ) (e : Expression) (body : Block) (pc : Atom) (takers inner : Takers) (gathered : NamedAtom → List NamedConstraint) (made : ℕ) (old begun : Progress)
+  pub while-goes : (at loop : ℕ) (e : Expression) (body : Block) (pc : Atom) (takers inner : Takers) (gathered : NamedAtom → List NamedConstraint) (old begun : Progress)
       → IsFormReady core entries procedure takers (While at loop e body) old
-      → IsWalked core table entries pc takers [] gathered made old begun
-      → ((thrown : List Entry) → AreLevelled takers thrown → AreLevelled inner thrown)
+      → IsWalked core table entries pc takers [] gathered 2 old begun
+      → ((thrown : List Entry) → AreLevelled takers thrown → AreLevelled inner thrown) → inner.level ≡ takers.level
       → IsBlockReady core entries procedure inner body begun
-  while-goes at loop e body pc takers inner gathered made old begun ready walked levels_are =
-      ready-then core entries table pc takers takers inner [] (block_paths (program_of core) body) gathered made
-      (fits-statement (While at loop e body)) (fits-block body) old begun ready walked ready.levelled (levels_are old.thrown.items ready.levelled)
-      (and_parts (has_base (program_of core) (here (scope_of core procedure)) Boolean e) (fits-block body) ready.fitting).1
+  while-goes at loop e body pc takers inner gathered old begun ready walked levels_are level_is =
+      ready-then core entries table pc takers takers inner [] (block_paths (program_of core) body) gathered 2
+      (fits-statement (While at loop e body)) (fits-block body) (made_by_statement (While at loop e body)) (made_by_block body) 1 0 old begun ready walked ready.levelled (levels_are old.thrown.items ready.levelled)
+      (and_parts (has_base (program_of core) (here (scope_of core procedure)) Boolean e) (fits-block body) ready.fitting).1 (omega arith) (omega (arith, level_is))
 
   -- the block and the handlers of a `try`
   pub try-fits : (at : ℕ) (block : Block) (handlers : Handlers) → IsTrue (fits-statement (Try at block handlers)) → IsTrue (fits-block block) × IsTrue (fits-handlers handlers)
@@ -222,6 +243,11 @@ module _ (core : Core) (table : List Label) (entries : List Exits) (procedure : 
       → IsFormReady core entries procedure takers (Try at block (handlers_of handlers)) old → AreHandledInside handlers old.thrown.items
   try-inside at block handlers takers old ready =
       handled-inside (program_of core) (length old.thrown.items) ready.wide (here (scope_of core procedure)) handlers (try-fits at block (handlers_of handlers) ready.fitting).1
+
+  -- there are numbers for its handlers, and a level
+  pub try-room : (at : ℕ) (block : Block) (handlers : List Handler) (takers : Takers) (old : Progress)
+      → IsFormReady core entries procedure takers (Try at block (handlers_of handlers)) old → HasRoom (length handlers) old × (takers.level < old.number)
+  try-room at block handlers takers old ready = (omega (arith, ready.room, count-of handlers), omega (arith, ready.deep))
 
   pub try-first : (at : ℕ) (block : Block) (handlers : List Handler) (takers : Takers) (tried : Tried) (old begun : Progress)
       → IsFormReady core entries procedure takers (Try at block (handlers_of handlers)) old → IsTried takers handlers old begun tried
@@ -236,14 +262,16 @@ module _ (core : Core) (table : List Label) (entries : List Exits) (procedure : 
         levelled = (begins.taken ready.levelled).levels_are;
         wide = omega (arith, width, ready.wide);
         fitting = (try-fits at block (handlers_of handlers) ready.fitting).0;
+        room = omega (arith, ready.room, begins.number_is);
+        deep = omega (arith, ready.deep, begins.number_is, begins.level_is);
       }
 
   pub try-second : (at : ℕ) (block : Block) (handlers : List Handler) (pc : Atom) (takers : Takers) (tried : Tried) (old begun middle after : Progress)
       → IsFormReady core entries procedure takers (Try at block (handlers_of handlers)) old → IsTried takers handlers old begun tried
       → IsBlockWalked core table entries procedure pc tried.takers block begun middle
-      → after.index ≡ middle.index → after.thrown.items ≡ undone tried.saved.items middle.thrown.items
+      → after.index ≡ middle.index → after.number ≡ middle.number → after.thrown.items ≡ undone tried.saved.items middle.thrown.items
       → AreHandlersReady core entries procedure takers (handlers_of handlers) after
-  try-second at block handlers pc takers tried old begun middle after ready begins walked index thrown =
+  try-second at block handlers pc takers tried old begun middle after ready begins walked index number thrown =
       let program : Program = program_of core in
       let paths : List (List Exit) = handlers_paths program (handlers_of handlers) in
       let behind : List Exits = map exits_of paths ++ ready.left in
@@ -252,9 +280,24 @@ module _ (core : Core) (table : List Label) (entries : List Exits) (procedure : 
       (made_by_block block) behind begun middle =
       walked behind (ap (λ i. drop i entries) begins.index_is ∙ paths-then (block_paths program block) paths (drop old.index entries) ready.left ready.goes_on)
       (begins.taken ready.levelled).levels_are in
-      ready-moved core entries takers takers (block_paths program block) paths (fits-statement (Try at block (handlers_of handlers))) (fits-handlers (handlers_of handlers)) old after ready
+      ready-moved core entries takers takers (block_paths program block) paths (fits-statement (Try at block (handlers_of handlers))) (fits-handlers (handlers_of handlers))
+      (made_by_statement (Try at block (handlers_of handlers))) (made_by_handlers (handlers_of handlers)) 1 0 old after ready
       (λ before. ap (λ i. drop i entries) index ∙ passed.entries_left)
       (thrown ∙ (ap (undone tried.saved.items) passed.thrown_is ∙ begins.saved_is)) ready.levelled (try-fits at block (handlers_of handlers) ready.fitting).1
+      (omega (arith, ready.room, begins.number_is, passed.number_is, number)) (omega (arith, ready.deep, begins.number_is, passed.number_is, number))
+
+  -- a block in a block
+  pub nested-goes : (at : ℕ) (block : Block) (takers : Takers) (now : Progress)
+      → IsFormReady core entries procedure takers (Nested at block) now → IsBlockReady core entries procedure takers block now
+  nested-goes at block takers now ready = record {
+    left = ready.left;
+    goes_on = ready.goes_on;
+    levelled = ready.levelled;
+    wide = ready.wide;
+    fitting = ready.fitting;
+    room = ready.room;
+    deep = omega (arith, ready.deep);
+  }
 
   -- the next statement of a block, and those behind it
   pub along-first : (takers : Takers) (statement : Statement) (rest : Block) (now made : Progress)
@@ -262,9 +305,10 @@ module _ (core : Core) (table : List Label) (entries : List Exits) (procedure : 
       → IsStatementReady core entries procedure takers statement made
   along-first takers statement rest now made ready made_is =
       let program : Program = program_of core in
-      ready-first core entries takers (statement_paths program statement) (rest_paths program rest) (fits-block (Then statement rest)) (fits-statement statement) made
-      (ready-made core entries takers (rest_paths program (Then statement rest)) (fits-block (Then statement rest)) 1 now made made_is ready)
-      (and_parts (fits-statement statement) (fits-block rest) ready.fitting).0
+      ready-first core entries takers (statement_paths program statement) (rest_paths program rest) (fits-block (Then statement rest)) (fits-statement statement)
+      (made_by_statement statement + made_by_block rest) (made_by_statement statement) 1 made
+      (ready-made core entries takers (rest_paths program (Then statement rest)) (fits-block (Then statement rest)) (made_by_block (Then statement rest)) 1 (made_by_statement statement + made_by_block rest) 0 now made made_is ready (omega arith))
+      (and_parts (fits-statement statement) (fits-block rest) ready.fitting).0 (omega arith)
 
   pub along-second : (pc : Atom) (takers : Takers) (number : ℕ) (statement : Statement) (rest : Block) (now made new : Progress)
       → AreStatementsReady core entries procedure takers (Then statement rest) now → made ≡ record now { number = now.number + 1 }
@@ -272,20 +316,32 @@ module _ (core : Core) (table : List Label) (entries : List Exits) (procedure : 
       → AreStatementsReady core entries procedure takers rest new
   along-second pc takers number statement rest now made new ready made_is walked =
       let program : Program = program_of core in
-      let before : IsReady core entries takers (statement_paths program statement ++ rest_paths program rest) (fits-block (Then statement rest)) made =
-      ready-made core entries takers (rest_paths program (Then statement rest)) (fits-block (Then statement rest)) 1 now made made_is ready in
+      let before : IsReady core entries takers (statement_paths program statement ++ rest_paths program rest) (fits-block (Then statement rest))
+      (made_by_statement statement + made_by_block rest) 1 made =
+      ready-made core entries takers (rest_paths program (Then statement rest)) (fits-block (Then statement rest)) (made_by_block (Then statement rest)) 1 (made_by_statement statement + made_by_block rest) 0 now made made_is ready (omega arith) in
       ready-then core entries table pc takers takers takers (statement_paths program statement) (rest_paths program rest)
       (λ named. step_constraints (scope_of core procedure) named (takers_of takers made.thrown.items) number made.number statement) (made_by_statement statement)
-      (fits-block (Then statement rest)) (fits-block rest) made new before walked before.levelled before.levelled
-      (and_parts (fits-statement statement) (fits-block rest) ready.fitting).1
+      (fits-block (Then statement rest)) (fits-block rest) (made_by_statement statement + made_by_block rest) (made_by_block rest) 1 0 made new before walked before.levelled before.levelled
+      (and_parts (fits-statement statement) (fits-block rest) ready.fitting).1 (omega arith) (omega arith)
+
+  -- there is a number for the normal end of a statement
+  pub along-room : (takers : Takers) (statement : Statement) (rest : Block) (now : Progress)
+      → AreStatementsReady core entries procedure takers (Then statement rest) now → HasRoom 1 now
+  along-room takers statement rest now ready = omega (arith, ready.room)
+
+  -- and what a statement makes itself
+  pub form-room : (takers : Takers) (tree : Statement) (made : ℕ) (now : Progress)
+      → IsFormReady core entries procedure takers tree now → made ≤ made_by_statement tree → HasRoom made now
+  form-room takers tree made now ready within = omega (arith, ready.room, within)
 
   -- the next handler, and those behind it
   pub handling-first : (takers : Takers) (at handled : ℕ) (body : Block) (rest : Handlers) (now : Progress)
       → AreHandlersReady core entries procedure takers (Catch at handled body rest) now → IsBlockReady core entries procedure takers body now
   handling-first takers at handled body rest now ready =
       let program : Program = program_of core in
-      ready-first core entries takers (block_paths program body) (handlers_paths program rest) (fits-handlers (Catch at handled body rest)) (fits-block body) now ready
-      (and-three (is_exception program handled) (fits-block body) (fits-handlers rest) ready.fitting).1
+      ready-first core entries takers (block_paths program body) (handlers_paths program rest) (fits-handlers (Catch at handled body rest)) (fits-block body)
+      (made_by_handlers (Catch at handled body rest)) (made_by_block body) 0 now ready
+      (and-three (is_exception program handled) (fits-block body) (fits-handlers rest) ready.fitting).1 (omega arith)
 
   pub handling-second : (pc : Atom) (takers : Takers) (at handled : ℕ) (body : Block) (rest : Handlers) (now new : Progress)
       → AreHandlersReady core entries procedure takers (Catch at handled body rest) now
@@ -295,5 +351,6 @@ module _ (core : Core) (table : List Label) (entries : List Exits) (procedure : 
       let program : Program = program_of core in
       ready-then core entries table pc takers takers takers (block_paths program body) (handlers_paths program rest)
       (λ named. inner_block (scope_of core procedure) named (takers_of takers now.thrown.items) now.number body) (made_by_block body)
-      (fits-handlers (Catch at handled body rest)) (fits-handlers rest) now new ready walked ready.levelled ready.levelled
-      (and-three (is_exception program handled) (fits-block body) (fits-handlers rest) ready.fitting).2
+      (fits-handlers (Catch at handled body rest)) (fits-handlers rest) (made_by_handlers (Catch at handled body rest)) (made_by_handlers rest) 0 0
+      now new ready walked ready.levelled ready.levelled
+      (and-three (is_exception program handled) (fits-block body) (fits-handlers rest) ready.fitting).2 (omega arith) (omega arith)

@@ -17,17 +17,21 @@ use Rattle.resolved.specs.WellFormed.{program_nodes}
 use Rattle.gathering.specs.Names.{NamedAtom, NamedConstraint, is_inner_name, named_atoms, numbered, numbered_atom, real_unknowns}
 use Rattle.gathering.specs.Rerouted.{Brings, IsAdded, IsRerouted, Leads, Links, arrived, itself, onward, others}
 use Rattle.gathering.specs.Walk as walk
-use Rattle.gathering.specs.Walk.{call_atoms, gathered_constraints, inner_atom, made_from, program_constraints, unknown_count}
+use Rattle.gathering.specs.Walk.{call_atoms, gathered_constraints, inner_atom, program_constraints, unknown_count}
 use Rattle.gathering.proofs.Begins.{calls-counted}
 use Rattle.gathering.proofs.Numbers.{kept, numbers-below}
 use Rattle.gathering.proofs.Ranged.{InRange, Ranged}
 use Rattle.gathering.proofs.RangedPrograms.{ranged-program}
+use Rattle.constraints.specs.Ready.{most_unknowns}
 use Rattle.constraints.specs.Journals.{IsRaised, raised_flow, taker_at}
 use Rattle.constraints.specs.Spreading.{AreSpread, Declares, IsJoin, IsNode, IsSpread, IsSpreadRaise, StandFrom, StandForThemselves}
-use Rattle.constraints.specs.Thinned.{ThinnedWhole}
+use Rattle.constraints.specs.Added.{wanted_constraint}
+use Rattle.constraints.specs.Thinned.{IsOwnOf, ThinnedWhole}
 use Rattle.constraints.specs.declared.journal.Called.{Called}
 use Rattle.constraints.specs.declared.progress.Progress.{Progress}
 use Rattle.constraints.specs.declared.spreading.Made.{Made}
+use Rattle.constraints.proofs.Small.{program-small}
+use Rattle.constraints.proofs.Wanted.{AreNumbered, constraints-numbered, map-inner, numbered-ranged, wanted_of}
 
 abbrev nth : List (List ℕ) → ℕ → List ℕ
 nth [] k = []
@@ -88,7 +92,7 @@ module _ (program : Program) where
 module _ (core : Core) (table : List Label) (walked : Progress) (old new : Made)
     (whole : ThinnedWhole core table (program_constraints (program_of core)) walked)
     (spread : AreSpread core table walked.journal (Declares core) walked.journal.calls.items old new)
-    (first : old.number ≡ made_from (program_of core) 0 (program_of core).procedures) where
+    (first : old.number ≡ unknown_count (program_of core)) where
   abbrev program : Program
   program = program_of core
 
@@ -96,7 +100,7 @@ module _ (core : Core) (table : List Label) (walked : Progress) (old new : Made)
   real = real_unknowns (program_of core)
 
   abbrev count : ℕ
-  count = made_from (program_of core) 0 (program_of core).procedures
+  count = unknown_count (program_of core)
 
   abbrev constraints : List NamedConstraint
   constraints = program_constraints (program_of core)
@@ -116,8 +120,11 @@ module _ (core : Core) (table : List Label) (walked : Progress) (old new : Made)
 
   own-below : (called : Called) → Contains calls called → called.own < count
   own-below called h = ⊎_elim (λ earlier. absurd (none-before called earlier))
-      (λ own. subst (InRange (program_of core) count) own.is (ranged own.by own.among).1)
+      (λ own. (made called own).1)
       (whole.now.owns called h)
+    where
+      made : (called : Called) → IsOwnOf called constraints → InRange (program_of core) count (inner_atom called.own)
+      made called own = subst (InRange (program_of core) count) own.is (ranged own.by own.among).1
 
   -- what each number stands for
   abbrev stands : ℕ → List ℕ
@@ -143,19 +150,16 @@ module _ (core : Core) (table : List Label) (walked : Progress) (old new : Made)
   node-old node is below = stands-old node below
 
   abbrev unknown : ℕ → formal.Atom ℕ Label
-  unknown own = Unknown (real + own)
+  unknown own = Unknown own
 
   abbrev meanings : ℕ → List (formal.Atom ℕ Label)
-  meanings u = map unknown (stands (u - real))
+  meanings u = map unknown (stands u)
 
-  meanings-at : (k : ℕ) → meanings (real + k) ≡ map unknown (stands k)
-  meanings-at k = let e : (real + k) - real ≡ k = omega arith in ap (λ n. map unknown (stands n)) e
+  is-further : (k : ℕ) → count ≤ k → further (program_of core) k ≡ true
+  is-further k least = le-leb count k least
 
-  is-further : (k : ℕ) → count ≤ k → further (program_of core) (real + k) ≡ true
-  is-further k least = le-leb (real + count) (real + k) (omega (arith, least))
-
-  further-only : (k : ℕ) → further (program_of core) (real + k) ≡ true → count ≤ k
-  further-only k e = let least : real + count ≤ real + k = leb-true (real + count) (real + k) e in omega (arith, least)
+  further-only : (k : ℕ) → further (program_of core) k ≡ true → count ≤ k
+  further-only k e = leb-true count k e
 
   same-number : (u k : ℕ) → ◌≡◌ {A = formal.Atom ℕ Label} (Unknown u) (Unknown k) → u ≡ k
   same-number u k e = cc
@@ -166,11 +170,11 @@ module _ (core : Core) (table : List Label) (walked : Progress) (old new : Made)
   brought node from is (itself f same) =
       let below : node < count = ⊎_elim
       (λ own. subst (λ k. k < count) own.2 (own-below own.0 own.1))
-      (λ within. absurd (not-both (further (program_of core) (real + node)) (is-further node (subst (λ n. n ≤ node) first within.0)) f)) is in
+      (λ within. absurd (not-both (further (program_of core) node) (is-further node (subst (λ n. n ≤ node) first within.0)) f)) is in
       (node, subst (λ list. Contains list node) (sym (stands-old node below)) (Contains-first node []), same)
   brought node from is (others u same f stand) =
-      let number : u ≡ real + node = same-number u (real + node) (sym same) in
-      contained_map_only unknown (stands node) from (subst (λ list. Contains list from) (ap meanings number ∙ meanings-at node) stand)
+      let number : u ≡ node = same-number u node (sym same) in
+      contained_map_only unknown (stands node) from (subst (λ list. Contains list from) (ap meanings number) stand)
 
   -- a part that is no further unknown brings itself
   brought-old : (part from : formal.Atom ℕ Label) → is_inner (further (program_of core)) part ≡ false → Brings (further (program_of core)) meanings part from → part ≡ from
@@ -182,11 +186,11 @@ module _ (core : Core) (table : List Label) (walked : Progress) (old new : Made)
       → IsAdded (inner_number (program_of core)) (further (program_of core)) meanings (gathered_constraints (program_of core)) (numbered (program_of core) c)
   join-added c join =
       let least : count ≤ join.to = subst (λ n. n ≤ join.to) first join.from_first in
-      let right : numbered_atom (program_of core) c.right ≡ Unknown (real + join.to) = ap (λ (z : NamedConstraint). numbered_atom (program_of core) z.right) join.is in
+      let right : numbered_atom (program_of core) c.right ≡ Unknown join.to = ap (λ (z : NamedConstraint). numbered_atom (program_of core) z.right) join.is in
       record {
-        to = real + join.to;
+        to = join.to;
         right_is = right;
-        inner_is = le-leb real (real + join.to) (omega arith);
+        inner_is = le-leb real join.to (omega (arith, least));
         no_target = ap (λ (z : NamedConstraint). z.target) join.is;
         to_further = λ f part from h brings.
             let named = contained_map_only (numbered_atom (program_of core)) (map inner_atom join.parts) part
@@ -194,9 +198,8 @@ module _ (core : Core) (table : List Label) (walked : Progress) (old new : Made)
             let node = contained_map_only inner_atom join.parts named.0 named.1 in
             let is : unknown node.0 ≡ part = ap (numbered_atom (program_of core)) node.2 ∙ named.2 in
             let found = brought node.0 from (join.nodes node.0 node.1) (subst (λ a. Brings (further (program_of core)) meanings a from) (sym is) brings) in
-            subst (λ list. Contains list from) (sym (meanings-at join.to))
-            (subst (λ a. Contains (map unknown (stands join.to)) a) found.2 (contained_map unknown (stands join.to) found.0 (join.brings node.0 found.0 node.1 found.1)));
-        to_old = λ f. absurd (not-both (further (program_of core) (real + join.to)) (is-further join.to least) f);
+            subst (λ a. Contains (map unknown (stands join.to)) a) found.2 (contained_map unknown (stands join.to) found.0 (join.brings node.0 found.0 node.1 found.1));
+        to_old = λ f. absurd (not-both (further (program_of core) join.to) (is-further join.to least) f);
       }
 
   raise-there : (c : NamedConstraint) (r : IsSpreadRaise core walked.journal stands old.number new.number calls c) (called : Called) → Contains r.of called
@@ -218,7 +221,7 @@ module _ (core : Core) (table : List Label) (walked : Progress) (old new : Made)
   first-of [] some = absurd (omega (arith, some))
   first-of (called ∷ rest) some = (called, Contains-first called rest)
 
-  taker-below : (c : NamedConstraint) (r : IsSpreadRaise core walked.journal stands old.number new.number calls c) → r.taker < count
+  taker-below : (c : NamedConstraint) (r : IsSpreadRaise core walked.journal stands old.number new.number calls c) → (real ≤ r.taker) × (r.taker < count)
   taker-below c r =
       let one = first-of r.of r.some in
       (ranged (raised_flow (program_of core) r.callee one.0.own r.exception r.taker) (raise-there c r one.0 one.1)).1
@@ -227,8 +230,8 @@ module _ (core : Core) (table : List Label) (walked : Progress) (old new : Made)
       → IsAdded (inner_number (program_of core)) (further (program_of core)) meanings (gathered_constraints (program_of core)) (numbered (program_of core) c)
   raise-added c r =
       let label : List NamedAtom = named_atoms (call_atoms (program_of core) r.callee (Throw r.exception)) in
-      let right : numbered_atom (program_of core) c.right ≡ Unknown (real + r.taker) = ap (λ (z : NamedConstraint). numbered_atom (program_of core) z.right) r.is in
-      let below : r.taker < count = taker-below c r in
+      let right : numbered_atom (program_of core) c.right ≡ Unknown r.taker = ap (λ (z : NamedConstraint). numbered_atom (program_of core) z.right) r.is in
+      let below : r.taker < count = (taker-below c r).1 in
       let link : (called : Called) → Contains r.of called → (from : formal.Atom ℕ Label)
       → Contains (map (numbered_atom (program_of core)) (inner_atom called.own ∷ label)) from → Links (gathered_constraints (program_of core)) from (numbered (program_of core) c).right =
       λ called h from starts. record {
@@ -238,9 +241,9 @@ module _ (core : Core) (table : List Label) (walked : Progress) (old new : Made)
         ends = sym right;
       } in
       record {
-        to = real + r.taker;
+        to = r.taker;
         right_is = right;
-        inner_is = le-leb real (real + r.taker) (omega arith);
+        inner_is = le-leb real r.taker (taker-below c r).0;
         no_target = ap (λ (z : NamedConstraint). z.target) r.is;
         to_further = λ f. let least : count ≤ r.taker = further-only r.taker f in absurd (omega (arith, least, below));
         to_old = λ f part from h brings.
@@ -289,7 +292,7 @@ module _ (core : Core) (table : List Label) (walked : Progress) (old new : Made)
       (map (numbered (program_of core)) whole.now.kept) (map (numbered (program_of core)) spread.added)
   calls-rerouted = record {
     stands = meanings;
-    inside = λ u f. let least : real + count ≤ u = leb-true (real + count) u f in le-leb real u (omega (arith, least));
+    inside = λ u f. let least : count ≤ u = leb-true count u f in le-leb real u (omega (arith, least));
     outer_is =
         outer-numbered (program_of core) count whole.now.kept (λ c h. (ranged c (whole.now.stays c h)).1)
         ∙ (ap (map (numbered (program_of core))) whole.now.outer_is ∙ sym (outer-numbered (program_of core) count constraints (λ c h. (ranged c h).1)));
@@ -314,13 +317,13 @@ module _ (core : Core) (table : List Label) (walked : Progress) (old new : Made)
       (λ own. let below : node < count = subst (λ k. k < count) own.2 (own-below own.0 own.1) in omega (arith, below, first, spread.number_is))
       (λ within. within.1) is
 
-  atoms-more : (a : formal.Atom ℕ Label) → walk.IsUnknownBelow (unknown_count (program_of core)) a → walk.IsUnknownBelow (real + new.number) a
+  atoms-more : (a : formal.Atom ℕ Label) → walk.IsUnknownBelow (unknown_count (program_of core)) a → walk.IsUnknownBelow new.number a
   atoms-more (Written v) below = tt
   atoms-more (Unknown u) below = omega (arith, below, first, spread.number_is)
 
   abbrev AreBelow : NamedConstraint → Type 0
-  AreBelow c = ((a : formal.Atom ℕ Label) → Contains (map (numbered_atom (program_of core)) c.left) a → walk.IsUnknownBelow (real + new.number) a)
-      × walk.IsUnknownBelow (real + new.number) (numbered_atom (program_of core) c.right)
+  AreBelow c = ((a : formal.Atom ℕ Label) → Contains (map (numbered_atom (program_of core)) c.left) a → walk.IsUnknownBelow new.number a)
+      × walk.IsUnknownBelow new.number (numbered_atom (program_of core) c.right)
 
   old-below : (c : NamedConstraint) → Contains constraints c → AreBelow c
   old-below c h =
@@ -334,8 +337,8 @@ module _ (core : Core) (table : List Label) (walked : Progress) (old new : Made)
             let named = contained_map_only (numbered_atom (program_of core)) (map inner_atom join.parts) a there in
             let node = contained_map_only inner_atom join.parts named.0 named.1 in
             let below : node.0 < new.number = node-below node.0 (join.nodes node.0 node.1) in
-            let within : walk.IsUnknownBelow (real + new.number) (unknown node.0) = omega (arith, below) in
-            subst (walk.IsUnknownBelow (real + new.number)) (ap (numbered_atom (program_of core)) node.2 ∙ named.2) within,
+            let within : walk.IsUnknownBelow new.number (unknown node.0) = omega (arith, below) in
+            subst (walk.IsUnknownBelow new.number) (ap (numbered_atom (program_of core)) node.2 ∙ named.2) within,
         (let below : join.to < new.number = join.below_next in omega (arith, below)),
       )
 
@@ -349,22 +352,40 @@ module _ (core : Core) (table : List Label) (walked : Progress) (old new : Made)
         λ a there. ⊎_elim
             (λ same.
             let below : r.node < new.number = node-below r.node r.is_node in
-            let within : walk.IsUnknownBelow (real + new.number) (unknown r.node) = omega (arith, below) in
-            subst (walk.IsUnknownBelow (real + new.number)) same within)
+            let within : walk.IsUnknownBelow new.number (unknown r.node) = omega (arith, below) in
+            subst (walk.IsUnknownBelow new.number) same within)
             (λ k. like.0 a (Contains-later (unknown one.0.own) (map (numbered_atom (program_of core)) label) a k))
             (Contains-cons_cases (unknown r.node) (map (numbered_atom (program_of core)) label) a there),
         like.1,
       )
 
-  pub spread-below : walk.AreUnknownsBelow (real + new.number) (map (numbered (program_of core)) (whole.now.kept ++ spread.added))
+  pub spread-below : walk.AreUnknownsBelow new.number (map (numbered (program_of core)) (whole.now.kept ++ spread.added))
   spread-below c' h =
       let found = contained_map_only (numbered (program_of core)) (whole.now.kept ++ spread.added) c' h in
-      subst (λ (z : Gathered). ((a : formal.Atom ℕ Label) → Contains z.left a → walk.IsUnknownBelow (real + new.number) a) × walk.IsUnknownBelow (real + new.number) z.right) found.2
+      subst (λ (z : Gathered). ((a : formal.Atom ℕ Label) → Contains z.left a → walk.IsUnknownBelow new.number a) × walk.IsUnknownBelow new.number z.right) found.2
       (⊎_elim (λ k. old-below found.0 (whole.now.stays found.0 k)) (λ k. ⊎_elim (join-below found.0) (raise-below found.0) (each found.0 k))
       (Contains-append_cases whole.now.kept spread.added found.0 found.1))
 
+  -- the constraints that were kept and added are in range, so that each part is the unknown with its number
+  ranged-unknowns : (c : NamedConstraint) → Contains (whole.now.kept ++ spread.added) c → AreNumbered (program_of core) c
+  ranged-unknowns c h = ⊎_elim (λ k. numbered-ranged (program_of core) count c (ranged c (whole.now.stays c k)))
+      (λ k. ⊎_elim
+      (λ join. subst (AreNumbered (program_of core)) (sym join.is) (map-inner (program_of core) join.parts, refl))
+      (λ raise. subst (AreNumbered (program_of core)) (sym raise.is) (refl, refl)) (each c k))
+      (Contains-append_cases whole.now.kept spread.added c h)
+
+  pub all-numbered : map (wanted_constraint (program_of core)) (whole.now.kept ++ spread.added) ≡ map wanted_of (map (numbered (program_of core)) (whole.now.kept ++ spread.added))
+  all-numbered = constraints-numbered (program_of core) (whole.now.kept ++ spread.added) ranged-unknowns
+
   -- and few
-  pub spread-few : real + new.number ≤ 4 * program_nodes (program_of core)
+  pub spread-few : new.number ≤ 4 * program_nodes (program_of core)
   spread-few =
       let none : length whole.start.calls.items ≡ 0 = ap length whole.no_calls in
       omega (arith, calls-counted (program_of core) core.well_formed, spread.number_is, spread.few, whole.now.few, none, first)
+
+-- before they are spread, there are numbers for an unknown of each call
+pub calls-fit : (core : Core) (table : List Label) (walked : Progress) → ThinnedWhole core table (program_constraints (program_of core)) walked
+    → walked.number ≡ unknown_count (program_of core) → walked.number + length walked.journal.calls.items ≤ most_unknowns
+calls-fit core table walked whole first =
+    let none : length whole.start.calls.items ≡ 0 = ap length whole.no_calls in
+    omega (arith, calls-counted (program_of core) core.well_formed, whole.now.few, none, first, program-small core)

@@ -1,10 +1,11 @@
 -- Tables of labels that grow, and what stands in them.
 use Rattle.std.proofs.Common.{◌≡◌, refl, sym, ap, ◌∙◌, subst, ℕ, suc, zero, ◌+◌, ◌<◌, ◌≤◌, List, [], ◌∷◌, ◌++◌, map, take, length, length-append, get_or, arith, append_assoc, append-nil}
-use Rattle.std.specs.Prelude.{Option, Some, None, Bool, true, false, sum_by, if◌then◌else◌, ◌==◌}
-use Rattle.std.proofs.lemmas.List.{get_or_append_left, map-append, length-map, length-take-le}
+use Rattle.std.specs.Prelude.{Option, Some, None, Bool, true, false, sum_by, if◌then◌else◌, nat_lt, ◌==◌}
+use Rattle.std.proofs.lemmas.Bool.{le-ltb, lt-ltb, ltb-false, ltb-true}
+use Rattle.std.proofs.lemmas.List.{get_or_append_left, map-append, length-map, length-take-le, take-map}
 use Rattle.std.proofs.lemmas.Option.{slice_get-get_or}
-use Rattle.std.proofs.lemmas.List.Sums.{sum_by-cons}
-use Rattle.common.proofs.Cases.{map_next}
+use Rattle.std.proofs.lemmas.List.Sums.{sum_by-append, sum_by-cons, sum_by-take-le}
+use Rattle.common.proofs.Cases.{by_test, map_next}
 use Rattle.labels.specs.Label.{Label}
 use Rattle.labels.specs.Constraints.{renamed}
 use Rattle.labels.specs.Constraints as formal
@@ -18,7 +19,7 @@ use Rattle.resolved.specs.declared.tables.Procedure.{Procedure}
 use Rattle.resolved.specs.declared.tables.Slot.{Slot}
 use Rattle.resolved.specs.declared.tables.Thrown.{Thrown}
 use Rattle.resolved.specs.declared.expression.Variable.TheVariants.{Local}
-use Rattle.resolved.specs.declared.target.Target.TheVariants.{ToVariable, ToParameter}
+use Rattle.resolved.specs.declared.target.Target.TheVariants.{ToLoop, ToVariable, ToParameter}
 use Rattle.resolved.specs.Labelled.{OfLocal, parameter_label, result_label, thrown_label, written_or}
 use Rattle.resolved.specs.Ends.{declared_by}
 use Rattle.resolved.specs.Tree.{Empty}
@@ -66,6 +67,21 @@ mean-step old new atoms atom ms m grown mean means = λ more.
     map-append (part (new ++ more)) atoms (atom ∷ [])
     ∙ (ap (λ xs. xs ++ (part (new ++ more) atom ∷ [])) (mean-more old new atoms ms grown mean more)
     ∙ ap (λ x. ms ++ (x ∷ [])) (means more))
+
+-- what is counted of procedures: one more
+pub counted-next : (f : ProcedureEntry → ℕ) (procedures : List Procedure) (i : ℕ) (p : Procedure) → i < length procedures → p ≡ get_or procedures i p
+    → sum_by f (map procedure_entry (take (i + 1) procedures)) ≡ sum_by f (map procedure_entry (take i procedures)) + f (procedure_entry p)
+counted-next f procedures i p inside is =
+    let before : List ProcedureEntry = map procedure_entry (take i procedures) in
+    let one : sum_by f (procedure_entry p ∷ []) ≡ f (procedure_entry p) = omega (arith, sum_by-cons f (procedure_entry p) []) in
+    ap (sum_by f) (map_next procedure_entry procedures i p inside is)
+    ∙ (sum_by-append f before (procedure_entry p ∷ []) ∙ ap (λ n. sum_by f before + n) one)
+
+pub counted-upto : (f : ProcedureEntry → ℕ) (procedures : List Procedure) (n : ℕ)
+    → sum_by f (map procedure_entry (take n procedures)) ≤ sum_by f (map procedure_entry procedures)
+counted-upto f procedures n =
+    subst (λ list. sum_by f list ≤ sum_by f (map procedure_entry procedures)) (take-map procedure_entry n procedures)
+    (sum_by-take-le f (map procedure_entry procedures) n)
 
 -- written labels: one more
 pub written-next : {A : Type 0} (label : A → Label) (xs : List A) (i : ℕ) (x : A) (old new : List Label) (atoms atoms' : List Atom) (atom : Atom)
@@ -168,9 +184,9 @@ pub row-made : (procedure : Procedure) (first : ℕ) (t1 t2 t3 t4 t5 : List Labe
     ≡ map (λ (entry : ThrownEntry). Written entry.label) (map thrown_entry throws))
     → count ≡ length procedure.slots.items → loops ≡ first + count
     → (more : List Label)
-    → (row : ProcedureLabels) → row.begin ≡ begin → row.end ≡ end → row.value ≡ value → row.slots.items ≡ atoms → row.throws.items ≡ labels → row.first ≡ first → row.loops ≡ loops
+    → (row : ProcedureLabels) → row.begin ≡ begin → row.end ≡ end → row.value ≡ value → row.slots.items ≡ atoms → row.throws.items ≡ labels → row.loops ≡ loops → row.loop_count ≡ procedure.loops
     → IsRow (t5 ++ more) first (procedure_entry procedure) row
-row-made procedure first t1 t2 t3 t4 t5 begin end value slots atoms throws labels count loops g2 g3 g4 g5 b e v same-slots ss same-throws es ls counted summed more row rb re rv rs rt rf rl = record {
+row-made procedure first t1 t2 t3 t4 t5 begin end value slots atoms throws labels count loops g2 g3 g4 g5 b e v same-slots ss same-throws es ls counted summed more row rb re rv rs rt rl rc = record {
   begin_is = ap (part (t5 ++ more)) rb
       ∙ means-more t1 t5 begin (Written procedure.begin_label) (grows-then t1 t2 t5 g2 (grows-then t2 t3 t5 g3 (grows-then t3 t4 t5 g4 g5))) b more;
   end_is = ap (part (t5 ++ more)) re
@@ -183,8 +199,8 @@ row-made procedure first t1 t2 t3 t4 t5 begin end value slots atoms throws label
   exceptions_are = ap (map (λ (thrown : ThrownLabel). thrown.exception)) rt ∙ (es ∙ ap (λ list. declared_by (map thrown_entry list)) same-throws);
   labels_are = ap (thrown_parts (t5 ++ more)) rt
       ∙ (ls more ∙ ap (λ list. map (λ (entry : ThrownEntry). Written entry.label) (map thrown_entry list)) same-throws);
-  first_is = rf;
   loops_is = rl ∙ (summed ∙ ap (λ n. first + n) (counted ∙ sym (length-map procedure.slots.items slot_entry)));
+  loop_count_is = rc;
 }
 
 pub rows-next : (procedures : List Procedure) (i : ℕ) (p : Procedure) (old new : List Label) (rows rows' : List ProcedureLabels) (row : ProcedureLabels) (first : ℕ)
@@ -231,15 +247,26 @@ pub map-map : {A B C : Type 0} (f : A → B) (g : B → C) (xs : List A) → map
 map-map f g [] = refl
 map-map f g (x ∷ xs) = ap (λ ys. g (f x) ∷ ys) (map-map f g xs)
 
--- the label of a slot
-pub slot-at : (first : ℕ) (slots : List SlotEntry) (n : ℕ) (empty : SlotEntry) → empty.written ≡ None
-    → get_or (slot_parts first slots) n (Unknown (first + n)) ≡ written_part (get_or slots n empty).written (first + n)
-slot-at first [] n empty none = rw none refl
-slot-at first (slot ∷ slots) zero empty none = ap (written_part slot.written) (let e : first ≡ first + 0 = omega arith in e)
-slot-at first (slot ∷ slots) (suc n) empty none =
-    let e : suc first + n ≡ first + suc n = omega arith in
-    ap (λ k. get_or (slot_parts (suc first) slots) n (Unknown k)) (sym e)
-    ∙ (slot-at (suc first) slots n empty none ∙ ap (written_part (get_or slots n empty).written) e)
+-- the label of a slot, and what is behind the last one
+pub slot-at : (first : ℕ) (slots : List SlotEntry) (n : ℕ) (empty : SlotEntry) (d : Part) → n < length slots
+    → get_or (slot_parts first slots) n d ≡ written_part (get_or slots n empty).written (first + n)
+slot-at first [] n empty d inside = absurd (omega (arith, inside))
+slot-at first (slot ∷ slots) zero empty d inside = ap (written_part slot.written) (let e : first ≡ first + 0 = omega arith in e)
+slot-at first (slot ∷ slots) (suc n) empty d inside =
+    slot-at (suc first) slots n empty d (omega (arith, inside))
+    ∙ ap (written_part (get_or slots n empty).written) (let e : suc first + n ≡ first + suc n = omega arith in e)
+
+slot-behind : (first : ℕ) (slots : List SlotEntry) (n : ℕ) (d : Part) → length slots ≤ n → get_or (slot_parts first slots) n d ≡ d
+slot-behind first [] zero d past = refl
+slot-behind first [] (suc n) d past = refl
+slot-behind first (slot ∷ slots) zero d past = absurd (omega (arith, past))
+slot-behind first (slot ∷ slots) (suc n) d past = slot-behind (suc first) slots n d (omega (arith, past))
+
+slots-behind : (slots : List SlotEntry) (n : ℕ) (d : SlotEntry) → length slots ≤ n → get_or slots n d ≡ d
+slots-behind [] zero d past = refl
+slots-behind [] (suc n) d past = refl
+slots-behind (slot ∷ slots) zero d past = absurd (omega (arith, past))
+slots-behind (slot ∷ slots) (suc n) d past = slots-behind slots n d (omega (arith, past))
 
 pub part-at : (table : List Label) (atoms : List Atom) (n : ℕ) (d : Atom)
     → part table (get_or atoms n d) ≡ get_or (left_parts table atoms) n (part table d)
@@ -296,25 +323,58 @@ thrown-at table [] (label ∷ labels) x nothing es ls is = absurd (cc)
 thrown-at table (entry ∷ entries) [] x nothing es ls is = absurd (cc)
 
 -- the same of a procedure of a program
-named-part : (program : Program) (f n : ℕ) (written : Option Label)
-    → written_part written (unknowns_before program f + n) ≡ wanted_part program (renamed Real (written_or written (OfLocal f n)))
-named-part program f n (Some label) = refl
-named-part program f n None = refl
+abbrev local_part : Program → (f n : ℕ) → Bool → Part
+local_part program f n there = if there then Unknown (unknowns_before program f + n) else Written []
 
-pub slot-named : (program : Program) (table : List Label) (f n : ℕ) (row : ProcedureLabels) (atoms : List Atom) (number : ℕ) (found : Atom)
-    → IsRow table (unknowns_before program f) (procedure_at program f) row → atoms ≡ row.slots.items → number ≡ row.first + n
-    → found ≡ get_or atoms n (stored.Unknown number)
+named-part : (program : Program) (f n : ℕ) (written : Option Label) → nat_lt n (length (procedure_at program f).slots) ≡ true
+    → written_part written (unknowns_before program f + n) ≡ wanted_part program (renamed Real (written_or written (OfLocal f n)))
+named-part program f n (Some label) there = refl
+named-part program f n None there = sym (ap (local_part program f n) there)
+
+missing-part : (program : Program) (f n : ℕ) (written : Option Label) → nat_lt n (length (procedure_at program f).slots) ≡ false → written ≡ None
+    → Written [] ≡ wanted_part program (renamed Real (written_or written (OfLocal f n)))
+missing-part program f n written missing none =
+    sym (ap (λ w. wanted_part program (renamed Real (written_or w (OfLocal f n)))) none ∙ ap (local_part program f n) missing)
+
+pub slot-named : (program : Program) (table : List Label) (f n : ℕ) (row : ProcedureLabels) (atoms : List Atom) (nothing found : Atom)
+    → IsRow table (unknowns_before program f) (procedure_at program f) row → part table nothing ≡ Written [] → atoms ≡ row.slots.items
+    → found ≡ get_or atoms n nothing
     → part table found ≡ part_of program (ToVariable f (Local n))
-slot-named program table f n row atoms number found is same counted found-is =
+slot-named program table f n row atoms nothing found is none same found-is =
     let first : ℕ = unknowns_before program f in
     let procedure : ProcedureEntry = procedure_at program f in
-    let total : number ≡ first + n = counted ∙ ap (λ k. k + n) is.first_is in
+    let written : Option Label = (slot_at procedure n).written in
+    let own : get_or (slot_parts first procedure.slots) n (Written []) ≡ wanted_part program (renamed Real (written_or written (OfLocal f n))) =
+    by_test (nat_lt n (length procedure.slots))
+    (λ e. slot-at first procedure.slots n _ (Written []) (ltb-true n (length procedure.slots) e) ∙ named-part program f n written e)
+    (λ e.
+    let past : length procedure.slots ≤ n = ltb-false n (length procedure.slots) e in
+    slot-behind first procedure.slots n (Written []) past
+    ∙ missing-part program f n written e (ap (λ (slot : SlotEntry). slot.written) (slots-behind procedure.slots n _ past))) in
     ap (part table) found-is
-    ∙ (part-at table atoms n (stored.Unknown number)
-    ∙ (ap (λ list. get_or (left_parts table list) n (Unknown number)) same
-    ∙ (ap (λ list. get_or list n (Unknown number)) is.slots_are
-    ∙ (ap (λ k. get_or (slot_parts first procedure.slots) n (Unknown k)) total
-    ∙ (slot-at first procedure.slots n _ refl ∙ named-part program f n (slot_at procedure n).written)))))
+    ∙ (part-at table atoms n nothing
+    ∙ (ap (λ list. get_or (left_parts table list) n (part table nothing)) same
+    ∙ (ap (λ list. get_or list n (part table nothing)) is.slots_are
+    ∙ (ap (get_or (slot_parts first procedure.slots) n) none ∙ own))))
+
+-- the label of a loop, which is empty where there is no loop
+pub loop-named : (program : Program) (table : List Label) (f n : ℕ) (row : ProcedureLabels)
+    → IsRow table (unknowns_before program f) (procedure_at program f) row → n < row.loop_count
+    → part table (stored.Unknown (row.loops + n)) ≡ part_of program (ToLoop f n)
+loop-named program table f n row is inside =
+    let within : n < (procedure_at program f).loops = omega (arith, inside, is.loop_count_is) in
+    let there : nat_lt n (procedure_at program f).loops ≡ true = lt-ltb n (procedure_at program f).loops within in
+    let number : row.loops + n ≡ unknowns_before program f + (length (procedure_at program f).slots + n) = omega (arith, is.loops_is) in
+    ap (λ k. Unknown k) number
+    ∙ sym (ap (λ b. if b then Unknown (unknowns_before program f + (length (procedure_at program f).slots + n)) else Written []) there)
+
+pub loop-missing : (program : Program) (table : List Label) (f n : ℕ) (row : ProcedureLabels) (nothing : Atom)
+    → IsRow table (unknowns_before program f) (procedure_at program f) row → part table nothing ≡ Written [] → row.loop_count ≤ n
+    → part table nothing ≡ part_of program (ToLoop f n)
+loop-missing program table f n row nothing is none past =
+    let without : (procedure_at program f).loops ≤ n = omega (arith, past, is.loop_count_is) in
+    let missing : nat_lt n (procedure_at program f).loops ≡ false = le-ltb n (procedure_at program f).loops without in
+    none ∙ sym (ap (λ b. if b then Unknown (unknowns_before program f + (length (procedure_at program f).slots + n)) else Written []) missing)
 
 pub parameter-named : (program : Program) (table : List Label) (f n : ℕ) (row : ProcedureLabels) (atoms : List Atom) (nothing found result : Atom)
     → IsRow table (unknowns_before program f) (procedure_at program f) row → part table nothing ≡ Written []
@@ -357,9 +417,9 @@ pub table-made : (core : Core) (t1 t2 t3 t4 : List Label) (nothing : Atom) (chan
     → unknowns ≡ sum_by own_unknowns (map procedure_entry ps)
     → cs ≡ core.channels.items → gs ≡ core.globals.items → ps ≡ core.procedures.items
     → outside.begin ≡ nothing → outside.end ≡ nothing → outside.value ≡ nothing → outside.slots.items ≡ [] → outside.throws.items ≡ []
-    → outside.first ≡ unknowns → outside.loops ≡ unknowns
+    → outside.loops ≡ unknowns → outside.loop_count ≡ 0
     → IsTable core t4 nothing channels globals rows outside
-table-made core t1 t2 t3 t4 nothing channels globals rows outside cs gs ps unknowns g2 g3 g4 none chans globs are counted same-cs same-gs same-ps ob oe ov os ot off ol =
+table-made core t1 t2 t3 t4 nothing channels globals rows outside cs gs ps unknowns g2 g3 g4 none chans globs are counted same-cs same-gs same-ps ob oe ov os ot ol oc =
     let program : Program = program_of core in
     let nil : t4 ++ [] ≡ t4 = append-nil t4 in
     let nothing-is : part t4 nothing ≡ Written [] =
@@ -390,7 +450,7 @@ table-made core t1 t2 t3 t4 nothing channels globals rows outside cs gs ps unkno
             slots_are = ap (left_parts t4) os;
             exceptions_are = ap (map (λ (thrown : ThrownLabel). thrown.exception)) ot;
             labels_are = ap (thrown_parts t4) ot;
-            first_is = off;
             loops_is = ol ∙ (let e : unknowns ≡ unknowns + 0 = omega arith in e);
+            loop_count_is = oc;
           })));
     }

@@ -61,9 +61,9 @@ module _ (takers : Takers) (handlers : Handlers) (n : ℕ) (old new : List Entry
   pub try-takers : takers_of (record takers { level = takers.level + 1 }) new ≡ in_try (handler_number handlers n) handlers (takers_of takers old)
   try-takers = fun_ext each
     where
-      thrown : (x : ℕ) (b : Bool) → taker_of takers.barrier (if b then record { number = handler_number handlers n x; level = takers.level + 1 } else get_or old x no_entry)
-          ≡ (if b then Some (handler_number handlers n x) else taker_of takers.barrier (get_or old x no_entry))
-      thrown x true = ap (λ b. if b then Some (handler_number handlers n x) else None) (lt-ltb takers.barrier (takers.level + 1) (omega (arith, levelled.barrier_is_within)))
+      thrown : (x : ℕ) (b : Bool) → taker_of takers.ends.raised (if b then record { number = handler_number handlers n x; level = takers.level + 1 } else get_or old x no_entry)
+          ≡ (if b then Some (handler_number handlers n x) else taker_of takers.ends.raised (get_or old x no_entry))
+      thrown x true = ap (λ b. if b then Some (handler_number handlers n x) else None) (lt-ltb takers.ends.raised (takers.level + 1) (omega (arith, levelled.barrier_is_within)))
       thrown x false = refl
 
       each : (exit : Exit) → takers_of (record takers { level = takers.level + 1 }) new exit ≡ in_try (handler_number handlers n) handlers (takers_of takers old) exit
@@ -71,7 +71,7 @@ module _ (takers : Takers) (handlers : Handlers) (n : ℕ) (old new : List Entry
       each Return = refl
       each Break = refl
       each Continue = refl
-      each (Throw x) = ap (taker_of takers.barrier) (entry-is x) ∙ thrown x (handles handlers x)
+      each (Throw x) = ap (taker_of takers.ends.raised) (entry-is x) ∙ thrown x (handles handlers x)
 
   pub try-levels : AreLevelled (record takers { level = takers.level + 1 }) new
   try-levels = record {

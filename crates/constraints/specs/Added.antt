@@ -6,14 +6,13 @@ use Rattle.labels.specs.Constraints as formal
 use Rattle.resolved.specs.declared.program.Core.{Core}
 use Rattle.resolved.specs.declared.target.Target.{Target}
 use Rattle.resolved.specs.CoreOf.{program_of}
-use Rattle.resolved.specs.Flow.{Gathered}
 use Rattle.resolved.specs.Labelled.{Join}
 use Rattle.resolved.specs.Program.{Program}
-use Rattle.gathering.specs.Names.{NamedAtom, NamedConstraint, named_atoms, numbered}
+use Rattle.gathering.specs.Names.{NamedAtom, NamedConstraint, named_atoms}
 use Rattle.gathering.specs.Walk.{flow}
 use Rattle.solver.specs.declared.constraints.Atom.{Atom}
 use Rattle.solver.specs.declared.constraints.Constraint.{Constraint}
-use Rattle.constraints.specs.LeftSides.{part, left_parts, wanted, wanted_part}
+use Rattle.constraints.specs.LeftSides.{part, left_parts, wanted_part}
 
 abbrev pub Stored : Type 0
 Stored = Constraint (Option Target)
@@ -35,17 +34,14 @@ stands_for table c = record {
 abbrev pub stand_for : (table : List Label) → List Stored → List PartConstraint
 stand_for table constraints = map (stands_for table) constraints
 
-abbrev pub wanted_of : Gathered → PartConstraint
-wanted_of c = record {
+abbrev pub wanted_constraint : Program → NamedConstraint → PartConstraint
+wanted_constraint program c = record {
   at = c.at;
   rule = c.rule;
-  left = map wanted c.left;
+  left = map (wanted_part program) c.left;
   target = c.target;
-  right = wanted c.right;
+  right = wanted_part program c.right;
 }
-
-abbrev pub wanted_constraint : Program → NamedConstraint → PartConstraint
-wanted_constraint program c = wanted_of (numbered program c)
 
 -- a left side stands for these parts
 abbrev pub IsLeft : Core → (table : List Label) → List NamedAtom → List Atom → Type 0

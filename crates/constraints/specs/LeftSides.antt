@@ -1,18 +1,18 @@
 -- Private: what a stored part of a constraint stands for, by the table of written labels: the label that the table has under its number, or
 -- an unknown by its number.
 -- Source: our own.
-use Rattle.std.specs.Prelude.{◌≡◌, ℕ, List, ◌++◌, map, Option, Some, slice_get, if◌then◌else◌}
+use Rattle.std.specs.Prelude.{◌≡◌, ℕ, List, [], ◌++◌, length, map, nat_lt, Option, Some, slice_get, if◌then◌else◌}
 use Rattle.labels.specs.Label.{Label}
 use Rattle.labels.specs.Constraints.{renamed}
 use Rattle.labels.specs.Constraints as formal
 use Rattle.resolved.specs.declared.program.Core.{Core}
 use Rattle.resolved.specs.declared.target.Target.{Target}
 use Rattle.resolved.specs.CoreOf.{program_of}
-use Rattle.resolved.specs.Program.{Program}
+use Rattle.resolved.specs.Program.{Program, procedure_at}
 use Rattle.resolved.specs.Tree.{Expression}
 use Rattle.resolved.specs.Ends.{index_can_raise}
-use Rattle.resolved.specs.Labelled.{Join, Scope, label_of, value_label}
-use Rattle.gathering.specs.Names.{NamedAtom, Real, named_atoms, numbered_atom}
+use Rattle.resolved.specs.Labelled.{Join, OfLocal, OfLoop, Scope, Unwritten, label_of, value_label}
+use Rattle.gathering.specs.Names.{Inner, NamedAtom, Real, named_atoms, unwritten_number}
 use Rattle.gathering.specs.Walk.{raise_atoms}
 use Rattle.solver.specs.declared.constraints.Atom.{Atom}
 use Rattle.solver.specs.declared.constraints.Atom.TheVariants as stored
@@ -34,13 +34,18 @@ part table (stored.Unknown u) = Unknown u
 abbrev pub left_parts : (table : List Label) → List Atom → List Part
 left_parts table atoms = map (part table) atoms
 
--- the part that an atom is to stand for
-abbrev pub wanted : formal.Atom ℕ Label → Part
-wanted (formal.Written label) = Written label
-wanted (formal.Unknown u) = Unknown u
+-- the part that a label is to stand for: one that is not written is the unknown with its number, and one that the program has not, as
+-- no well-formed program asks for it, is empty
+abbrev pub unwritten_part : Program → Unwritten → Part
+unwritten_part program (OfLocal f n) =
+    if nat_lt n (length (procedure_at program f).slots) then Unknown (unwritten_number program (OfLocal f n)) else Written []
+unwritten_part program (OfLoop f loop) =
+    if nat_lt loop (procedure_at program f).loops then Unknown (unwritten_number program (OfLoop f loop)) else Written []
 
 abbrev pub wanted_part : Program → NamedAtom → Part
-wanted_part program named = wanted (numbered_atom program named)
+wanted_part program (formal.Written label) = Written label
+wanted_part program (formal.Unknown (Real u)) = unwritten_part program u
+wanted_part program (formal.Unknown (Inner k)) = Unknown k
 
 -- the label of what a rule names, and the labels of a join
 abbrev pub part_of : Program → Target → Part

@@ -8,7 +8,7 @@ use Rattle.resolved.specs.CoreOf.{program_of}
 use Rattle.resolved.specs.Labelled.{here}
 use Rattle.resolved.specs.Program.{ThrownEntry}
 use Rattle.resolved.specs.ProgramOf.{procedure_entry}
-use Rattle.path_map.specs.declared.exits.Exits.{Exits}
+use Rattle.path_map.specs.Exits.{Exits, for_all}
 use Rattle.path_map.specs.Exits.{exits_of}
 use Rattle.path_map.specs.Paths.{block_paths}
 use Rattle.gathering.specs.Walk.{made_by_procedure, procedure_constraints}
@@ -36,9 +36,12 @@ number_in thrown x = (slice_index_or thrown x no_entry).number
 -- the takers of a procedure's ends, where its end has number n; none where there is one end only
 abbrev pub end_takers_of : (n barrier level : ℕ) → (only : Bool) → Takers
 end_takers_of n barrier level true =
-    record { normal = None; returns = None; breaks = None; continues = None; barrier = level; level = level }
+    record { ends = for_all None level; level = level }
 end_takers_of n barrier level false =
-    record { normal = Some n; returns = Some n; breaks = None; continues = None; barrier = barrier; level = level }
+    record {
+      ends = record { normal = Some n; returns = Some n; breaks = None; continues = None; raised = barrier };
+      level = level;
+    }
 
 -- a walk that stays where it is, and keeps its takers
 pub record StaysInPlace (old new : Progress) : Type 0 where

@@ -1,8 +1,9 @@
 -- Private: what a walk along blocks, statements, handlers and procedures asks for before it goes past them.
 -- Source: our own.
-use Rattle.std.specs.Prelude.{◌≡◌, ℕ, ◌+◌, ◌≤◌, ◌<◌, List, ◌++◌, drop, length, map, Bool, IsTrue}
+use Rattle.std.specs.Prelude.{◌≡◌, ℕ, ◌+◌, ◌*◌, ◌≤◌, ◌<◌, List, ◌++◌, drop, length, map, Bool, IsTrue}
 use Rattle.std.specs.List.{All}
 use Rattle.common.specs.declared.exceptions.TheConstants.{BUILT_IN}
+use Rattle.common.specs.declared.limits.TheConstants.{MAX_TEXT}
 use Rattle.resolved.specs.declared.program.Core.{Core}
 use Rattle.resolved.specs.declared.statement.Exit.{Exit}
 use Rattle.resolved.specs.declared.statement.Handler.{Handler}
@@ -12,7 +13,8 @@ use Rattle.resolved.specs.CoreOf.{program_of}
 use Rattle.resolved.specs.Labelled.{here}
 use Rattle.resolved.specs.Tree.{Statement, Block, Handlers}
 use Rattle.resolved.specs.WellFormed.{block_fits, handlers_fit, procedure_fits, statement_fits}
-use Rattle.path_map.specs.declared.exits.Exits.{Exits}
+use Rattle.gathering.specs.Walk.{made_by_block, made_by_handlers, made_by_procedure, made_by_statement}
+use Rattle.path_map.specs.Exits.{Exits}
 use Rattle.path_map.specs.Exits.{exits_of}
 use Rattle.path_map.specs.Paths.{block_paths, handlers_paths, inner_paths, rest_paths, statement_paths}
 use Rattle.constraints.specs.LeftSides.{scope_of}
@@ -30,6 +32,14 @@ exception_count core = BUILT_IN + length (program_of core).exceptions
 abbrev pub entries_of : List (List Exit) → List Exits
 entries_of found = map exits_of found
 
+-- the number of an unknown is below this one
+abbrev pub most_unknowns : ℕ
+most_unknowns = 4 * MAX_TEXT
+
+-- so many inner unknowns may be made
+abbrev pub HasRoom : (made : ℕ) → (now : Progress) → Type 0
+HasRoom made now = now.number + made ≤ most_unknowns
+
 -- exceptions that have entries
 abbrev pub AreHandledInside : List Handler → (thrown : List Entry) → Type 0
 AreHandledInside handlers thrown = All (λ (handler : Handler). handler.exception < length thrown) handlers
@@ -37,42 +47,44 @@ AreHandledInside handlers thrown = All (λ (handler : Handler). handler.exceptio
 abbrev pub AreThrownInside : List Thrown → (thrown : List Entry) → Type 0
 AreThrownInside throws thrown = All (λ (declared : Thrown). declared.exception < length thrown) throws
 
--- the path map goes on with these paths, no level is above that of the takers, each exception has an entry, and what is walked fits
--- the program
-pub record IsReady (core : Core) (entries : List Exits) (takers : Takers) (paths : List (List Exit)) (fits : Bool) (now : Progress) : Type 0 where
+-- the path map goes on with these paths, no level is above that of the takers, each exception has an entry, what is walked fits the
+-- program, there is room for the inner unknowns that it makes, and there are so many more of these than levels
+pub record IsReady (core : Core) (entries : List Exits) (takers : Takers) (paths : List (List Exit)) (fits : Bool) (made more : ℕ) (now : Progress) : Type 0 where
   pub left : List Exits
   pub goes_on : drop now.index entries ≡ map exits_of paths ++ left
   pub levelled : AreLevelled takers now.thrown.items
   pub wide : exception_count core ≤ length now.thrown.items
   pub fitting : IsTrue fits
+  pub room : HasRoom made now
+  pub deep : takers.level + more ≤ now.number
 
 -- for a block of its own, and for its statements
 abbrev pub IsBlockReady : Core → (entries : List Exits) → (procedure : ℕ) → Takers → Block → (now : Progress) → Type 0
 IsBlockReady core entries procedure takers block now =
     IsReady core entries takers (block_paths (program_of core) block)
-    (block_fits (program_of core) (here (scope_of core procedure)) block) now
+    (block_fits (program_of core) (here (scope_of core procedure)) block) (made_by_block block) 0 now
 
 abbrev pub AreStatementsReady : Core → (entries : List Exits) → (procedure : ℕ) → Takers → Block → (now : Progress) → Type 0
 AreStatementsReady core entries procedure takers block now =
     IsReady core entries takers (rest_paths (program_of core) block)
-    (block_fits (program_of core) (here (scope_of core procedure)) block) now
+    (block_fits (program_of core) (here (scope_of core procedure)) block) (made_by_block block) 0 now
 
--- for a statement of a block, and for what is in one
+-- for a statement of a block, for whose normal end one was made, and for what is in one
 abbrev pub IsStatementReady : Core → (entries : List Exits) → (procedure : ℕ) → Takers → Statement → (now : Progress) → Type 0
 IsStatementReady core entries procedure takers statement now =
     IsReady core entries takers (statement_paths (program_of core) statement)
-    (statement_fits (program_of core) (here (scope_of core procedure)) statement) now
+    (statement_fits (program_of core) (here (scope_of core procedure)) statement) (made_by_statement statement) 1 now
 
 abbrev pub IsFormReady : Core → (entries : List Exits) → (procedure : ℕ) → Takers → Statement → (now : Progress) → Type 0
 IsFormReady core entries procedure takers statement now =
     IsReady core entries takers (inner_paths (program_of core) statement)
-    (statement_fits (program_of core) (here (scope_of core procedure)) statement) now
+    (statement_fits (program_of core) (here (scope_of core procedure)) statement) (made_by_statement statement) 1 now
 
 -- for the bodies of handlers
 abbrev pub AreHandlersReady : Core → (entries : List Exits) → (procedure : ℕ) → Takers → Handlers → (now : Progress) → Type 0
 AreHandlersReady core entries procedure takers handlers now =
     IsReady core entries takers (handlers_paths (program_of core) handlers)
-    (handlers_fit (program_of core) (here (scope_of core procedure)) handlers) now
+    (handlers_fit (program_of core) (here (scope_of core procedure)) handlers) (made_by_handlers handlers) 0 now
 
 -- for a procedure of the program, where no entry's level is above a barrier
 pub record IsProcedureReady (core : Core) (entries : List Exits) (f barrier : ℕ) (procedure : Procedure) (now : Progress) : Type 0 where
@@ -82,3 +94,5 @@ pub record IsProcedureReady (core : Core) (entries : List Exits) (f barrier : �
   pub wide : exception_count core ≤ length now.thrown.items
   pub is : IsOf core f procedure
   pub fitting : IsTrue (procedure_fits (program_of core) (here (scope_of core f)))
+  pub room : HasRoom (made_by_procedure (scope_of core f)) now
+  pub deep : barrier ≤ now.number

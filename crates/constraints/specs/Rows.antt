@@ -37,8 +37,12 @@ pub record IsRow (table : List Label) (first : ℕ) (procedure : ProcedureEntry)
   pub exceptions_are : map (λ (thrown : ThrownLabel). thrown.exception) row.throws.items ≡ declared_by procedure.throws
   pub labels_are : thrown_parts table row.throws.items
       ≡ map (λ (entry : ThrownEntry). Written entry.label) procedure.throws
-  pub first_is : row.first ≡ first
   pub loops_is : row.loops ≡ first + length procedure.slots
+  pub loop_count_is : row.loop_count ≡ procedure.loops
+
+-- at most so many labels are written in a procedure: three of its own, those of its slots, and those of its exceptions
+abbrev pub label_count : ProcedureEntry → ℕ
+label_count procedure = 3 + length procedure.slots + length procedure.throws
 
 -- rows for procedures in order
 abbrev pub AreProcedureRows : (table : List Label) → (first : ℕ) → List ProcedureEntry → List ProcedureLabels → Type 0

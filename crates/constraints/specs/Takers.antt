@@ -17,11 +17,11 @@ abbrev pub taker_of : (barrier : ℕ) → Entry → Option ℕ
 taker_of barrier entry = if nat_lt barrier entry.level then Some entry.number else None
 
 abbrev pub takers_of : Takers → (thrown : List Entry) → walk.Takers
-takers_of takers thrown Normal = takers.normal
-takers_of takers thrown Return = takers.returns
-takers_of takers thrown Break = takers.breaks
-takers_of takers thrown Continue = takers.continues
-takers_of takers thrown (Throw x) = taker_of takers.barrier (slice_index_or thrown x no_entry)
+takers_of takers thrown Normal = takers.ends.normal
+takers_of takers thrown Return = takers.ends.returns
+takers_of takers thrown Break = takers.ends.breaks
+takers_of takers thrown Continue = takers.ends.continues
+takers_of takers thrown (Throw x) = taker_of takers.ends.raised (slice_index_or thrown x no_entry)
 
 -- no level is above this one
 abbrev pub AreWithin : (level : ℕ) → (thrown : List Entry) → Type 0
@@ -39,7 +39,7 @@ entry_in_try (Catch at handled body rest) n level x old =
 
 -- takers whose level neither their barrier nor an entry is above
 pub record AreLevelled (takers : Takers) (thrown : List Entry) : Type 0 where
-  pub barrier_is_within : takers.barrier ≤ takers.level
+  pub barrier_is_within : takers.ends.raised ≤ takers.level
   pub entries_are_within : AreWithin takers.level thrown
 
 -- saved entries put back, the last one first

@@ -10,7 +10,7 @@ use Rattle.resolved.specs.Ends.{handles, one_end, raises, statement_ends}
 use Rattle.resolved.specs.Labelled.{Scope, value_label}
 use Rattle.resolved.specs.Tree.{Expression, Statement, Block, Handlers}
 use Rattle.resolved.specs.TreeOf.{handlers_of}
-use Rattle.path_map.specs.declared.exits.Exits.{Exits}
+use Rattle.path_map.specs.Exits.{Exits}
 use Rattle.path_map.specs.Exits.{exits_of}
 use Rattle.path_map.specs.Paths.{block_paths, handlers_paths, inner_paths, rest_paths, statement_paths}
 use Rattle.gathering.specs.Names.{NamedAtom, NamedConstraint, named_atoms}
@@ -103,3 +103,4 @@ pub record IsTried (takers : Takers) (handlers : List Handler) (old new : Progre
       slice_index_or new.thrown.items x no_entry ≡ slice_index_or old.thrown.items x no_entry
   pub noted : IsUpToDate old.journal old.thrown.items → AreNoted old.journal new.journal new.thrown.items
   pub number_is : new.number ≡ old.number + handler_count (handlers_of handlers)
+  pub level_is : tried.takers.level ≡ takers.level + 1

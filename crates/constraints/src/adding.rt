@@ -1,16 +1,15 @@
 //! How a constraint is added: one that stands for a demand, or an inner one.
-ghost use Rattle.constraints.specs.Added.{AreAdded, IsLeft, IsPart, flow_if};
+ghost use Rattle.constraints.specs.Added.{AreAdded, IsLeft, flow_if};
 ghost use Rattle.constraints.specs.Takers.{takers_of};
 ghost use Rattle.path_map.specs.Exceptions.{AreRaised};
 ghost use Rattle.constraints.specs.LeftSides.{scope_of};
 ghost use Rattle.gathering.specs.Names.{NamedAtom};
-ghost use Rattle.gathering.specs.Walk.{flow, inner_atom, inner_constraint, raised_flows, rule_constraint};
-ghost use Rattle.std.specs.Prelude.{IfOk, List, OnOk, ℕ, ◌++◌};
+ghost use Rattle.gathering.specs.Walk.{flow, inner_constraint, raised_flows, rule_constraint};
+ghost use Rattle.std.specs.Prelude.{List, OnOk, ℕ, ◌++◌};
 
 use crate::table::Table;
 use crate::takers::{Entry, Takers};
 use common::exceptions::{ARITH, BOUNDS};
-use gathering::unknowns::number_after;
 use path_map::Raises;
 use resolved::statement::Exit;
 use resolved::target::Target;
@@ -33,7 +32,7 @@ impl<'a> Table<'a> {
             (rule_constraint (scope_of self.now.core.now procedure) at rule atoms target)
             constraints.old.items constraints.new.items) }
     {
-        let right = self.part(target)?;
+        let right = self.part(target);
         constraints.push(Constraint {
             at,
             rule,
@@ -56,7 +55,7 @@ impl<'a> Table<'a> {
             AreAdded self.now.core.now self.now.written.items (inner_constraint atoms number)
             constraints.old.items constraints.new.items) }
     {
-        let right = Atom::Unknown(number_after(self.unknowns, number as usize)?);
+        let right = Atom::Unknown(number);
         constraints.push(Constraint {
             at: 0,
             rule: 0,
@@ -152,13 +151,5 @@ impl<'a> Table<'a> {
         self.add_flow(alloc, left, takers.at(thrown, exit), constraints)?;
         self.add_raised(alloc, left, takers, thrown, found, constraints)?;
         Ok(())
-    }
-
-    /// The part of the inner unknown with this number.
-    pub fn inner(&self, number: u32) -> Result<Atom, AllocError>
-        ensures { IfOk result (λ atom.
-            IsPart self.now.core.now self.now.written.items (inner_atom number) atom) }
-    {
-        Ok(Atom::Unknown(number_after(self.unknowns, number as usize)?))
     }
 }

@@ -7,7 +7,7 @@ ghost use Rattle.constraints.specs.Walks.{loop_head_constraints};
 ghost use Rattle.gathering.specs.Names.{NamedAtom, named_atoms};
 ghost use Rattle.gathering.specs.Walk.{inner_atom, inner_constraint, raise_atoms, raised_flows, rule_constraint, single};
 ghost use Rattle.path_map.specs.Exits.{exits_of};
-ghost use Rattle.path_map.specs.declared.exits.Exits.{Exits};
+ghost use Rattle.path_map.specs.Exits.{Exits};
 ghost use Rattle.resolved.specs.Ends.{one_end, raises};
 ghost use Rattle.resolved.specs.Labelled.{value_label};
 ghost use Rattle.resolved.specs.TreeOf.{expression_of};
@@ -33,13 +33,7 @@ impl<'a> Walk<'a> {
             drop number (entries_of self.now.map.now) ≡ exits ∷ rest → result ≡ exits }
     {
         if number >= self.map.len() {
-            return Exits {
-                normal: false,
-                returns: false,
-                breaks: false,
-                continues: false,
-                raised: Raised::Nothing,
-            };
+            return Exits::of_all(false, Raised::Nothing);
         }
         self.map.exits(number)
     }
@@ -159,9 +153,9 @@ impl<'a> Walk<'a> {
             constraints.old.items constraints.new.items) }
     {
         self.add_turn(at, number, pc, constraints)?;
-        let turn = self.table.part(Target::ToLoop(self.procedure, number))?;
+        let turn = self.table.part(Target::ToLoop(self.procedure, number));
         self.add_branch(condition, inner, turn, constraints)?;
-        let body = self.table.inner(inner)?;
+        let body = Atom::Unknown(inner);
         let left = left_of_pc(self.alloc, body)?;
         let taker = takers.at(thrown, Exit::Normal);
         self.table.add_flow(self.alloc, &left, taker, constraints)?;

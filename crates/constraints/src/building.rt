@@ -1,5 +1,5 @@
 //! How the table of a program's labels is built.
-ghost use Rattle.constraints.specs.Rows.{AreProcedureRows, TableGrows, IsRow, Mean, Means, slot_parts, thrown_parts, written_part};
+ghost use Rattle.constraints.specs.Rows.{AreProcedureRows, TableGrows, IsRow, Mean, Means, label_count, slot_parts, thrown_parts, written_part};
 ghost use Rattle.gathering.specs.Names.{own_unknowns};
 ghost use Rattle.constraints.specs.LeftSides.{Written};
 ghost use Rattle.labels.specs.Label.{Label};
@@ -10,7 +10,7 @@ ghost use Rattle.resolved.specs.ProgramOf.{procedure_entry, result_entry, slot_e
 ghost use Rattle.resolved.specs.declared.tables.Channel.{Channel};
 ghost use Rattle.resolved.specs.declared.tables.GlobalVariable.{GlobalVariable};
 ghost use Rattle.constraints.specs.declared.rows.ThrownLabel.{ThrownLabel};
-ghost use Rattle.std.specs.Prelude.{IfOk, List, OnOk, [], length, map, sum_by, ℕ, ◌+◌, ◌++◌, ◌<◌, ◌^◌, ◌∷◌, ◌≡◌};
+ghost use Rattle.std.specs.Prelude.{IfOk, List, OnOk, [], length, map, sum_by, ℕ, ◌+◌, ◌++◌, ◌<◌, ◌^◌, ◌∷◌, ◌≡◌, ◌≤◌};
 
 use crate::rows::{ProcedureLabels, ThrownLabel};
 use crate::written::{Labels, add};
@@ -26,7 +26,10 @@ pub(crate) fn channel_parts(
     written: &mut Labels,
     channels: &[Channel],
 ) -> Result<Vec<Atom>, AllocError>
+    requires room { length written.old.list.items + length channels.now ≤ 2 ^ 32 }
     ensures grown { OnOk result (TableGrows written.old.list.items written.new.list.items) }
+    ensures few { OnOk result (length written.new.list.items
+        ≤ length written.old.list.items + length channels.now) }
     ensures meaning { IfOk result (λ atoms. Mean written.new.list.items atoms.items
         (map (λ (channel : Channel). Written channel.label) channels.now)) }
 {
@@ -43,7 +46,10 @@ pub(crate) fn global_parts(
     written: &mut Labels,
     globals: &[GlobalVariable],
 ) -> Result<Vec<Atom>, AllocError>
+    requires room { length written.old.list.items + length globals.now ≤ 2 ^ 32 }
     ensures grown { OnOk result (TableGrows written.old.list.items written.new.list.items) }
+    ensures few { OnOk result (length written.new.list.items
+        ≤ length written.old.list.items + length globals.now) }
     ensures meaning { IfOk result (λ atoms. Mean written.new.list.items atoms.items
         (map (λ (variable : GlobalVariable). Written variable.label) globals.now)) }
 {
@@ -56,7 +62,10 @@ pub(crate) fn global_parts(
 
 // The part of a slot's label, which is the unknown with this number if it is not written.
 fn slot_part(written: &mut Labels, label: &Option<Label>, number: u32) -> Result<Atom, AllocError>
+    requires room { length written.old.list.items + 1 ≤ 2 ^ 32 }
     ensures grown { OnOk result (TableGrows written.old.list.items written.new.list.items) }
+    ensures few { OnOk result (length written.new.list.items
+        ≤ length written.old.list.items + 1) }
     ensures meaning { IfOk result (λ atom. Means written.new.list.items atom
         (written_part label.now number)) }
 {
@@ -73,8 +82,11 @@ fn slot_parts(
     slots: &[Slot],
     first: u32,
 ) -> Result<Vec<Atom>, AllocError>
-    requires { first + length slots.now < 2 ^ 32 }
+    requires numbers { first + length slots.now < 2 ^ 32 }
+    requires room { length written.old.list.items + length slots.now ≤ 2 ^ 32 }
     ensures grown { OnOk result (TableGrows written.old.list.items written.new.list.items) }
+    ensures few { OnOk result (length written.new.list.items
+        ≤ length written.old.list.items + length slots.now) }
     ensures meaning { IfOk result (λ atoms. Mean written.new.list.items atoms.items
         (slot_parts first (map slot_entry slots.now))) }
 {
@@ -91,7 +103,10 @@ fn thrown_labels(
     written: &mut Labels,
     throws: &[Thrown],
 ) -> Result<Vec<ThrownLabel>, AllocError>
+    requires room { length written.old.list.items + length throws.now ≤ 2 ^ 32 }
     ensures grown { OnOk result (TableGrows written.old.list.items written.new.list.items) }
+    ensures few { OnOk result (length written.new.list.items
+        ≤ length written.old.list.items + length throws.now) }
     ensures exceptions { IfOk result (λ labels.
         map (λ (thrown : ThrownLabel). thrown.exception) labels.items
         ≡ declared_by (map thrown_entry throws.now)) }
@@ -116,7 +131,10 @@ fn value_part(
     written: &mut Labels,
     value: &Option<ResultType>,
 ) -> Result<Atom, AllocError>
+    requires room { length written.old.list.items + 1 ≤ 2 ^ 32 }
     ensures grown { OnOk result (TableGrows written.old.list.items written.new.list.items) }
+    ensures few { OnOk result (length written.new.list.items
+        ≤ length written.old.list.items + 1) }
     ensures meaning { IfOk result (λ atom. Means written.new.list.items atom
         (Written (result_label (result_entry value.now)))) }
 {
@@ -133,8 +151,12 @@ fn row_of(
     procedure: &Procedure,
     first: u32,
 ) -> Result<ProcedureLabels, AllocError>
-    requires { first + own_unknowns (procedure_entry procedure.now) < 2 ^ 32 }
+    requires numbers { first + own_unknowns (procedure_entry procedure.now) < 2 ^ 32 }
+    requires room { length written.old.list.items
+        + label_count (procedure_entry procedure.now) ≤ 2 ^ 32 }
     ensures grown { OnOk result (TableGrows written.old.list.items written.new.list.items) }
+    ensures few { OnOk result (length written.new.list.items
+        ≤ length written.old.list.items + label_count (procedure_entry procedure.now)) }
     ensures row { IfOk result (λ row. (more : List Label) →
         IsRow (written.new.list.items ++ more) first (procedure_entry procedure.now) row) }
 {
@@ -144,8 +166,8 @@ fn row_of(
         value: value_part(alloc, written, &procedure.result)?,
         slots: slot_parts(alloc, written, &procedure.slots, first)?,
         throws: thrown_labels(alloc, written, &procedure.throws)?,
-        first,
         loops: first + procedure.slots.len() as u32,
+        loop_count: procedure.loops,
     })
 }
 
@@ -155,8 +177,12 @@ pub(crate) fn rows_of(
     written: &mut Labels,
     procedures: &[Procedure],
 ) -> Result<(Vec<ProcedureLabels>, u32), AllocError>
-    requires { sum_by own_unknowns (map procedure_entry procedures.now) < 2 ^ 32 }
+    requires numbers { sum_by own_unknowns (map procedure_entry procedures.now) < 2 ^ 32 }
+    requires room { length written.old.list.items
+        + sum_by label_count (map procedure_entry procedures.now) ≤ 2 ^ 32 }
     ensures grown { OnOk result (TableGrows written.old.list.items written.new.list.items) }
+    ensures few { OnOk result (length written.new.list.items
+        ≤ length written.old.list.items + sum_by label_count (map procedure_entry procedures.now)) }
     ensures rows { IfOk result (λ found. (more : List Label) →
         AreProcedureRows (written.new.list.items ++ more) 0
         (map procedure_entry procedures.now) found.0.items) }

@@ -215,7 +215,7 @@ impl<'a> Walk<'a> {
         let table = self.table;
         let raised = table.left_of_arguments(self.alloc, pc, self.procedure, arguments)?;
         table.add_inner(raised, number, constraints)?;
-        let own = table.inner(number)?;
+        let own = Atom::Unknown(number);
         let begin = left_of_pc(self.alloc, own)?;
         table.add_rule(at, 6, begin, Target::ToBegin(callee), constraints)?;
         self.add_arguments(at, own, callee, arguments, constraints)?;

@@ -36,7 +36,7 @@ impl<'a> Table<'a> {
             (one (label_of (program_of self.now.core.now) target))
             left.old.items left.new.items) }
     {
-        left.push(self.part(target)?)?;
+        left.push(self.part(target))?;
         Ok(())
     }
 

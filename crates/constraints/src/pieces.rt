@@ -1,14 +1,14 @@
 //! The pieces of a walk along blocks, statements and handlers that go into no block.
 ghost use Rattle.constraints.specs.Added.{IsPart};
 ghost use Rattle.constraints.specs.LeftSides.{scope_of};
-ghost use Rattle.constraints.specs.Ready.{entries_of, AreHandledInside};
+ghost use Rattle.constraints.specs.Ready.{entries_of, AreHandledInside, HasRoom};
 ghost use Rattle.constraints.specs.Takers.{AreLevelled, no_entry, takers_of, undone};
 ghost use Rattle.constraints.specs.Walked.{IsTried, IsWalked, branch_constraints};
 ghost use Rattle.constraints.specs.Walks.{loop_head_constraints};
 ghost use Rattle.gathering.specs.Names.{NamedAtom};
 ghost use Rattle.gathering.specs.Walk.{block_constraints, call_constraints, inner_atom, onward_pc, rule_constraint, single};
 ghost use Rattle.path_map.specs.Exits.{exits_of};
-ghost use Rattle.path_map.specs.declared.exits.Exits.{Exits};
+ghost use Rattle.path_map.specs.Exits.{Exits};
 ghost use Rattle.resolved.specs.Ends.{one_end};
 ghost use Rattle.resolved.specs.Tree.{Empty};
 ghost use Rattle.resolved.specs.TreeOf.{expression_of, handlers_of};
@@ -20,7 +20,6 @@ use crate::lefts::left_of_pc;
 use crate::progress::Progress;
 use crate::statements::Walk;
 use crate::takers::{Saved, Takers, numbers_of, take_handled};
-use gathering::unknowns::number_after;
 use path_map::Exits;
 use resolved::expression::{Expression, Variable};
 use resolved::statement::{Exit, Handler};
@@ -80,17 +79,16 @@ impl<'a> Walk<'a> {
     }
 
     // The pc of what follows a statement with these ends, whose normal end has the taker with this number.
-    pub(crate) fn onward_pc(&self, exits: Exits, pc: Atom, number: u32) -> Result<Atom, AllocError>
-        ensures { IfOk result (λ atom. (ends : List Exit) (named : NamedAtom) →
-            exits ≡ exits_of ends →
+    pub(crate) fn onward_pc(&self, exits: Exits, pc: Atom, number: u32) -> Atom
+        ensures { (ends : List Exit) (named : NamedAtom) → exits ≡ exits_of ends →
             IsPart self.now.table.now.core.now self.now.table.now.written.items named pc →
             IsPart self.now.table.now.core.now self.now.table.now.written.items
-            (onward_pc (one_end ends) named number) atom) }
+            (onward_pc (one_end ends) named number) result }
     {
         if exits.is_single() {
-            return Ok(pc);
+            return pc;
         }
-        self.table.inner(number)
+        Atom::Unknown(number)
     }
 
     // Comes to the end of a block that is reached or not.
@@ -127,6 +125,7 @@ impl<'a> Walk<'a> {
         takers: Takers,
         progress: &mut Progress,
     ) -> Result<u32, AllocError>
+        requires { HasRoom 1 progress.old }
         ensures number { IfOk result (λ number. number ≡ progress.old.number) }
         ensures added { OnOk result (
             IsWalked self.now.table.now.core.now self.now.table.now.written.items
@@ -136,7 +135,7 @@ impl<'a> Walk<'a> {
             (takers_of takers progress.old.thrown.items) progress.old.number
             (expression_of condition.now)) 1 progress.old progress.new) }
     {
-        let number = progress.make(1)?;
+        let number = progress.make(1);
         self.add_branch(condition, number, pc, &mut progress.constraints)?;
         self.add_condition(
             condition,
@@ -159,6 +158,7 @@ impl<'a> Walk<'a> {
         takers: Takers,
         progress: &mut Progress,
     ) -> Result<(u32, u32), AllocError>
+        requires { HasRoom 2 progress.old }
         ensures inner { IfOk result (λ pcs. pcs.0 ≡ progress.old.number) }
         ensures back { IfOk result (λ pcs. pcs.1 ≡ progress.old.number + 1) }
         ensures added { OnOk result (
@@ -169,8 +169,8 @@ impl<'a> Walk<'a> {
             (takers_of takers progress.old.thrown.items) progress.old.number at number
             (expression_of condition.now)) 2 progress.old progress.new) }
     {
-        let inner = progress.make(2)?;
-        let back = number_after(inner, 1)?;
+        let inner = progress.make(2);
+        let back = inner + 1;
         self.add_loop_head(
             at,
             number,
@@ -200,8 +200,7 @@ impl<'a> Walk<'a> {
             (inner_atom back ∷ []) (ToLoop self.now.procedure number)) 0
             progress.old progress.new) }
     {
-        let pc = self.table.inner(back)?;
-        self.add_turn(at, number, pc, &mut progress.constraints)?;
+        self.add_turn(at, number, Atom::Unknown(back), &mut progress.constraints)?;
         Ok(())
     }
 
@@ -212,12 +211,14 @@ impl<'a> Walk<'a> {
         takers: Takers,
         progress: &mut Progress,
     ) -> Result<Tried, AllocError>
-        requires { AreHandledInside handlers.now progress.old.thrown.items }
+        requires inside { AreHandledInside handlers.now progress.old.thrown.items }
+        requires room { HasRoom (length handlers.now) progress.old }
+        requires deep { takers.level < progress.old.number }
         ensures { IfOk result (λ tried. IsTried takers handlers.now
             progress.old progress.new tried) }
     {
-        let first = progress.make(handlers.len())?;
-        let inner = takers.in_try()?;
+        let first = progress.make(handlers.len());
+        let inner = takers.in_try();
         let mut saved = Vec::new(self.alloc);
         take_handled(
             handlers,
@@ -246,6 +247,7 @@ impl<'a> Walk<'a> {
         takers: Takers,
         progress: &mut Progress,
     ) -> Result<(), AllocError>
+        requires { HasRoom 1 progress.old }
         ensures { OnOk result (
             IsWalked self.now.table.now.core.now self.now.table.now.written.items
             (entries_of self.now.map.now) pc takers []
@@ -254,7 +256,7 @@ impl<'a> Walk<'a> {
             (takers_of takers progress.old.thrown.items) progress.old.number at callee
             (map expression_of arguments.now) target) 1 progress.old progress.new) }
     {
-        let number = progress.make(1)?;
+        let number = progress.make(1);
         self.add_call(
             at,
             callee,
@@ -266,7 +268,8 @@ impl<'a> Walk<'a> {
             &progress.thrown,
             &mut progress.constraints,
         )?;
-        progress.journal.add_call(callee, takers.barrier, number)?;
+        let barrier = takers.ends.raised;
+        progress.journal.add_call(callee, barrier, number)?;
         Ok(())
     }
 }

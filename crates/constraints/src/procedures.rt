@@ -2,15 +2,15 @@
 ghost use Rattle.constraints.specs.Added.{AreAdded};
 ghost use Rattle.constraints.specs.LeftSides.{scope_of};
 ghost use Rattle.constraints.specs.Procedures.{AreDeclaredTakers, StaysInPlace, IsOf, IsProcedureWalked, end_takers_of, number_in};
-ghost use Rattle.constraints.specs.Ready.{entries_of, AreThrownInside, IsProcedureReady};
+ghost use Rattle.constraints.specs.Ready.{entries_of, AreThrownInside, IsProcedureReady, most_unknowns};
 ghost use Rattle.constraints.specs.Takers.{AreWithin};
 ghost use Rattle.constraints.specs.Thinned.{ThinnedWhole};
-ghost use Rattle.gathering.specs.Walk.{end_constraints, has_one_end, made_from, program_constraints, thrown_constraints};
+ghost use Rattle.gathering.specs.Walk.{end_constraints, has_one_end, program_constraints, thrown_constraints, unknown_count};
 ghost use Rattle.path_map.specs.EndsOf.{AreEndsOf};
 ghost use Rattle.resolved.specs.CoreOf.{program_of};
 ghost use Rattle.resolved.specs.ProgramOf.{thrown_entry};
 ghost use Rattle.resolved.specs.Labelled.{here};
-ghost use Rattle.std.specs.Prelude.{IfOk, List, OnOk, length, map, suc, ℕ, ◌<◌, ◌≡◌};
+ghost use Rattle.std.specs.Prelude.{IfOk, List, OnOk, length, map, suc, ℕ, ◌+◌, ◌<◌, ◌≡◌, ◌≤◌};
 ghost use Rattle.constraints.specs.declared.takers.Entry.{Entry};
 
 use crate::journal::Journal;
@@ -21,11 +21,10 @@ use crate::table::Table;
 use crate::takers::{Entry, Takers, entry_in, take};
 use crate::walking::walk_block;
 use common::exceptions::BUILT_IN;
-use gathering::unknowns::number_after;
-use path_map::Ends;
+use path_map::{Ends, PathMap};
 use resolved::tables::{Procedure, Thrown};
 use resolved::target::Target;
-use solver::Constraint;
+use solver::{Atom, Constraint};
 use std::alloc::{AllocError, Global};
 
 // Gives takers to declared exceptions, which have the numbers from this on, at a level that no entry has.
@@ -36,7 +35,8 @@ fn take_declared(
     level: u32,
     thrown: &mut Vec<Entry>,
 ) -> Result<(), AllocError>
-    requires { AreThrownInside throws.now thrown.old.items }
+    requires inside { AreThrownInside throws.now thrown.old.items }
+    requires room { number + length throws.now ≤ most_unknowns }
     ensures wide { OnOk result (length thrown.new.items ≡ length thrown.old.items) }
     ensures taken { OnOk result ((barrier : ℕ) → barrier < level →
         AreWithin barrier thrown.old.items → AreDeclaredTakers (map thrown_entry throws.now)
@@ -46,7 +46,7 @@ fn take_declared(
     let mut saved = Vec::new(alloc);
     for (i, declared) in throws.iter().enumerate() {
         let entry = Entry {
-            number: number_after(number, i)?,
+            number: number + i as u32,
             level,
         };
         take(declared.exception, entry, thrown, &mut saved)?;
@@ -72,7 +72,7 @@ impl<'a> Walk<'a> {
     {
         for declared in throws {
             let exception = declared.exception;
-            let taker = self.table.inner(entry_in(thrown, exception).number)?;
+            let taker = Atom::Unknown(entry_in(thrown, exception).number);
             let left = left_of_pc(self.alloc, taker)?;
             let target = Target::ToThrown(self.procedure, exception);
             self.table.add_rule(at, 13, left, target, constraints)?;
@@ -101,8 +101,7 @@ impl<'a> Walk<'a> {
         if only {
             return Ok(());
         }
-        let taker = self.table.inner(number)?;
-        let left = left_of_pc(self.alloc, taker)?;
+        let left = left_of_pc(self.alloc, Atom::Unknown(number))?;
         let target = Target::ToEnd(self.procedure);
         self.table
             .add_rule(procedure.at, 13, left, target, &mut progress.constraints)?;
@@ -128,10 +127,10 @@ impl<'a> Walk<'a> {
             IsProcedureWalked self.now.table.now.core.now self.now.table.now.written.items
             (entries_of self.now.map.now) self.now.procedure barrier progress.old progress.new) }
     {
+        let level = barrier + 1;
         let number = progress.number;
-        let level = number_after(barrier, 1)?;
-        let first = number_after(number, 1)?;
-        progress.number = number_after(first, procedure.throws.len())?;
+        let first = number + 1;
+        progress.number = first + procedure.throws.len() as u32;
         take_declared(
             self.alloc,
             &procedure.throws,
@@ -144,7 +143,7 @@ impl<'a> Walk<'a> {
             .note_declared(&procedure.throws, &progress.thrown)?;
         let only = self.exits_at(progress.index).is_single_of_procedure();
         let takers = end_takers(number, barrier, level, only);
-        let begin = self.table.part(Target::ToBegin(self.procedure))?;
+        let begin = self.table.part(Target::ToBegin(self.procedure));
         walk_block(self, &procedure.body, begin, takers, progress)?;
         self.add_end_demands(procedure, number, only, progress)?;
         Ok(())
@@ -157,20 +156,18 @@ fn end_takers(number: u32, barrier: u32, level: u32, only: bool) -> Takers
 {
     if only {
         return Takers {
-            normal: None,
-            returns: None,
-            breaks: None,
-            continues: None,
-            barrier: level,
+            ends: PathMap::of_all(None, level),
             level,
         };
     }
     Takers {
-        normal: Some(number),
-        returns: Some(number),
-        breaks: None,
-        continues: None,
-        barrier,
+        ends: PathMap {
+            normal: Some(number),
+            returns: Some(number),
+            breaks: None,
+            continues: None,
+            raised: barrier,
+        },
         level,
     }
 }
@@ -185,7 +182,7 @@ pub(crate) fn walk_procedures(
     ensures added { IfOk result (λ progress. ThinnedWhole table.now.core.now
         table.now.written.items (program_constraints (program_of table.now.core.now)) progress) }
     ensures number { IfOk result (λ progress. progress.number
-        ≡ made_from (program_of table.now.core.now) 0 (program_of table.now.core.now).procedures) }
+        ≡ unknown_count (program_of table.now.core.now)) }
 {
     // The exceptions that are declared come after those that are built in.
     let none = Entry {
@@ -195,7 +192,7 @@ pub(crate) fn walk_procedures(
     let exceptions = table.core.exceptions.len() + BUILT_IN as usize;
     let mut progress = Progress {
         index: 0,
-        number: 0,
+        number: table.unknowns,
         constraints: Vec::new(alloc),
         thrown: vec![in alloc; none; exceptions]?,
         journal: Journal::new(alloc, exceptions)?,

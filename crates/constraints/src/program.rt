@@ -13,7 +13,6 @@ ghost use Rattle.std.specs.Prelude.{IfOk, [], length, ◌*◌, ◌↔◌, ◌≡
 use crate::procedures::walk_procedures;
 use crate::spreading::{Made, spread_calls};
 use crate::table::Table;
-use gathering::unknowns::number_after;
 use labels::Label;
 use path_map::Ends;
 use resolved::program::Core;
@@ -62,10 +61,9 @@ pub fn gather(
         constraints: progress.constraints,
     };
     spread_calls(alloc, &table, &progress.journal, &mut made)?;
-    let unknowns = number_after(table.unknowns, made.number as usize)?;
     Ok(Constraints {
         written: table.written,
-        unknowns,
+        unknowns: made.number,
         constraints: made.constraints,
     })
 }

@@ -8,8 +8,8 @@ pub struct ThrownLabel {
     pub label: Atom,
 }
 
-/// The labels of a procedure. A slot without a written label is an unknown, and so is each loop: those of the slots have the numbers
-/// from `first` on, those of the loops the numbers from `loops` on.
+/// The labels of a procedure. A slot without a written label is an unknown, and so is each loop: those of the loops are so many, with
+/// the numbers from `loops` on.
 #[derive(Drop)]
 pub struct ProcedureLabels {
     pub begin: Atom,
@@ -17,6 +17,6 @@ pub struct ProcedureLabels {
     pub value: Atom,
     pub slots: Vec<Atom>,
     pub throws: Vec<ThrownLabel>,
-    pub first: u32,
     pub loops: u32,
+    pub loop_count: u32,
 }

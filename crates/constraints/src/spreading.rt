@@ -1,6 +1,7 @@
 //! The flows of the exceptions that calls raise: all calls at which an exception has one taker reach it by one inner unknown.
 ghost use Rattle.constraints.specs.Added.{AreAdded, IsLeft, IsPart};
 ghost use Rattle.constraints.specs.Journals.{AreInOrder, HasOneTaker};
+ghost use Rattle.constraints.specs.Ready.{most_unknowns};
 ghost use Rattle.constraints.specs.Spreading.{AreCallsOf, AreLabelsOf, AreRowsOf, AreSpread, AreSpreadTo, Declares, fixed_flows};
 ghost use Rattle.constraints.specs.declared.journal.Called.{Called};
 ghost use Rattle.constraints.specs.declared.rows.ThrownLabel.{ThrownLabel};
@@ -14,7 +15,6 @@ use crate::journal::{Called, Journal};
 use crate::rows::ThrownLabel;
 use crate::table::Table;
 use crate::takers::taker_in;
-use gathering::unknowns::number_after;
 use resolved::target::Target;
 use solver::{Atom, Constraint};
 use std::alloc::{AllocError, Global};
@@ -27,7 +27,7 @@ pub(crate) struct Spreading<'a> {
     pub journal: &'a Journal,
 }
 
-/// What is made: constraints, and the number of the next inner unknown.
+/// What is made: constraints, and the number of the next unknown.
 #[derive(Drop)]
 pub struct Made {
     pub number: u32,
@@ -184,13 +184,14 @@ impl<'a> Spreading<'a> {
     {
         let mut atoms = Vec::with_capacity(self.alloc, calls.len())?;
         for called in calls {
-            atoms.push(self.table.inner(called.own)?)?;
+            atoms.push(Atom::Unknown(called.own))?;
         }
         Ok(atoms)
     }
 
     // A new inner unknown, to which these parts flow.
     fn joined(&self, parts: Vec<Atom>, made: &mut Made) -> Result<Atom, AllocError>
+        requires { made.old.number < most_unknowns }
         ensures number { OnOk result (made.new.number ≡ made.old.number + 1) }
         ensures added { OnOk result ((atoms : List NamedAtom) →
             IsLeft self.now.table.now.core.now self.now.table.now.written.items atoms parts.items →
@@ -202,9 +203,9 @@ impl<'a> Spreading<'a> {
             (inner_atom made.old.number) atom) }
     {
         let number = made.number;
-        made.number = number_after(number, 1)?;
+        made.number = number + 1;
         self.table.add_inner(parts, number, &mut made.constraints)?;
-        self.table.inner(number)
+        Ok(Atom::Unknown(number))
     }
 
     // Adds the flows of exceptions from one call, whose own label is the part that stands for it.
@@ -215,11 +216,12 @@ impl<'a> Spreading<'a> {
         made: &mut Made,
     ) -> Result<Atom, AllocError>
         requires { AreInOrder self.now.journal.now }
-        ensures { IfOk result (λ atom. AreSpreadTo self.now.table.now.core.now
+        ensures number { OnOk result (made.new.number ≡ made.old.number) }
+        ensures spread { IfOk result (λ atom. AreSpreadTo self.now.table.now.core.now
             self.now.table.now.written.items self.now.journal.now labels.now (called ∷ [])
             made.old made.new atom) }
     {
-        let node = self.table.inner(called.own)?;
+        let node = Atom::Unknown(called.own);
         self.add_fixed(called, node, labels, made)?;
         Ok(node)
     }
@@ -235,7 +237,9 @@ fn spread(
 ) -> Result<Atom, AllocError>
     requires ordered { AreInOrder of.now.journal.now }
     requires some { 0 < length calls.now }
-    ensures { IfOk result (λ atom. AreSpreadTo of.now.table.now.core.now
+    requires room { made.old.number + length calls.now ≤ most_unknowns }
+    ensures fewer { OnOk result (made.new.number < made.old.number + length calls.now) }
+    ensures spread { IfOk result (λ atom. AreSpreadTo of.now.table.now.core.now
         of.now.table.now.written.items of.now.journal.now labels.now calls.now
         made.old made.new atom) }
 {
@@ -259,7 +263,9 @@ fn spread_halves(
 ) -> Result<Atom, AllocError>
     requires ordered { AreInOrder of.now.journal.now }
     requires several { 1 < length calls.now }
-    ensures { IfOk result (λ atom. AreSpreadTo of.now.table.now.core.now
+    requires room { made.old.number + length calls.now ≤ most_unknowns }
+    ensures fewer { OnOk result (made.new.number < made.old.number + length calls.now) }
+    ensures spread { IfOk result (λ atom. AreSpreadTo of.now.table.now.core.now
         of.now.table.now.written.items of.now.journal.now varied.now calls.now
         made.old made.new atom) }
 {
@@ -320,8 +326,10 @@ fn spread_row(
     calls: &[Called],
     made: &mut Made,
 ) -> Result<(), AllocError>
-    requires { AreInOrder of.now.journal.now }
-    ensures { OnOk result (AreCallsOf callee calls.now →
+    requires ordered { AreInOrder of.now.journal.now }
+    requires room { made.old.number + length calls.now ≤ most_unknowns }
+    ensures few { OnOk result (made.new.number ≤ made.old.number + length calls.now) }
+    ensures spread { OnOk result (AreCallsOf callee calls.now →
         AreSpread of.now.table.now.core.now of.now.table.now.written.items of.now.journal.now
         (Declares of.now.table.now.core.now) calls.now made.old made.new) }
 {
@@ -340,7 +348,8 @@ pub(crate) fn spread_calls<'a>(
     journal: &'a Journal,
     made: &mut Made,
 ) -> Result<(), AllocError>
-    requires { AreInOrder journal.now }
+    requires ordered { AreInOrder journal.now }
+    requires room { made.old.number + length journal.now.calls.items ≤ most_unknowns }
     ensures { OnOk result (AreSpread table.now.core.now table.now.written.items journal.now
         (Declares table.now.core.now) journal.now.calls.items made.old made.new) }
 {

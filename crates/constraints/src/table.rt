@@ -6,13 +6,12 @@ ghost use Rattle.resolved.specs.CoreOf.{program_of};
 ghost use Rattle.resolved.specs.Labelled.{thrown_label};
 ghost use Rattle.resolved.specs.Program.{channel_at, global_at, procedure_at};
 ghost use Rattle.resolved.specs.declared.expression.Variable.TheVariants.{Local};
-ghost use Rattle.resolved.specs.declared.target.Target.TheVariants.{ToParameter, ToVariable};
+ghost use Rattle.resolved.specs.declared.target.Target.TheVariants.{ToLoop, ToParameter, ToVariable};
 ghost use Rattle.std.specs.Prelude.{IfOk, slice_index_or, ◌≡◌};
 
 use crate::building::{channel_parts, global_parts, rows_of};
 use crate::rows::{ProcedureLabels, ThrownLabel};
 use crate::written::{Labels, add};
-use gathering::unknowns::number_after;
 use labels::Label;
 use resolved::expression::Variable;
 use resolved::program::Core;
@@ -85,8 +84,8 @@ impl<'a> Table<'a> {
             value: nothing,
             slots: Vec::new(alloc),
             throws: Vec::new(alloc),
-            first: unknowns,
             loops: unknowns,
+            loop_count: 0,
         };
         Ok(Table {
             core,
@@ -129,14 +128,23 @@ impl<'a> Table<'a> {
     }
 
     // The part of the label of a slot.
-    fn slot(&self, procedure: u32, slot: u32) -> Result<Atom, AllocError>
-        ensures { IfOk result (λ atom.
-            part self.now.written.items atom
-            ≡ part_of (program_of self.now.core.now) (ToVariable procedure (Local slot))) }
+    fn slot(&self, procedure: u32, slot: u32) -> Atom
+        ensures { part self.now.written.items result
+            ≡ part_of (program_of self.now.core.now) (ToVariable procedure (Local slot)) }
+    {
+        at(&self.row(procedure).slots, slot as usize, self.nothing)
+    }
+
+    // The part of the label of a loop.
+    fn turn(&self, procedure: u32, number: u32) -> Atom
+        ensures { part self.now.written.items result
+            ≡ part_of (program_of self.now.core.now) (ToLoop procedure number) }
     {
         let row = self.row(procedure);
-        let number = number_after(row.first, slot as usize)?;
-        Ok(at(&row.slots, slot as usize, Atom::Unknown(number)))
+        if number < row.loop_count {
+            return Atom::Unknown(row.loops + number);
+        }
+        self.nothing
     }
 
     // The part of the label of a parameter.
@@ -159,25 +167,21 @@ impl<'a> Table<'a> {
         label_in(&self.row(procedure).throws, exception, self.nothing)
     }
 
-    /// The part of the label of what a rule names, or out of memory where the numbers of the unknowns do not suffice.
-    pub fn part(&self, target: Target) -> Result<Atom, AllocError>
-        ensures { IfOk result (λ atom.
-            part self.now.written.items atom
-            ≡ part_of (program_of self.now.core.now) target) }
+    /// The part of the label of what a rule names.
+    pub fn part(&self, target: Target) -> Atom
+        ensures { part self.now.written.items result
+            ≡ part_of (program_of self.now.core.now) target }
     {
         match target {
-            Target::ToVariable(_, Variable::Global(variable)) => Ok(self.global(variable)),
+            Target::ToVariable(_, Variable::Global(variable)) => self.global(variable),
             Target::ToVariable(procedure, Variable::Local(slot)) => self.slot(procedure, slot),
-            Target::ToChannel(channel) => Ok(self.channel(channel)),
-            Target::ToBegin(procedure) => Ok(self.row(procedure).begin),
-            Target::ToParameter(procedure, parameter) => Ok(self.parameter(procedure, parameter)),
-            Target::ToValue(procedure) => Ok(self.row(procedure).value),
-            Target::ToEnd(procedure) => Ok(self.row(procedure).end),
-            Target::ToThrown(procedure, exception) => Ok(self.thrown_label(procedure, exception)),
-            Target::ToLoop(procedure, number) => {
-                let row = self.row(procedure);
-                Ok(Atom::Unknown(number_after(row.loops, number as usize)?))
-            }
+            Target::ToChannel(channel) => self.channel(channel),
+            Target::ToBegin(procedure) => self.row(procedure).begin,
+            Target::ToParameter(procedure, parameter) => self.parameter(procedure, parameter),
+            Target::ToValue(procedure) => self.row(procedure).value,
+            Target::ToEnd(procedure) => self.row(procedure).end,
+            Target::ToThrown(procedure, exception) => self.thrown_label(procedure, exception),
+            Target::ToLoop(procedure, number) => self.turn(procedure, number),
         }
     }
 }

@@ -1,13 +1,13 @@
 //! Where the label of each end flows.
-ghost use Rattle.constraints.specs.Ready.{AreHandledInside};
+ghost use Rattle.constraints.specs.Ready.{AreHandledInside, most_unknowns};
 ghost use Rattle.constraints.specs.Takers.{AreLevelled, AreWithin, entry_after, entry_in_try, no_entry, taker_of, takers_of, undone};
 ghost use Rattle.gathering.specs.Walk.{in_loop, with_normal, within_single};
 ghost use Rattle.resolved.specs.TreeOf.{handlers_of};
 ghost use Rattle.resolved.specs.declared.statement.Handler.{Handler};
-ghost use Rattle.std.specs.Prelude.{IfOk, List, OnOk, length, map, set, slice_index_or, ℕ, ◌+◌, ◌<◌, ◌≡◌};
+ghost use Rattle.std.specs.Prelude.{IfOk, List, OnOk, length, map, set, slice_index_or, ℕ, ◌+◌, ◌<◌, ◌≡◌, ◌≤◌};
 ghost use Rattle.constraints.specs.declared.takers.Entry.{Entry};
 
-use gathering::unknowns::number_after;
+use path_map::PathMap;
 use resolved::statement::{Exit, Handler};
 use std::alloc::{AllocError, Global};
 
@@ -18,15 +18,11 @@ pub struct Entry {
     pub level: u32,
 }
 
-/// The inner unknown to which the label of each end that is no exception flows, if to any, the barrier, and the level of the innermost
-/// `try`. The takers of exceptions stand in a list of entries.
+/// The inner unknown to which the label of each end flows, if to any: of exceptions by the barrier, since their takers stand in a list
+/// of entries; and the level of the innermost `try`.
 #[derive(Clone, Copy, Debug, PartialEq, Eq)]
 pub struct Takers {
-    pub normal: Option<u32>,
-    pub returns: Option<u32>,
-    pub breaks: Option<u32>,
-    pub continues: Option<u32>,
-    pub barrier: u32,
+    pub ends: PathMap<Option<u32>, u32>,
     pub level: u32,
 }
 
@@ -113,7 +109,8 @@ pub(crate) fn take_handled(
     thrown: &mut Vec<Entry>,
     saved: &mut Vec<Saved>,
 ) -> Result<(), AllocError>
-    requires { AreHandledInside handlers.now thrown.old.items }
+    requires inside { AreHandledInside handlers.now thrown.old.items }
+    requires room { first + length handlers.now ≤ most_unknowns }
     ensures undone { OnOk result (undone saved.new.items thrown.new.items
         ≡ undone saved.old.items thrown.old.items) }
     ensures taken { OnOk result ((x : ℕ) → slice_index_or thrown.new.items x no_entry
@@ -121,7 +118,7 @@ pub(crate) fn take_handled(
         (slice_index_or thrown.old.items x no_entry)) }
 {
     for (i, handler) in handlers.iter().enumerate() {
-        let number = number_after(first, i)?;
+        let number = first + i as u32;
         take(handler.exception, Entry { number, level }, thrown, saved)?;
     }
     Ok(())
@@ -149,51 +146,64 @@ impl Takers {
         ensures { result ≡ takers_of self thrown.now exit }
     {
         match exit {
-            Exit::Normal => self.normal,
-            Exit::Return => self.returns,
-            Exit::Break => self.breaks,
-            Exit::Continue => self.continues,
-            Exit::Throw(exception) => taker_in(self.barrier, entry_in(thrown, exception)),
+            Exit::Normal => self.ends.normal,
+            Exit::Return => self.ends.returns,
+            Exit::Break => self.ends.breaks,
+            Exit::Continue => self.ends.continues,
+            Exit::Throw(exception) => taker_in(self.ends.raised, entry_in(thrown, exception)),
         }
     }
 
     /// The same takers but for that of the normal end.
     pub fn with_normal(self, normal: Option<u32>) -> Takers
+        ensures level { result.level ≡ self.level }
         ensures levelled { (thrown : List Entry) →
             AreLevelled self thrown → AreLevelled result thrown }
         ensures takers { (thrown : List Entry) →
             takers_of result thrown ≡ with_normal normal (takers_of self thrown) }
     {
-        Takers { normal, ..self }
+        Takers {
+            ends: PathMap {
+                normal,
+                ..self.ends
+            },
+            ..self
+        }
     }
 
     /// The takers in the body of a loop, whose condition is reached at the inner unknown with this number.
     pub fn in_loop(self, back: u32) -> Takers
+        ensures level { result.level ≡ self.level }
         ensures levelled { (thrown : List Entry) →
             AreLevelled self thrown → AreLevelled result thrown }
         ensures takers { (thrown : List Entry) →
             takers_of result thrown ≡ in_loop back (takers_of self thrown) }
     {
         Takers {
-            normal: Some(back),
-            breaks: self.normal,
-            continues: Some(back),
+            ends: PathMap {
+                normal: Some(back),
+                breaks: self.ends.normal,
+                continues: Some(back),
+                ..self.ends
+            },
             ..self
         }
     }
 
     /// The takers in the block of a `try`, whose handlers have entries of the next level.
-    pub(crate) fn in_try(self) -> Result<Takers, AllocError>
-        ensures { IfOk result (λ inner. inner ≡ record self { level = self.level + 1 }) }
+    pub(crate) fn in_try(self) -> Takers
+        requires { self.level < most_unknowns }
+        ensures { result ≡ record self { level = self.level + 1 } }
     {
-        Ok(Takers {
-            level: number_after(self.level, 1)?,
+        Takers {
+            level: self.level + 1,
             ..self
-        })
+        }
     }
 
     /// No takers, where there is one end only.
     pub fn within_single(self, only: bool) -> Takers
+        ensures level { result.level ≡ self.level }
         ensures levelled { (thrown : List Entry) →
             AreLevelled self thrown → AreLevelled result thrown }
         ensures takers { (thrown : List Entry) → AreWithin self.level thrown →
@@ -201,12 +211,8 @@ impl Takers {
     {
         if only {
             return Takers {
-                normal: None,
-                returns: None,
-                breaks: None,
-                continues: None,
-                barrier: self.level,
-                level: self.level,
+                ends: PathMap::of_all(None, self.level),
+                ..self
             };
         }
         self

@@ -1,7 +1,7 @@
 //! The walk along blocks, statements and handlers that adds what is gathered of them.
 ghost use Rattle.constraints.specs.Ready.{entries_of, AreHandlersReady, AreStatementsReady, IsBlockReady, IsFormReady, IsStatementReady};
 ghost use Rattle.constraints.specs.Walked.{AreHandlersWalked, AreStatementsWalked, IsBlockWalked, IsStatementWalked, IsFormWalked};
-ghost use Rattle.path_map.specs.declared.exits.Exits.{Exits};
+ghost use Rattle.path_map.specs.Exits.{Exits};
 ghost use Rattle.resolved.specs.Tree.{If, Try, While};
 ghost use Rattle.resolved.specs.TreeOf.{block_of, expression_of, handlers_of, statement_of};
 ghost use Rattle.resolved.specs.declared.statement.Handler.{Handler};
@@ -16,9 +16,9 @@ use resolved::statement::{Handler, Statement};
 use solver::Atom;
 use std::alloc::AllocError;
 
-/// Adds what is gathered of a block of its own that is reached at this pc, or answers out of memory, also where the numbers do not
-/// suffice. It takes the block's entries of the path map and its inner unknowns from the progress on, and leaves the takers of
-/// exceptions as they are. It is a precondition that the block is of the program, and that the path map goes on with its entries.
+/// Adds what is gathered of a block of its own that is reached at this pc. It takes the block's entries of the path map and its inner
+/// unknowns from the progress on, and leaves the takers of exceptions as they are. It is a precondition that the block is of the
+/// program, and that the path map goes on with its entries.
 #[cycle(walk)]
 pub(crate) fn walk_block(
     walk: &Walk,
@@ -57,10 +57,10 @@ fn walk_statements(
     let mut reached = true;
     let mut onward = pc;
     for statement in block {
-        let number = progress.make(1)?;
+        let number = progress.make(1);
         let exits = walk_statement(walk, statement, number, onward, takers, progress)?;
         reached = exits.normal;
-        onward = walk.onward_pc(exits, onward, number)?;
+        onward = walk.onward_pc(exits, onward, number);
     }
     walk.end_block(reached, onward, takers, progress)?;
     Ok(())
@@ -163,7 +163,7 @@ fn walk_if(
         progress.old progress.new) }
 {
     let number = walk.begin_branch(condition, pc, takers, progress)?;
-    let inner = walk.table.inner(number)?;
+    let inner = Atom::Unknown(number);
     walk_block(walk, yes_block, inner, takers, progress)?;
     walk_block(walk, no_block, inner, takers, progress)?;
     Ok(())
@@ -190,7 +190,7 @@ fn walk_while(
         progress.old progress.new) }
 {
     let (inner, back) = walk.begin_loop(at, number, condition, pc, takers, progress)?;
-    let inside = walk.table.inner(inner)?;
+    let inside = Atom::Unknown(inner);
     walk_block(walk, body, inside, takers.in_loop(back), progress)?;
     walk.end_loop(at, number, back, progress)?;
     Ok(())
@@ -242,7 +242,7 @@ fn walk_handlers(
         pc takers number (handlers_of handlers.now) progress.old progress.new) }
 {
     for (i, handler) in handlers.iter().enumerate() {
-        let pc = walk.table.inner(numbers[i])?;
+        let pc = Atom::Unknown(numbers[i]);
         walk_block(walk, &handler.body, pc, takers, progress)?;
     }
     Ok(())

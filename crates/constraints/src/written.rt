@@ -2,7 +2,7 @@
 ghost use Rattle.constraints.specs.Rows.{TableGrows, Means};
 ghost use Rattle.constraints.specs.LeftSides.{Written};
 ghost use Rattle.labels.specs.Label.{Label};
-ghost use Rattle.std.specs.Prelude.{IfOk, IfSome, OnOk, [], length, slice_index_or, ◌<◌, ◌≡◌, ◌≤◌};
+ghost use Rattle.std.specs.Prelude.{IfOk, IfSome, OnOk, [], length, slice_index_or, ◌+◌, ◌<◌, ◌^◌, ◌≡◌, ◌≤◌};
 
 use labels::Label;
 use solver::Atom;
@@ -71,6 +71,7 @@ fn number_at(list: &[Label], order: &[u32], at: usize, label: &Label) -> Option<
 fn append(list: &mut Vec<Label>, number: u32, label: &Label) -> Result<Atom, AllocError>
     requires { number ≡ length list.old.items }
     ensures grown { OnOk result (TableGrows list.old.items list.new.items) }
+    ensures count { OnOk result (length list.new.items ≡ length list.old.items + 1) }
     ensures meaning { IfOk result (λ atom. Means list.new.items atom (Written label.now)) }
 {
     list.push(label.clone()?)?;
@@ -79,7 +80,10 @@ fn append(list: &mut Vec<Label>, number: u32, label: &Label) -> Result<Atom, All
 
 /// Adds a label to the table, unless it is there, and gives its part.
 pub(crate) fn add(written: &mut Labels, label: &Label) -> Result<Atom, AllocError>
+    requires { length written.old.list.items < 2 ^ 32 }
     ensures grown { OnOk result (TableGrows written.old.list.items written.new.list.items) }
+    ensures few { OnOk result (length written.new.list.items
+        ≤ length written.old.list.items + 1) }
     ensures meaning { IfOk result (λ atom.
         Means written.new.list.items atom (Written label.now)) }
 {
@@ -87,9 +91,7 @@ pub(crate) fn add(written: &mut Labels, label: &Label) -> Result<Atom, AllocErro
     if let Some(number) = number_at(&written.list, &written.order, at, label) {
         return Ok(Atom::Written(number));
     }
-    let Ok(number) = u32::try_from(written.list.len()) else {
-        return Err(AllocError);
-    };
+    let number = written.list.len() as u32;
     written.order.insert(at, number)?;
     append(&mut written.list, number, label)
 }

@@ -3,7 +3,7 @@
 use Rattle.std.specs.Prelude.{ℕ, ◌+◌, ◌*◌, ◌/◌, List, length, map}
 use Rattle.std.specs.List.{range_with_len}
 use Rattle.lexer.specs.declared.token.Place.{Place}
-use Rattle.checker.specs.Position.{place_at}
+use Rattle.lexer.specs.Position.{place_at}
 use Rattle.explaining.specs.declared.marks.TheConstants.{STRIDE}
 
 -- the places of the first byte of a text and of each byte a stride after one that is marked

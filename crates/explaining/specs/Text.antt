@@ -4,7 +4,7 @@ use Rattle.std.specs.Prelude.{ℕ, List, ◌++◌, Option, codes}
 use Rattle.std.specs.Fmt.{decimal}
 use Rattle.std.specs.Io.KnownBytes.{Appends}
 use Rattle.channels.specs.Sink.{AppendsPrefix}
-use Rattle.checker.specs.Position.{column_of, line_of}
+use Rattle.lexer.specs.Position.{column_of, line_of}
 
 -- the line, a colon and the column of a byte, and what follows
 abbrev pub at_place : (source : List ℕ) → (at : ℕ) → (rest : List ℕ) → List ℕ

@@ -1,11 +1,11 @@
 //! Where the bytes of a text stand, each found in a few steps.
 
-ghost use Rattle.checker.specs.Position.{column_of, line_of};
+ghost use Rattle.lexer.specs.Position.{column_of, line_of};
 ghost use Rattle.explaining.specs.Marks.{marks_of};
 ghost use Rattle.std.specs.Prelude.{IfOk, ◌≡◌};
 
-use checker::position::place_after;
 use lexer::Place;
+use lexer::position::place_after;
 use std::alloc::{AllocError, Global};
 
 /// How many bytes lie between two marks.

@@ -1,6 +1,5 @@
 -- Private: the files of the code as those of the definitions.
 -- Source: our own.
-use Rattle.std.specs.Prelude.{Option, option_map}
 use Rattle.flowc.specs.Compiled.{NamedText}
 use Rattle.flowc.specs.declared.reading.File.{File}
 

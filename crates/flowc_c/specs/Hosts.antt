@@ -1,10 +1,10 @@
 -- What calls on the host of a handle do, and what they reply in numbers.
 -- Source: our own.
-use Rattle.std.specs.Prelude.{◌≡◌, ℕ, List, [], map, Option, Some, None}
+use Rattle.std.specs.Prelude.{◌≡◌, ℕ, List, map, Option, Some, None}
 use Rattle.std.specs.Option.{option_map}
 use Rattle.common.specs.declared.fault.OrNoMemory.TheVariants as faults
 use Rattle.host.specs.Defects.{refusal_number}
-use Rattle.host.specs.Meaning.{HostContents, HostEvent, Turn, View, Close, HostAnswer, Opened, Turned, Viewed, Closed, Refused, MayAnswer, HasSent, IsNotOpen}
+use Rattle.host.specs.Meaning.{HostContents, HostEvent, Turn, View, HostAnswer, Opened, Turned, Viewed, Closed, Refused, MayAnswer, HasSent, IsNotOpen}
 use Rattle.host.specs.Values.{HostRuns, host_of}
 use Rattle.host.specs.declared.fault.HostRefusal.{HostRefusal}
 use Rattle.host.specs.declared.fault.HostRefusal.TheVariants.{Full, UnknownId, UnknownPrincipal, Load, New, NotContained}

@@ -10,7 +10,7 @@ use Rattle.channels.specs.Defects.{world_number, world_words}
 use Rattle.channels.specs.World.{InputNumbers, input_names}
 use Rattle.channels.specs.WorldText.{IsWorldRefusal, IsWorldText, lines_of, world_of}
 use Rattle.checker.specs.Reported.{IsHierarchyFault}
-use Rattle.common.specs.Answers.{Answers, IfRefused}
+use Rattle.common.specs.Answers.{IfRefused}
 use Rattle.common.specs.declared.fault.OrNoMemory.{OrNoMemory}
 use Rattle.common.specs.declared.fault.OrNoMemory.TheVariants as faults
 use Rattle.host.specs.Defects.{refusal_number, refusal_words}

@@ -242,6 +242,6 @@ calls-counted program formed =
     let i : total program.procedures ≤ nodes_in program.procedures = real-count program program.procedures (program_parts program formed).procedures_fit in
     let j : total program.procedures ≡ real_unknowns program = total-sum program.procedures in
     let k : begins (program_constraints program) + made_from program 0 program.procedures ≤ 3 * nodes_in program.procedures =
-    from-begins program program.procedures 0 0 (λ k p at. let e : k ≡ 0 + k = omega arith in subst (λ z. slice_get program.procedures z ≡ Some p) e at) in
+    from-begins program program.procedures 0 (real_unknowns program) (λ k p at. let e : k ≡ 0 + k = omega arith in subst (λ z. slice_get program.procedures z ≡ Some p) e at) in
     let l : nodes_in program.procedures ≡ sum_by procedure_nodes program.procedures = is_sum_by nodes_in procedure_nodes refl (λ x xs. refl) program.procedures in
     omega (arith, i, j, k, l)

@@ -16,7 +16,7 @@ use Rattle.resolved.specs.Labelled.{FitsDemands, Labelling, Unwritten, OfLocal, 
 use Rattle.resolved.specs.WellFormed.{well_formed}
 use Rattle.gathering.specs.Names.{Name, Real, Inner, is_inner_name, NamedAtom, NamedConstraint, own_unknowns, unknowns_before, real_unknowns, unwritten_number, unknown_number, IsUnwrittenOf, numbered, numbered_atom}
 use Rattle.gathering.specs.Gathered.{AreConstraintsOf}
-use Rattle.gathering.specs.Walk.{program_constraints, made_from, gathered_constraints, unknown_count, FitsGathered, IsUnknownBelow, AreUnknownsBelow}
+use Rattle.gathering.specs.Walk.{program_constraints, gathered_constraints, unknown_count, FitsGathered, IsUnknownBelow, AreUnknownsBelow}
 use Rattle.gathering.proofs.Programs.{gathered_by}
 use Rattle.gathering.proofs.Faultless.{faultless-gathers}
 use Rattle.gathering.proofs.Ranged.{InRange, Ranged}
@@ -33,7 +33,7 @@ name_at (p ∷ ps) f k = if nat_lt k (own_unknowns p) then name_in p f k else na
 
 abbrev name_of : Program → ℕ → Name
 name_of program k =
-    if nat_le (real_unknowns program) k then Inner (k - real_unknowns program) else Real (name_at program.procedures 0 k)
+    if nat_le (real_unknowns program) k then Inner k else Real (name_at program.procedures 0 k)
 
 abbrev pub total : List ProcedureEntry → ℕ
 total [] = 0
@@ -99,7 +99,7 @@ module _ (program : Program) where
     pub kept : (a : NamedAtom) → InRange program bound a → is_inner (λ k. nat_le (real_unknowns program) k) (numbered_atom program a) ≡ is_inner is_inner_name a
     kept (Written v) h = refl
     kept (Unknown (Real u)) h = lt-leb (real_unknowns program) (unwritten_number program u) (unwritten-below u h)
-    kept (Unknown (Inner k)) h = le-leb (real_unknowns program) (real_unknowns program + k) (omega arith)
+    kept (Unknown (Inner k)) h = le-leb (real_unknowns program) k h.0
 
     name-returns : (w : Name) → InRange program bound (Unknown w) → name_of program (unknown_number program w) ≡ w
     name-returns (Real u) h =
@@ -107,10 +107,8 @@ module _ (program : Program) where
         let is : name_of program (unwritten_number program u) ≡ Real (name_at program.procedures 0 (unwritten_number program u)) = rw below refl in
         is ∙ ap (λ z. Real z) (unwritten-returns u h)
     name-returns (Inner k) h =
-        let past : nat_le (real_unknowns program) (real_unknowns program + k) ≡ true = le-leb (real_unknowns program) (real_unknowns program + k) (omega arith) in
-        let less : (real_unknowns program + k) - real_unknowns program ≡ k = omega arith in
-        let is : name_of program (real_unknowns program + k) ≡ Inner ((real_unknowns program + k) - real_unknowns program) = rw past refl in
-        is ∙ ap (λ z. Inner z) less
+        let past : nat_le (real_unknowns program) k ≡ true = le-leb (real_unknowns program) k h.0 in
+        rw past refl
 
     returns : (a : NamedAtom) → InRange program bound a → renamed (name_of program) (numbered_atom program a) ≡ a
     returns (Written v) h = refl
@@ -123,7 +121,7 @@ module _ (program : Program) where
 -- a well-formed program without a fault of its ends is gathered, with numbers
 pub numbered-gathered : (program : Program) → IsTrue (well_formed program) → end_faults program ≡ [] → AreGathered program (gathered_constraints program)
 numbered-gathered program formed none =
-    let bound : ℕ = made_from program 0 program.procedures in
+    let bound : ℕ = unknown_count program in
     let ranged : Ranged program bound (program_constraints program) = ranged-program program formed in
     renamed-gathered (program_demands program) (program_constraints program) (gathered_by program (faultless-gathers program none)) (unknown_number program) (name_of program) (λ k. nat_le (real_unknowns program) k)
     (λ a there. kept program bound a (in-range program bound (program_constraints program) ranged a there))
@@ -134,7 +132,7 @@ pub numbered-numbers : (program : Program) (formed : IsTrue (well_formed program
     (numbered-gathered program formed none).number u ≡ unwritten_number program u
 unfolding numbered-gathered
 numbered-numbers program formed none u =
-    let bound : ℕ = made_from program 0 program.procedures in
+    let bound : ℕ = unknown_count program in
     let ranged : Ranged program bound (program_constraints program) = ranged-program program formed in
     renamed-number (program_demands program) (program_constraints program) (gathered_by program (faultless-gathers program none)) (unknown_number program) (name_of program) (λ k. nat_le (real_unknowns program) k)
     (λ a there. kept program bound a (in-range program bound (program_constraints program) ranged a there))
@@ -145,7 +143,7 @@ pub numbered-inner : (program : Program) (formed : IsTrue (well_formed program))
     (numbered-gathered program formed none).inner ≡ (λ k. nat_le (real_unknowns program) k)
 unfolding numbered-gathered
 numbered-inner program formed none =
-    let bound : ℕ = made_from program 0 program.procedures in
+    let bound : ℕ = unknown_count program in
     let ranged : Ranged program bound (program_constraints program) = ranged-program program formed in
     renamed-inner (program_demands program) (program_constraints program) (gathered_by program (faultless-gathers program none)) (unknown_number program) (name_of program) (λ k. nat_le (real_unknowns program) k)
     (λ a there. kept program bound a (in-range program bound (program_constraints program) ranged a there))
@@ -173,10 +171,10 @@ pub gathered-of : (program : Program) → IsTrue (well_formed program) → end_f
 gathered-of program formed none = record { gathered = numbered-gathered program formed none; numbered = numbered-numbers program formed none }
 
 -- and its unknowns have numbers below their count
-number-below : (program : Program) (a : NamedAtom) → InRange program (made_from program 0 program.procedures) a → IsUnknownBelow (unknown_count program) (numbered_atom program a)
+number-below : (program : Program) (a : NamedAtom) → InRange program (unknown_count program) a → IsUnknownBelow (unknown_count program) (numbered_atom program a)
 number-below program (Written v) h = tt
 number-below program (Unknown (Real u)) h = let below : unwritten_number program u < real_unknowns program = unwritten-below program u h in omega (arith, below)
-number-below program (Unknown (Inner k)) h = let below : k < made_from program 0 program.procedures = h in omega (arith, below)
+number-below program (Unknown (Inner k)) h = h.1
 
 pub numbers-below : (program : Program) → IsTrue (well_formed program) → AreUnknownsBelow (unknown_count program) (gathered_constraints program)
 numbers-below program formed c' h =
@@ -186,5 +184,5 @@ numbers-below program formed c' h =
     (λ atom there. part found.0.left atom (contained_map_only (numbered_atom program) found.0.left atom there) range.0, number-below program found.0.right range.1)
   where
     part : (left : List NamedAtom) (atom : Atom ℕ Label) → ((a : NamedAtom) × Contains left a × (numbered_atom program a ≡ atom)) →
-        ((a : NamedAtom) → Contains left a → InRange program (made_from program 0 program.procedures) a) → IsUnknownBelow (unknown_count program) atom
+        ((a : NamedAtom) → Contains left a → InRange program (unknown_count program) a) → IsUnknownBelow (unknown_count program) atom
     part left atom (a, k, is) each = subst (IsUnknownBelow (unknown_count program)) is (number-below program a (each a k))

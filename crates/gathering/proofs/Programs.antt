@@ -1,5 +1,5 @@
 -- Whole procedures and programs: what is gathered of a program of which each statement is reached stands for its demands.
-use Rattle.std.proofs.Common.{◌≡◌, refl, sym, ap, ◌∙◌, subst, ℕ, suc, ◌+◌, length, length-append, Bool, true, false, ◌||◌, List, [], ◌∷◌, ◌++◌, ⊎_elim, arith}
+use Rattle.std.proofs.Common.{◌≡◌, refl, sym, ap, ◌∙◌, subst, ℕ, suc, ◌+◌, ◌-◌, length, length-append, Bool, true, false, ◌||◌, List, [], ◌∷◌, ◌++◌, ⊎_elim, arith}
 use Rattle.std.specs.Prelude.{IsTrue, Contains, Some, None, if◌then◌else◌, ◌==◌, flat_map}
 use Rattle.std.proofs.lemmas.Bool.{or_left, or_right, eq-eqb}
 use Rattle.std.proofs.lemmas.List.Elements.{Contains-append_cases, Contains-append_left, Contains-append_right}
@@ -10,7 +10,7 @@ use Rattle.resolved.specs.declared.target.Target.TheVariants.{ToBegin, ToEnd, To
 use Rattle.resolved.specs.Program.{Program, ProcedureEntry, ThrownEntry, procedure_at}
 use Rattle.resolved.specs.Ends.{one_end}
 use Rattle.resolved.specs.Labelled.{Unwritten, OfLoop, Scope, here, Join, one, label_of, ExitLabels, block_rule, block_exits, demand, block_demands, end_demands, procedure_demands, demands_from, program_demands}
-use Rattle.gathering.specs.Names.{Name, Real, Inner, is_inner_name, NamedAtom, NamedConstraint}
+use Rattle.gathering.specs.Names.{Name, Real, Inner, is_inner_name, NamedAtom, NamedConstraint, real_unknowns}
 use Rattle.gathering.specs.Walk.{inner_atom, rule_constraint, Takers, nowhere, single, within_single, inner_block, block_constraints, thrown_number, declares, at_end, body_ends, has_one_end, end_takers, thrown_constraints, end_constraints, procedure_constraints, made_by_procedure, constraints_from, program_constraints}
 use Rattle.gathering.proofs.Atoms.{sub-same}
 use Rattle.gathering.proofs.Reached.{PartIn, AgreesIn}
@@ -180,12 +180,12 @@ gathered_by program gathers = record {
 }
 
 -- where there are meanings for the inner unknowns
-program-gathers : (program : Program) (m : ℕ → Join) → PartsFrom program 0 program.procedures → AgreesFrom m program 0 0 program.procedures → Gathers program
+program-gathers : (program : Program) (m : ℕ → Join) → PartsFrom program 0 program.procedures → AgreesFrom m program 0 (real_unknowns program) program.procedures → Gathers program
 program-gathers program m parts agrees =
     let cs : List NamedConstraint = program_constraints program in
-    let closed : Closed m cs = closed-from m program 0 0 program.procedures parts agrees in
+    let closed : Closed m cs = closed-from m program 0 (real_unknowns program) program.procedures parts agrees in
     record {
-      one_by_one = one-from m cs closed program 0 0 program.procedures parts agrees (λ c h. h);
+      one_by_one = one-from m cs closed program 0 (real_unknowns program) program.procedures parts agrees (λ c h. h);
       no_target = λ c h e. untargeted c c.right refl e (closed c h);
     }
   where
@@ -250,5 +250,7 @@ module _ (m : ℕ → Join) where
 pub all-gathers : (program : Program) → PartsFrom program 0 program.procedures → Gathers program
 all-gathers program parts =
     let js : List Join = meanings_from program 0 program.procedures in
-    program-gathers program (nth js) parts (agrees_from-from (nth js) program 0 0 program.procedures
-    (starts-where (nth js) js 0 (λ i. let e : 0 + i ≡ i = omega arith in ap (nth js) e)))
+    let first : ℕ = real_unknowns program in
+    let m : ℕ → Join = λ k. nth js (k - first) in
+    program-gathers program m parts (agrees_from-from m program 0 first program.procedures
+    (starts-where m js first (λ i. let e : (first + i) - first ≡ i = omega arith in ap (nth js) e)))

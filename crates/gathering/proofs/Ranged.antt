@@ -22,7 +22,7 @@ use Rattle.resolved.specs.Ends.{has_end, one_end, index_can_raise, index_raises,
 use Rattle.resolved.specs.Labelled.{OfLocal, OfLoop, Scope, Join, LabelAtom, one, label_of, written_or, variable_label, value_label, label_if, any_of}
 use Rattle.resolved.specs.WellFormed.{VariableType, slot_type, variable_type, scalar_by, array_by, has_base, has_result, target_by, parameters_of, arguments_match, call_matches, is_array, same_base, prefix_base, operand_base, result_base, statement_fits, block_fits, handlers_fit, is_exception, statement_loops, block_loops, handlers_loops}
 use Rattle.resolved.proofs.WellFormedParts.{result_some}
-use Rattle.gathering.specs.Names.{Real, Inner, NamedAtom, NamedConstraint, named_atoms, IsUnwrittenOf}
+use Rattle.gathering.specs.Names.{Real, Inner, NamedAtom, NamedConstraint, named_atoms, real_unknowns, IsUnwrittenOf}
 use Rattle.gathering.specs.Walk.{inner_atom, rule_constraint, target_constraint, inner_constraint, Takers, nowhere, with_normal, in_loop, handler_count, handler_number, in_try, at_end, thrown_number, declares, flow, flows, raised_once, raised_flows, single, within_single, by_ends, onward_pc, raise_atoms, raise_atoms_all, store_atoms, call_atoms, made_by_statement, made_by_block, made_by_handlers, argument_constraints, call_flows, call_ends, call_constraints, statement_constraints, block_constraints, handlers_constraints}
 use Rattle.gathering.proofs.Atoms.{Sub, raise-value, atoms-below}
 
@@ -58,10 +58,17 @@ array-some None len test h = let i : false ≡ true = h in absurd (cc)
 array-some (Some type) len test h = (type.base, (and_parts _ (test type.base) h).1)
 
 module _ (program : Program) (bound : ℕ) where
+  -- an inner unknown that was made, and so many numbers that are left to be made
+  abbrev pub IsMade : ℕ → Type 0
+  IsMade k = (real_unknowns program ≤ k) × (k < bound)
+
+  abbrev pub HasRoom : (n made : ℕ) → Type 0
+  HasRoom n made = (real_unknowns program ≤ n) × (n + made ≤ bound)
+
   abbrev pub InRange : NamedAtom → Type 0
   InRange (Written v) = Unit {0}
   InRange (Unknown (Real u)) = IsUnwrittenOf program u
-  InRange (Unknown (Inner k)) = k < bound
+  InRange (Unknown (Inner k)) = IsMade k
 
   abbrev pub AllInRange : List NamedAtom → Type 0
   AllInRange xs = (a : NamedAtom) → Contains xs a → InRange a
@@ -73,7 +80,7 @@ module _ (program : Program) (bound : ℕ) where
   JoinInRange j = (a : LabelAtom) → Contains j a → InRange (renamed Real a)
 
   abbrev pub TakersInRange : Takers → Type 0
-  TakersInRange takers = (e : Exit) (k : ℕ) → takers e ≡ Some k → k < bound
+  TakersInRange takers = (e : Exit) (k : ℕ) → takers e ≡ Some k → IsMade k
 
   pub join-nil : JoinInRange []
   join-nil a h = absurd (none_in_nil a h)
@@ -114,10 +121,10 @@ module _ (program : Program) (bound : ℕ) where
   ranged-one c f ok d h =
       ⊎_elim (λ same. subst (λ (z : NamedConstraint). AllInRange z.left × InRange z.right) same (f, ok)) (λ t. absurd (none_in_nil d t)) (Contains-cons_cases c [] d h)
 
-  pub ranged-inner : (left : List NamedAtom) (k : ℕ) → AllInRange left → k < bound → Ranged (inner_constraint left k)
+  pub ranged-inner : (left : List NamedAtom) (k : ℕ) → AllInRange left → IsMade k → Ranged (inner_constraint left k)
   ranged-inner left k f ok = ranged-one _ f ok
 
-  pub ranged-flow : (left : List NamedAtom) (o : Option ℕ) → AllInRange left → ((k : ℕ) → o ≡ Some k → k < bound) → Ranged (flow left o)
+  pub ranged-flow : (left : List NamedAtom) (o : Option ℕ) → AllInRange left → ((k : ℕ) → o ≡ Some k → IsMade k) → Ranged (flow left o)
   ranged-flow left None f ok = ranged-nil
   ranged-flow left (Some k) f ok = ranged-inner left k f (ok k refl)
 
@@ -146,63 +153,73 @@ module _ (program : Program) (bound : ℕ) where
   within-fits true takers fit = nowhere-fits
   within-fits false takers fit = fit
 
-  pub normal-fits : (o : Option ℕ) (takers : Takers) → ((k : ℕ) → o ≡ Some k → k < bound) → TakersInRange takers → TakersInRange (with_normal o takers)
+  pub normal-fits : (o : Option ℕ) (takers : Takers) → ((k : ℕ) → o ≡ Some k → IsMade k) → TakersInRange takers → TakersInRange (with_normal o takers)
   normal-fits o takers f fit Normal k is = f k is
   normal-fits o takers f fit Return k is = fit Return k is
   normal-fits o takers f fit Break k is = fit Break k is
   normal-fits o takers f fit Continue k is = fit Continue k is
   normal-fits o takers f fit (Throw x) k is = fit (Throw x) k is
 
-  pub same-number : (n k : ℕ) → n < bound → Some n ≡ Some k → k < bound
-  same-number n k h is = let same : n ≡ k = cc in subst (λ z. z < bound) same h
+  pub same-number : (n k : ℕ) → IsMade n → Some n ≡ Some k → IsMade k
+  same-number n k h is = let same : n ≡ k = cc in subst IsMade same h
 
-  pub loop-fits : (back : ℕ) (takers : Takers) → back < bound → TakersInRange takers → TakersInRange (in_loop back takers)
+  pub loop-fits : (back : ℕ) (takers : Takers) → IsMade back → TakersInRange takers → TakersInRange (in_loop back takers)
   loop-fits back takers h fit Normal k is = same-number back k h is
   loop-fits back takers h fit Return k is = fit Return k is
   loop-fits back takers h fit Break k is = fit Normal k is
   loop-fits back takers h fit Continue k is = same-number back k h is
   loop-fits back takers h fit (Throw x) k is = fit (Throw x) k is
 
-  pub try-fits : (number : ℕ → ℕ) (handlers : Handlers) (takers : Takers) → ((x : ℕ) → handles handlers x ≡ true → number x < bound) → TakersInRange takers → TakersInRange (in_try number handlers takers)
+  pub try-fits : (number : ℕ → ℕ) (handlers : Handlers) (takers : Takers) → ((x : ℕ) → handles handlers x ≡ true → IsMade (number x)) → TakersInRange takers → TakersInRange (in_try number handlers takers)
   try-fits number handlers takers f fit Normal k is = fit Normal k is
   try-fits number handlers takers f fit Return k is = fit Return k is
   try-fits number handlers takers f fit Break k is = fit Break k is
   try-fits number handlers takers f fit Continue k is = fit Continue k is
   try-fits number handlers takers f fit (Throw x) k is = go (handles handlers x) refl is
     where
-      go : (b : Bool) → handles handlers x ≡ b → (if b then Some (number x) else takers (Throw x)) ≡ Some k → k < bound
+      go : (b : Bool) → handles handlers x ≡ b → (if b then Some (number x) else takers (Throw x)) ≡ Some k → IsMade k
       go true h is = same-number (number x) k (f x h) is
       go false h is = fit (Throw x) k is
 
-  pub handler-number : (handlers : Handlers) (n x : ℕ) → handles handlers x ≡ true → handler_number handlers n x < n + handler_count handlers
+  pub handler-number : (handlers : Handlers) (n x : ℕ) → handles handlers x ≡ true → (n ≤ handler_number handlers n x) × (handler_number handlers n x < n + handler_count handlers)
   handler-number NoMore n x h = let i : false ≡ true = h in absurd (cc)
   handler-number (Catch at handled body rest) n x h = go (x == handled) refl h (handler-number rest (suc n) x)
     where
-      go : (b : Bool) → (x == handled) ≡ b → (b || handles rest x) ≡ true → (handles rest x ≡ true → handler_number rest (suc n) x < suc n + handler_count rest) →
-          (if b then n else handler_number rest (suc n) x) < n + suc (handler_count rest)
-      go true e k next = omega arith
-      go false e k next = let i : handler_number rest (suc n) x < suc n + handler_count rest = next k in omega (arith, i)
+      go : (b : Bool) → (x == handled) ≡ b → (b || handles rest x) ≡ true →
+          (handles rest x ≡ true → (suc n ≤ handler_number rest (suc n) x) × (handler_number rest (suc n) x < suc n + handler_count rest)) →
+          (n ≤ (if b then n else handler_number rest (suc n) x)) × ((if b then n else handler_number rest (suc n) x) < n + suc (handler_count rest))
+      go true e k next = (omega arith, omega arith)
+      go false e k next =
+          let least : suc n ≤ handler_number rest (suc n) x = (next k).0 in
+          let i : handler_number rest (suc n) x < suc n + handler_count rest = (next k).1 in
+          (omega (arith, least), omega (arith, i))
 
-  pub thrown-inside : (throws : List ThrownEntry) (n x : ℕ) → declares throws x ≡ true → thrown_number throws n x < n + length throws
+  pub thrown-inside : (throws : List ThrownEntry) (n x : ℕ) → declares throws x ≡ true → (n ≤ thrown_number throws n x) × (thrown_number throws n x < n + length throws)
   thrown-inside [] n x h = let i : false ≡ true = h in absurd (cc)
   thrown-inside (entry ∷ rest) n x h = go (x == entry.exception) refl h (thrown-inside rest (suc n) x)
     where
-      go : (b : Bool) → (x == entry.exception) ≡ b → (b || declares rest x) ≡ true → (declares rest x ≡ true → thrown_number rest (suc n) x < suc n + length rest) →
-          (if b then n else thrown_number rest (suc n) x) < n + suc (length rest)
-      go true e k next = omega arith
-      go false e k next = let i : thrown_number rest (suc n) x < suc n + length rest = next k in omega (arith, i)
+      go : (b : Bool) → (x == entry.exception) ≡ b → (b || declares rest x) ≡ true →
+          (declares rest x ≡ true → (suc n ≤ thrown_number rest (suc n) x) × (thrown_number rest (suc n) x < suc n + length rest)) →
+          (n ≤ (if b then n else thrown_number rest (suc n) x)) × ((if b then n else thrown_number rest (suc n) x) < n + suc (length rest))
+      go true e k next = (omega arith, omega arith)
+      go false e k next =
+          let least : suc n ≤ thrown_number rest (suc n) x = (next k).0 in
+          let i : thrown_number rest (suc n) x < suc n + length rest = (next k).1 in
+          (omega (arith, least), omega (arith, i))
 
-  pub end-fits : (throws : List ThrownEntry) (n : ℕ) → suc n + length throws ≤ bound → TakersInRange (at_end n throws)
-  end-fits throws n h Normal k is = same-number n k (omega (arith, h)) is
-  end-fits throws n h Return k is = same-number n k (omega (arith, h)) is
+  pub end-fits : (throws : List ThrownEntry) (n : ℕ) → HasRoom n (suc (length throws)) → TakersInRange (at_end n throws)
+  end-fits throws n h Normal k is = same-number n k (omega (arith, h.0), omega (arith, h.1)) is
+  end-fits throws n h Return k is = same-number n k (omega (arith, h.0), omega (arith, h.1)) is
   end-fits throws n h Break k is = let i : None ≡ Some k = is in absurd (cc)
   end-fits throws n h Continue k is = let i : None ≡ Some k = is in absurd (cc)
   end-fits throws n h (Throw x) k is = go (declares throws x) refl is
     where
-      go : (b : Bool) → declares throws x ≡ b → (if b then Some (thrown_number throws (suc n) x) else None) ≡ Some k → k < bound
+      go : (b : Bool) → declares throws x ≡ b → (if b then Some (thrown_number throws (suc n) x) else None) ≡ Some k → IsMade k
       go true e is =
-          let i : thrown_number throws (suc n) x < suc n + length throws = thrown-inside throws (suc n) x e in
-          same-number (thrown_number throws (suc n) x) k (omega (arith, h, i)) is
+          let inside = thrown-inside throws (suc n) x e in
+          let least : suc n ≤ thrown_number throws (suc n) x = inside.0 in
+          let i : thrown_number throws (suc n) x < suc n + length throws = inside.1 in
+          same-number (thrown_number throws (suc n) x) k (omega (arith, h.0, least), omega (arith, h.1, i)) is
       go false e is = let i : None ≡ Some k = is in absurd (cc)
 
   module _ (f : ℕ) (there : f < length program.procedures) where
@@ -275,14 +292,14 @@ module _ (program : Program) (bound : ℕ) where
     call_atoms-ok callee Continue = join-nil
     call_atoms-ok callee (Throw x) = join-one (label_of program (ToThrown callee x)) tt
 
-    pub ranged-call_flows : (callee n : ℕ) (takers : Takers) (ends : List Exit) → n < bound → TakersInRange takers → Ranged (call_flows program callee n takers ends)
+    pub ranged-call_flows : (callee n : ℕ) (takers : Takers) (ends : List Exit) → IsMade n → TakersInRange takers → Ranged (call_flows program callee n takers ends)
     ranged-call_flows callee n takers [] h fit = ranged-nil
     ranged-call_flows callee n takers (e ∷ rest) h fit =
         let left : List NamedAtom = inner_atom n ∷ named_atoms (call_atoms program callee e) in
         ranged-append (flow left (takers e)) (call_flows program callee n takers rest)
         (ranged-flow left (takers e) (pc-atoms (inner_atom n) (call_atoms program callee e) h (call_atoms-ok callee e)) (fit e)) (ranged-call_flows callee n takers rest h fit)
 
-    pub ranged-arguments : (at n callee i : ℕ) (parameters : List SlotEntry) (es : List Expression) → n < bound → arguments_match program own parameters es ≡ true →
+    pub ranged-arguments : (at n callee i : ℕ) (parameters : List SlotEntry) (es : List Expression) → IsMade n → arguments_match program own parameters es ≡ true →
         Ranged (argument_constraints own_scope at n callee i es) × JoinInRange (raise_atoms_all own_scope es)
     ranged-arguments at n callee i parameters [] h fits = (ranged-nil, join-nil)
     ranged-arguments at n callee i [] (e ∷ rest) h fits = let i : false ≡ true = fits in absurd (cc)
@@ -297,7 +314,7 @@ module _ (program : Program) (bound : ℕ) where
         )
 
     pub ranged-call : (o : Option ProcedureEntry) (at callee n : ℕ) (arguments : List Expression) (target : Option Variable) (p : NamedAtom) (takers : Takers) →
-        call_matches program own o arguments target ≡ true → InRange p → TakersInRange takers → n < bound → Ranged (call_constraints own_scope p takers n at callee arguments target)
+        call_matches program own o arguments target ≡ true → InRange p → TakersInRange takers → IsMade n → Ranged (call_constraints own_scope p takers n at callee arguments target)
     ranged-call None at callee n arguments target p takers fits ok fit h = let i : false ≡ true = fits in absurd (cc)
     ranged-call (Some entry) at callee n arguments target p takers fits ok fit h =
         let parts = and_parts (arguments_match program own (parameters_of entry) arguments) (target_by program own target (λ base. has_result entry.result (same_base base))) fits in
@@ -335,13 +352,13 @@ module _ (program : Program) (bound : ℕ) where
     pub loops-right : (xs ys : List ℕ) → LoopsFit (xs ++ ys) → LoopsFit ys
     loops-right xs ys h l i = h l (Contains-append_right xs ys l i)
 
-    pub onward-ok : (b : Bool) (p : NamedAtom) (n : ℕ) → InRange p → n < bound → InRange (onward_pc b p n)
+    pub onward-ok : (b : Bool) (p : NamedAtom) (n : ℕ) → InRange p → IsMade n → InRange (onward_pc b p n)
     onward-ok true p n ok h = ok
     onward-ok false p n ok h = h
 
     mutual
       pub ranged-statement : (s : Statement) (p : NamedAtom) (takers : Takers) (n : ℕ) → statement_fits program own s ≡ true → LoopsFit (statement_loops s) → InRange p → TakersInRange takers →
-          n + made_by_statement s ≤ bound → Ranged (statement_constraints own_scope p takers n s)
+          HasRoom n (made_by_statement s) → Ranged (statement_constraints own_scope p takers n s)
       ranged-statement (Assign at x e) p takers n fits loops ok fit h =
           let base = scalar-some (variable_type program own x) (λ base. has_base program own base e) fits in
           let v : JoinInRange (value_label own_scope e) = value-ok base.0 e base.1 in
@@ -376,13 +393,13 @@ module _ (program : Program) (bound : ℕ) where
           let v : JoinInRange (value_label own_scope e) = value-ok Int e (and_parts _ (has_base program own Int e) fits).1 in
           ranged-demanding at 5 p (value_label own_scope e) (raise_atoms own_scope e) (ToChannel channel) takers Normal (raises e) ok v (raise-ok e v) tt fit
       ranged-statement (Call at callee arguments target) p takers n fits loops ok fit h =
-          ranged-call (slice_get program.procedures callee) at callee n arguments target p takers fits ok fit (omega (arith, h))
+          ranged-call (slice_get program.procedures callee) at callee n arguments target p takers fits ok fit (omega (arith, h.0), omega (arith, h.1))
       ranged-statement (If at e yes_block no_block) p takers n fits loops ok fit h =
           let outer = and_parts (has_base program own Boolean e && block_fits program own yes_block) (block_fits program own no_block) fits in
           let inner = and_parts (has_base program own Boolean e) (block_fits program own yes_block) outer.0 in
           let v : JoinInRange (value_label own_scope e) = value-ok Boolean e inner.0 in
           let pc : NamedAtom = inner_atom n in
-          let made : n < bound = omega (arith, h) in
+          let made : IsMade n = (omega (arith, h.0), omega (arith, h.1)) in
           let first : List NamedConstraint = inner_constraint (p ∷ named_atoms (value_label own_scope e)) n in
           let second : List NamedConstraint = raised_flows (p ∷ named_atoms (raise_atoms own_scope e)) takers (raises e) in
           let third : List NamedConstraint = by_ends (block_ends program yes_block) pc takers (λ t. block_constraints own_scope true pc t (suc n) yes_block) in
@@ -393,17 +410,17 @@ module _ (program : Program) (bound : ℕ) where
           (ranged-raised (p ∷ named_atoms (raise_atoms own_scope e)) takers (raises e) (pc-atoms p (raise_atoms own_scope e) ok (raise-ok e v)) fit)
           (ranged-append third fourth
           (ranged-by_ends (block_ends program yes_block) pc takers (λ t. block_constraints own_scope true pc t (suc n) yes_block) made fit
-          (λ t k. ranged-block yes_block true pc t (suc n) inner.1 (loops-left (block_loops yes_block) (block_loops no_block) loops) made k (omega (arith, h))))
+          (λ t k. ranged-block yes_block true pc t (suc n) inner.1 (loops-left (block_loops yes_block) (block_loops no_block) loops) made k (omega (arith, h.0), omega (arith, h.1))))
           (ranged-by_ends (block_ends program no_block) pc takers (λ t. block_constraints own_scope true pc t (suc n + made_by_block yes_block) no_block) made fit
-          (λ t k. ranged-block no_block true pc t (suc n + made_by_block yes_block) outer.1 (loops-right (block_loops yes_block) (block_loops no_block) loops) made k (omega (arith, h))))))
+          (λ t k. ranged-block no_block true pc t (suc n + made_by_block yes_block) outer.1 (loops-right (block_loops yes_block) (block_loops no_block) loops) made k (omega (arith, h.0), omega (arith, h.1))))))
       ranged-statement (While at loop e body) p takers n fits loops ok fit h =
           let parts = and_parts (has_base program own Boolean e) (block_fits program own body) fits in
           let v : JoinInRange (value_label own_scope e) = value-ok Boolean e parts.0 in
           let turn : NamedAtom = Unknown (Real (OfLoop f loop)) in
           let turn_ok : InRange turn = (there, loops loop (Contains-first loop (block_loops body))) in
           let pc : NamedAtom = inner_atom n in
-          let made : n < bound = omega (arith, h) in
-          let back : suc n < bound = omega (arith, h) in
+          let made : IsMade n = (omega (arith, h.0), omega (arith, h.1)) in
+          let back : IsMade (suc n) = (omega (arith, h.0), omega (arith, h.1)) in
           let first : List NamedConstraint = rule_constraint own_scope at 8 (p ∷ []) (ToLoop f loop) in
           let entry : List NamedConstraint = inner_constraint (turn ∷ named_atoms (value_label own_scope e)) n in
           let out : List NamedConstraint = flow (pc ∷ []) (takers Normal) in
@@ -418,7 +435,7 @@ module _ (program : Program) (bound : ℕ) where
           (ranged-raised (turn ∷ named_atoms (raise_atoms own_scope e)) takers (raises e) (pc-atoms turn (raise_atoms own_scope e) turn_ok (raise-ok e v)) fit)
           (ranged-append third fourth
           (ranged-by_ends (block_ends program body) pc (in_loop (suc n) takers) (λ t. block_constraints own_scope true pc t (suc (suc n)) body) made (loop-fits (suc n) takers back fit)
-          (λ t k. ranged-block body true pc t (suc (suc n)) parts.1 (λ l i. loops l (Contains-later loop (block_loops body) l i)) made k (omega (arith, h))))
+          (λ t k. ranged-block body true pc t (suc (suc n)) parts.1 (λ l i. loops l (Contains-later loop (block_loops body) l i)) made k (omega (arith, h.0), omega (arith, h.1))))
           (ranged-rule at 8 (inner_atom (suc n) ∷ []) (ToLoop f loop) (alone (inner_atom (suc n)) back) turn_ok)))))
       ranged-statement (Leave at exit) p takers n fits loops ok fit h = ranged-flow (p ∷ []) (takers exit) (alone p ok) (fit exit)
       ranged-statement (ReturnWith at (Some e)) p takers n fits loops ok fit h =
@@ -429,25 +446,29 @@ module _ (program : Program) (bound : ℕ) where
       ranged-statement (Try at block handlers) p takers n fits loops ok fit h =
           let parts = and_parts (block_fits program own block) (handlers_fit program own handlers) fits in
           let number : ℕ → ℕ = λ x. handler_number handlers n x in
-          let numbers : (x : ℕ) → handles handlers x ≡ true → number x < bound =
-          λ x k. let i : handler_number handlers n x < n + handler_count handlers = handler-number handlers n x k in omega (arith, h, i) in
+          let numbers : (x : ℕ) → handles handlers x ≡ true → IsMade (number x) =
+          λ x k.
+          let inside = handler-number handlers n x k in
+          let least : n ≤ handler_number handlers n x = inside.0 in
+          let i : handler_number handlers n x < n + handler_count handlers = inside.1 in
+          (omega (arith, h.0, least), omega (arith, h.1, i)) in
           let first : List NamedConstraint = by_ends (block_ends program block) p (in_try number handlers takers) (λ t. block_constraints own_scope true p t (n + handler_count handlers) block) in
           ranged-append first (handlers_constraints own_scope number takers ((n + handler_count handlers) + made_by_block block) handlers)
           (ranged-by_ends (block_ends program block) p (in_try number handlers takers) (λ t. block_constraints own_scope true p t (n + handler_count handlers) block) ok (try-fits number handlers takers numbers fit)
-          (λ t k. ranged-block block true p t (n + handler_count handlers) parts.0 (loops-left (block_loops block) (handlers_loops handlers) loops) ok k (omega (arith, h))))
-          (ranged-handlers handlers number takers ((n + handler_count handlers) + made_by_block block) parts.1 (loops-right (block_loops block) (handlers_loops handlers) loops) numbers fit (omega (arith, h)))
+          (λ t k. ranged-block block true p t (n + handler_count handlers) parts.0 (loops-left (block_loops block) (handlers_loops handlers) loops) ok k (omega (arith, h.0), omega (arith, h.1))))
+          (ranged-handlers handlers number takers ((n + handler_count handlers) + made_by_block block) parts.1 (loops-right (block_loops block) (handlers_loops handlers) loops) numbers fit (omega (arith, h.0), omega (arith, h.1)))
       ranged-statement (Nested at block) p takers n fits loops ok fit h =
           ranged-by_ends (block_ends program block) p takers (λ t. block_constraints own_scope true p t n block) ok fit
           (λ t k. ranged-block block true p t n fits loops ok k h)
 
       pub ranged-block : (block : Block) (reached : Bool) (p : NamedAtom) (takers : Takers) (n : ℕ) → block_fits program own block ≡ true → LoopsFit (block_loops block) → InRange p → TakersInRange takers →
-          n + made_by_block block ≤ bound → Ranged (block_constraints own_scope reached p takers n block)
+          HasRoom n (made_by_block block) → Ranged (block_constraints own_scope reached p takers n block)
       ranged-block Empty true p takers n fits loops ok fit h = ranged-flow (p ∷ []) (takers Normal) (alone p ok) (fit Normal)
       ranged-block Empty false p takers n fits loops ok fit h = ranged-nil
       ranged-block (Then s rest) reached p takers n fits loops ok fit h =
           let parts = and_parts (statement_fits program own s) (block_fits program own rest) fits in
           let ends : List Exit = statement_ends program s in
-          let made : n < bound = omega (arith, h) in
+          let made : IsMade n = (omega (arith, h.0), omega (arith, h.1)) in
           let inside : Takers = with_normal (Some n) takers in
           let first : List NamedConstraint = single (one_end ends) p (with_normal None takers) ends in
           let second : List NamedConstraint = statement_constraints own_scope p (within_single (one_end ends) inside) (suc n) s in
@@ -456,21 +477,21 @@ module _ (program : Program) (bound : ℕ) where
           (ranged-single (one_end ends) p (with_normal None takers) ends ok (normal-fits None takers (λ k is. let i : None ≡ Some k = is in absurd (cc)) fit))
           (ranged-append second third
           (ranged-statement s p (within_single (one_end ends) inside) (suc n) parts.0 (loops-left (statement_loops s) (block_loops rest) loops) ok
-          (within-fits (one_end ends) inside (normal-fits (Some n) takers (λ k is. same-number n k made is) fit)) (omega (arith, h)))
+          (within-fits (one_end ends) inside (normal-fits (Some n) takers (λ k is. same-number n k made is) fit)) (omega (arith, h.0), omega (arith, h.1)))
           (ranged-block rest (has_end ends Normal) (onward_pc (one_end ends) p n) takers (suc n + made_by_statement s) parts.1 (loops-right (statement_loops s) (block_loops rest) loops)
-          (onward-ok (one_end ends) p n ok made) fit (omega (arith, h))))
+          (onward-ok (one_end ends) p n ok made) fit (omega (arith, h.0), omega (arith, h.1))))
 
       pub ranged-handlers : (handlers : Handlers) (number : ℕ → ℕ) (takers : Takers) (n : ℕ) → handlers_fit program own handlers ≡ true → LoopsFit (handlers_loops handlers) →
-          ((x : ℕ) → handles handlers x ≡ true → number x < bound) → TakersInRange takers → n + made_by_handlers handlers ≤ bound → Ranged (handlers_constraints own_scope number takers n handlers)
+          ((x : ℕ) → handles handlers x ≡ true → IsMade (number x)) → TakersInRange takers → HasRoom n (made_by_handlers handlers) → Ranged (handlers_constraints own_scope number takers n handlers)
       ranged-handlers NoMore number takers n fits loops numbers fit h = ranged-nil
       ranged-handlers (Catch at handled body rest) number takers n fits loops numbers fit h =
           let outer = and_parts (is_exception program handled && block_fits program own body) (handlers_fit program own rest) fits in
           let inner = and_parts (is_exception program handled) (block_fits program own body) outer.0 in
           let p : NamedAtom = inner_atom (number handled) in
-          let ok : number handled < bound = numbers handled (or_left (handled == handled) (handles rest handled) (eq-eqb handled handled refl)) in
+          let ok : IsMade (number handled) = numbers handled (or_left (handled == handled) (handles rest handled) (eq-eqb handled handled refl)) in
           let first : List NamedConstraint = by_ends (block_ends program body) p takers (λ t. block_constraints own_scope true p t n body) in
           ranged-append first (handlers_constraints own_scope number takers (n + made_by_block body) rest)
           (ranged-by_ends (block_ends program body) p takers (λ t. block_constraints own_scope true p t n body) ok fit
-          (λ t k. ranged-block body true p t n inner.1 (loops-left (block_loops body) (handlers_loops rest) loops) ok k (omega (arith, h))))
+          (λ t k. ranged-block body true p t n inner.1 (loops-left (block_loops body) (handlers_loops rest) loops) ok k (omega (arith, h.0), omega (arith, h.1))))
           (ranged-handlers rest number takers (n + made_by_block body) outer.1 (loops-right (block_loops body) (handlers_loops rest) loops)
-          (λ x i. numbers x (or_right (x == handled) (handles rest x) i)) fit (omega (arith, h)))
+          (λ x i. numbers x (or_right (x == handled) (handles rest x) i)) fit (omega (arith, h.0), omega (arith, h.1)))

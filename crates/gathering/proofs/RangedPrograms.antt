@@ -11,9 +11,9 @@ use Rattle.resolved.specs.Ends.{block_ends}
 use Rattle.resolved.specs.Labelled.{Scope, label_of}
 use Rattle.resolved.specs.WellFormed.{counts_from, block_loops, well_formed}
 use Rattle.resolved.proofs.WellFormedParts.{ProcedureParts, procedure_there}
-use Rattle.gathering.specs.Names.{Real, NamedAtom, NamedConstraint}
-use Rattle.gathering.specs.Walk.{inner_atom, rule_constraint, nowhere, thrown_number, declares, at_end, has_one_end, end_takers, inner_block, block_constraints, thrown_constraints, end_constraints, procedure_constraints, made_by_procedure, constraints_from, program_constraints, made_from}
-use Rattle.gathering.proofs.Ranged.{Ranged, TakersInRange, nowhere-fits, end-fits, alone, ranged-nil, ranged-append, thrown-inside, own_scope, own, ranged-rule, ranged-by_ends, ranged-block}
+use Rattle.gathering.specs.Names.{Real, NamedAtom, NamedConstraint, real_unknowns}
+use Rattle.gathering.specs.Walk.{inner_atom, rule_constraint, nowhere, thrown_number, declares, at_end, has_one_end, end_takers, inner_block, block_constraints, thrown_constraints, end_constraints, procedure_constraints, made_by_procedure, constraints_from, program_constraints, made_from, unknown_count}
+use Rattle.gathering.proofs.Ranged.{IsMade, HasRoom, Ranged, TakersInRange, nowhere-fits, end-fits, alone, ranged-nil, ranged-append, thrown-inside, own_scope, own, ranged-rule, ranged-by_ends, ranged-block}
 
 -- numbers that count up from n
 counts-below : (xs : List ℕ) (n : ℕ) → counts_from n xs ≡ true → (l : ℕ) → Contains xs l → l < n + length xs
@@ -34,7 +34,7 @@ loops-fit program procedure parts l there =
 
 module _ (program : Program) (bound : ℕ) where
   module _ (f : ℕ) (there : f < length program.procedures) where
-    ranged-thrown : (number : ℕ → ℕ) (throws : List ThrownEntry) → ((x : ℕ) → declares throws x ≡ true → number x < bound) →
+    ranged-thrown : (number : ℕ → ℕ) (throws : List ThrownEntry) → ((x : ℕ) → declares throws x ≡ true → IsMade program bound (number x)) →
         Ranged program bound (thrown_constraints (own_scope program bound f there) number throws)
     ranged-thrown number [] h = ranged-nil program bound
     ranged-thrown number (entry ∷ rest) h =
@@ -44,7 +44,7 @@ module _ (program : Program) (bound : ℕ) where
         (alone program bound (inner_atom (number x)) (h x (or_left (x == x) (declares rest x) (eq-eqb x x refl)))) tt)
         (ranged-thrown number rest (λ y k. h y (or_right (y == x) (declares rest y) k)))
 
-    ranged-ends : (n : ℕ) → suc n + length (own program bound f there).throws ≤ bound → Ranged program bound (end_constraints (own_scope program bound f there) n)
+    ranged-ends : (n : ℕ) → HasRoom program bound n (suc (length (own program bound f there).throws)) → Ranged program bound (end_constraints (own_scope program bound f there) n)
     ranged-ends n h = go (has_one_end (own_scope program bound f there))
       where
         throws : List ThrownEntry
@@ -57,42 +57,46 @@ module _ (program : Program) (bound : ℕ) where
         go true = ranged-nil program bound
         go false =
             ranged-append program bound first (thrown_constraints (own_scope program bound f there) (λ x. thrown_number throws (suc n) x) throws)
-            (ranged-rule program bound f there (own program bound f there).at 13 (inner_atom n ∷ []) (ToEnd f) (alone program bound (inner_atom n) (omega (arith, h))) tt)
+            (ranged-rule program bound f there (own program bound f there).at 13 (inner_atom n ∷ []) (ToEnd f) (alone program bound (inner_atom n) (omega (arith, h.0), omega (arith, h.1))) tt)
             (ranged-thrown (λ x. thrown_number throws (suc n) x) throws
-            (λ x k. let i : thrown_number throws (suc n) x < suc n + length throws = thrown-inside program bound throws (suc n) x k in omega (arith, h, i)))
+            (λ x k.
+            let inside = thrown-inside program bound throws (suc n) x k in
+            let least : suc n ≤ thrown_number throws (suc n) x = inside.0 in
+            let i : thrown_number throws (suc n) x < suc n + length throws = inside.1 in
+            (omega (arith, h.0, least), omega (arith, h.1, i))))
 
-    end_takers-fit : (n : ℕ) → suc n + length (own program bound f there).throws ≤ bound → TakersInRange program bound (end_takers (own_scope program bound f there) n)
+    end_takers-fit : (n : ℕ) → HasRoom program bound n (suc (length (own program bound f there).throws)) → TakersInRange program bound (end_takers (own_scope program bound f there) n)
     end_takers-fit n h = go (has_one_end (own_scope program bound f there))
       where
         go : (b : Bool) → TakersInRange program bound (if b then nowhere else at_end n (own program bound f there).throws)
         go true = nowhere-fits program bound
         go false = end-fits program bound (own program bound f there).throws n h
 
-    ranged-procedure : (n : ℕ) → ProcedureParts program (own program bound f there) → n + made_by_procedure (own_scope program bound f there) ≤ bound →
+    ranged-procedure : (n : ℕ) → ProcedureParts program (own program bound f there) → HasRoom program bound n (made_by_procedure (own_scope program bound f there)) →
         Ranged program bound (procedure_constraints (own_scope program bound f there) n)
     ranged-procedure n parts h =
         let scope : Scope = own_scope program bound f there in
         let procedure : ProcedureEntry = own program bound f there in
         let pc : NamedAtom = renamed Real (label_of program (ToBegin f)) in
         let m : ℕ = suc n + length procedure.throws in
-        let ended : m ≤ bound = omega (arith, h) in
+        let ended : HasRoom program bound n (suc (length procedure.throws)) = (omega (arith, h.0), omega (arith, h.1)) in
         ranged-append program bound (inner_block scope pc (end_takers scope n) m procedure.body) (end_constraints scope n)
         (ranged-by_ends program bound f there (block_ends program procedure.body) pc (end_takers scope n) (λ t. block_constraints scope true pc t m procedure.body) tt (end_takers-fit n ended)
-        (λ t k. ranged-block program bound f there procedure.body true pc t m parts.body_fits (loops-fit program procedure parts) tt k (omega (arith, h))))
+        (λ t k. ranged-block program bound f there procedure.body true pc t m parts.body_fits (loops-fit program procedure parts) tt k (omega (arith, h.0), omega (arith, h.1))))
         (ranged-ends n ended)
 
   ranged-from : (ps : List ProcedureEntry) (f n : ℕ) → ((g : ℕ) → g < length program.procedures → ProcedureParts program (procedure_at program g)) → f + length ps ≤ length program.procedures →
-      n + made_from program f ps ≤ bound → Ranged program bound (constraints_from program f n ps)
+      HasRoom program bound n (made_from program f ps) → Ranged program bound (constraints_from program f n ps)
   ranged-from [] f n fits inside h = ranged-nil program bound
   ranged-from (p ∷ ps) f n fits inside h =
       let there : f < length program.procedures = omega (arith, inside) in
       let scope : Scope = own_scope program bound f there in
       ranged-append program bound (procedure_constraints scope n) (constraints_from program (suc f) (n + made_by_procedure scope) ps)
-      (ranged-procedure f there n (fits f there) (omega (arith, h)))
-      (ranged-from ps (suc f) (n + made_by_procedure scope) fits (omega (arith, inside)) (omega (arith, h)))
+      (ranged-procedure f there n (fits f there) (omega (arith, h.0), omega (arith, h.1)))
+      (ranged-from ps (suc f) (n + made_by_procedure scope) fits (omega (arith, inside)) (omega (arith, h.0), omega (arith, h.1)))
 
-pub ranged-program : (program : Program) → IsTrue (well_formed program) → Ranged program (made_from program 0 program.procedures) (program_constraints program)
+pub ranged-program : (program : Program) → IsTrue (well_formed program) → Ranged program (unknown_count program) (program_constraints program)
 ranged-program program formed =
-    ranged-from program (made_from program 0 program.procedures) program.procedures 0 0
+    ranged-from program (unknown_count program) program.procedures 0 (real_unknowns program)
     (λ g there. procedure_there program formed g (procedure_at program g) (slice_get-get_or program.procedures g _ there))
-    (omega arith) (omega arith)
+    (omega arith) (omega arith, omega arith)

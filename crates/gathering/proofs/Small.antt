@@ -18,7 +18,7 @@ use Rattle.resolved.specs.Ends.{has_end, one_end, index_can_raise, divisor_can_r
 use Rattle.resolved.specs.Labelled.{Scope, here, Join, one, label_of, value_label, label_if, any_of}
 use Rattle.resolved.specs.WellFormed.{expression_nodes, statement_nodes, block_nodes, handlers_nodes, procedure_nodes, program_nodes}
 use Rattle.resolved.proofs.WellFormedParts.{procedure_at_is}
-use Rattle.gathering.specs.Names.{Real, NamedAtom, NamedConstraint, named_atoms, numbered}
+use Rattle.gathering.specs.Names.{Real, NamedAtom, NamedConstraint, named_atoms, numbered, real_unknowns}
 use Rattle.gathering.specs.Walk.{inner_atom, rule_constraint, target_constraint, Takers, with_normal, in_loop, handler_count, handler_number, in_try, thrown_number, flow, flows, raised_once, raised_flows, single, within_single, by_ends, inner_block, onward_pc, raise_atoms, raise_atoms_all, store_atoms, call_atoms, made_by_statement, made_by_block, made_by_procedure, argument_constraints, call_flows, call_ends, call_constraints, statement_constraints, block_constraints, handlers_constraints, has_one_end, end_takers, thrown_constraints, end_constraints, procedure_constraints, constraints_from, program_constraints, gathered_constraints}
 use Rattle.gathering.specs.Size.{size_of, declared_at, declared_in, declared_under, declared_at_calls}
 
@@ -418,7 +418,7 @@ numbered-size program (c ∷ rest) =
 pub program-small : (program : Program) → size_of (gathered_constraints program) ≤ 20 * program_nodes program + 3 * declared_at_calls program
 program-small program =
     let i : size_of (program_constraints program) ≤ 20 * nodes_in program.procedures + 3 * all_declared program program.procedures =
-    from-size program program.procedures 0 0 (λ k p at. let e : k ≡ 0 + k = omega arith in subst (λ z. slice_get program.procedures z ≡ Some p) e at) in
+    from-size program program.procedures 0 (real_unknowns program) (λ k p at. let e : k ≡ 0 + k = omega arith in subst (λ z. slice_get program.procedures z ≡ Some p) e at) in
     let j : size_of (gathered_constraints program) ≡ size_of (program_constraints program) = numbered-size program (program_constraints program) in
     let k : nodes_in program.procedures ≡ sum_by procedure_nodes program.procedures = is_sum_by nodes_in procedure_nodes refl (λ x xs. refl) program.procedures in
     let l : all_declared program program.procedures ≡ declared_at_calls program =

@@ -9,7 +9,7 @@ use Rattle.resolved.specs.Program.{Program, ProcedureEntry, procedure_at}
 use Rattle.resolved.specs.Labelled.{Unwritten, OfLocal, OfLoop, Join}
 use Rattle.resolved.specs.Flow.{Gathered}
 
--- an unknown of what is gathered: a label that is not written, or an inner one by its number
+-- an unknown of what is gathered: a label that is not written, or an inner one by its number, which follows on those of the others
 pub data Name : Type 0 where
   Real : Unwritten → Name
   Inner : ℕ → Name
@@ -50,7 +50,7 @@ unwritten_number program (OfLoop f loop) = unknowns_before program f + (length (
 
 abbrev pub unknown_number : Program → Name → ℕ
 unknown_number program (Real u) = unwritten_number program u
-unknown_number program (Inner k) = real_unknowns program + k
+unknown_number program (Inner k) = k
 
 -- an atom, and a constraint, with the numbers of its unknowns
 abbrev pub numbered_atom : Program → NamedAtom → Atom ℕ Label

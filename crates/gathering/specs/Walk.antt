@@ -320,7 +320,7 @@ constraints_from program f n (procedure ∷ rest) =
     procedure_constraints scope n ++ constraints_from program (suc f) (n + made_by_procedure scope) rest
 
 abbrev pub program_constraints : Program → List NamedConstraint
-program_constraints program = constraints_from program 0 0 program.procedures
+program_constraints program = constraints_from program 0 (real_unknowns program) program.procedures
 
 -- how many inner unknowns procedures make
 abbrev pub made_from : Program → (f : ℕ) → List ProcedureEntry → ℕ

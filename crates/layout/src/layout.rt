@@ -65,7 +65,7 @@ fn lay_out_procedures(alloc: Global, procedures: &[Procedure]) -> Result<Vec<Pro
 ///
 /// Memory ran out.
 pub fn emit(alloc: Global, graph: &Graph) -> Result<Module, AllocError>
-    ensures exact { IfOk result (λ m. m ≡ laid_out graph.now) }
+    ensures contents { IfOk result (λ m. m ≡ laid_out graph.now) }
     ensures runs { IfOk result (λ m. SameRuns graph.now m) }
     ensures interface { IfOk result (λ m. SameInterface graph.now m) }
     ensures spelled { IfOk result (λ m. Fits module_file m) }

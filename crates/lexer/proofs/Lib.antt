@@ -4,8 +4,11 @@ pub mod Fronts
 pub mod Letters
 pub mod Nexts
 pub mod Steps
+pub mod Signs
 pub mod Reading
 pub mod Cutting
 pub mod Listed
 pub mod Growing
 pub mod Total
+pub mod Lines
+pub mod Places

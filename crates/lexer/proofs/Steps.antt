@@ -1,7 +1,9 @@
 -- One step over the characters of a text, and the functions of the scanner there.
-use Rattle.std.proofs.Common.{◌≡◌, ℕ, ◌+◌, ◌-◌, ◌<◌, ◌≤◌, ◌==◌, ◌&&◌, Bool, true, false, cond, List, [], ◌∷◌, ◌++◌, Some, length, take, sym, ap, subst, ◌∙◌, arith, length-append}
-use Rattle.std.proofs.lemmas.Bool.{cond-true, cond-false}
-use Rattle.std.proofs.lemmas.Str.{chars-nil, chars_past_char, IsUtf8-past_char, length-encode, len_utf8_bounds, encodes-chars, encodes-append, IsCharBoundary-at_seam, IsUtf8-take, chars-append}
+use Rattle.std.proofs.Common.{◌≡◌, ℕ, ◌+◌, ◌-◌, ◌<◌, ◌≤◌, ◌==◌, ◌&&◌, Bool, true, false, cond, List, [], ◌∷◌, ◌++◌, Some, length, drop, get_or, suc, take, sym, ap, subst, ◌∙◌, arith, length-append}
+use Rattle.std.proofs.lemmas.Bool.{and_parts, cond-true, cond-false, ltb-true}
+use Rattle.std.specs.Prelude.{nat_lt}
+use Rattle.std.proofs.lemmas.Str.{chars-nil, chars_past_char, IsUtf8-past_char, length-encode, len_utf8_bounds, encodes-chars, encodes-append, IsCharBoundary-after_ascii, IsCharBoundary-at_seam, IsUtf8-drop, IsUtf8-take, chars-append, encode_ascii}
+use Rattle.std.proofs.Math.Seq.{drop-cons}
 use Rattle.std.proofs.lemmas.List.{take-append-le, take_all}
 use Rattle.std.specs.Char.{encode_utf8}
 use Rattle.std.specs.Str.{chars, IsUtf8, IsCharBoundary, encode_utf8_all}
@@ -37,6 +39,20 @@ run_stop p cs rest c e h = e ∙ sym (ap (after_run p) e ∙ cond-false (p c) (a
 
 pub run_end : (p : ℕ → Bool) (cs : List ℕ) → cs ≡ [] → cs ≡ after_run p cs
 run_end p cs e = e ∙ sym (ap (after_run p) e)
+
+-- a byte that is ASCII and passes is passed
+pub ascii_on : (p : ℕ → Bool) (text : List ℕ) (at : ℕ) → IsUtf8 text → at < length text → IsCharBoundary text at
+    → (nat_lt (get_or text at 0) 128 && p (get_or text at 0)) ≡ true
+    → IsCharBoundary text (at + 1) × (after_run p (chars (drop (at + 1) text)) ≡ after_run p (chars (drop at text)))
+ascii_on p text at utf8 within boundary passes =
+    let byte = get_or text at 0 in
+    let parts = and_parts (nat_lt byte 128) (p byte) passes in
+    let small : byte < 128 = ltb-true byte 128 parts.0 in
+    let next : suc at ≡ at + 1 = omega arith in
+    let cut : drop at text ≡ encode_utf8 byte ++ drop (at + 1) text =
+    drop-cons text at 0 within ∙ ap (λ k. byte ∷ drop k text) next ∙ ap (λ l. l ++ drop (at + 1) text) (sym (encode_ascii byte small)) in
+    let characters = chars_past_char (drop at text) (drop (at + 1) text) byte (IsUtf8-drop text at utf8 boundary) cut in
+    (IsCharBoundary-after_ascii text at utf8 within small, run_on p _ _ byte characters parts.1)
 
 pub close_found : (starred : Bool) (cs rest : List ℕ) (c : ℕ) → cs ≡ c ∷ rest → starred ≡ true → c ≡ 47
     → after_close starred cs ≡ Some rest

@@ -4,6 +4,7 @@ pub mod Laws
 pub mod Lexeme
 pub mod Listing
 pub mod Position
+pub mod NextPlace
 pub mod Scan
 pub mod Terminal
 pub mod Words

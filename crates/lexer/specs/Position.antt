@@ -1,17 +1,29 @@
--- The line and the column of a byte of a text.
--- Source: our own; a line ends with a line feed, U+000A, and a column is one character.
-use Rattle.std.specs.Prelude.{ℕ, ◌+◌, ◌==◌, List, not, count_by, take}
-use Rattle.std.specs.List.{suffix_len}
-use Rattle.std.specs.Str.{chars}
+-- The line and the column of a byte of a text, which may be no UTF-8, and whether or not a character begins there.
+-- Source: our own; a line ends with a line feed, U+000A, and a column is one character, which begins in UTF-8 with each byte but those
+-- from 128 to 191.
+use Rattle.std.specs.Prelude.{ℕ, ◌+◌, ◌==◌, ◌||◌, Bool, not, nat_lt, nat_le, List, count_by, take, reverse}
+use Rattle.std.specs.List.{take_while}
+use Rattle.lexer.specs.declared.token.Place.{Place}
 
--- the characters before a byte of the text
-abbrev pub before : List ℕ → ℕ → List ℕ
-before text at = chars (take at text)
+-- a character begins with this byte
+abbrev pub begins_character : ℕ → Bool
+begins_character byte = nat_lt byte 128 || nat_le 192 byte
 
--- one more than the line feeds before it
-abbrev pub line_of : List ℕ → ℕ → ℕ
-line_of text at = count_by (λ c. c == 10) (before text at) + 1
+abbrev pub is_line_feed : ℕ → Bool
+is_line_feed byte = byte == 10
 
--- one more than the characters before it that follow the last line feed
-abbrev pub column_of : List ℕ → ℕ → ℕ
-column_of text at = suffix_len (λ c. not (c == 10)) (before text at) + 1
+-- one more than the line feeds before the byte
+abbrev pub line_of : List ℕ → (at : ℕ) → ℕ
+line_of text at = count_by is_line_feed (take at text) + 1
+
+-- the bytes before it and behind the last line feed before it, the nearest first
+abbrev pub bytes_of_line : List ℕ → (at : ℕ) → List ℕ
+bytes_of_line text at = take_while (λ byte. not (is_line_feed byte)) (reverse (take at text))
+
+-- one more than the characters that begin with these
+abbrev pub column_of : List ℕ → (at : ℕ) → ℕ
+column_of text at = count_by begins_character (bytes_of_line text at) + 1
+
+-- the place of a byte of a text
+abbrev pub place_at : List ℕ → (at : ℕ) → Place
+place_at text at = record { line = line_of text at; column = column_of text at }

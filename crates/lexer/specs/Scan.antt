@@ -1,13 +1,22 @@
 -- What the private functions of the scanner read, as functions on characters. No public contract cites this file.
 -- Source: our own.
-use Rattle.std.specs.Prelude.{◌≡◌, ℕ, ◌==◌, ◌&&◌, ◌||◌, Bool, not, cond, List, [], ◌∷◌, ◌++◌, Option, None, Some}
+use Rattle.std.specs.Prelude.{◌≡◌, ℕ, ◌==◌, ◌&&◌, ◌||◌, Bool, not, cond, List, [], ◌∷◌, ◌++◌, Option, None, Some, get_or, length, nat_eq}
+use Rattle.std.specs.List.{list_any}
+use Rattle.std.specs.Map.{lookup_entry}
 use Rattle.std.specs.Char.{is_ascii_digit}
-use Rattle.lexer.specs.Words.{is_white_space, may_begin, may_continue}
-use Rattle.lexer.specs.Lexeme.{Lexeme, Word, Gap, sign_of}
+use Rattle.lexer.specs.Words.{is_white_space, keywords, may_begin, may_continue}
+use Rattle.lexer.specs.Lexeme.{Lexeme, Word, Gap, sign_of, signs}
 use Rattle.lexer.specs.Cut.{IsNextLexeme}
 use Rattle.lexer.specs.declared.token.Kind.{Kind}
 use Rattle.lexer.specs.declared.pieces.Class.{Class}
 use Rattle.lexer.specs.declared.pieces.Class.TheVariants.{Digit, NamePart, InLine}
+
+-- whether a word has so many bytes and begins with the byte; the keyword of which that holds
+abbrev pub has_shape : ℕ → ℕ → List ℕ → Bool
+has_shape count first word = nat_eq count (length word) && nat_eq first (get_or word 0 0)
+
+abbrev pub candidate_of : ℕ → ℕ → Option (List ℕ × Kind)
+candidate_of count first = lookup_entry (has_shape count first) keywords
 
 -- whether the character is of the class
 abbrev pub holds : Class → ℕ → Bool
@@ -18,6 +27,14 @@ holds InLine c = not (c == 10)
 -- the character begins no lexeme but a sign
 abbrev pub begins_sign : ℕ → Bool
 begins_sign c = not (is_white_space c || is_ascii_digit c || may_begin c || c == 47)
+
+-- whether a word has so many characters and begins with the character
+abbrev pub has_front : ℕ → ℕ → List ℕ → Bool
+has_front count c word = nat_eq (length word) count && nat_eq (get_or word 0 0) c
+
+-- the character begins a sign of so many characters
+abbrev pub begins_sign_of : ℕ → ℕ → Bool
+begins_sign_of count c = list_any (λ row. has_front count c row.0) signs
 
 -- what follows the longest front that passes
 abbrev pub after_run : (ℕ → Bool) → List ℕ → List ℕ

@@ -1,5 +1,6 @@
+ghost use Rattle.lexer.specs.Scan.{candidate_of};
 ghost use Rattle.lexer.specs.Words.{keyword_of, is_name_text, is_identifier, may_begin, may_continue};
-ghost use Rattle.std.specs.Prelude.{◌≡◌};
+ghost use Rattle.std.specs.Prelude.{◌≡◌, option_map};
 ghost use Rattle.std.specs.Str.{chars};
 
 use crate::token::Kind;
@@ -40,28 +41,39 @@ pub(crate) fn continues_name(character: char) -> bool
 pub(crate) fn find_keyword(text: &str) -> Option<Kind>
     ensures { result ≡ keyword_of text.now }
 {
-    match text {
-        "boolean" => Some(Kind::Boolean),
-        "break" => Some(Kind::Break),
-        "catch" => Some(Kind::Catch),
-        "continue" => Some(Kind::Continue),
-        "else" => Some(Kind::Else),
-        "exception" => Some(Kind::Exception),
-        "false" => Some(Kind::False),
-        "global" => Some(Kind::Global),
-        "if" => Some(Kind::If),
-        "input" => Some(Kind::Input),
-        "int" => Some(Kind::Int),
-        "output" => Some(Kind::Output),
-        "receive" => Some(Kind::Receive),
-        "return" => Some(Kind::Return),
-        "send" => Some(Kind::Send),
-        "throw" => Some(Kind::Throw),
-        "throws" => Some(Kind::Throws),
-        "true" => Some(Kind::True),
-        "try" => Some(Kind::Try),
-        "void" => Some(Kind::Void),
-        "while" => Some(Kind::While),
+    let [first, ..] = text.as_bytes() else {
+        return None;
+    };
+    let (word, kind) = find_candidate(text.len(), *first)?;
+    if text == word { Some(kind) } else { None }
+}
+
+/// The keyword of a length that begins with a byte, if there is one, and its kind: no two keywords have both in common.
+fn find_candidate(length: usize, first: u8) -> Option<(&'static str, Kind)>
+    ensures { option_map (λ found. (found.0.now, found.1)) result ≡ candidate_of length first }
+{
+    match (length, first) {
+        (7, b'b') => Some(("boolean", Kind::Boolean)),
+        (5, b'b') => Some(("break", Kind::Break)),
+        (5, b'c') => Some(("catch", Kind::Catch)),
+        (8, b'c') => Some(("continue", Kind::Continue)),
+        (4, b'e') => Some(("else", Kind::Else)),
+        (9, b'e') => Some(("exception", Kind::Exception)),
+        (5, b'f') => Some(("false", Kind::False)),
+        (6, b'g') => Some(("global", Kind::Global)),
+        (2, b'i') => Some(("if", Kind::If)),
+        (5, b'i') => Some(("input", Kind::Input)),
+        (3, b'i') => Some(("int", Kind::Int)),
+        (6, b'o') => Some(("output", Kind::Output)),
+        (7, b'r') => Some(("receive", Kind::Receive)),
+        (6, b'r') => Some(("return", Kind::Return)),
+        (4, b's') => Some(("send", Kind::Send)),
+        (5, b't') => Some(("throw", Kind::Throw)),
+        (6, b't') => Some(("throws", Kind::Throws)),
+        (4, b't') => Some(("true", Kind::True)),
+        (3, b't') => Some(("try", Kind::Try)),
+        (4, b'v') => Some(("void", Kind::Void)),
+        (5, b'w') => Some(("while", Kind::While)),
         _ => None,
     }
 }

@@ -1,9 +1,9 @@
 //! The next lexeme of a text. A private part of the lexer.
 ghost use Rattle.lexer.specs.Cut.{IsStuck, HasNoLexeme};
 ghost use Rattle.lexer.specs.Lexeme.{sign_of};
-ghost use Rattle.lexer.specs.Scan.{holds, after_run, after_close, begins_sign, IsDouble, IsNoDouble, IsTriple, IsNoTriple, IsTail, Reads};
+ghost use Rattle.lexer.specs.Scan.{holds, after_run, after_close, begins_sign, begins_sign_of, IsDouble, IsNoDouble, IsTriple, IsNoTriple, IsTail, Reads};
 ghost use Rattle.lexer.specs.Words.{is_white_space, may_begin};
-ghost use Rattle.std.specs.Prelude.{◌≡◌, ◌++◌, ◌∷◌, [], MatchResult, MatchOption, IsTrue, Some, None, false};
+ghost use Rattle.std.specs.Prelude.{◌≡◌, ◌&&◌, ◌++◌, ◌∷◌, [], MatchResult, MatchOption, IsTrue, Some, None, false, nat_lt};
 ghost use Rattle.std.specs.Char.{is_ascii_digit};
 ghost use Rattle.std.specs.Str.{chars};
 
@@ -36,6 +36,12 @@ impl Class {
             Class::NamePart => continues_name(character),
             Class::InLine => character != '\n',
         }
+    }
+
+    fn holds_byte(self, byte: u8) -> bool
+        ensures { result ≡ (nat_lt byte 128 && holds self byte) }
+    {
+        byte.is_ascii() && self.holds(byte as char)
     }
 }
 
@@ -172,10 +178,19 @@ fn cut_triple_sign(first: char, after: &str) -> Option<(Kind, &str)>
     ensures { MatchOption result (IsNoTriple first (chars after.now)) (λ sign. IsTriple first
         (chars after.now) sign.0 (chars sign.1.now)) }
 {
+    if !begins_triple(first) {
+        return None;
+    }
     let (second, behind) = split_first(after)?;
     let (third, rest) = split_first(behind)?;
     let kind = kind_of_triple(first, second, third)?;
     Some((kind, rest))
+}
+
+fn begins_triple(character: char) -> bool
+    ensures { result ≡ begins_sign_of 3 character }
+{
+    character == '>'
 }
 
 fn kind_of_triple(first: char, second: char, third: char) -> Option<Kind>
@@ -193,9 +208,18 @@ fn cut_double_sign(first: char, after: &str) -> Option<(Kind, &str)>
     ensures { MatchOption result (IsNoDouble first (chars after.now)) (λ sign. IsDouble first
         (chars after.now) sign.0 (chars sign.1.now)) }
 {
+    if !begins_pair(first) {
+        return None;
+    }
     let (second, rest) = split_first(after)?;
     let kind = kind_of_pair(first, second)?;
     Some((kind, rest))
+}
+
+fn begins_pair(character: char) -> bool
+    ensures { result ≡ begins_sign_of 2 character }
+{
+    matches!(character, '=' | '!' | '<' | '>' | '&' | '|')
 }
 
 fn kind_of_pair(first: char, second: char) -> Option<Kind>
@@ -262,11 +286,25 @@ pub(crate) fn take_front<'a>(text: &'a str, rest: &str) -> &'a str
     front
 }
 
+/// What follows the longest front of `text` that is ASCII and of the class: bytes cost less to look at than characters.
+fn skip_ascii(text: &str, class: Class) -> &str
+    ensures { after_run (holds class) (chars result.now) ≡
+        after_run (holds class) (chars text.now) }
+{
+    let bytes = text.as_bytes();
+    let mut at = 0;
+    while at < bytes.len() && class.holds_byte(bytes[at]) {
+        at += 1;
+    }
+    let (_, rest) = text.split_at(at);
+    rest
+}
+
 /// What follows the longest front of `text` whose characters are all of the class.
 fn skip_run(text: &str, class: Class) -> &str
     ensures { chars result.now ≡ after_run (holds class) (chars text.now) }
 {
-    let mut characters = text.chars();
+    let mut characters = skip_ascii(text, class).chars();
     loop {
         let rest = characters.as_str();
         let Some(character) = characters.next() else {

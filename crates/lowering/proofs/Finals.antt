@@ -12,9 +12,9 @@ use Rattle.modules.specs.declared.instruction.Instruction.TheVariants.{Jump, Jum
 use Rattle.modules.specs.Contents.{ProcedureContents}
 use Rattle.modules.specs.Targets.{target_of, renamed_instruction}
 use Rattle.layout.specs.Graph.{IsHandlerIn, HasTargetIn, HasPositions}
-use Rattle.lowering.specs.Threaded.{jump_of, onward, followed, final_place, threaded}
+use Rattle.lowering.specs.Threaded.{onward, followed, final_place, threaded}
 use Rattle.lowering.proofs.Unthreaded.{threaded_procedure}
-use Rattle.lowering.specs.Direct.{IsDirect}
+use Rattle.lowering.specs.Direct.{IsDirect, jump_of}
 use Rattle.lowering.proofs.Following.{jump-is}
 
 -- two ways on that agree behind the place

@@ -13,7 +13,8 @@ use Rattle.modules.specs.Contents.{ProcedureContents, ModuleContents}
 use Rattle.modules.specs.Machine.{State, Machine, Running, Ended, Stuck, MachineCode, Header, goes_to, act, acts, step, exec, branches, code_of, handlers_of, handler_for, header_of, slots_in, first_slots, first_state}
 use Rattle.modules.specs.Targets.{renamed_instruction}
 use Rattle.layout.specs.Runs.{graph_program}
-use Rattle.lowering.specs.Threaded.{jump_of, onward, followed, final_place}
+use Rattle.lowering.specs.Direct.{jump_of}
+use Rattle.lowering.specs.Threaded.{onward, followed, final_place}
 use Rattle.lowering.proofs.Unthreaded.{threaded_procedure, threaded_graph}
 use Rattle.lowering.proofs.Acting.{act-same}
 use Rattle.lowering.proofs.Steps.{counted, count, counts}

@@ -23,7 +23,7 @@ use Rattle.modules.specs.declared.instruction.Instruction.TheVariants as instruc
 use Rattle.lowering.specs.Expressions.{load_of, store_of, load_element_of, store_element_of, prefix_instruction, operator_instruction, value_size, value_code, rest_of_short, arguments_size, arguments_code, tested, deciding, branch_size, branch_code, test_code}
 use Rattle.lowering.specs.Code.{Loop, block_falls, jump_size, jump_code, jumps_over, jumps_behind, kept_code, result_code, leave_code, return_code, statement_size, block_size, handlers_size, statement_code, block_code, handlers_code}
 use Rattle.lowering.specs.Graphs.{end_code, no_loop, body_code}
-use Rattle.lowering.specs.Threaded.{jump_of}
+use Rattle.lowering.specs.Direct.{jump_of}
 use Rattle.lowering.proofs.Finals.{GoForward}
 use Rattle.lowering.proofs.Sizes.{value-sized, arguments-sized, branch-sized, jump-sized, block-sized, statement-sized}
 use Rattle.common.proofs.Cases.{append_empty}

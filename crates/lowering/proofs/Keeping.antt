@@ -14,7 +14,7 @@ use Rattle.modules.specs.Machine.{Machine, Running}
 use Rattle.layout.specs.Runs.{graph_program, graph_after_steps}
 use Rattle.layout.specs.SameRuns.{SameRuns}
 use Rattle.lowering.specs.Graphs.{graph_of}
-use Rattle.lowering.specs.Threaded.{jump_of}
+use Rattle.lowering.specs.Direct.{jump_of}
 use Rattle.lowering.specs.Laws.{GraphsKeepMeaning}
 use Rattle.lowering.specs.SameMeaning.{ending_of, SameMeaning}
 use Rattle.lowering.proofs.Sent.{exec-keeps}

@@ -17,7 +17,7 @@ use Rattle.modules.specs.Machine.{Machine, State, act, acts, step, goes_on, with
 use Rattle.common.specs.declared.exceptions.TheConstants.{BOUNDS}
 use Rattle.lowering.specs.Expressions.{load_of, store_of, load_element_of, store_element_of}
 use Rattle.lowering.proofs.CodePieces.{Stands, stands-here}
-use Rattle.lowering.specs.Threaded.{jump_of}
+use Rattle.lowering.specs.Direct.{jump_of}
 use Rattle.lowering.proofs.Steps.{Leads, Strides, counted, leads-step}
 use Rattle.lowering.proofs.States.{Setting, state_at, place, cell_of, cells_of, slot_of_type, with_slot-is, with_global-is, thrown_to, raised-is}
 

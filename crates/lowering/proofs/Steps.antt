@@ -4,7 +4,7 @@ use Rattle.labels.specs.declared.sent.Pair.{Pair}
 use Rattle.labels.specs.Sent.{IsPrefix}
 use Rattle.modules.specs.Machine.{State, Machine, Running, Ended, Stuck, Ending, MachineCode, sent_of, step, exec}
 use Rattle.labels.proofs.Prefixes.{prefix-itself}
-use Rattle.lowering.specs.Threaded.{jump_of}
+use Rattle.lowering.specs.Direct.{jump_of}
 use Rattle.lowering.proofs.Sent.{exec-keeps}
 use Rattle.modules.proofs.Executing.{ended_stays}
 

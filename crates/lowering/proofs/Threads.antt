@@ -14,7 +14,8 @@ use Rattle.layout.specs.Graph.{HasPositions}
 use Rattle.layout.specs.Offsets.{laid_out_procedure}
 use Rattle.verifier.specs.Fixed.{instruction_defect}
 use Rattle.verifier.specs.Flow.{Leaves, effect, goes_on}
-use Rattle.lowering.specs.Threaded.{jump_of, onward as onward_place, followed, final_place, threaded}
+use Rattle.lowering.specs.Direct.{jump_of}
+use Rattle.lowering.specs.Threaded.{onward as onward_place, followed, final_place, threaded}
 use Rattle.lowering.proofs.Unthreaded.{threaded_procedure}
 use Rattle.lowering.proofs.Finals.{length-threaded, target-renamed}
 use Rattle.lowering.proofs.Flowing.{IsSound, EachSound, sound-at, kinds_at, along, onward, following}

@@ -1,10 +1,15 @@
 -- What it means that no jump leads to an unconditional jump.
 -- Source: our own.
-use Rattle.std.specs.Prelude.{◌≡◌, List, All, IfSome, None, slice_get}
+use Rattle.std.specs.Prelude.{◌≡◌, ℕ, List, All, IfSome, Option, Some, None, slice_get, if◌then◌else◌}
 use Rattle.modules.specs.declared.instruction.Instruction.{Instruction}
 use Rattle.modules.specs.Contents.{ProcedureContents}
 use Rattle.modules.specs.Targets.{target_of}
-use Rattle.lowering.specs.Threaded.{jump_of}
+use Rattle.verifier.specs.Flow.{goes_on}
+
+-- where an unconditional jump goes: it has a target, and control does not go on behind it
+abbrev pub jump_of : Option Instruction → Option ℕ
+jump_of None = None
+jump_of (Some instruction) = if goes_on instruction then None else target_of instruction
 
 -- at the target of an instruction, if it has one, stands no unconditional jump
 abbrev pub IsDirect : List Instruction → Instruction → Type 0

@@ -1,15 +1,10 @@
--- Jump threading: a jump to an unconditional jump goes at once where that one leads in the end. All else stays: the code is as long as
--- before, each instruction has its position, and the handlers are the same.
+-- Private: jump threading. A jump to an unconditional jump goes at once where that one leads in the end. All else stays: the code is as
+-- long as before, each instruction has its position, and the handlers are the same.
 -- Source: our own; jump threading as textbooks on compilers give it.
 use Rattle.std.specs.Prelude.{ℕ, zero, suc, List, length, map, slice_get, Option, Some, None, nat_lt, if◌then◌else◌}
 use Rattle.modules.specs.declared.instruction.Instruction.{Instruction}
-use Rattle.modules.specs.Targets.{target_of, renamed_instruction}
-use Rattle.verifier.specs.Flow.{goes_on}
-
--- where an unconditional jump goes: it has a target, and control does not go on behind it
-abbrev pub jump_of : Option Instruction → Option ℕ
-jump_of None = None
-jump_of (Some instruction) = if goes_on instruction then None else target_of instruction
+use Rattle.modules.specs.Targets.{renamed_instruction}
+use Rattle.lowering.specs.Direct.{jump_of}
 
 -- from a place where an unconditional jump goes forward on from its target, and else no further
 abbrev pub onward : (place : ℕ) → (on : ℕ → ℕ) → (jump : Option ℕ) → ℕ

@@ -1,6 +1,7 @@
 //! Jump threading: a jump to an unconditional jump goes at once where that one leads in the end.
 ghost use Rattle.modules.specs.Targets.{renamed_instruction};
-ghost use Rattle.lowering.specs.Threaded.{final_place, jump_of, onward, threaded};
+ghost use Rattle.lowering.specs.Direct.{jump_of};
+ghost use Rattle.lowering.specs.Threaded.{final_place, onward, threaded};
 ghost use Rattle.std.specs.Prelude.{IfOk, Some, get_or, length, ◌<◌, ◌^◌, ◌≡◌, ℕ};
 
 use modules::Instruction;

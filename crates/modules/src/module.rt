@@ -54,8 +54,8 @@ impl Model for Module {
 }
 
 impl Module {
-    /// The module of the given fields: the version of its file, the hierarchy, the names of the declared exceptions, which are numbered from 3, the
-    /// channels, the globals, the procedures, and the number of the procedure where a run starts.
+    /// The module of the given fields: the version of its file, the hierarchy, the names of the declared exceptions, which are numbered
+    /// from 3, the channels, the globals, the procedures, and the number of the procedure where a run starts.
     ///
     /// Precondition: the module has a spelling.
     pub fn new(

@@ -11,7 +11,7 @@ use Rattle.resolved.specs.Program.{Program}
 use Rattle.resolved.specs.Ends.{thrown_ends, leaves_loop, raises, index_can_raise, index_raises, statement_ends, block_ends, handlers_ends}
 use Rattle.resolved.specs.EndFaults.{inner_faults}
 use Rattle.path_map.specs.declared.exits.Raised.{Raised}
-use Rattle.path_map.specs.declared.exits.Exits.{Exits}
+use Rattle.path_map.specs.Exits.{Exits}
 use Rattle.common.specs.declared.fault.OrNoMemory.{OrNoMemory}
 use Rattle.common.specs.Answers.{IfRefused}
 use Rattle.resolved.specs.declared.fault.EndRefusal.{EndRefusal}

@@ -21,7 +21,7 @@ use Rattle.resolved.specs.Ends.{has_end, declared_by, block_ends}
 use Rattle.resolved.specs.EndFaults.{fault_unless, may_end, block_faults, procedure_faults}
 use Rattle.resolved.specs.declared.fault.EndDefect.TheVariants.{NoValueReturned, Undeclared}
 use Rattle.path_map.specs.declared.exits.Raised.TheVariants.{Several}
-use Rattle.path_map.specs.declared.exits.Exits.{Exits}
+use Rattle.path_map.specs.Exits.{Exits}
 use Rattle.common.specs.declared.fault.OrNoMemory.{OrNoMemory}
 use Rattle.common.specs.declared.fault.OrNoMemory.TheVariants.{Refused}
 use Rattle.common.specs.Answers.{IfRefused}

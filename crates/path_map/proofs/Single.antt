@@ -8,7 +8,7 @@ use Rattle.resolved.specs.Ends.{same_exit, has_end, one_end}
 use Rattle.resolved.specs.Labelled.{as_one_end}
 use Rattle.path_map.specs.declared.exits.Raised.{Raised}
 use Rattle.path_map.specs.declared.exits.Raised.TheVariants.{Nothing, One, Several}
-use Rattle.path_map.specs.declared.exits.Exits.{Exits}
+use Rattle.path_map.specs.Exits.{Exits}
 use Rattle.path_map.specs.Exits.{thrown_in, raised_by, exits_of, single_end}
 
 abbrev pub single_of : (normal returns breaks continues : Bool) → Raised → Option Exit

@@ -11,7 +11,7 @@ use Rattle.resolved.specs.Tree.{Handlers}
 use Rattle.resolved.specs.Ends.{same_exit, has_end, thrown_ends, then_ends, leaves_loop, handles, passes}
 use Rattle.path_map.specs.declared.exits.Raised.{Raised}
 use Rattle.path_map.specs.declared.exits.Raised.TheVariants.{Nothing, One, Several}
-use Rattle.path_map.specs.declared.exits.Exits.{Exits}
+use Rattle.path_map.specs.Exits.{Exits}
 use Rattle.path_map.specs.Exits.{thrown_in, raised_by, exits_of}
 use Rattle.path_map.specs.Joins.{join_raised, join, after, only_raised, of_loop}
 use Rattle.path_map.specs.Exceptions.{is_one_of}

@@ -14,7 +14,7 @@ use Rattle.resolved.specs.EndFaults.{may_stand, inner_faults, block_faults, hand
 use Rattle.resolved.specs.declared.fault.EndRefusal.{EndRefusal}
 use Rattle.path_map.specs.declared.exits.Raised.{Raised}
 use Rattle.path_map.specs.declared.exits.Raised.TheVariants.{Nothing}
-use Rattle.path_map.specs.declared.exits.Exits.{Exits}
+use Rattle.path_map.specs.Exits.{Exits}
 use Rattle.resolved.specs.declared.fault.EndDefect.TheVariants as defect
 use Rattle.common.specs.declared.fault.OrNoMemory.{OrNoMemory}
 use Rattle.common.specs.declared.fault.OrNoMemory.TheVariants.{NoMemory, Refused}

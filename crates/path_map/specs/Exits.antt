@@ -1,13 +1,22 @@
 -- What a path map keeps of the possible ends of a statement or block, and what it answers of them.
 -- Source: our own; the path maps of JFlow (Myers 1999), of which these are the ends without labels.
-use Rattle.std.specs.Prelude.{ℕ, List, [], ◌∷◌, ◌==◌, if◌then◌else◌, Option, Some, None}
+use Rattle.std.specs.Prelude.{ℕ, Bool, List, [], ◌∷◌, ◌==◌, if◌then◌else◌, Option, Some, None}
 use Rattle.std.specs.List.{list_all}
 use Rattle.resolved.specs.declared.statement.Exit.{Exit}
 use Rattle.resolved.specs.declared.statement.Exit.TheVariants.{Normal, Return, Break, Continue, Throw}
 use Rattle.resolved.specs.Ends.{same_exit, has_end}
 use Rattle.path_map.specs.declared.exits.Raised.{Raised}
 use Rattle.path_map.specs.declared.exits.Raised.TheVariants.{Nothing, One, Several}
-use Rattle.path_map.specs.declared.exits.Exits.{Exits}
+use Rattle.path_map.specs.declared.exits.PathMap.{PathMap}
+
+-- the same for each end that is no exception
+abbrev pub for_all : {T : Type 0} {E : Type 0} → T → E → PathMap T E
+for_all value raised =
+    record { normal = value; returns = value; breaks = value; continues = value; raised = raised }
+
+-- the summary of ends: whether each that is no exception is among them, and which exceptions are
+abbrev pub Exits : Type 0
+Exits = PathMap Bool Raised
 
 -- the exceptions among ends, in order
 abbrev pub thrown_in : List Exit → List ℕ

@@ -5,7 +5,7 @@ use Rattle.resolved.specs.Tree.{Expression}
 use Rattle.resolved.specs.Ends.{raises}
 use Rattle.path_map.specs.declared.exits.Raised.{Raised}
 use Rattle.path_map.specs.declared.exits.Raised.TheVariants.{Nothing, One, Several}
-use Rattle.path_map.specs.declared.exits.Exits.{Exits}
+use Rattle.path_map.specs.Exits.{Exits}
 
 -- of the exceptions of two lists
 abbrev pub join_raised : Raised → Raised → Raised

@@ -15,7 +15,7 @@ use Rattle.resolved.specs.WellFormed.{block_fits, handlers_fit, statement_fits}
 use Rattle.resolved.specs.Ends.{handles, statement_ends, block_ends, handlers_ends}
 use Rattle.resolved.specs.EndFaults.{inner_faults, block_faults, handlers_faults}
 use Rattle.resolved.specs.declared.fault.EndRefusal.{EndRefusal}
-use Rattle.path_map.specs.declared.exits.Exits.{Exits}
+use Rattle.path_map.specs.Exits.{Exits}
 use Rattle.path_map.specs.Exits.{exits_of}
 use Rattle.path_map.specs.Paths.{AreAlike, statement_paths, inner_paths, block_paths, rest_paths, handlers_paths}
 use Rattle.path_map.specs.Sets.{IsSum, throws}

@@ -1,5 +1,5 @@
 //! What a path map keeps of the possible ends of a statement or block.
-ghost use Rattle.path_map.specs.Exits.{exits_of, single_end};
+ghost use Rattle.path_map.specs.Exits.{exits_of, for_all, single_end};
 ghost use Rattle.path_map.specs.Joins.{after, join, join_raised, of_loop, only_raised};
 ghost use Rattle.resolved.specs.Ends.{one_end};
 ghost use Rattle.resolved.specs.Labelled.{as_one_end};
@@ -16,16 +16,19 @@ pub enum Raised {
     Several,
 }
 
+/// What there is for each end of a statement or block: a `T` for each that is no exception, and an `E` that says it of exceptions.
+#[derive(Clone, Copy, Debug, PartialEq, Eq)]
+pub struct PathMap<T, E> {
+    pub normal: T,
+    pub returns: T,
+    pub breaks: T,
+    pub continues: T,
+    pub raised: E,
+}
+
 /// The possible ends of a statement or block: whether each of the four ends that are no exception is among them, and which
 /// exceptions are.
-#[derive(Clone, Copy, Debug, PartialEq, Eq)]
-pub struct Exits {
-    pub normal: bool,
-    pub returns: bool,
-    pub breaks: bool,
-    pub continues: bool,
-    pub raised: Raised,
-}
+pub type Exits = PathMap<bool, Raised>;
 
 impl Raised {
     // The summary of the exceptions of two lists.
@@ -41,18 +44,27 @@ impl Raised {
     }
 }
 
+impl<T: Copy, E> PathMap<T, E> {
+    /// The same for each end that is no exception.
+    pub fn of_all(value: T, raised: E) -> PathMap<T, E>
+        ensures { result ≡ for_all value raised }
+    {
+        PathMap {
+            normal: value,
+            returns: value,
+            breaks: value,
+            continues: value,
+            raised,
+        }
+    }
+}
+
 impl Exits {
     // The summary of these exceptions as ends.
     pub(crate) fn raise_only(raised: Raised) -> Exits
         ensures { result ≡ only_raised raised }
     {
-        Exits {
-            normal: false,
-            returns: false,
-            breaks: false,
-            continues: false,
-            raised,
-        }
+        Exits::of_all(false, raised)
     }
 
     // The summary of a normal end and these exceptions.

@@ -11,7 +11,7 @@ mod set;
 pub mod table;
 mod walk;
 
-pub use exits::{Exits, Raised};
+pub use exits::{Exits, PathMap, Raised};
 pub use fault::EndFault;
 pub use map::ends;
 pub use raises::Raises;

@@ -36,7 +36,6 @@ fn laws_of_compiling(_rt: HostRuntime) {
     types::laws::hierarchies_and_channel_labels_are_kept();
     types::laws::numbers_read_as_names();
     layout::laws::layout_keeps_runs();
-    checker::places_agree();
     parser::spelling_laws();
     parser::one_reading();
 }

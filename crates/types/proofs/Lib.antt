@@ -12,6 +12,7 @@ mod Later
 mod Loops
 mod Passing
 mod Procedures
+mod ShortNames
 mod ReadBodies
 mod ReadExpressions
 mod Tables

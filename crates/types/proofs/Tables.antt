@@ -16,7 +16,7 @@ use Rattle.types.specs.declared.scope.Meaning.{Meaning}
 use Rattle.types.specs.Finding.{Finding, give, and_then}
 use Rattle.types.specs.Environment.{Environment, declaring, fresh_finding}
 use Rattle.types.specs.Resolution.{TopLevel, item_name, item_meaning, counted, with_item, next_name}
-use Rattle.types.specs.Views.{found_in, or_else, texts_of, without}
+use Rattle.types.specs.Views.{found_at, or_else, texts_of, without}
 
 -- what stands in a finding
 abbrev value_or : {A : Type 0} → A → Finding A → A
@@ -26,9 +26,11 @@ value_or d _ = d
 pub ok_inside : {A : Type 0} (x y : A) → give x ≡ give y → x ≡ y
 ok_inside x y e = ap (value_or x) e
 
--- a table without entries finds nothing
-pub empty_finds : (table : BTreeMap (String Global) Meaning) → table.entries ≡ [] → (other : List ℕ) → None ≡ found_in table other
-empty_finds table e other = ap (λ entries. lookup (is_at (λ key. slice_cmp nat_cmp other (string_bytes key))) entries) (sym e)
+-- tables without entries find nothing
+pub empty_finds : (short : BTreeMap ℕ Meaning) (long : BTreeMap (String Global) Meaning) → short.entries ≡ [] → long.entries ≡ []
+    → (other : List ℕ) (number : Option ℕ) → found_at short long other number ≡ None
+empty_finds short long e f other (Some number) = ap (λ entries. lookup (is_at (nat_cmp number)) entries) e
+empty_finds short long e f other None = ap (λ entries. lookup (is_at (λ key. slice_cmp nat_cmp other (string_bytes key))) entries) f
 
 -- ---- names that are taken out
 
@@ -41,6 +43,14 @@ without_both some others names name =
     by : (first second : Bool) → cond (first || second) None (names name) ≡ cond first None (cond second None (names name))
     by true second = refl
     by false second = refl
+
+-- one of them
+pub without_one : (text : List ℕ) (names : Environment) (other : List ℕ) → without (text ∷ []) names other ≡ cond (bytes_eq text other) None (names other)
+without_one text names other = by (bytes_eq text other)
+  where
+    by : (gone : Bool) → cond (gone || false) None (names other) ≡ cond gone None (names other)
+    by true = refl
+    by false = refl
 
 -- one more of a list
 pub without_more : (gone : List (String Global)) (i : ℕ) (next : String Global) (text : List ℕ) (names : Environment) → i < length gone → next ≡ get_or gone i next

@@ -7,6 +7,7 @@ pub mod Labels
 pub mod Expressions
 pub mod Statements
 pub mod Resolution
+pub mod ShortNames
 pub mod Views
 pub mod Laws
 pub mod ReadBack

@@ -3,7 +3,8 @@
 -- Source: our own.
 use Rattle.std.specs.Prelude.{◌≡◌, ℕ, ◌+◌, List, length, map, take, drop, bytes_eq, if◌then◌else◌, Option, Some, None, Result, Ok, String, Vec}
 use Rattle.std.specs.declared.alloc.Global.{Global}
-use Rattle.std.specs.BTreeMap.{BTreeMap, get_by_text}
+use Rattle.std.specs.BTreeMap.{BTreeMap, get, get_by_text}
+use Rattle.std.specs.Ordering.{nat_cmp}
 use Rattle.std.specs.List.{list_any}
 use Rattle.std.specs.String.{string_bytes}
 use Rattle.resolved.specs.declared.expression.Expression.{Expression as CodeExpression}
@@ -23,6 +24,8 @@ use Rattle.types.specs.declared.fault.TypeRefusal.{TypeRefusal}
 use Rattle.types.specs.declared.label.LabelPlace.{LabelPlace}
 use Rattle.types.specs.declared.program.ItemTables.{ItemTables}
 use Rattle.types.specs.declared.scope.Meaning.{Meaning}
+use Rattle.types.specs.declared.scope.Names.{Names}
+use Rattle.types.specs.ShortNames.{number_of}
 use Rattle.types.specs.declared.scope.FoundArray.{FoundArray}
 use Rattle.types.specs.declared.scope.FoundScalar.{FoundScalar}
 use Rattle.types.specs.declared.statement.UsedCall.{UsedCall}
@@ -44,9 +47,14 @@ itself x = x
 
 -- ---- names
 
+-- what is found of a name, which has a number or not, in the table of short names or in that of the others
+abbrev pub found_at : BTreeMap ℕ Meaning → BTreeMap (String Global) Meaning → List ℕ → Option ℕ → Option Meaning
+found_at short long name (Some number) = get nat_cmp short number
+found_at short long name None = get_by_text long name
+
 -- what a table of names says of a name
-abbrev pub found_in : BTreeMap (String Global) Meaning → Environment
-found_in table name = get_by_text table name
+abbrev pub found_in : Names → Environment
+found_in table name = found_at table.short table.long name (number_of name)
 
 abbrev pub texts_of : List (String Global) → List (List ℕ)
 texts_of names = map string_bytes names

@@ -15,11 +15,11 @@ use principals::Hierarchy;
 use resolved::expression::Base;
 use resolved::tables::{GlobalVariable, Slot};
 use std::alloc::Global;
-use std::collections::BTreeMap;
 use syntax::Name;
 
-/// A point of a body: the names of the top level, the globals that are declared before the procedure, the parameters and locals in scope, in a table and again in the order in which they
-/// were declared, the slots that they and those of blocks that have ended have taken, and how many loops have begun.
+/// A point of a body: the names of the top level, the globals that are declared before the procedure, the parameters and locals in
+/// scope, in a table and again in the order in which they were declared, the slots that they and those of blocks that have ended have
+/// taken, and how many loops have begun.
 #[derive(Drop)]
 pub struct Body<'a> {
     pub alloc: Global,
@@ -59,7 +59,7 @@ impl<'a> Body<'a> {
             top,
             globals,
             result: value,
-            locals: BTreeMap::new(alloc),
+            locals: Names::new(alloc),
             declared: Vec::new(alloc),
             slots: Vec::new(alloc),
             loops: 0,

@@ -14,7 +14,7 @@ use crate::body::Body;
 use crate::fault::{TypeDefect, TypeFault, TypeRefusal};
 use crate::label::{LabelPlace, add_policies};
 use crate::operator::base_of;
-use crate::scope::{Meaning, require_exception, require_fresh};
+use crate::scope::{Meaning, Names, require_exception, require_fresh};
 use crate::top::{TopNames, result_of};
 use common::OrNoMemory;
 use indexmap::IndexSet;
@@ -23,7 +23,6 @@ use principals::Hierarchy;
 use resolved::expression::Variable;
 use resolved::tables::{GlobalVariable, Procedure, ResultType, Thrown};
 use std::alloc::{AllocError, Global};
-use std::collections::BTreeMap;
 use syntax::{Parameter, WrittenResult};
 
 /// The value of a procedure, if it gives one, with its label.
@@ -201,7 +200,7 @@ pub fn resolve_procedure<'a>(
         (heads hierarchy.now (top_view top.now) (map global_entry globals.now))
         (top_view top.now).signatures (procedure_tree written.now)) }
 {
-    let no_locals = BTreeMap::new(alloc);
+    let no_locals = Names::new(alloc);
     let place = LabelPlace::of_item(alloc, hierarchy, top, globals, &no_locals);
     let value = resolve_result(&place, &written.result)?;
     let begin = place.resolve_optional(&written.begin)?;

@@ -18,7 +18,7 @@ use crate::fault::{TypeDefect, TypeFault, TypeRefusal};
 use crate::item::{resolve_channel, resolve_global};
 use crate::label::LabelPlace;
 use crate::procedure::resolve_procedure;
-use crate::scope::{Meaning, find};
+use crate::scope::{Meaning, Names, find};
 use crate::top::TopNames;
 use common::OrNoMemory;
 use common::limits::MAX_PRINCIPALS;
@@ -26,7 +26,6 @@ use principals::Hierarchy;
 use resolved::program::Core;
 use resolved::tables::{Channel, GlobalVariable, Procedure};
 use std::alloc::Global;
-use std::collections::BTreeMap;
 use syntax::{Item, Program};
 
 /// The tables of a program.
@@ -66,7 +65,7 @@ impl ItemTables {
             (next_item hierarchy.now (top_view top.now) (tables_view self.old)
             (item_tree item.now)) }
     {
-        let no_locals = BTreeMap::new(alloc);
+        let no_locals = Names::new(alloc);
         let globals = self.globals.as_slice();
         let place = LabelPlace::of_item(alloc, hierarchy, top, globals, &no_locals);
         match item {

@@ -3,13 +3,18 @@
 ghost use Rattle.types.specs.Environment.{array_finding, declaring, exception_finding, fresh_finding, input_finding, output_finding, procedure_finding, scalar_finding, variable_finding};
 ghost use Rattle.types.specs.Finding.{give};
 ghost use Rattle.types.specs.Views.{Resolves, array_use, found_in, itself, scalar_use, texts_of, without};
-ghost use Rattle.std.specs.Prelude.{OnOk, List, ◌≡◌, None, ℕ};
+ghost use Rattle.types.specs.Resolution.{nothing_declared};
+ghost use Rattle.types.specs.ShortNames as spec;
+ghost use Rattle.std.specs.Prelude.{OnOk, List, [], ◌∷◌, ◌≡◌, None, ℕ};
 
 use crate::fault::{TypeDefect, TypeFault, TypeRefusal};
 use common::OrNoMemory;
 use resolved::expression::{Base, Variable};
 use std::alloc::Global;
 use std::collections::BTreeMap;
+
+/// The most bytes of a short name.
+pub const MOST_SHORT: usize = 15;
 
 /// What a name stands for. Channels are numbered in their order, inputs and outputs together; so are globals, procedures and
 /// exceptions, of which 0, 1 and 2 are `Arith`, `Bounds` and `End`; a local has the number of its slot.
@@ -40,15 +45,50 @@ pub struct FoundArray {
     pub size: u32,
 }
 
-/// What names stand for. The names are a stranger's, so the table is ordered: no choice of names makes looking them up slow, as
-/// colliding hashes would.
-pub type Names = BTreeMap<String, Meaning>;
+/// What names stand for. The names are a stranger's, so the tables are ordered: no choice of names makes looking them up slow, as
+/// colliding hashes would. A short name is looked up by its number, which is compared at once, and any other one by its text.
+#[derive(Drop)]
+pub struct Names {
+    pub short: BTreeMap<u128, Meaning>,
+    pub long: BTreeMap<String, Meaning>,
+}
+
+impl Names {
+    /// A table by which no name stands for anything.
+    pub fn new(alloc: Global) -> Names
+        ensures { found_in result ≡ nothing_declared }
+    {
+        Names {
+            short: BTreeMap::new(alloc),
+            long: BTreeMap::new(alloc),
+        }
+    }
+}
+
+/// The number of a short name: its bytes are the digits, the first one the last digit, behind a 1.
+fn number_of(name: &[u8]) -> Option<u128>
+    ensures { result ≡ spec.number_of name.now }
+{
+    if name.len() > MOST_SHORT {
+        return None;
+    }
+    let mut number = 1;
+    let mut at = name.len();
+    while at > 0 {
+        at -= 1;
+        number = number * 256 + name[at] as u128;
+    }
+    Some(number)
+}
 
 /// What a name stands for by a table.
 pub fn find(table: &Names, name: &str) -> Option<Meaning>
     ensures { result ≡ found_in table.now name.now }
 {
-    table.get(name).copied()
+    match number_of(name.as_bytes()) {
+        Some(number) => table.short.get(&number).copied(),
+        None => table.long.get(name).copied(),
+    }
 }
 
 /// Puts a name into a table, where it has this meaning from now on.
@@ -61,8 +101,30 @@ pub fn insert(
     ensures { Resolves (λ _. λ (other : List ℕ). found_in table.new other) result
         (give (declaring name.now meaning (found_in table.old))) }
 {
-    table.insert(String::from_str(alloc, name)?, meaning)?;
+    match number_of(name.as_bytes()) {
+        Some(number) => {
+            table.short.insert(number, meaning)?;
+        }
+        None => {
+            table.long.insert(String::from_str(alloc, name)?, meaning)?;
+        }
+    }
     Ok(())
+}
+
+/// Takes a name out of a table.
+fn remove(table: &mut Names, name: &str)
+    ensures { (other : List ℕ) → found_in table.new other ≡
+        without (name.now ∷ []) (found_in table.old) other }
+{
+    match number_of(name.as_bytes()) {
+        Some(number) => {
+            table.short.remove(&number);
+        }
+        None => {
+            table.long.remove(name);
+        }
+    }
 }
 
 /// Takes names out of a table.
@@ -71,7 +133,7 @@ pub fn remove_all(table: &mut Names, names: &[String])
         without (texts_of names.now) (found_in table.old) other }
 {
     for name in names {
-        table.remove(name.as_str());
+        remove(table, name.as_str());
     }
 }
 

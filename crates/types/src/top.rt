@@ -16,7 +16,6 @@ use common::Direction;
 use common::exceptions::{ARITH, ARITH_NAME, BOUNDS, BOUNDS_NAME, BUILT_IN, END, END_NAME};
 use resolved::expression::{Base, Variable};
 use std::alloc::{AllocError, Global};
-use std::collections::BTreeMap;
 use syntax::{GlobalValue, Item, Name, Procedure, WrittenResult};
 
 /// What a call has to know of a procedure: the types of its parameters, and the type of its value, if it gives one.
@@ -110,7 +109,7 @@ impl TopNames {
     fn declare_built_in(alloc: Global) -> Result<TopNames, TypeFault>
         ensures { Resolves top_view result (give built_in) }
     {
-        let mut names = BTreeMap::new(alloc);
+        let mut names = Names::new(alloc);
         insert(alloc, &mut names, ARITH_NAME, Meaning::Exception(ARITH))?;
         insert(alloc, &mut names, BOUNDS_NAME, Meaning::Exception(BOUNDS))?;
         insert(alloc, &mut names, END_NAME, Meaning::Exception(END))?;

@@ -16,6 +16,7 @@ pub mod Packing
 pub mod Positioned
 pub mod Renamed
 pub mod Trees
+pub mod Counted
 pub mod Covering
 pub mod Depth
 pub mod Within

@@ -10,6 +10,7 @@ pub mod Numbers
 pub mod Operands
 pub mod Safety
 pub mod Search
+pub mod Starts
 pub mod Verified
 pub mod Defects
 pub mod Parameters

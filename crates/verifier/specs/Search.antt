@@ -3,7 +3,7 @@
 use Rattle.std.specs.Prelude.{◌≡◌, ℕ, suc, ◌+◌, ◌≤◌, ◌<◌, ◌^◌, true, List, [], ◌∷◌, ◌++◌, length, slice_index_or, Option, Some, None, ◌⊎◌}
 use Rattle.std.specs.List.{Contains}
 use Rattle.modules.specs.Contents.{ProcedureContents, ModuleContents}
-use Rattle.modules.specs.Code.{width_of, code_length, instruction_at}
+use Rattle.modules.specs.Code.{width_of, code_length, instruction_at, offset_at}
 use Rattle.modules.specs.declared.instruction.Instruction.{Instruction}
 use Rattle.modules.specs.declared.value.Kind.{Kind}
 use Rattle.modules.specs.declared.declaration.Handler.{Handler}
@@ -15,6 +15,7 @@ use Rattle.verifier.specs.Index.{index_of}
 use Rattle.verifier.specs.Operands.{list_of}
 use Rattle.verifier.specs.declared.search.Search.{Search}
 use Rattle.verifier.specs.declared.search.FlowRefusal.{FlowRefusal}
+use Rattle.verifier.specs.declared.search.Place.{Place}
 use Rattle.verifier.specs.declared.body.Body.{Body}
 use Rattle.verifier.specs.declared.coverage.Coverage.{Coverage}
 
@@ -125,15 +126,21 @@ pub record HasInstruction (p : ProcedureContents) (s : Search) (at : ℕ) : Type
   pub kinds : List Kind
   pub has : table s at ≡ Some kinds
 
--- a search at work that goes straight on to an offset, or to none
-abbrev pub IsSearchingNext : ModuleContents → ProcedureContents → Search → Option ℕ → Type 0
-IsSearchingNext m p s None = IsSearching m p s []
-IsSearchingNext m p s (Some at) = (IsSearching m p s (at ∷ [])) × HasInstruction p s at
+-- a place is that of an offset with its instruction and its list
+pub record IsPlace (p : ProcedureContents) (s : Search) (place : Place) : Type 0 where
+  pub number : offset_at p.code place.number ≡ place.at
+  pub list : table s place.at ≡ Some (list_of s.operands place.list)
+  pub inside : place.list < length s.operands
 
--- 1 where there is an offset to go straight on to
-abbrev pub count : Option ℕ → ℕ
+-- a search at work that goes straight on to a place, or to none
+abbrev pub IsSearchingNext : ModuleContents → ProcedureContents → Search → Option Place → Type 0
+IsSearchingNext m p s None = IsSearching m p s []
+IsSearchingNext m p s (Some place) = (IsSearching m p s (place.at ∷ [])) × (HasInstruction p s place.at × IsPlace p s place)
+
+-- 1 where there is a place to go straight on to
+abbrev pub count : Option Place → ℕ
 count None = 0
-count (Some at) = 1
+count (Some place) = 1
 
 -- the handlers that wait are the procedure's, and control went to each other one that covers an offset
 pub record IsWaiting (p : ProcedureContents) (c : Coverage) (s : Search) : Type 0 where

@@ -1,12 +1,12 @@
 //! A procedure as the search for defects looks at it.
 
-ghost use Rattle.modules.specs.Code.{code_length, instruction_at};
+ghost use Rattle.modules.specs.Code.{code_length};
 ghost use Rattle.std.specs.Prelude.{IfOk, ◌<◌, ◌^◌, ◌≡◌};
 ghost use Rattle.verifier.specs.Search.{IsSearchableBody};
 
 use crate::index::Index;
 use crate::parameters::PackedModule;
-use modules::{Instruction, Procedure};
+use modules::Procedure;
 use std::alloc::{AllocError, Global};
 
 /// A procedure of a module, and the index of its code.
@@ -35,13 +35,5 @@ impl<'a> Body<'a> {
             procedure,
             index,
         })
-    }
-
-    /// The instruction whose first byte stands at an offset, if there is one.
-    pub(crate) fn at(&self, offset: u32) -> Option<Instruction>
-        requires { IsSearchableBody self.now }
-        ensures { result ≡ instruction_at self.now.procedure.now.code offset }
-    {
-        self.index.fetch(self.procedure.code(), offset as usize)
     }
 }

@@ -14,7 +14,7 @@ use crate::fixed::find_body_refusal;
 use crate::index::Index;
 use crate::parameters::PackedModule;
 use crate::positions::Code;
-use crate::search::{FlowRefusal, find_defect};
+use crate::search::{FlowRefusal, Search, find_defect};
 use common::OrNoMemory;
 use std::alloc::Global;
 
@@ -35,8 +35,9 @@ pub(crate) fn look_for_defects(alloc: Global, program: &PackedModule) -> Result<
     ensures rejected { IfErr result (IfRefused (IsCodeRefusal program.now)) }
 {
     let procedures = program.procedures();
-    let mut codes = Vec::new(alloc);
-    let mut indexes = Vec::new(alloc);
+    let mut codes = Vec::with_capacity(alloc, procedures.len())?;
+    let mut indexes = Vec::with_capacity(alloc, procedures.len())?;
+    let mut search = Search::new(alloc)?;
     let mut found = None;
     let mut number = 0;
     for procedure in procedures {
@@ -44,7 +45,7 @@ pub(crate) fn look_for_defects(alloc: Global, program: &PackedModule) -> Result<
         if let Some(refusal) = find_body_refusal(&body, number) {
             return Err(OrNoMemory::Refused(refusal));
         }
-        found = look_for_flow_refusal(alloc, &body, number, found, &mut codes)?;
+        found = look_for_flow_refusal(alloc, &mut search, &body, number, found, &mut codes)?;
         indexes.push(body.index)?;
         number += 1;
     }
@@ -58,6 +59,7 @@ pub(crate) fn look_for_defects(alloc: Global, program: &PackedModule) -> Result<
 // none, the procedure's code is added.
 fn look_for_flow_refusal(
     alloc: Global,
+    search: &mut Search,
     body: &Body,
     number: u32,
     found: Option<CodeRefusal>,
@@ -77,7 +79,7 @@ fn look_for_flow_refusal(
     if found.is_some() {
         return Ok(found);
     }
-    match find_defect(alloc, body) {
+    match find_defect(alloc, search, body) {
         Ok(greatest_depth) => {
             codes.push(Code::of(alloc, body, greatest_depth)?)?;
             Ok(None)

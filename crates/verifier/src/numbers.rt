@@ -1,6 +1,6 @@
 //! Numbers for places, where a place may have none.
 
-ghost use Rattle.std.specs.Prelude.{IfOk, None, Some, length, replicate, slice_index_or, set, ◌+◌, ◌<◌, ◌^◌, ◌≡◌};
+ghost use Rattle.std.specs.Prelude.{IfOk, None, OnOk, Some, length, replicate, slice_index_or, set, ◌+◌, ◌<◌, ◌^◌, ◌≡◌};
 ghost use Rattle.verifier.specs.Numbers as numbers;
 
 use std::alloc::{AllocError, Global};
@@ -29,6 +29,15 @@ impl Numbers {
     {
         let marks = vec![in alloc; 0; count]?;
         Ok(Numbers { marks })
+    }
+
+    /// So many places without numbers, in place of those before.
+    pub(crate) fn restart(&mut self, count: usize) -> Result<(), AllocError>
+        ensures { OnOk result (self.new ≡ replicate count None) }
+    {
+        self.marks.clear();
+        self.marks.resize(count, 0)?;
+        Ok(())
     }
 
     /// How many places there are.

@@ -13,6 +13,9 @@ use std::marker::Model;
 // The highest one of 64 bits.
 const HIGHEST: u64 = 1 << 63;
 
+// For how many lists there is room at first: most procedures have no more.
+const FEW: usize = 16;
+
 // One more operand on a list: its kind, the number of the list below, and how many operands there are. So that 64 operands are
 // popped at once, also the kinds of the topmost 64 as bits, the top the lowest, and the number of the list below those.
 #[derive(Clone, Copy, Debug)]
@@ -92,15 +95,27 @@ impl Operands {
     pub fn new(alloc: Global) -> Result<Operands, AllocError>
         ensures { IfOk result (λ o. o ≡ [] ∷ []) }
     {
-        let mut ints = Vec::new(alloc);
-        let mut booleans = Vec::new(alloc);
-        ints.push(None)?;
-        booleans.push(None)?;
+        let links = Vec::with_capacity(alloc, FEW)?;
+        let mut ints = Vec::with_capacity(alloc, FEW)?;
+        let mut booleans = Vec::with_capacity(alloc, FEW)?;
+        ints.push_reserved(None);
+        booleans.push_reserved(None);
         Ok(Operands {
-            links: Vec::new(alloc),
+            links,
             ints,
             booleans,
         })
+    }
+
+    /// The empty list alone again.
+    pub fn restart(&mut self)
+        ensures { self.new ≡ [] ∷ [] }
+    {
+        self.links.clear();
+        self.ints.clear();
+        self.booleans.clear();
+        self.ints.push_reserved(None);
+        self.booleans.push_reserved(None);
     }
 
     /// The list with one more operand on it.

@@ -1,6 +1,6 @@
 //! The search for a defect of the flow of operands: from the start along each edge, one list of kinds for each offset.
 
-ghost use Rattle.modules.specs.Code.{code_length, instruction_at, width_of};
+ghost use Rattle.modules.specs.Code.{code_length, instruction_at, offset_at, width_of};
 ghost use Rattle.modules.specs.Contents.{ModuleContents, ProcedureContents};
 ghost use Rattle.modules.specs.declared.declaration.Handler.{Handler};
 ghost use Rattle.modules.specs.declared.value.Kind.{Kind};
@@ -14,7 +14,7 @@ ghost use Rattle.verifier.specs.Flow.{FlowsWell};
 ghost use Rattle.verifier.specs.Depth.{IsGreatestDepth};
 ghost use Rattle.verifier.specs.Operands.{list_of};
 ghost use Rattle.verifier.specs.Boundaries.{IsBoundary, KeepsBoundaries};
-ghost use Rattle.verifier.specs.Search.{Flowed, HasEffect, HaveLongest, HasInstruction, IsApplied, IsAtEdge, IsSearchableBody, IsSearchingNext, IsSearching, IsOperandFlowRefusal, IsWaiting, KeepsSearching, count, left, table, waiting};
+ghost use Rattle.verifier.specs.Search.{Flowed, HasEffect, HaveLongest, HasInstruction, IsApplied, IsAtEdge, IsSearchableBody, IsPlace, IsSearchingNext, IsSearching, IsOperandFlowRefusal, IsWaiting, KeepsSearching, count, left, table, waiting};
 
 use crate::body::Body;
 use crate::coverage::Coverage;
@@ -25,7 +25,7 @@ use crate::operands::Operands;
 use crate::work::Work;
 use common::OrNoMemory;
 use modules::Instruction;
-use std::alloc::Global;
+use std::alloc::{AllocError, Global};
 
 /// A refusal for a defect of the flow of a procedure: what is wrong, and the offset where.
 #[derive(Clone, Copy, Debug, PartialEq, Eq)]
@@ -44,6 +44,14 @@ fn refuse(defect: CodeDefect, offset: u32) -> FlowFault
     OrNoMemory::Refused(FlowRefusal { defect, offset })
 }
 
+/// An offset that has a list: the numbers of the instruction that begins there and of the list.
+#[derive(Clone, Copy)]
+pub(crate) struct Place {
+    at: u32,
+    number: u32,
+    list: u32,
+}
+
 /// The lists of the offsets that control reaches, and the offsets that are still to be looked at.
 #[derive(Drop)]
 pub(crate) struct Search {
@@ -54,6 +62,20 @@ pub(crate) struct Search {
 }
 
 impl Search {
+    /// A search that has not begun.
+    pub(crate) fn new(alloc: Global) -> Result<Search, AllocError>
+        ensures { IfOk result (λ search. search.operands ≡ [] ∷ []) }
+    {
+        let operands = Operands::new(alloc)?;
+        let shapes = Numbers::new(alloc, 0)?;
+        let work = Work::new(alloc)?;
+        Ok(Search {
+            operands,
+            shapes,
+            work,
+        })
+    }
+
     // Control goes from an offset to another one with a list. Answers whether it is the first there; then that offset is
     // still to be looked at.
     fn arrive(&mut self, body: &Body, at: u32, to: u32, list: u32) -> Result<bool, FlowFault>
@@ -192,20 +214,22 @@ impl Search {
         Ok(())
     }
 
-    // Control goes on to the next instruction, where it may. All other edges were followed. Answers the offset of the next
+    // Control goes on to the next instruction, where it may. All other edges were followed. Answers the place of the next
     // instruction where control is the first there: it is to be looked at next.
     fn go_on(
         &mut self,
         body: &Body,
         at: u32,
+        number: u32,
         instruction: Instruction,
         list: u32,
-    ) -> Result<Option<u32>, FlowFault>
+    ) -> Result<Option<Place>, FlowFault>
         requires searching { IsSearching body.now.program.now body.now.procedure.now self.old
             (at ∷ []) }
         requires effect { HasEffect body.now.program.now body.now.procedure.now self.old at
             instruction (list_of self.old.operands list) }
         requires list { list < length self.old.operands }
+        requires number { offset_at body.now.procedure.now.code number ≡ at }
         requires jumps { (to : ℕ) → targets.target_of instruction ≡ Some to → table self.old to
             ≡ Some (list_of self.old.operands list) }
         requires caught { (h : Handler) → Contains body.now.procedure.now.handlers h →
@@ -227,26 +251,30 @@ impl Search {
         }
         let to = at + instruction.width() as u32;
         if self.arrive(body, at, to, list)? {
-            Ok(Some(to))
+            let number = number + 1;
+            Ok(Some(Place {
+                at: to,
+                number,
+                list,
+            }))
         } else {
             Ok(None)
         }
     }
 
-    // Looks at an offset: control goes on from it along each edge.
+    // Looks at a place: control goes on from it along each edge.
     fn visit(
         &mut self,
         body: &Body,
         coverage: &mut Coverage,
-        at: u32,
+        place: Place,
         instruction: Instruction,
-        list: u32,
-    ) -> Result<Option<u32>, FlowFault>
+    ) -> Result<Option<Place>, FlowFault>
         requires searching { IsSearching body.now.program.now body.now.procedure.now self.old
-            (at ∷ []) }
-        requires shape { table self.old at ≡ Some (list_of self.old.operands list) }
-        requires list { list < length self.old.operands }
-        requires instruction { instruction_at body.now.procedure.now.code at ≡ Some instruction }
+            (place.at ∷ []) }
+        requires place { IsPlace body.now.procedure.now self.old place }
+        requires instruction { instruction_at body.now.procedure.now.code place.at
+            ≡ Some instruction }
         requires boundaries { KeepsBoundaries body.now.procedure.now }
         requires waiting { IsWaiting body.now.procedure.now coverage.old self.old }
         requires room { length self.old.operands + left self.old < 2 ^ 32 }
@@ -259,23 +287,25 @@ impl Search {
         ensures rejected { IfErr result (IfRefused
             (IsOperandFlowRefusal body.now.program.now body.now.procedure.now)) }
     {
+        let Place { at, number, list } = place;
         let after = self.apply(body, at, instruction, list)?;
         self.jump(body, at, instruction, after)?;
         self.raise(body, coverage, at)?;
-        let next = self.go_on(body, at, instruction, after)?;
+        let next = self.go_on(body, at, number, instruction, after)?;
         Ok(next)
     }
 
-    // Looks at an offset that has a list.
+    // Looks at a place.
     fn look(
         &mut self,
         body: &Body,
         coverage: &mut Coverage,
-        at: u32,
-    ) -> Result<Option<u32>, FlowFault>
+        place: Place,
+    ) -> Result<Option<Place>, FlowFault>
         requires searching { IsSearching body.now.program.now body.now.procedure.now self.old
-            (at ∷ []) }
-        requires there { HasInstruction body.now.procedure.now self.old at }
+            (place.at ∷ []) }
+        requires there { HasInstruction body.now.procedure.now self.old place.at }
+        requires place { IsPlace body.now.procedure.now self.old place }
         requires boundaries { KeepsBoundaries body.now.procedure.now }
         requires waiting { IsWaiting body.now.procedure.now coverage.old self.old }
         requires body { IsSearchableBody body.now }
@@ -288,13 +318,26 @@ impl Search {
         ensures rejected { IfErr result (IfRefused
             (IsOperandFlowRefusal body.now.program.now body.now.procedure.now)) }
     {
+        let instruction = body.procedure.code()[place.number as usize];
+        self.visit(body, coverage, place, instruction)
+    }
+
+    // The place of an offset that has a list.
+    fn place_at(&self, body: &Body, at: u32) -> Place
+        requires searching { IsSearching body.now.program.now body.now.procedure.now self.now
+            (at ∷ []) }
+        requires there { HasInstruction body.now.procedure.now self.now at }
+        requires body { IsSearchableBody body.now }
+        ensures at { result.at ≡ at }
+        ensures place { IsPlace body.now.procedure.now self.now result }
+    {
+        let Some(number) = body.index.number(at as usize) else {
+            unreachable!()
+        };
         let Some(list) = self.shapes.at(at as usize) else {
             unreachable!()
         };
-        let Some(instruction) = body.at(at) else {
-            unreachable!()
-        };
-        self.visit(body, coverage, at, instruction, list)
+        Place { at, number, list }
     }
 
     // Looks at an offset that has a list, and at those to which control goes straight on from there.
@@ -315,9 +358,9 @@ impl Search {
         ensures rejected { IfErr result (IfRefused
             (IsOperandFlowRefusal body.now.program.now body.now.procedure.now)) }
     {
-        let mut next = Some(at);
-        while let Some(at) = next {
-            next = self.look(body, coverage, at)?;
+        let mut next = Some(self.place_at(body, at));
+        while let Some(place) = next {
+            next = self.look(body, coverage, place)?;
         }
         Ok(())
     }
@@ -343,8 +386,8 @@ impl Search {
 }
 
 /// Looks for a defect of the flow of a procedure whose targets are right, and answers the greatest number of operands where there
-/// is none.
-pub(crate) fn find_defect(alloc: Global, body: &Body) -> Result<u32, FlowFault>
+/// is none. Memory that the search has is used again.
+pub(crate) fn find_defect(alloc: Global, search: &mut Search, body: &Body) -> Result<u32, FlowFault>
     requires boundaries { KeepsBoundaries body.now.procedure.now }
     requires body { IsSearchableBody body.now }
     requires few { length body.now.procedure.now.handlers < 2 ^ 32 }
@@ -359,15 +402,10 @@ pub(crate) fn find_defect(alloc: Global, body: &Body) -> Result<u32, FlowFault>
         return Err(refuse(CodeDefect::FallsOffEnd, 0));
     }
     let mut coverage = Coverage::new(alloc, body.procedure.handlers())?;
-    let operands = Operands::new(alloc)?;
-    let mut shapes = Numbers::new(alloc, size)?;
-    shapes.set(0, 0);
-    let work = Work::new(alloc)?;
-    let mut search = Search {
-        operands,
-        shapes,
-        work,
-    };
+    search.operands.restart();
+    search.shapes.restart(size)?;
+    search.shapes.set(0, 0);
+    search.work.restart()?;
     search.run(body, &mut coverage)?;
     Ok(search.operands.greatest_depth())
 }

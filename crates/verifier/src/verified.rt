@@ -48,6 +48,16 @@ impl Verified {
         &self.inner
     }
 
+    /// The module, and for each procedure the index of its code: what a run needs. The rest is let go.
+    pub fn into_parts(self) -> (Module, Vec<Index>)
+        ensures module { result.0 ≡ self }
+        ensures no_defect { HasNoDefect self }
+        ensures never_stuck { IsNeverStuck self }
+        ensures indexes { result.1.items ≡ indexes_of self }
+    {
+        (self.inner, self.indexes)
+    }
+
     /// The code of a procedure, with positions as targets: the number of an instruction in the code, and not the offset of its
     /// first byte. It takes no memory. Precondition: there is a procedure of that number.
     pub fn code(&self, procedure: u32) -> &[Instruction]

@@ -29,6 +29,15 @@ impl Work {
         Ok(Work { offsets })
     }
 
+    /// The start alone again.
+    pub(crate) fn restart(&mut self) -> Result<(), AllocError>
+        ensures { OnOk result (self.new ≡ 0 ∷ []) }
+    {
+        self.offsets.clear();
+        self.offsets.push(0)?;
+        Ok(())
+    }
+
     /// One more waits.
     pub(crate) fn push(&mut self, offset: u32) -> Result<(), AllocError>
         ensures { OnOk result (self.new ≡ self.old ++ offset ∷ []) }

@@ -1,4 +1,4 @@
-use Rattle.std.proofs.Common.{get_or, map, subst, arith, ◌∙◌, ◌<◌, length}
+use Rattle.std.proofs.Common.{get_or, map, refl, subst, arith, ◌∙◌, ◌+◌, ◌<◌, length}
 use Rattle.std.proofs.lemmas.List.{take_all}
 use Rattle.resolved.specs.ProgramOf.{thrown_entry}
 use Rattle.resolved.specs.declared.tables.Thrown.{Thrown}
@@ -11,7 +11,7 @@ use Rattle.constraints.proofs.procedures.take_declared.Goals as goal
 
 pub take-requires : goal.take-requires
 take-requires c =
-    let inside = held-at (λ (declared : Thrown). declared.exception < length c.args.thrown.now.items) c.args.throws.now c.loop-i.i c.index-throws-i.result c.requires
+    let inside = held-at (λ (declared : Thrown). declared.exception < length c.args.thrown.now.items) c.args.throws.now c.loop-i.i c.index-throws-i.result c.requires.inside
     c.loop-i-test.true c.index-throws-i.is in
     omega (arith, inside, c.loop-i.invariant.wide)
 
@@ -22,8 +22,8 @@ loop-i-preserved c = record {
       let i = c.loop-i.i in
       let x : Thrown = c.index-throws-i.result in
       let old = get_or c.args.thrown.now.items e no_entry in
-      declared-next c.args.throws.now i x c.args.number c.in_ok-number_after.field-0 c.args.level e _ _ old
-      c.loop-i-test.true c.index-throws-i.is c.in_ok-number_after.ensures.sum (level-free barrier c.args.level old below (within e))
+      declared-next c.args.throws.now i x c.args.number (c.args.number + i) c.args.level e _ _ old
+      c.loop-i-test.true c.index-throws-i.is refl (level-free barrier c.args.level old below (within e))
       (c.loop-i.invariant.taken barrier below within e) (c.in_ok-take.ensures.taken e);
 }
 

@@ -8,14 +8,19 @@ use Rattle.resolved.specs.Labelled.{FitsDemands, program_demands}
 use Rattle.resolved.specs.WellFormed.{program_nodes}
 use Rattle.solver.specs.Constraints.{constraint_of}
 use Rattle.gathering.specs.Gathered.{AreConstraintsOf, FitsConstraints}
-use Rattle.gathering.specs.Names.{real_unknowns}
 use Rattle.constraints.specs.declared.spreading.Made.{Made}
 use Rattle.constraints.proofs.Gathered.{all-fit, all-gathered, all-in-range}
-use Rattle.constraints.proofs.SpreadCalls.{spread-few}
+use Rattle.constraints.proofs.SpreadCalls.{calls-fit, spread-few}
 use Rattle.constraints.proofs.program.gather.Goals as goal
 
 pub spread_calls-requires : goal.spread_calls-requires
-spread_calls-requires c = c.in_ok-progress.ensures.added.now.up_to_date.ordered
+spread_calls-requires c =
+    let table = c.in_ok-table.table in
+    let whole = c.in_ok-progress.ensures.added in
+    record {
+      ordered = whole.now.up_to_date.ordered;
+      room = calls-fit table.core.now table.written.items c.in_ok-progress.progress whole c.in_ok-progress.ensures.number;
+    }
 
 pub returns-clause-gathered : goal.returns-clause-gathered
 returns-clause-gathered c =
@@ -41,16 +46,12 @@ returns-clause-in_range c =
     let table = c.in_ok-table.table in
     let progress = c.in_ok-progress.progress in
     let begun : Made = record { number = progress.number; constraints = progress.constraints } in
-    let total : c.in_ok-unknowns.unknowns ≡ real_unknowns (program_of table.core.now) + c.spread_calls.new.made.number = omega (arith, c.in_ok-unknowns.ensures.sum, table.count) in
     all-in-range table.core.now table.written.items progress begun c.spread_calls.new.made c.in_ok-progress.ensures.added c.in_ok-spread_calls.ensures c.in_ok-progress.ensures.number refl
-    c.in_ok-unknowns.unknowns total
 
 pub returns-clause-few : goal.returns-clause-few
 returns-clause-few c =
     let table = c.in_ok-table.table in
     let progress = c.in_ok-progress.progress in
     let begun : Made = record { number = progress.number; constraints = progress.constraints } in
-    let total : c.in_ok-unknowns.unknowns ≡ real_unknowns (program_of table.core.now) + c.spread_calls.new.made.number = omega (arith, c.in_ok-unknowns.ensures.sum, table.count) in
-    let few : real_unknowns (program_of table.core.now) + c.spread_calls.new.made.number ≤ 4 * program_nodes (program_of table.core.now) =
-    spread-few table.core.now table.written.items progress begun c.spread_calls.new.made c.in_ok-progress.ensures.added c.in_ok-spread_calls.ensures c.in_ok-progress.ensures.number in
-    subst (λ (k : Core). c.in_ok-unknowns.unknowns ≤ 4 * program_nodes (program_of k)) c.in_ok-table.ensures (omega (arith, few, total))
+    subst (λ (k : Core). c.spread_calls.new.made.number ≤ 4 * program_nodes (program_of k)) c.in_ok-table.ensures
+    (spread-few table.core.now table.written.items progress begun c.spread_calls.new.made c.in_ok-progress.ensures.added c.in_ok-spread_calls.ensures c.in_ok-progress.ensures.number)

@@ -5,8 +5,8 @@ use Rattle.constraints.proofs.SpreadRows.{row-none, row-quiet, row-spread}
 use Rattle.constraints.proofs.spreading.spread_row.Goals.{then-is_empty-via-then-is_empty, then-is_empty-via-else-is_empty+then-is_empty-2}
 use Rattle.constraints.proofs.spreading.spread_row.Goals as goal
 
-pub returns-then-is_empty : goal.returns-then-is_empty
-returns-then-is_empty c = λ of.
+pub returns-then-is_empty-clause-spread : goal.returns-then-is_empty-clause-spread
+returns-then-is_empty-clause-spread c = λ of.
     elim c.then-is_empty.branch [
       | then-is_empty-via-then-is_empty w ↦ row-none c.args.of.now.table.now.core.now c.args.of.now.table.now.written.items c.args.of.now.journal.now c.args.calls.now c.args.made.now
           (eqb-true (length c.args.calls.now) 0 (sym w.if-is_empty.ensures))
@@ -17,7 +17,7 @@ returns-then-is_empty c = λ of.
           c.row.ensures refl (omega (arith, none, throws.ok.0)) of
     ]
 
-pub returns : goal.returns
-returns c = λ of.
+pub returns-clause-spread : goal.returns-clause-spread
+returns-clause-spread c = λ of.
     row-spread c.args.of.now.table.now.core.now c.args.of.now.table.now.written.items c.args.of.now.journal.now c.args.callee c.row.result.now _ c.args.calls.now c.args.made.now c.spread.new.made c.in_ok-spread.field-0
-    c.row.ensures c.deref.ensures.value c.in_ok-spread.ensures of
+    c.row.ensures c.deref.ensures.value c.in_ok-spread.ensures.spread of

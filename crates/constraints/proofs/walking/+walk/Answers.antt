@@ -4,9 +4,10 @@ use Rattle.std.proofs.lemmas.Result.{on_ok_weaker}
 use Rattle.resolved.specs.Tree as T
 use Rattle.resolved.specs.WellFormed.{statement_nodes}
 use Rattle.resolved.specs.TreeOf.{expression_of, some_expression_of, statement_of, block_of, handlers_of}
+use Rattle.solver.specs.declared.constraints.Atom.TheVariants as stored
 use Rattle.constraints.proofs.Along.{Along, Handling, along-start, along-step, along-end, handling-start, handling-step, handling-end}
 use Rattle.constraints.proofs.Formed.{form-at, block-walked, statement-walked, if-walked, while-walked, try-walked}
-use Rattle.constraints.proofs.Ready.{along-first, along-second, block-goes, form-ready-at, handling-first, handling-second, if-first, if-second, statement-goes, there-is-next, try-first, try-inside, try-second, while-goes}
+use Rattle.constraints.proofs.Ready.{along-first, along-room, along-second, block-goes, form-ready-at, form-room, handling-first, handling-second, if-first, if-second, nested-goes, statement-goes, there-is-next, try-first, try-inside, try-room, try-second, while-goes}
 use Rattle.constraints.specs.Ready.{entries_of, AreHandlersReady, AreStatementsReady}
 use Rattle.constraints.specs.declared.progress.Progress.{Progress}
 use Rattle.constraints.proofs.Measured.{statement-within, handler-within}
@@ -133,16 +134,16 @@ walk_form-returns-in-Nested t c =
 pub walk_if-returns : goal.walk_if-returns
 walk_if-returns t c = λ at.
     if-walked c.args.walk.now.table.now.core.now c.args.walk.now.table.now.written.items (entries_of c.args.walk.now.map.now) c.args.walk.now.procedure
-    at (expression_of c.args.condition.now) (block_of c.args.yes_block.now) (block_of c.args.no_block.now) c.args.pc c.in_ok-inner.inner c.args.takers c.in_ok-number.number
+    at (expression_of c.args.condition.now) (block_of c.args.yes_block.now) (block_of c.args.no_block.now) c.args.pc (stored.Unknown c.in_ok-number.number) c.args.takers c.in_ok-number.number
     c.args.progress.now c.begin_branch.new.progress c.walk_block.new.progress c.walk_block-2.new.progress
-    c.in_ok-number.ensures.number c.in_ok-inner.ensures c.in_ok-number.ensures.added c.in_ok-walk_block.ensures c.in_ok-walk_block-2.ensures
+    c.in_ok-number.ensures.number refl c.in_ok-number.ensures.added c.in_ok-walk_block.ensures c.in_ok-walk_block-2.ensures
 
 pub walk_while-returns : goal.walk_while-returns
 walk_while-returns t c =
     while-walked c.args.walk.now.table.now.core.now c.args.walk.now.table.now.written.items (entries_of c.args.walk.now.map.now) c.args.walk.now.procedure
-    c.args.at c.args.number (expression_of c.args.condition.now) (block_of c.args.body.now) c.args.pc c.in_ok-inside.inside c.args.takers c.in_loop.result c.in_ok-inner.inner c.in_ok-inner.back
+    c.args.at c.args.number (expression_of c.args.condition.now) (block_of c.args.body.now) c.args.pc (stored.Unknown c.in_ok-inner.inner) c.args.takers c.in_loop.result c.in_ok-inner.inner c.in_ok-inner.back
     c.args.progress.now c.begin_loop.new.progress c.walk_block.new.progress c.end_loop.new.progress
-    c.in_ok-inner.ensures.inner c.in_ok-inner.ensures.back c.in_ok-inside.ensures c.in_loop.ensures.takers c.in_loop.ensures.levelled
+    c.in_ok-inner.ensures.inner c.in_ok-inner.ensures.back refl c.in_loop.ensures.takers c.in_loop.ensures.levelled
     c.in_ok-inner.ensures.added c.in_ok-walk_block.ensures c.in_ok-end_loop.ensures
 
 pub walk_try-returns : goal.walk_try-returns
@@ -170,14 +171,14 @@ walk_statements-loop-statement-preserved t c =
     record {
       along = along-step c.args.walk.now.table.now.core.now c.args.walk.now.table.now.written.items (entries_of c.args.walk.now.map.now) c.args.walk.now.procedure
           c.args.pc c.args.takers (block_of c.args.block.now) c.args.progress.now statement rest
-          c.loop-statement.reached c.loop-statement.onward c.in_ok-onward.onward c.loop-statement.progress c.make.new.self c.walk_statement.new.progress c.in_ok-exits.exits c.in_ok-number.number
+          c.loop-statement.reached c.loop-statement.onward c.onward_pc-onward.result c.loop-statement.progress c.make-number.new.self c.walk_statement.new.progress c.in_ok-exits.exits c.make-number.result
           (subst (λ tree'. Along c.args.walk.now.table.now.core.now c.args.walk.now.table.now.written.items (entries_of c.args.walk.now.map.now) c.args.walk.now.procedure c.args.pc c.args.takers (block_of c.args.block.now) c.args.progress.now tree' c.loop-statement.reached c.loop-statement.onward c.loop-statement.progress)
           tree c.loop-statement.invariant.along)
-          c.in_ok-number.ensures.made c.in_ok-number.ensures.first c.in_ok-exits.ensures.exits c.in_ok-exits.ensures.added c.in_ok-onward.ensures;
+          c.make-number.ensures.made c.make-number.ensures.first c.in_ok-exits.ensures.exits c.in_ok-exits.ensures.added c.onward_pc-onward.ensures;
       ready = along-second c.args.walk.now.table.now.core.now c.args.walk.now.table.now.written.items (entries_of c.args.walk.now.map.now) c.args.walk.now.procedure
-          c.loop-statement.onward c.args.takers c.in_ok-number.number statement rest c.loop-statement.progress c.make.new.self c.walk_statement.new.progress
+          c.loop-statement.onward c.args.takers c.make-number.result statement rest c.loop-statement.progress c.make-number.new.self c.walk_statement.new.progress
           (subst (λ tree'. AreStatementsReady c.args.walk.now.table.now.core.now (entries_of c.args.walk.now.map.now) c.args.walk.now.procedure c.args.takers tree' c.loop-statement.progress) tree c.loop-statement.invariant.ready)
-          c.in_ok-number.ensures.made c.in_ok-exits.ensures.added;
+          c.make-number.ensures.made c.in_ok-exits.ensures.added;
     }
 
 pub walk_statements-returns : goal.walk_statements-returns
@@ -212,13 +213,13 @@ walk_handlers-loop-i-preserved t c =
       handling = λ number are.
           handling-step c.args.walk.now.table.now.core.now c.args.walk.now.table.now.written.items (entries_of c.args.walk.now.map.now) c.args.walk.now.procedure
           number c.args.takers (handlers_of c.args.handlers.now) c.args.progress.now handler.at handler.exception (block_of c.deref.result.now) rest
-          c.in_ok-pc.pc own c.loop-i.progress c.walk_block.new.progress
+          (stored.Unknown own) own c.loop-i.progress c.walk_block.new.progress
           (subst (λ tree'. Handling c.args.walk.now.table.now.core.now c.args.walk.now.table.now.written.items (entries_of c.args.walk.now.map.now) c.args.walk.now.procedure number c.args.takers (handlers_of c.args.handlers.now) c.args.progress.now tree' c.loop-i.progress)
           tree (c.loop-i.invariant.handling number are))
           (number-at c.args.numbers.now number c.args.handlers.now c.loop-i.i handler own 0 are c.loop-i-test.true c.index-handlers-i.is refl)
-          c.in_ok-pc.ensures c.in_ok-walk_block.ensures;
+          refl c.in_ok-walk_block.ensures;
       ready = handling-second c.args.walk.now.table.now.core.now c.args.walk.now.table.now.written.items (entries_of c.args.walk.now.map.now) c.args.walk.now.procedure
-          c.in_ok-pc.pc c.args.takers handler.at handler.exception (block_of c.deref.result.now) rest c.loop-i.progress c.walk_block.new.progress
+          (stored.Unknown own) c.args.takers handler.at handler.exception (block_of c.deref.result.now) rest c.loop-i.progress c.walk_block.new.progress
           (subst (λ tree'. AreHandlersReady c.args.walk.now.table.now.core.now (entries_of c.args.walk.now.map.now) c.args.walk.now.procedure c.args.takers tree' c.loop-i.progress) tree c.loop-i.invariant.ready)
           c.in_ok-walk_block.ensures;
     }
@@ -233,18 +234,25 @@ walk_block-walk_statements-requires t c = (
   omega arith,
   block-goes c.args.walk.now.table.now.core.now c.args.walk.now.table.now.written.items (entries_of c.args.walk.now.map.now) c.args.walk.now.procedure
       (block_of c.args.block.now) c.args.pc c.args.takers c.within_single-inner.result c.args.progress.now c.begin.new.progress
-      c.requires c.in_ok-exits.ensures.added c.within_single-inner.ensures.levelled,
+      c.requires c.in_ok-exits.ensures.added c.within_single-inner.ensures.levelled c.within_single-inner.ensures.level,
 )
 
 pub walk_statements-walk_statement-requires : goal.walk_statements-walk_statement-requires
 walk_statements-walk_statement-requires t c = (
   omega (arith, statement-within c.args.block.now c.loop-statement.statement-index c.statement-item.result c.loop-statement-test.true c.statement-item.is),
   along-first c.args.walk.now.table.now.core.now c.args.walk.now.table.now.written.items (entries_of c.args.walk.now.map.now) c.args.walk.now.procedure
-      c.args.takers (statement_of c.statement-item.result) (block_of (drop (c.loop-statement.statement-index + 1) c.args.block.now)) c.loop-statement.progress c.make.new.self
+      c.args.takers (statement_of c.statement-item.result) (block_of (drop (c.loop-statement.statement-index + 1) c.args.block.now)) c.loop-statement.progress c.make-number.new.self
       (subst (λ tree. AreStatementsReady c.args.walk.now.table.now.core.now (entries_of c.args.walk.now.map.now) c.args.walk.now.procedure c.args.takers tree c.loop-statement.progress)
       (next-statement c.args.block.now c.loop-statement.statement-index c.statement-item.result c.loop-statement-test.true c.statement-item.is) c.loop-statement.invariant.ready)
-      c.in_ok-number.ensures.made,
+      c.make-number.ensures.made,
 )
+
+pub walk_statements-make-number-requires : goal.walk_statements-make-number-requires
+walk_statements-make-number-requires t c =
+    along-room c.args.walk.now.table.now.core.now c.args.walk.now.table.now.written.items (entries_of c.args.walk.now.map.now) c.args.walk.now.procedure
+    c.args.takers (statement_of c.statement-item.result) (block_of (drop (c.loop-statement.statement-index + 1) c.args.block.now)) c.loop-statement.progress
+    (subst (λ tree. AreStatementsReady c.args.walk.now.table.now.core.now (entries_of c.args.walk.now.map.now) c.args.walk.now.procedure c.args.takers tree c.loop-statement.progress)
+    (next-statement c.args.block.now c.loop-statement.statement-index c.statement-item.result c.loop-statement-test.true c.statement-item.is) c.loop-statement.invariant.ready)
 
 pub walk_statement-begin-requires : goal.walk_statement-begin-requires
 walk_statement-begin-requires t c =
@@ -255,7 +263,8 @@ walk_statement-walk_form-requires t c = (
   omega arith,
   statement-goes c.args.walk.now.table.now.core.now c.args.walk.now.table.now.written.items (entries_of c.args.walk.now.map.now) c.args.walk.now.procedure
       (statement_of c.args.statement.now) c.args.pc c.args.takers c.with_normal.result c.with_normal-2.result c.within_single-inner.result c.args.progress.now c.begin.new.progress
-      c.requires c.in_ok-exits.ensures.added c.with_normal.ensures.levelled c.with_normal-2.ensures.levelled c.within_single-inner.ensures.levelled,
+      c.requires c.in_ok-exits.ensures.added c.with_normal.ensures.levelled c.with_normal-2.ensures.levelled c.within_single-inner.ensures.levelled
+      c.with_normal-2.ensures.level c.within_single-inner.ensures.level,
 )
 
 pub walk_form-walk_if-requires : goal.walk_form-walk_if-requires
@@ -283,14 +292,16 @@ pub walk_form-walk_block-requires : goal.walk_form-walk_block-requires
 walk_form-walk_block-requires t c =
     let tree = tree-nested c.args.statement.now c.in-Nested.field-0 c.in-Nested.block c.deref-in-Nested.result.now c.in-Nested.is c.deref-in-Nested.ensures.value in (
       omega (arith, ap statement_nodes tree),
-      form-ready-at c.args.walk.now.table.now.core.now (entries_of c.args.walk.now.map.now) c.args.walk.now.procedure c.args.statement.now _ c.args.takers c.args.progress.now tree c.requires,
+      nested-goes c.args.walk.now.table.now.core.now c.args.walk.now.table.now.written.items (entries_of c.args.walk.now.map.now) c.args.walk.now.procedure
+          c.in-Nested.field-0 (block_of c.deref-in-Nested.result.now) c.args.takers c.args.progress.now
+          (form-ready-at c.args.walk.now.table.now.core.now (entries_of c.args.walk.now.map.now) c.args.walk.now.procedure c.args.statement.now _ c.args.takers c.args.progress.now tree c.requires),
     )
 
 pub walk_if-walk_block-requires : goal.walk_if-walk_block-requires
 walk_if-walk_block-requires t c = (
   omega arith,
   if-first c.args.walk.now.table.now.core.now c.args.walk.now.table.now.written.items (entries_of c.args.walk.now.map.now) c.args.walk.now.procedure
-      0 (expression_of c.args.condition.now) (block_of c.args.yes_block.now) (block_of c.args.no_block.now) c.args.pc c.args.takers _ 1
+      0 (expression_of c.args.condition.now) (block_of c.args.yes_block.now) (block_of c.args.no_block.now) c.args.pc c.args.takers _
       c.args.progress.now c.begin_branch.new.progress c.requires c.in_ok-number.ensures.added,
 )
 
@@ -298,7 +309,7 @@ pub walk_if-walk_block-requires-2 : goal.walk_if-walk_block-requires-2
 walk_if-walk_block-requires-2 t c = (
   omega arith,
   if-second c.args.walk.now.table.now.core.now c.args.walk.now.table.now.written.items (entries_of c.args.walk.now.map.now) c.args.walk.now.procedure
-      0 (expression_of c.args.condition.now) (block_of c.args.yes_block.now) (block_of c.args.no_block.now) c.args.pc c.in_ok-inner.inner c.args.takers _ 1
+      0 (expression_of c.args.condition.now) (block_of c.args.yes_block.now) (block_of c.args.no_block.now) c.args.pc (stored.Unknown c.in_ok-number.number) c.args.takers _
       c.args.progress.now c.begin_branch.new.progress c.walk_block.new.progress c.requires c.in_ok-number.ensures.added c.in_ok-walk_block.ensures,
 )
 
@@ -306,14 +317,20 @@ pub walk_while-walk_block-requires : goal.walk_while-walk_block-requires
 walk_while-walk_block-requires t c = (
   omega arith,
   while-goes c.args.walk.now.table.now.core.now c.args.walk.now.table.now.written.items (entries_of c.args.walk.now.map.now) c.args.walk.now.procedure
-      c.args.at c.args.number (expression_of c.args.condition.now) (block_of c.args.body.now) c.args.pc c.args.takers c.in_loop.result _ 2
-      c.args.progress.now c.begin_loop.new.progress c.requires c.in_ok-inner.ensures.added c.in_loop.ensures.levelled,
+      c.args.at c.args.number (expression_of c.args.condition.now) (block_of c.args.body.now) c.args.pc c.args.takers c.in_loop.result _
+      c.args.progress.now c.begin_loop.new.progress c.requires c.in_ok-inner.ensures.added c.in_loop.ensures.levelled c.in_loop.ensures.level,
 )
 
 pub walk_try-begin_try-requires : goal.walk_try-begin_try-requires
 walk_try-begin_try-requires t c =
-    try-inside c.args.walk.now.table.now.core.now c.args.walk.now.table.now.written.items (entries_of c.args.walk.now.map.now) c.args.walk.now.procedure
-    0 (block_of c.args.block.now) c.args.handlers.now c.args.takers c.args.progress.now c.requires
+    let room = try-room c.args.walk.now.table.now.core.now c.args.walk.now.table.now.written.items (entries_of c.args.walk.now.map.now) c.args.walk.now.procedure
+    0 (block_of c.args.block.now) c.args.handlers.now c.args.takers c.args.progress.now c.requires in
+    record {
+      inside = try-inside c.args.walk.now.table.now.core.now c.args.walk.now.table.now.written.items (entries_of c.args.walk.now.map.now) c.args.walk.now.procedure
+          0 (block_of c.args.block.now) c.args.handlers.now c.args.takers c.args.progress.now c.requires;
+      room = room.0;
+      deep = room.1;
+    }
 
 pub walk_try-walk_block-requires : goal.walk_try-walk_block-requires
 walk_try-walk_block-requires t c = (
@@ -332,7 +349,7 @@ walk_try-walk_handlers-requires t c =
         numbered,
         try-second c.args.walk.now.table.now.core.now c.args.walk.now.table.now.written.items (entries_of c.args.walk.now.map.now) c.args.walk.now.procedure
             0 (block_of c.args.block.now) c.args.handlers.now c.args.pc c.args.takers c.in_ok-tried.tried c.args.progress.now c.begin_try.new.progress c.walk_block.new.progress after
-            c.requires c.in_ok-tried.ensures c.in_ok-walk_block.ensures refl c.put_back.ensures,
+            c.requires c.in_ok-tried.ensures c.in_ok-walk_block.ensures refl refl c.put_back.ensures,
       ),
     )
 
@@ -345,3 +362,22 @@ walk_handlers-walk_block-requires t c =
           (subst (λ tree. AreHandlersReady c.args.walk.now.table.now.core.now (entries_of c.args.walk.now.map.now) c.args.walk.now.procedure c.args.takers tree c.loop-i.progress)
           (next-handler c.args.handlers.now c.loop-i.i handler c.deref.result.now c.loop-i-test.true c.index-handlers-i.is c.deref.ensures.value) c.loop-i.invariant.ready),
     )
+
+-- each form makes its own unknowns
+pub walk_form-walk_call-requires : goal.walk_form-walk_call-requires
+walk_form-walk_call-requires t c =
+    form-room c.args.walk.now.table.now.core.now c.args.walk.now.table.now.written.items (entries_of c.args.walk.now.map.now) c.args.walk.now.procedure c.args.takers
+    (T.Call c.in-Call.at c.in-Call.callee (map expression_of c.deref.result.now) c.in-Call.target) 1 c.args.progress.now
+    (form-ready-at c.args.walk.now.table.now.core.now (entries_of c.args.walk.now.map.now) c.args.walk.now.procedure c.args.statement.now _ c.args.takers c.args.progress.now
+    (ap statement_of c.in-Call.is ∙ ap (λ xs. T.Call c.in-Call.at c.in-Call.callee (map expression_of xs) c.in-Call.target) (sym c.deref.ensures.value)) c.requires)
+    (omega arith)
+
+pub walk_if-begin_branch-requires : goal.walk_if-begin_branch-requires
+walk_if-begin_branch-requires t c =
+    form-room c.args.walk.now.table.now.core.now c.args.walk.now.table.now.written.items (entries_of c.args.walk.now.map.now) c.args.walk.now.procedure c.args.takers
+    (T.If 0 (expression_of c.args.condition.now) (block_of c.args.yes_block.now) (block_of c.args.no_block.now)) 1 c.args.progress.now c.requires (omega arith)
+
+pub walk_while-begin_loop-requires : goal.walk_while-begin_loop-requires
+walk_while-begin_loop-requires t c =
+    form-room c.args.walk.now.table.now.core.now c.args.walk.now.table.now.written.items (entries_of c.args.walk.now.map.now) c.args.walk.now.procedure c.args.takers
+    (T.While c.args.at c.args.number (expression_of c.args.condition.now) (block_of c.args.body.now)) 2 c.args.progress.now c.requires (omega arith)

@@ -1,4 +1,4 @@
-use Rattle.std.proofs.Common.{◌≡◌, Option, subst}
+use Rattle.std.proofs.Common.{Option, subst}
 use Rattle.host.specs.Meaning.{HostContents, HostAnswer}
 use Rattle.host.specs.Values.{turned_or}
 use Rattle.std.specs.Option.{option_map}

@@ -35,16 +35,16 @@ new-requires c =
     }) (laid_out c.args.graph.now) = search rules in
     subst (Fits module_file) (sym made) (Fits-laid_out c.args.graph.now c.procedures.ensures.graph)
 
-pub returns-clause-exact : goal.returns-clause-exact
-returns-clause-exact c = search rules
+pub returns-clause-contents : goal.returns-clause-contents
+returns-clause-contents c = search rules
 
 pub returns-clause-runs : goal.returns-clause-runs
-returns-clause-runs c = subst (SameRuns c.args.graph.now) (sym (returns-clause-exact c)) (runs-same c.args.graph.now)
+returns-clause-runs c = subst (SameRuns c.args.graph.now) (sym (returns-clause-contents c)) (runs-same c.args.graph.now)
 
 pub returns-clause-interface : goal.returns-clause-interface
 returns-clause-interface c =
-    subst (SameInterface c.args.graph.now) (sym (returns-clause-exact c)) (interface-same c.args.graph.now)
+    subst (SameInterface c.args.graph.now) (sym (returns-clause-contents c)) (interface-same c.args.graph.now)
 
 pub returns-clause-starts : goal.returns-clause-starts
 returns-clause-starts c =
-    subst (λ (m : ModuleContents). All HasStarts m.procedures) (sym (returns-clause-exact c)) (starts-laid_out c.args.graph.now c.procedures.ensures.graph)
+    subst (λ (m : ModuleContents). All HasStarts m.procedures) (sym (returns-clause-contents c)) (starts-laid_out c.args.graph.now c.procedures.ensures.graph)

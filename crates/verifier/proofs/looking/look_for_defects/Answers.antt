@@ -10,8 +10,8 @@ use Rattle.verifier.proofs.FixedRefusals.{boundaries, own_right, none_left, proc
 use Rattle.verifier.proofs.Positioned.{codes_more, all_codes, indexes_more, all_indexes, as_many, instructions_more}
 use Rattle.verifier.proofs.looking.look_for_defects.Goals as goal
 
-pub new-requires : goal.new-requires
-new-requires c =
+pub new-requires-in-loop-procedure : goal.new-requires-in-loop-procedure
+new-requires-in-loop-procedure c =
     (bounded c.args.program.now c.procedures-procedures.ensures.spelled).short c.loop-procedure.procedure-index c.procedure-item.result
     (item_at c.args.program.now c.procedures-procedures.result.now c.procedures-procedures.ensures.procedures c.loop-procedure.procedure-index c.procedure-item.result c.procedure-item.is c.loop-procedure-test.true)
 

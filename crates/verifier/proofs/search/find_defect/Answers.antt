@@ -14,15 +14,15 @@ pub run-requires-clause-searching : goal.run-requires-clause-searching
 run-requires-clause-searching c =
     let n : c.len-size.result ≡ suc (c.len-size.result - 1) = omega arith in
     let size : code_length c.args.body.now.procedure.now.code ≡ suc (c.len-size.result - 1) = omega (arith, c.len-size.ensures, ap length c.requires.body.index, length-indices 0 c.args.body.now.procedure.now.code) in
-    started c.args.body.now.program.now c.args.body.now.procedure.now _ (c.len-size.result - 1) size c.requires.boundaries c.in_ok-operands.ensures (c.set.ensures ∙ ap (λ l. set l 0 (Some 0)) (c.in_ok-shapes.ensures ∙ ap (λ k. replicate k None) n)) c.in_ok-work.ensures
+    started c.args.body.now.program.now c.args.body.now.procedure.now _ (c.len-size.result - 1) size c.requires.boundaries c.restart.ensures (c.set.ensures ∙ ap (λ l. set l 0 (Some 0)) (c.in_ok-restart.ensures ∙ ap (λ k. replicate k None) n)) c.in_ok-restart-2.ensures
 
 pub run-requires-clause-room : goal.run-requires-clause-room
 run-requires-clause-room c =
     let n : c.len-size.result ≡ suc (c.len-size.result - 1) = omega arith in
     let size : code_length c.args.body.now.procedure.now.code ≡ suc (c.len-size.result - 1) = omega (arith, c.len-size.ensures, ap length c.requires.body.index, length-indices 0 c.args.body.now.procedure.now.code) in
-    let s : Search = record { operands = c.in_ok-operands.operands; shapes = c.set.new.self; work = c.in_ok-work.work } in
-    let l : left s ≡ suc (c.len-size.result - 1) = start_left c.args.body.now.program.now c.args.body.now.procedure.now s (c.len-size.result - 1) size c.requires.boundaries c.in_ok-operands.ensures (c.set.ensures ∙ ap (λ l. set l 0 (Some 0)) (c.in_ok-shapes.ensures ∙ ap (λ k. replicate k None) n)) c.in_ok-work.ensures in
-    omega (arith, l, ap length c.in_ok-operands.ensures)
+    let s : Search = record { operands = c.restart.new.self; shapes = c.set.new.self; work = c.restart-3.new.self } in
+    let l : left s ≡ suc (c.len-size.result - 1) = start_left c.args.body.now.program.now c.args.body.now.procedure.now s (c.len-size.result - 1) size c.requires.boundaries c.restart.ensures (c.set.ensures ∙ ap (λ l. set l 0 (Some 0)) (c.in_ok-restart.ensures ∙ ap (λ k. replicate k None) n)) c.in_ok-restart-2.ensures in
+    omega (arith, l, ap length c.restart.ensures)
 
 pub run-requires-clause-waiting : goal.run-requires-clause-waiting
 run-requires-clause-waiting c =

@@ -1,4 +1,4 @@
-use Rattle.std.proofs.Common.{List, [], ◌∷◌, ◌++◌, map}
+use Rattle.std.proofs.Common.{List, [], ◌∷◌, ◌++◌, map, refl}
 use Rattle.resolved.specs.CoreOf.{program_of}
 use Rattle.resolved.specs.Labelled.{label_of, one}
 use Rattle.resolved.specs.TreeOf.{expression_of}
@@ -6,6 +6,7 @@ use Rattle.resolved.specs.declared.statement.Exit.TheVariants.{Normal}
 use Rattle.resolved.specs.declared.target.Target.TheVariants.{ToBegin, ToValue}
 use Rattle.gathering.specs.Names.{NamedAtom, named_atoms}
 use Rattle.gathering.specs.Walk.{argument_constraints, call_atoms, call_flows, inner_atom, inner_constraint, raise_atoms_all, rule_constraint, target_constraint}
+use Rattle.solver.specs.declared.constraints.Atom.TheVariants as stored
 use Rattle.constraints.specs.LeftSides.{scope_of}
 use Rattle.constraints.specs.Takers.{takers_of}
 use Rattle.constraints.specs.Walks.{kept_ends}
@@ -31,7 +32,7 @@ returns c = λ named stands.
     let begun = rule_constraint scope c.args.at 6 own (ToBegin c.args.callee) in
     added-then core table (inner_constraint raised k) (begun ++ (passed ++ (demands ++ ends))) _ _ _ (c.in_ok-add_inner.ensures raised (c.in_ok-raised.ensures named stands))
     (added-then core table begun (passed ++ (demands ++ ends)) _ _ _
-    (c.in_ok-add_rule.ensures procedure own (alone-left core table (inner_atom k) c.in_ok-own.own c.in_ok-begin.begin.items c.in_ok-begin.ensures c.in_ok-own.ensures))
-    (added-then core table passed (demands ++ ends) _ _ _ (c.in_ok-add_arguments.ensures k c.in_ok-own.ensures)
-    (added-then core table demands ends _ _ _ (c.in_ok-add_target.ensures received (c.in_ok-received.ensures (inner_atom k) c.in_ok-own.ensures))
-    (c.in_ok-add_call_ends.ensures k c.in_ok-own.ensures))))
+    (c.in_ok-add_rule.ensures procedure own (alone-left core table (inner_atom k) (stored.Unknown k) c.in_ok-begin.begin.items c.in_ok-begin.ensures refl))
+    (added-then core table passed (demands ++ ends) _ _ _ (c.in_ok-add_arguments.ensures k refl)
+    (added-then core table demands ends _ _ _ (c.in_ok-add_target.ensures received (c.in_ok-received.ensures (inner_atom k) refl))
+    (c.in_ok-add_call_ends.ensures k refl))))

@@ -1,10 +1,11 @@
-use Rattle.std.proofs.Common.{[], ◌∷◌, map, subst, arith}
+use Rattle.std.proofs.Common.{[], ◌∷◌, ap, map, subst, arith}
 use Rattle.std.proofs.lemmas.List.{take_all}
 use Rattle.resolved.specs.ProgramOf.{thrown_entry}
 use Rattle.resolved.specs.declared.tables.Thrown.{Thrown}
 use Rattle.gathering.specs.Walk.{inner_atom, thrown_constraints}
-use Rattle.constraints.specs.Added.{AreAdded, IsPart}
-use Rattle.constraints.specs.LeftSides.{scope_of}
+use Rattle.solver.specs.declared.constraints.Atom.TheVariants as stored
+use Rattle.constraints.specs.Added.{AreAdded}
+use Rattle.constraints.specs.LeftSides.{Unknown, scope_of}
 use Rattle.constraints.specs.Procedures.{number_in}
 use Rattle.constraints.specs.declared.takers.Entry.{Entry}
 use Rattle.constraints.proofs.Added.{alone-left}
@@ -21,8 +22,8 @@ loop-declared-preserved c = λ at_is.
     demands-next core table c.args.self.now.procedure c.args.at (number_in c.args.thrown.now) c.args.throws.now i x _ _ _
     c.loop-declared-test.true c.declared-item.is at_is (c.loop-declared.invariant at_is)
     (c.in_ok-add_rule.ensures c.args.self.now.procedure (inner_atom k ∷ [])
-    (alone-left core table (inner_atom k) c.in_ok-taker.taker c.in_ok-left.left.items c.in_ok-left.ensures
-    (subst (λ (entry : Entry). IsPart core table (inner_atom entry.number) c.in_ok-taker.taker) c.entry_in.ensures c.in_ok-taker.ensures)))
+    (alone-left core table (inner_atom k) (stored.Unknown c.entry_in.result.number) c.in_ok-left.left.items c.in_ok-left.ensures
+    (ap (λ (entry : Entry). Unknown entry.number) c.entry_in.ensures)))
 
 pub returns : goal.returns
 returns c = λ at_is.

@@ -1,5 +1,6 @@
-use Rattle.std.proofs.Common.{[], ◌∷◌}
+use Rattle.std.proofs.Common.{[], ◌∷◌, refl}
 use Rattle.gathering.specs.Walk.{inner_atom}
+use Rattle.solver.specs.declared.constraints.Atom.TheVariants as stored
 use Rattle.constraints.proofs.Added.{alone-left}
 use Rattle.constraints.proofs.Bodies.{ends-added, ends-none}
 use Rattle.constraints.proofs.statements.Walk.add_end_demands.Goals as goal
@@ -16,5 +17,5 @@ returns-clause-added c = λ level had is one taken.
     ends-added core table c.args.self.now.procedure n level c.args.only c.args.procedure.now c.deref.result.now had c.args.progress.now.thrown.items c.deref-2.result.now _ _ _
     is one c.if-only.false taken c.deref.ensures.value c.deref-2.ensures.value
     (c.in_ok-add_rule.ensures c.args.self.now.procedure (inner_atom n ∷ [])
-    (alone-left core table (inner_atom n) c.in_ok-taker.taker c.in_ok-left.left.items c.in_ok-left.ensures c.in_ok-taker.ensures))
+    (alone-left core table (inner_atom n) (stored.Unknown n) c.in_ok-left.left.items c.in_ok-left.ensures refl))
     c.in_ok-add_declared_demands.ensures

@@ -1,4 +1,4 @@
-use Rattle.std.proofs.Common.{List, [], ◌∷◌, ◌++◌}
+use Rattle.std.proofs.Common.{List, [], ◌∷◌, ◌++◌, refl}
 use Rattle.labels.specs.Constraints.{renamed}
 use Rattle.resolved.specs.CoreOf.{program_of}
 use Rattle.resolved.specs.Ends.{raises}
@@ -8,6 +8,7 @@ use Rattle.resolved.specs.declared.statement.Exit.TheVariants.{Normal}
 use Rattle.resolved.specs.declared.target.Target.TheVariants.{ToLoop}
 use Rattle.gathering.specs.Names.{NamedAtom, Real, named_atoms}
 use Rattle.gathering.specs.Walk.{flow, inner_atom, inner_constraint, raise_atoms, raised_flows, rule_constraint}
+use Rattle.solver.specs.declared.constraints.Atom.TheVariants as stored
 use Rattle.constraints.specs.LeftSides.{scope_of}
 use Rattle.constraints.specs.Takers.{takers_of}
 use Rattle.constraints.proofs.Added.{added-then, alone-left, flow-added, left-same}
@@ -27,9 +28,9 @@ returns c = λ named stands.
     let leaving = flow body (takers Normal) in
     let branch = inner_constraint (turn ∷ named_atoms (value_label scope e)) c.args.inner in
     added-then core table (rule_constraint scope c.args.at 8 (named ∷ []) (ToLoop procedure c.args.number)) (branch ++ (leaving ++ raised)) _ _ _ (c.in_ok-add_turn.ensures named stands)
-    (added-then core table branch (leaving ++ raised) _ _ _ (c.in_ok-add_branch.ensures turn c.in_ok-turn.ensures)
+    (added-then core table branch (leaving ++ raised) _ _ _ (c.in_ok-add_branch.ensures turn c.part-turn.ensures)
     (added-then core table leaving raised _ _ _
     (flow-added core table body c.at-taker.result (takers Normal) _ _ c.at-taker.ensures
     (c.in_ok-add_flow.ensures body (left-same core table body c.in_ok-left.left.items c.deref.result.now c.deref.ensures.value
-    (alone-left core table (inner_atom c.args.inner) c.in_ok-body.body c.in_ok-left.left.items c.in_ok-left.ensures c.in_ok-body.ensures))))
-    (c.in_ok-add_condition.ensures turn c.in_ok-turn.ensures)))
+    (alone-left core table (inner_atom c.args.inner) (stored.Unknown c.args.inner) c.in_ok-left.left.items c.in_ok-left.ensures refl))))
+    (c.in_ok-add_condition.ensures turn c.part-turn.ensures)))

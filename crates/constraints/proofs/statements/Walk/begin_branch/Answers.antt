@@ -18,11 +18,11 @@ returns-clause-added c =
     let table = c.args.self.now.table.now.written.items in
     let scope = scope_of core c.args.self.now.procedure in
     let e = expression_of c.args.condition.now in
-    let number = c.in_ok-number.number in
+    let number = c.make-number.result in
     let thrown = c.deref.result.now in
     made-walked c.args.self.now.table.now.core.now c.args.self.now.table.now.written.items (entries_of c.args.self.now.map.now)
-    c.args.pc c.args.takers thrown 1 number (λ t n named. branch_constraints scope named (takers_of c.args.takers t) n e) c.args.progress.now c.make.new.self _
-    c.in_ok-number.ensures.made c.in_ok-number.ensures.first c.deref.ensures.value refl refl refl refl
+    c.args.pc c.args.takers thrown 1 number (λ t n named. branch_constraints scope named (takers_of c.args.takers t) n e) c.args.progress.now c.make-number.new.self _
+    c.make-number.ensures.made c.make-number.ensures.first c.deref.ensures.value refl refl refl refl
     (λ named stands. added-then core table (inner_constraint (named ∷ named_atoms (value_label scope e)) number)
     (raised_flows (named ∷ named_atoms (raise_atoms scope e)) (takers_of c.args.takers thrown) (raises e)) _ _ _
     (c.in_ok-add_branch.ensures named stands) (c.in_ok-add_condition.ensures named stands))

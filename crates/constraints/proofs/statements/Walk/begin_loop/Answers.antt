@@ -1,4 +1,4 @@
-use Rattle.std.proofs.Common.{refl, ap, ◌∙◌, ◌+◌}
+use Rattle.std.proofs.Common.{refl, ap, ◌+◌}
 use Rattle.resolved.specs.TreeOf.{expression_of}
 use Rattle.constraints.specs.Ready.{entries_of}
 use Rattle.constraints.specs.LeftSides.{scope_of}
@@ -8,12 +8,12 @@ use Rattle.constraints.proofs.Begun.{made-walked}
 use Rattle.constraints.proofs.statements.Walk.begin_loop.Goals as goal
 
 pub returns-clause-back : goal.returns-clause-back
-returns-clause-back c = c.in_ok-back.ensures.sum ∙ ap (λ n. n + 1) c.in_ok-inner.ensures.first
+returns-clause-back c = ap (λ n. n + 1) c.make-inner.ensures.first
 
 pub returns-clause-added : goal.returns-clause-added
 returns-clause-added c =
     let scope = scope_of c.args.self.now.table.now.core.now c.args.self.now.procedure in
     let e = expression_of c.args.condition.now in
     made-walked c.args.self.now.table.now.core.now c.args.self.now.table.now.written.items (entries_of c.args.self.now.map.now)
-    c.args.pc c.args.takers c.deref.result.now 2 c.in_ok-inner.inner (λ t n named. loop_head_constraints scope named (takers_of c.args.takers t) n c.args.at c.args.number e) c.args.progress.now c.make.new.self _
-    c.in_ok-inner.ensures.made c.in_ok-inner.ensures.first c.deref.ensures.value refl refl refl refl c.in_ok-add_loop_head.ensures
+    c.args.pc c.args.takers c.deref.result.now 2 c.make-inner.result (λ t n named. loop_head_constraints scope named (takers_of c.args.takers t) n c.args.at c.args.number e) c.args.progress.now c.make-inner.new.self _
+    c.make-inner.ensures.made c.make-inner.ensures.first c.deref.ensures.value refl refl refl refl c.in_ok-add_loop_head.ensures

@@ -15,6 +15,6 @@ returns c = λ n.
     let table = c.args.self.now.table.now.written.items in
     reached-walked c.args.self.now.table.now.core.now c.args.self.now.table.now.written.items (entries_of c.args.self.now.map.now)
     c.args.self.now.procedure c.args.reached c.args.pc c.args.takers n c.args.progress.now _ c.if-not-reached.false refl refl refl refl
-    (λ named stands. flow-added core table (named ∷ []) c.at-taker.result c.args.takers.normal _ _ c.at-taker.ensures
+    (λ named stands. flow-added core table (named ∷ []) c.at-taker.result c.args.takers.ends.normal _ _ c.at-taker.ensures
     (c.in_ok-add_flow.ensures (named ∷ []) (left-same core table (named ∷ []) c.in_ok-left.left.items c.deref-2.result.now c.deref-2.ensures.value
     (alone-left core table named c.args.pc c.in_ok-left.left.items c.in_ok-left.ensures stands))))

@@ -1,6 +1,6 @@
-use Rattle.std.proofs.Common.{sym, ◌∙◌, subst}
-use Rattle.std.proofs.lemmas.Result.{IfOk-weaker}
+use Rattle.std.proofs.Common.{refl, sym, ◌∙◌, subst}
 use Rattle.gathering.specs.Walk.{onward_pc}
+use Rattle.solver.specs.declared.constraints.Atom.TheVariants as stored
 use Rattle.constraints.specs.Added.{IsPart}
 use Rattle.constraints.proofs.statements.Walk.onward_pc.Goals as goal
 
@@ -10,9 +10,6 @@ returns-then-is_single c = λ ends named kept stands.
     (sym c.if-is_single.true ∙ c.is_single.ensures ends kept) stands
 
 pub returns : goal.returns
-returns c =
-    IfOk-weaker c.inner.result _ _
-    (λ atom is. λ ends named kept stands.
-    subst (λ b. IsPart c.args.self.now.table.now.core.now c.args.self.now.table.now.written.items (onward_pc b named c.args.number) atom)
-    (sym c.if-is_single.false ∙ c.is_single.ensures ends kept) is)
-    c.inner.ensures
+returns c = λ ends named kept stands.
+    subst (λ b. IsPart c.args.self.now.table.now.core.now c.args.self.now.table.now.written.items (onward_pc b named c.args.number) (stored.Unknown c.args.number))
+    (sym c.if-is_single.false ∙ c.is_single.ensures ends kept) refl

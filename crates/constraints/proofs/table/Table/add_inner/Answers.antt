@@ -1,22 +1,18 @@
-use Rattle.std.proofs.Common.{◌≡◌, ◌∙◌, ap, refl, ◌+◌}
+use Rattle.std.proofs.Common.{refl}
 use Rattle.std.specs.Prelude.{None}
 use Rattle.resolved.specs.CoreOf.{program_of}
-use Rattle.gathering.specs.Names.{NamedConstraint, numbered_atom, real_unknowns}
+use Rattle.gathering.specs.Names.{NamedConstraint}
 use Rattle.gathering.specs.Walk.{inner_atom}
 use Rattle.solver.specs.declared.constraints.Atom.TheVariants as stored
 use Rattle.constraints.specs.Added.{Stored, wanted_constraint}
-use Rattle.constraints.specs.LeftSides.{Unknown, wanted}
 use Rattle.constraints.proofs.Added.{added-one, stands-made}
-use Rattle.constraints.proofs.Tables.{map-map}
 use Rattle.constraints.proofs.table.Table.add_inner.Goals as goal
 
 pub returns : goal.returns
 returns c = λ atoms is.
     let table = c.args.self.now in
     let program = program_of table.core.now in
-    let unknown = c.in_ok-number_after.field-0 in
-    let number : unknown ≡ real_unknowns program + c.args.number = c.in_ok-number_after.ensures.sum ∙ ap (λ n. n + c.args.number) table.count in
-    let made : Stored = record { at = 0; rule = 0; left = c.args.left; target = None; right = stored.Unknown unknown } in
+    let made : Stored = record { at = 0; rule = 0; left = c.args.left; target = None; right = stored.Unknown c.args.number } in
     let named : NamedConstraint = record { at = 0; rule = 0; left = atoms; target = None; right = inner_atom c.args.number } in
     added-one table.core.now table.written.items made named c.args.constraints.now.items c.push.new.self.items c.in_ok-push.ensures.items
-    (stands-made table.written.items made (wanted_constraint program named) refl refl (is ∙ map-map (numbered_atom program) wanted atoms) refl (ap (λ n. Unknown n) number))
+    (stands-made table.written.items made (wanted_constraint program named) refl refl is refl refl)

@@ -1,13 +1,11 @@
-use Rattle.std.proofs.Common.{◌∙◌, refl}
+use Rattle.std.proofs.Common.{refl}
 use Rattle.std.specs.Prelude.{Some}
 use Rattle.labels.specs.Constraints.{renamed}
 use Rattle.resolved.specs.CoreOf.{program_of}
 use Rattle.resolved.specs.Labelled.{label_of}
-use Rattle.gathering.specs.Names.{NamedConstraint, Real, numbered_atom}
+use Rattle.gathering.specs.Names.{NamedConstraint, Real}
 use Rattle.constraints.specs.Added.{Stored, wanted_constraint}
-use Rattle.constraints.specs.LeftSides.{wanted}
 use Rattle.constraints.proofs.Added.{added-one, stands-made}
-use Rattle.constraints.proofs.Tables.{map-map}
 use Rattle.constraints.proofs.table.Table.add_rule.Goals as goal
 
 pub returns : goal.returns
@@ -15,7 +13,7 @@ returns c = λ procedure atoms is.
     let table = c.args.self.now in
     let program = program_of table.core.now in
     let target = c.args.target in
-    let made : Stored = record { at = c.args.at; rule = c.args.rule; left = c.args.left; target = Some target; right = c.in_ok-right.right } in
+    let made : Stored = record { at = c.args.at; rule = c.args.rule; left = c.args.left; target = Some target; right = c.part-right.result } in
     let named : NamedConstraint = record { at = c.args.at; rule = c.args.rule; left = atoms; target = Some target; right = renamed Real (label_of program target) } in
     added-one table.core.now table.written.items made named c.args.constraints.now.items c.push.new.self.items c.in_ok-push.ensures.items
-    (stands-made table.written.items made (wanted_constraint program named) refl refl (is ∙ map-map (numbered_atom program) wanted atoms) refl c.in_ok-right.ensures)
+    (stands-made table.written.items made (wanted_constraint program named) refl refl is refl c.part-right.ensures)

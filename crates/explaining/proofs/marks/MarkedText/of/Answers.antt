@@ -1,7 +1,7 @@
 use Rattle.std.proofs.Common.{◌≡◌, ◌∙◌, ap, sym, ◌+◌, ◌*◌, ◌++◌, [], ◌∷◌, map, arith}
 use Rattle.std.specs.List.{range_with_len}
 use Rattle.std.proofs.lemmas.List.FromFn.{map-range_with_len_more}
-use Rattle.checker.specs.Position.{place_at}
+use Rattle.lexer.specs.Position.{place_at}
 use Rattle.explaining.proofs.marks.MarkedText.of.Goals as goal
 
 pub loop-mark-preserved : goal.loop-mark-preserved

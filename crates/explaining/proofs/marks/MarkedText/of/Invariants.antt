@@ -1,6 +1,6 @@
 use Rattle.std.proofs.Common.{◌≡◌, ◌+◌, ◌*◌, map}
 use Rattle.std.specs.List.{range_with_len}
-use Rattle.checker.specs.Position.{place_at}
+use Rattle.lexer.specs.Position.{place_at}
 use Rattle.explaining.proofs.marks.MarkedText.of.Given as goal
 
 -- the marks so far, the last of which is at the place

@@ -1,7 +1,7 @@
 use Rattle.std.proofs.Common.{◌≡◌, ◌∙◌, ap, sym, ◌+◌, ◌*◌, ◌/◌, ◌<◌, length, get_or, arith}
 use Rattle.std.proofs.lemmas.List.{get_or_read_under}
 use Rattle.std.proofs.lemmas.List.FromFn.{get_or-map-range_with_len, length-map-range_with_len}
-use Rattle.checker.specs.Position.{place_at}
+use Rattle.lexer.specs.Position.{place_at}
 use Rattle.explaining.proofs.marks.MarkedText.place_of.Goals as goal
 
 pub index-requires : goal.index-requires

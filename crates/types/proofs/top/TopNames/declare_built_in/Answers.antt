@@ -4,12 +4,12 @@ use Rattle.types.specs.declared.scope.Meaning.TheVariants.{Exception}
 use Rattle.types.specs.Environment.{Environment, declaring}
 use Rattle.types.specs.Resolution.{nothing_declared}
 use Rattle.types.specs.Views.{found_in, signature_view}
-use Rattle.types.proofs.Tables.{empty_finds, ok_inside}
+use Rattle.types.proofs.Tables.{ok_inside}
 use Rattle.types.proofs.top.TopNames.declare_built_in.Goals as goal
 
 pub returns : goal.returns
 returns c =
-    let none : nothing_declared ≡ found_in c.new-names.result = λ i other. empty_finds c.new-names.result c.new-names.ensures.empty other i in
+    let none : nothing_declared ≡ found_in c.new-names.result = sym c.new-names.ensures in
     let found : Environment = found_in c.insert-3.new.table in
     let e : declaring (codes "End") (Exception 2) (declaring (codes "Bounds") (Exception 1) (declaring (codes "Arith") (Exception 0) nothing_declared)) ≡ found =
     ap (λ one. declaring (codes "End") (Exception 2) (declaring (codes "Bounds") (Exception 1) (declaring (codes "Arith") (Exception 0) one))) none

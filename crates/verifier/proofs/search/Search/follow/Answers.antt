@@ -6,7 +6,10 @@ pub look-requires-clause-searching : goal.look-requires-clause-searching
 look-requires-clause-searching c = (subst (IsSearchingNext c.args.body.now.program.now c.args.body.now.procedure.now c.loop-next.self) c.in-Some.is c.loop-next.invariant.next).0
 
 pub look-requires-clause-there : goal.look-requires-clause-there
-look-requires-clause-there c = (subst (IsSearchingNext c.args.body.now.program.now c.args.body.now.procedure.now c.loop-next.self) c.in-Some.is c.loop-next.invariant.next).1
+look-requires-clause-there c = (subst (IsSearchingNext c.args.body.now.program.now c.args.body.now.procedure.now c.loop-next.self) c.in-Some.is c.loop-next.invariant.next).1.0
+
+pub look-requires-clause-place : goal.look-requires-clause-place
+look-requires-clause-place c = (subst (IsSearchingNext c.args.body.now.program.now c.args.body.now.procedure.now c.loop-next.self) c.in-Some.is c.loop-next.invariant.next).1.1
 
 pub look-requires-clause-room : goal.look-requires-clause-room
 look-requires-clause-room c = omega (arith, c.loop-next.invariant.few, ap count c.in-Some.is, c.requires.room)

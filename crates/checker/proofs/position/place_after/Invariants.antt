@@ -1,6 +1,0 @@
-use Rattle.std.proofs.Common.{◌≡◌, ◌+◌}
-use Rattle.checker.specs.Position.{place_at}
-use Rattle.checker.proofs.position.place_after.Given as goal
-
-abbrev pub invariant-loop-byte : goal.invariant-loop-byte
-invariant-loop-byte l = l.place ≡ place_at l.text (l.from + l.byte-index)
