@@ -5,8 +5,9 @@
 
 PROGRAM is the built program. For each size (256, 512 and 1024 KiB unless others are given) and each shape it prints a line: the
 seconds that `check` takes, how many times that of the benign source of the size it is, how many times that of the same shape at half
-the size, and the most memory. The least of three runs counts, and a run is cut off after 120 seconds. Behind a shape that takes more
-than its bound of the benign source's time stands `TOO SLOW`; the status is 1 where there is one.
+the size, and the most memory, also as bytes for each byte of the source beyond what the benign one takes. The least time of three runs
+counts, and a run is cut off after 120 seconds. Behind a shape that takes more than its bound of the benign source's time stands
+`TOO SLOW`, and behind one that takes more than its bound of memory `TOO LARGE`; the status is 1 where there is one.
 """
 
 import itertools
@@ -202,6 +203,45 @@ def one_policy_more_each(size):
     return flat(256), head + joined(found) + "}\n"
 
 
+def long_label_named_everywhere(size):
+    """A long label, which every label of further channels, globals, exceptions, procedures, parameters and locals names."""
+    head, tail = f"global int{policies(size * 2 // 3)} g = 1;\n", "void main() { }\n"
+    found = pieces(
+        size - len(head) - len(tail),
+        lambda n: (
+            f"input{{g}} c{n};\nglobal int{{g}} h{n} = 0;\nexception e{n};\n"
+            f"int{{g}} f{n}{{g}}(int{{g}} p) : {{g}} throws (e{n}{{g}}) {{ int{{g}} x = p; return x; }}\n",
+        ),
+    )
+    return flat(256), head + joined(found) + tail
+
+
+def half_of_a_long_label_flows(size):
+    """A long label and another one with half of its policies, which flows again and again to a label that names the long one and has a
+    policy beside it."""
+    long = policies(size // 2)
+    half = ";".join(long[1:-1].split(";")[::2])
+    head = f"global int{long} g = 1;\nglobal int{{{half}}} h = 1;\nvoid main() {{\n"
+    found = pieces(size - len(head) - 2, lambda n: (f"int{{g; {one_policy(n)}}} a{n} = h;\n",))
+    return flat(256), head + joined(found) + "}\n"
+
+
+def flows_along_names(size):
+    """A chain of locals, each with the label of the one before and one policy more, that are copied along it."""
+    head = f"void main() {{\nint{policies(size // 3)} a0 = 1;\n"
+    found = pieces(size - len(head) - 2, lambda n: (f"int{{a{n}; {one_policy(n)}}} a{n + 1} = a{n};\n",))
+    return flat(256), head + joined(found) + "}\n"
+
+
+def all_names_flow_to_the_last(size):
+    """The same chain without the copies, of which each local is copied to one with the label of the last."""
+    head = "void main() {\nint{} a0 = 1;\n"
+    found = pieces(
+        size - len(head) - 40, lambda n: (f"int{{a{n}; {one_policy(n)}}} a{n + 1} = 0;\n", f"z = a{n};\n")
+    )
+    return flat(256), head + joined(found) + f"int{{a{len(found)}}} z = 0;\n" + joined(found, 1) + "}\n"
+
+
 def declared(size):
     """Exceptions for a third of a source: their declarations, and the names with labels that stand behind `throws`."""
     found = pieces(size // 3, lambda n: (f"exception e{n};\n", f", e{n}{{}}"))
@@ -256,30 +296,35 @@ def exceptions_of_many_callees(size):
     return flat(2), head + f"void main() throws ({thrown}) {{\n{tries}}}\n"
 
 
-# Each shape, with the most that it may take of the benign source's time at 1 MiB.
+# Each shape, with the most that it may take of the benign source's time at 1 MiB, and the most bytes of memory that it may take for
+# each byte of the source beyond those of the benign one.
 SHAPES = [
-    (one_long_label, 5),
-    (two_long_labels, 5),
-    (nearly_equal_long_labels, 5),
-    (many_readers, 5),
-    (many_labels, 5),
-    (many_labels_to_one_channel, 5),
-    (long_names, 5),
-    (many_names, 5),
-    (open_comments, 5),
-    (many_refused_flows, 5),
-    (labels_around_a_cycle, 5),
-    (copies_backwards, 5),
-    (labels_along_a_backward_chain, 5),
-    (long_label_named_again, 20),
-    (long_label_along_names, 20),
-    (long_label_beside_policies, 20),
-    (one_policy_more_each, 20),
-    (exceptions_of_calls, 20),
-    (exceptions_of_calls_at_many_labels, 20),
-    (exceptions_of_calls_in_tries, 20),
-    (exceptions_handed_on, 20),
-    (exceptions_of_many_callees, 20),
+    (one_long_label, 5, 400),
+    (two_long_labels, 5, 400),
+    (nearly_equal_long_labels, 5, 400),
+    (many_readers, 5, 400),
+    (many_labels, 5, 400),
+    (many_labels_to_one_channel, 5, 400),
+    (long_names, 5, 400),
+    (many_names, 5, 400),
+    (open_comments, 5, 400),
+    (many_refused_flows, 5, 400),
+    (labels_around_a_cycle, 5, 400),
+    (copies_backwards, 5, 400),
+    (labels_along_a_backward_chain, 5, 400),
+    (long_label_named_again, 20, 40),
+    (long_label_along_names, 20, 40),
+    (long_label_beside_policies, 20, 40),
+    (one_policy_more_each, 20, 400),
+    (long_label_named_everywhere, 20, 40),
+    (half_of_a_long_label_flows, 20, 40),
+    (flows_along_names, 20, 400),
+    (all_names_flow_to_the_last, 20, 400),
+    (exceptions_of_calls, 20, 400),
+    (exceptions_of_calls_at_many_labels, 20, 400),
+    (exceptions_of_calls_in_tries, 20, 400),
+    (exceptions_handed_on, 20, 400),
+    (exceptions_of_many_callees, 20, 400),
 ]
 
 
@@ -309,29 +354,36 @@ def measured(program, folder, hierarchy, source):
     return least, most
 
 
+def judged(program, folder, kib, base, shape, bounds, before):
+    """The line of a shape, and whether it keeps its bounds. What the benign source of the size takes is the base."""
+    hierarchy, source = shape(kib << 10)
+    found = measured(program, folder, hierarchy, source)
+    if found is None:
+        return f"{kib} KiB {shape.__name__}: cut off after {LIMIT} s, TOO SLOW", False
+    took, most = found
+    growth = f", {took / before[shape]:.1f} times half the size" if shape in before else ""
+    before[shape] = took
+    more = max(0, most - base[1]) / kib * 1024
+    marks = (", TOO SLOW" if took > bounds[0] * base[0] else "") + (", TOO LARGE" if more > bounds[1] else "")
+    times = f"{took:.3f} s, {took / base[0]:.1f} times the benign one{growth}"
+    return f"{kib} KiB {shape.__name__}: {times}, {most} MB, {more:.0f} bytes a byte more{marks}", not marks
+
+
 def main(words):
     if not words:
         sys.exit(__doc__)
     sizes = [int(word) for word in words[1:]] or SIZES
-    slow = 0
+    kept = True
     with tempfile.TemporaryDirectory() as name:
         folder, before = Path(name), {}
         for kib in sizes:
-            base, most = measured(words[0], folder, *benign(kib << 10))
-            print(f"{kib} KiB benign: {base:.3f} s, {most} MB")
-            for shape, bound in SHAPES:
-                found = measured(words[0], folder, *shape(kib << 10))
-                if found is None:
-                    slow += 1
-                    print(f"{kib} KiB {shape.__name__}: cut off after {LIMIT} s, TOO SLOW")
-                    continue
-                took, most = found
-                growth = f", {took / before[shape]:.1f} times half the size" if shape in before else ""
-                mark = ", TOO SLOW" if took > bound * base else ""
-                slow += bool(mark)
-                print(f"{kib} KiB {shape.__name__}: {took:.3f} s, {took / base:.1f} times the benign one{growth}, {most} MB{mark}")
-                before[shape] = took
-    return 1 if slow else 0
+            base = measured(words[0], folder, *benign(kib << 10))
+            print(f"{kib} KiB benign: {base[0]:.3f} s, {base[1]} MB")
+            for shape, *bounds in SHAPES:
+                line, keeps = judged(words[0], folder, kib, base, shape, bounds, before)
+                kept = kept and keeps
+                print(line, flush=True)
+    return 0 if kept else 1
 
 
 if __name__ == "__main__":

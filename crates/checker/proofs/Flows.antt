@@ -1,14 +1,15 @@
 -- What a refusal of the solver says of the stored constraints, and of the program from which they were gathered.
 use Rattle.std.proofs.Common.{◌≡◌, refl, sym, ap, ◌∙◌, subst, ℕ, zero, suc, ◌<◌, ◌-◌, length, map, List, [], ◌∷◌, ◌++◌, true, false, get_or, take, ◌+◌, append-nil, arith}
-use Rattle.std.specs.Prelude.{Contains, IsFalse, Option, Some, flat_map, slice_get, slice_index_or}
+use Rattle.std.specs.Prelude.{Contains, IsFalse, None, Option, Some, flat_map, slice_get, slice_index_or}
 use Rattle.std.specs.Global.{Global}
 use Rattle.std.specs.declared.vec.Vec.{Vec}
 use Rattle.std.proofs.lemmas.List.Elements.{All-contains}
-use Rattle.std.proofs.lemmas.List.{get_or_read, take_more}
+use Rattle.std.proofs.lemmas.List.{take_more}
 use Rattle.std.proofs.lemmas.Grind.{flat_map-append}
 use Rattle.std.proofs.lemmas.Option.{slice_get_read, slice_get_within, same_Some}
 use Rattle.principals.specs.ActsFor.{PrincipalHierarchy}
 use Rattle.labels.specs.Label.{ReaderPolicy, Label, Covers, flows}
+use Rattle.labels.specs.LabelTable.{label_at}
 use Rattle.labels.specs.Constraints.{Lattice, Linked, label_lattice, report_some, reported_gathered, reported_steps}
 use Rattle.labels.specs.Constraints as formal
 use Rattle.resolved.specs.declared.target.Target.{Target}
@@ -23,7 +24,6 @@ use Rattle.solver.specs.declared.fault.SolveRefusal.{SolveRefusal}
 use Rattle.solver.specs.declared.constraints.Atom.{Atom}
 use Rattle.solver.specs.declared.constraints.Atom.TheVariants.{Unknown, Written}
 use Rattle.solver.specs.declared.constraints.Constraint.{Constraint}
-use Rattle.solver.specs.declared.constraints.Constraints.{Constraints}
 use Rattle.checker.specs.declared.fault.Step.{Step}
 use Rattle.checker.specs.Reported.{ReportsFlow, reported_by}
 use Rattle.checker.specs.Steps.{report_at, report_of, reported_of}
@@ -96,87 +96,93 @@ written-is l table (Written n) v e = (n, refl, ap (written_or v) e)
 written-is l table (Unknown u) v e = absurd (cc)
 
 -- the stored constraint at which a refusal ends
-pub record EndsAt {T V : Type 0} (l : Lattice V) (system : Constraints V T) (refusal : SolveRefusal) : Type 0 where
+pub record EndsAt {T V : Type 0} (l : Lattice V) (table : List V) (stored : List (Constraint T)) (refusal : SolveRefusal) : Type 0 where
   pub some : 0 < length refusal.chain.items
   pub last : Constraint T
-  pub at : slice_get system.constraints.items (last_of refusal.chain.items) ≡ Some last
+  pub at : slice_get stored (last_of refusal.chain.items) ≡ Some last
   pub to : ℕ
   pub right : last.right ≡ Written to
-  pub not_below : IsFalse (l.leq (written_at l system.written.items refusal.from) (written_at l system.written.items to))
+  pub not_below : IsFalse (l.leq (written_at l table refusal.from) (written_at l table to))
 
-pub ends-at : {T V : Type 0} (l : Lattice V) (system : Constraints V T) (refusal : SolveRefusal) → IsSolveRefusal l system refusal → EndsAt l system refusal
-ends-at {T} {V} l system refusal is =
+pub ends-at : {T V : Type 0} (l : Lattice V) (table : List V) (stored : List (Constraint T)) (refusal : SolveRefusal) → IsSolveRefusal l table stored refusal → EndsAt l table stored refusal
+ends-at {T} {V} l table stored refusal is =
     let chained = is.refused.chained in
-    let picked = last-picked (constraints_of l system) (formal.Written (written_at l system.written.items refusal.from)) is.chain is.last chained.linked refusal.chain.items is.picked in
-    let found = there_map_only (constraint_of l system.written.items) system.constraints.items (last_of refusal.chain.items) is.last picked.1 in
-    let right = written-is l system.written.items found.0.right chained.to (ap (λ (c : formal.Constraint T ℕ V). c.right) found.2 ∙ chained.right_is) in
+    let picked = last-picked (constraints_of l table stored) (formal.Written (written_at l table refusal.from)) is.chain is.last chained.linked refusal.chain.items is.picked in
+    let found = there_map_only (constraint_of l table) stored (last_of refusal.chain.items) is.last picked.1 in
+    let right = written-is l table found.0.right chained.to (ap (λ (c : formal.Constraint T ℕ V). c.right) found.2 ∙ chained.right_is) in
     record {
       some = picked.0;
       last = found.0;
       at = found.1;
       to = right.0;
       right = right.1;
-      not_below = subst (λ v. IsFalse (l.leq (written_at l system.written.items refusal.from) v)) (sym right.2) chained.not_below;
+      not_below = subst (λ v. IsFalse (l.leq (written_at l table refusal.from) v)) (sym right.2) chained.not_below;
     }
 
 -- what is read there
-module _ {T V : Type 0} (l : Lattice V) (system : Constraints V T) (refusal : SolveRefusal) (is : IsSolveRefusal l system refusal) where
-  pub index-inside : (chain : List ℕ) (constraints : List (Constraint T)) → chain ≡ refusal.chain.items → constraints ≡ system.constraints.items →
+module _ {T V : Type 0} (l : Lattice V) (table : List V) (stored : List (Constraint T)) (refusal : SolveRefusal) (is : IsSolveRefusal l table stored refusal) where
+  pub index-inside : (chain : List ℕ) (constraints : List (Constraint T)) → chain ≡ refusal.chain.items → constraints ≡ stored →
       (0 < length chain) × (last_of chain < length constraints)
   index-inside chain constraints same all =
-      let at = ends-at l system refusal is in
-      let inside : last_of refusal.chain.items < length system.constraints.items = slice_get_within system.constraints.items (last_of refusal.chain.items) at.last at.at in
+      let at = ends-at l table stored refusal is in
+      let inside : last_of refusal.chain.items < length stored = slice_get_within stored (last_of refusal.chain.items) at.last at.at in
       let first : length chain ≡ length refusal.chain.items = ap length same in
-      let second : length constraints ≡ length system.constraints.items = ap length all in
+      let second : length constraints ≡ length stored = ap length all in
       let third : last_of chain ≡ last_of refusal.chain.items = ap last_of same in
       (omega (arith, at.some, first), omega (arith, inside, second, third))
 
-  pub last-read : (chain : List ℕ) (constraints : List (Constraint T)) → chain ≡ refusal.chain.items → constraints ≡ system.constraints.items →
-      (c : Constraint T) → c ≡ get_or constraints (last_of chain) c → slice_get system.constraints.items (last_of refusal.chain.items) ≡ Some c
+  pub last-read : (chain : List ℕ) (constraints : List (Constraint T)) → chain ≡ refusal.chain.items → constraints ≡ stored →
+      (c : Constraint T) → c ≡ get_or constraints (last_of chain) c → slice_get stored (last_of refusal.chain.items) ≡ Some c
   last-read chain constraints same all c read =
       let inside : last_of chain < length constraints = (index-inside chain constraints same all).1 in
-      ap (slice_get system.constraints.items) (ap last_of (sym same))
+      ap (slice_get stored) (ap last_of (sym same))
       ∙ (ap (λ (cs : List (Constraint T)). slice_get cs (last_of chain)) (sym all)
       ∙ slice_get_read constraints (length constraints) (last_of chain) c refl inside read)
 
-  module _ (c : Constraint T) (at : slice_get system.constraints.items (last_of refusal.chain.items) ≡ Some c) where
-    read-is : (ends-at l system refusal is).last ≡ c
-    read-is = same_Some (ends-at l system refusal is).last c (sym (ends-at l system refusal is).at ∙ at)
+  module _ (c : Constraint T) (at : slice_get stored (last_of refusal.chain.items) ≡ Some c) where
+    read-is : (ends-at l table stored refusal is).last ≡ c
+    read-is = same_Some (ends-at l table stored refusal is).last c (sym (ends-at l table stored refusal is).at ∙ at)
 
-    pub right-written : c.right ≡ Written (ends-at l system refusal is).to
-    right-written = ap (λ (d : Constraint T). d.right) (sym read-is) ∙ (ends-at l system refusal is).right
+    pub right-written : c.right ≡ Written (ends-at l table stored refusal is).to
+    right-written = ap (λ (d : Constraint T). d.right) (sym read-is) ∙ (ends-at l table stored refusal is).right
 
-    pub flow-fails : (to : ℕ) → c.right ≡ Written to → IsFalse (l.leq (written_at l system.written.items refusal.from) (written_at l system.written.items to))
+    pub flow-fails : (to : ℕ) → c.right ≡ Written to → IsFalse (l.leq (written_at l table refusal.from) (written_at l table to))
     flow-fails to right =
-        let same : (ends-at l system refusal is).to ≡ to = ap number_or (sym right-written ∙ right) in
-        subst (λ n. IsFalse (l.leq (written_at l system.written.items refusal.from) (written_at l system.written.items n))) same (ends-at l system refusal is).not_below
+        let same : (ends-at l table stored refusal is).to ≡ to = ap number_or (sym right-written ∙ right) in
+        subst (λ n. IsFalse (l.leq (written_at l table refusal.from) (written_at l table n))) same (ends-at l table stored refusal is).not_below
 
 -- a written right side of a constraint lies inside the table
-pub right-inside : {T V : Type 0} (system : Constraints V T) → InRange (length system.written.items) system.unknowns system.constraints.items →
-    (i : ℕ) (c : Constraint T) → slice_get system.constraints.items i ≡ Some c → (to : ℕ) → c.right ≡ Written to → to < length system.written.items
-right-inside {T} system range i c at to is =
-    subst (IsBelow (length system.written.items) system.unknowns) is
-    (All-contains (λ (c : Constraint T). AreBelow (length system.written.items) system.unknowns c.left.items × IsBelow (length system.written.items) system.unknowns c.right)
-    system.constraints.items c range (contained_at system.constraints.items i c at)).1
+pub right-inside : {T V : Type 0} (table : List V) (unknowns : ℕ) (stored : List (Constraint T)) → InRange (length table) unknowns stored →
+    (i : ℕ) (c : Constraint T) → slice_get stored i ≡ Some c → (to : ℕ) → c.right ≡ Written to → to < length table
+right-inside {T} table unknowns stored range i c at to is =
+    subst (IsBelow (length table) unknowns) is
+    (All-contains (λ (c : Constraint T). AreBelow (length table) unknowns c.left.items × IsBelow (length table) unknowns c.right)
+    stored c range (contained_at stored i c at)).1
+
+-- nothing was found
+pub none-found : {A : Type 0} (found : Option A) → ((x : A) → ¬ (found ≡ Some x)) → found ≡ None
+none-found None never = refl
+none-found (Some x) never = absurd (never x refl)
 
 -- ---- what is reported of a program that is refused
-pub flow-reported : (core : Core) (system : Constraints Label (Option Target)) (refusal : SolveRefusal) →
-    AreGathered (program_of core) (constraints_of (label_lattice core.hierarchy) system) → (is : IsSolveRefusal (label_lattice core.hierarchy) system refusal) →
-    (c : Constraint (Option Target)) → slice_get system.constraints.items (last_of refusal.chain.items) ≡ Some c → (to : ℕ) → c.right ≡ Written to →
-    (policy : ReaderPolicy) → Contains (written_at (label_lattice core.hierarchy) system.written.items refusal.from) policy →
-    (¬ Covers core.hierarchy (written_at (label_lattice core.hierarchy) system.written.items to) policy) →
-    (steps : Vec Step Global) → map reported_by steps.items ≡ flat_map (report_at system.constraints.items) refusal.chain.items →
+pub flow-reported : (core : Core) (stored : List (Constraint (Option Target))) (refusal : SolveRefusal) →
+    AreGathered (program_of core) (constraints_of (label_lattice core.hierarchy) core.labels stored) →
+    (is : IsSolveRefusal (label_lattice core.hierarchy) core.labels stored refusal) →
+    (c : Constraint (Option Target)) → slice_get stored (last_of refusal.chain.items) ≡ Some c → (to : ℕ) → c.right ≡ Written to →
+    (policy : ReaderPolicy) → Contains (label_at core.labels refusal.from) policy → (¬ Covers core.hierarchy (label_at core.labels to) policy) →
+    (steps : Vec Step Global) → map reported_by steps.items ≡ flat_map (report_at stored) refusal.chain.items →
     ReportsFlow (record { core = core; at = c.at; policy = policy; steps = steps })
-flow-reported core system refusal gathered is c at to right policy contained uncovered steps are =
+flow-reported core stored refusal gathered is c at to right policy contained uncovered steps are =
     let l = label_lattice core.hierarchy in
-    let cs = constraints_of l system in
-    let from = written_at l system.written.items refusal.from in
+    let table = core.labels in
+    let cs = constraints_of l table stored in
+    let from = written_at l table refusal.from in
     let picked = last-picked cs (formal.Written from) is.chain is.last is.refused.chained.linked refusal.chain.items is.picked in
-    let found = there_map_only (constraint_of l system.written.items) system.constraints.items (last_of refusal.chain.items) is.last picked.1 in
+    let found = there_map_only (constraint_of l table) stored (last_of refusal.chain.items) is.last picked.1 in
     let same : found.0 ≡ c = same_Some found.0 c (sym found.1 ∙ at) in
-    let last_is : constraint_of l system.written.items c ≡ is.last = ap (constraint_of l system.written.items) (sym same) ∙ found.2 in
-    let right_is : atom_of l system.written.items (Written to) ≡ is.last.right =
-    ap (atom_of l system.written.items) (sym right) ∙ ap (λ (d : formal.Constraint (Option Target) ℕ Label). d.right) last_is in
+    let last_is : constraint_of l table c ≡ is.last = ap (constraint_of l table) (sym same) ∙ found.2 in
+    let right_is : atom_of l table (Written to) ≡ is.last.right =
+    ap (atom_of l table) (sym right) ∙ ap (λ (d : formal.Constraint (Option Target) ℕ Label). d.right) last_is in
     let refused = gathered-refused (program_of core) cs gathered from is.chain is.last policy is.refused contained
     (subst (λ (r : formal.Atom ℕ Label). IsUncovered core.hierarchy r policy) right_is uncovered) in
     record {
@@ -184,25 +190,5 @@ flow-reported core system refusal gathered is c at to right policy contained unc
       last = refused.1;
       refused = refused.2;
       at_is = ap (λ (d : formal.Constraint (Option Target) ℕ Label). d.at) last_is ∙ refused.3.at_is;
-      steps_are = are ∙ (picked-reported l system.written.items system.constraints.items refusal.chain.items is.chain is.picked ∙ refused.4);
-    }
-
--- two labels that are read from the table
-pub record AreRead (h : PrincipalHierarchy) (table : List Label) (from to : ℕ) (from_label to_label : Label) : Type 0 where
-  pub from_is : from_label ≡ written_at (label_lattice h) table from
-  pub to_is : to_label ≡ written_at (label_lattice h) table to
-  pub fails : IsFalse (flows h from_label to_label)
-
-pub labels-read : (h : PrincipalHierarchy) (table : List Label) (from to : ℕ) (from_label to_label : Label) →
-    IsFalse (flows h (written_at (label_lattice h) table from) (written_at (label_lattice h) table to)) → to < length table →
-    from_label ≡ get_or table from from_label → to_label ≡ get_or table to to_label → AreRead h table from to from_label to_label
-labels-read h table from to from_label to_label fails inside from_read to_read =
-    let from_is : from_label ≡ written_at (label_lattice h) table from =
-    get_or_read table from from_label (from-inside h table from (written_at (label_lattice h) table to) fails) from_read [] in
-    let to_is : to_label ≡ written_at (label_lattice h) table to = get_or_read table to to_label inside to_read [] in
-    record {
-      from_is = from_is;
-      to_is = to_is;
-      fails = subst (λ v. IsFalse (flows h v to_label)) (sym from_is)
-          (subst (λ v. IsFalse (flows h (written_at (label_lattice h) table from) v)) (sym to_is) fails);
+      steps_are = are ∙ (picked-reported l table stored refusal.chain.items is.chain is.picked ∙ refused.4);
     }

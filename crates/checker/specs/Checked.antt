@@ -1,6 +1,6 @@
 -- What a check gives of an accepted source: its program, and a label for each local and loop that is written without one.
 -- Source: our own; labels of locals may be left out, and are then inferred, as in JFlow (Myers 1999).
-use Rattle.std.specs.Prelude.{◌≡◌, ℕ, ◌<◌, ◌≤◌, List, [], length, Option, Some, None}
+use Rattle.std.specs.Prelude.{◌≡◌, ℕ, ◌<◌, ◌≤◌, [], length, Option, Some, None}
 use Rattle.labels.specs.Label.{Label}
 use Rattle.labels.specs.Constraints.{label_lattice}
 use Rattle.resolved.specs.CoreOf.{program_of}
@@ -13,16 +13,15 @@ use Rattle.resolved.specs.declared.program.Core.{Core}
 use Rattle.gathering.specs.Names.{unwritten_number}
 use Rattle.solver.specs.Constraints.{AreAlike, Solved, values_of}
 
--- the program, the labels that are written in it, and which of these reach each label that is not written
+-- the program, and which of its written labels reach each label that is not written
 pub record CheckedProgram : Type 0 where
   pub core : Core
-  pub written : List Label
   pub solution : Solved
 
 -- the value of the unknown with a number
 abbrev pub least_value : CheckedProgram → ℕ → Label
 least_value checked unknown =
-    values_of (label_lattice (program_of checked.core).hierarchy) checked.written checked.solution.reached unknown
+    values_of (label_lattice (program_of checked.core).hierarchy) checked.core.labels checked.solution.reached unknown
 
 -- the label of a local or a loop: the value of the unknown with its number
 abbrev pub least_label : CheckedProgram → Unwritten → Label
@@ -35,7 +34,7 @@ pub record IsChecked (checked : CheckedProgram) : Type 0 where
   pub labelled : Labelled (program_of checked.core)
   pub least : AreLeast (program_of checked.core) (least_label checked)
   pub names : HasNames (program_of checked.core)
-  pub rows : length checked.solution.reached ≤ length checked.written
+  pub rows : length checked.solution.reached ≤ length checked.core.labels
 
 -- ---- the label of a local
 

@@ -7,9 +7,9 @@ ghost use Rattle.solver.specs.Constraints.{AreAlike};
 ghost use Rattle.std.specs.Prelude.{IfOk, IfSome, IsSome, length, ◌<◌, ◌≡◌, ◌↔◌};
 
 use gathering::unknowns::first_after;
-use labels::{Label, LabelLattice};
+use labels::Label;
 use resolved::program::Core;
-use solver::Solution;
+use solver::{LabelsUnder, Solution};
 use std::alloc::{AllocError, Global};
 use std::marker::Model;
 
@@ -17,8 +17,6 @@ use std::marker::Model;
 #[derive(Drop)]
 pub struct Checked {
     core: Core,
-    /// The labels that are written in the program, by their numbers.
-    written: Vec<Label>,
     /// Which of the written labels reach those that are not written.
     solution: Solution,
 }
@@ -32,39 +30,22 @@ impl Model for Checked {
 
     ghost coded = { Prim.hlevel (codes, program.the_row.coded) };
 
-    ghost view = { λ checked. record {
-      core = checked.core;
-      written = checked.written.items;
-      solution = checked.solution;
-    } };
+    ghost view = { λ checked. record { core = checked.core; solution = checked.solution } };
 
     ghost invariant = { λ checked. IsChecked (record {
       core = checked.core;
-      written = checked.written.items;
       solution = checked.solution;
     }) };
 }
 
 impl Checked {
     // The checked program of these parts.
-    pub(crate) fn of(core: Core, written: Vec<Label>, solution: Solution) -> Checked
-        requires { IsChecked (record {
-          core = core;
-          written = written.items;
-          solution = solution;
-        }) }
-        ensures parts { result ≡ record {
-          core = core;
-          written = written.items;
-          solution = solution;
-        } }
+    pub(crate) fn of(core: Core, solution: Solution) -> Checked
+        requires { IsChecked (record { core = core; solution = solution }) }
+        ensures parts { result ≡ record { core = core; solution = solution } }
         ensures checked { IsChecked result }
     {
-        Checked {
-            core,
-            written,
-            solution,
-        }
+        Checked { core, solution }
     }
 
     /// The program.
@@ -112,8 +93,8 @@ impl Checked {
         let Some(local) = entry.slots.get(slot as usize) else {
             return Ok(None);
         };
-        if let Some(written) = &local.written {
-            return Ok(Some(written.clone()?));
+        if let Some(written) = local.written {
+            return Ok(Some(self.core.labels.label(alloc, written)?));
         }
         let first = self.first_unknown(procedure as usize);
         let least = self.label_of_unknown(alloc, first + slot)?;
@@ -130,10 +111,10 @@ impl Checked {
         ensures { IfOk result (AreAlike (label_lattice (program_of self.now.core).hierarchy)
             (least_value self.now unknown)) }
     {
-        let lattice = LabelLattice {
+        let written = LabelsUnder {
             hierarchy: &self.core.hierarchy,
+            labels: &self.core.labels,
         };
-        self.solution
-            .value(alloc, &lattice, self.written.as_slice(), unknown)
+        written.value(alloc, &self.solution, unknown)
     }
 }

@@ -2,34 +2,33 @@
 ghost use Rattle.checker.specs.Reported.{ReportsFlow, reported_by};
 ghost use Rattle.checker.specs.Steps.{report_at, reported_of};
 ghost use Rattle.labels.specs.Constraints.{label_lattice};
-ghost use Rattle.labels.specs.Label.{Covers, flows};
 ghost use Rattle.resolved.specs.CoreOf.{program_of};
 ghost use Rattle.resolved.specs.Flow.{AreGathered, reported_step};
 ghost use Rattle.solver.specs.Links.{InRange};
 ghost use Rattle.solver.specs.Constraints.{IsSolveRefusal, constraints_of};
-ghost use Rattle.std.specs.Prelude.{Contains, IfOk, IsFalse, flat_map, length, map, ◌≡◌};
+ghost use Rattle.std.specs.Prelude.{IfOk, flat_map, length, map, ◌≡◌};
 
 use crate::fault::{RefusedFlow, Step};
-use labels::{Label, Policy};
-use principals::Hierarchy;
+use constraints::LabelConstraints;
 use resolved::program::Core;
 use resolved::target::Target;
-use solver::{Atom, Constraint, Constraints, SolveRefusal};
+use solver::{Atom, Constraint, SolveRefusal};
 use std::alloc::{AllocError, Global};
 
 /// The flow for which a program is refused.
 pub(crate) fn flow_of(
     alloc: Global,
     core: Core,
-    system: &Constraints<Label, Option<Target>>,
+    system: &LabelConstraints,
     refusal: &SolveRefusal,
 ) -> Result<RefusedFlow, AllocError>
     requires gathered { AreGathered (program_of core)
-        (constraints_of (label_lattice (program_of core).hierarchy) system.now) }
-    requires in_range { InRange (length system.now.written.items) system.now.unknowns
+        (constraints_of (label_lattice (program_of core).hierarchy) core.labels
+        system.now.constraints.items) }
+    requires in_range { InRange (length core.labels) system.now.unknowns
         system.now.constraints.items }
-    requires refused { IsSolveRefusal (label_lattice (program_of core).hierarchy) system.now
-        refusal.now }
+    requires refused { IsSolveRefusal (label_lattice (program_of core).hierarchy) core.labels
+        system.now.constraints.items refusal.now }
     ensures core { IfOk result (λ flow. flow.core ≡ core) }
     ensures reported { IfOk result (λ flow. ReportsFlow flow) }
 {
@@ -39,12 +38,13 @@ pub(crate) fn flow_of(
     let Atom::Written(to) = last.right else {
         unreachable!();
     };
-    let policy = find_uncovered(
-        &core.hierarchy,
-        &system.written[refusal.from],
-        &system.written[to as usize],
-    )
-    .clone()?;
+    // It brings that the numbers of labels are of 32 bits.
+    let _count = core.labels.len();
+    let from = refusal.from as u32;
+    let Some(policy) = core.labels.find_uncovered(&core.hierarchy, from, to) else {
+        unreachable!();
+    };
+    let policy = policy.clone()?;
     let steps = steps_of(alloc, constraints, chain)?;
     Ok(RefusedFlow {
         core,
@@ -52,20 +52,6 @@ pub(crate) fn flow_of(
         policy,
         steps,
     })
-}
-
-// The first policy of a label that another label, to which it does not flow, does not cover.
-fn find_uncovered<'a>(hierarchy: &Hierarchy, from: &'a Label, to: &Label) -> &'a Policy
-    requires { IsFalse (flows hierarchy.now from.now to.now) }
-    ensures contained { Contains from.now result.now }
-    ensures uncovered { ¬ Covers hierarchy.now to.now result.now }
-{
-    for policy in from.policies() {
-        if !to.covers(hierarchy, policy) {
-            return policy;
-        }
-    }
-    unreachable!()
 }
 
 // What is reported of the constraints at these indices, in their order.

@@ -22,11 +22,10 @@ use acceptance::laws::resolved_programs_have_names;
 use acceptance::{Cause, Text};
 use common::OrNoMemory;
 use constraints::gather;
-use labels::LabelLattice;
 use path_map::Ends;
 use principals::Hierarchy;
 use resolved::program::Core;
-use solver::{Constraints, solve};
+use solver::{LabelsUnder, solve_by_numbers};
 use std::alloc::Global;
 
 /// Checks a source under a hierarchy, phase by phase: its length, its tokens and tree, its names, types and sizes, the ends of its
@@ -90,14 +89,12 @@ fn find_labels(alloc: Global, core: Core, ends: &Ends) -> Result<Checked, OrNoMe
     ensures rejected { IfErr result (IfRefused (RefusesProgram core)) }
 {
     let system = gather(alloc, &core, ends)?;
-    let lattice = LabelLattice {
+    let written = LabelsUnder {
         hierarchy: &core.hierarchy,
+        labels: &core.labels,
     };
-    match solve(alloc, &lattice, &system) {
-        Ok(solution) => {
-            let Constraints { written, .. } = system;
-            Ok(Checked::of(core, written, solution))
-        }
+    match solve_by_numbers(alloc, &written, system.unknowns, &system.constraints) {
+        Ok(solution) => Ok(Checked::of(core, solution)),
         Err(OrNoMemory::NoMemory) => Err(OrNoMemory::NoMemory),
         Err(OrNoMemory::Refused(refusal)) => {
             let flow = flow_of(alloc, core, &system, &refusal)?;

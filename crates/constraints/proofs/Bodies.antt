@@ -1,5 +1,5 @@
 -- Walks past procedures, one after the other.
-use Rattle.std.proofs.Common.{◌≡◌, refl, sym, ap, ◌∙◌, subst, ℕ, zero, suc, ◌+◌, ◌*◌, ◌<◌, ◌≤◌, List, [], ◌∷◌, ◌++◌, map, take, drop, length, get_or, replicate, flat_map, Bool, true, false, arith, append_assoc, append-nil, add-one}
+use Rattle.std.proofs.Common.{◌≡◌, refl, sym, ap, ◌∙◌, subst, ℕ, zero, suc, ◌+◌, ◌<◌, ◌≤◌, List, [], ◌∷◌, ◌++◌, map, take, drop, length, get_or, replicate, flat_map, Bool, true, false, arith, append_assoc, append-nil, add-one}
 use Rattle.std.specs.Prelude.{Contains, if◌then◌else◌, string_bytes, sum_by}
 use Rattle.principals.proofs.Closure.{none_in_nil}
 use Rattle.std.proofs.lemmas.List.{get_or-map, length-map, length-replicate, length-take-le, map-append, take-map, take_all}
@@ -15,7 +15,7 @@ use Rattle.resolved.specs.Program.{ProcedureEntry, Program, ThrownEntry}
 use Rattle.resolved.specs.ProgramOf.{procedure_entry, thrown_entry}
 use Rattle.resolved.specs.Tree.{Block}
 use Rattle.resolved.specs.TreeOf.{block_of}
-use Rattle.resolved.specs.WellFormed.{block_fits, block_nodes, procedure_fits, procedure_nodes, program_nodes, throws_fit}
+use Rattle.resolved.specs.WellFormed.{block_fits, block_nodes, procedure_fits, procedure_nodes, throws_fit}
 use Rattle.resolved.proofs.WellFormedParts.{procedure_parts, program_parts}
 use Rattle.resolved.specs.declared.program.Core.{Core}
 use Rattle.resolved.specs.declared.statement.Exit.{Exit}
@@ -73,7 +73,7 @@ pub ends-added : (core : Core) (table : List Label) (f n level : ℕ) (only : Bo
     → IsOf core f procedure → only ≡ has_one_end (scope_of core f) → only ≡ false
     → AreDeclaredTakers (here (scope_of core f)).throws (suc n) level had taken → throws ≡ procedure.throws.items → given ≡ taken
     → AreAdded core table (rule_constraint (scope_of core f) procedure.at 13 (inner_atom n ∷ []) (ToEnd f)) old middle
-    → (procedure.at ≡ (here (scope_of core f)).at → AreAdded core table (thrown_constraints (scope_of core f) (number_in given) (map thrown_entry throws)) middle new)
+    → (procedure.at ≡ (here (scope_of core f)).at → AreAdded core table (thrown_constraints (scope_of core f) (number_in given) (map (thrown_entry core.labels) throws)) middle new)
     → AreAdded core table (end_constraints (scope_of core f) n) old new
 ends-added core table f n level only procedure throws had taken given old middle new is one several are throws_are given_are first second =
     let scope : Scope = scope_of core f in
@@ -81,14 +81,14 @@ ends-added core table f n level only procedure throws had taken given old middle
     let number : ℕ → ℕ = λ x. thrown_number declared (suc n) x in
     let at_is : procedure.at ≡ (here scope).at = ap (λ (p : ProcedureEntry). p.at) (sym is) in
     let end : ℕ → List NamedConstraint = λ at. rule_constraint scope at 13 (inner_atom n ∷ []) (ToEnd f) in
-    let declared_is : map thrown_entry throws ≡ declared = ap (map thrown_entry) throws_are ∙ ap (λ (p : ProcedureEntry). p.throws) (sym is) in
-    added-same core table (end_constraints scope n) (end procedure.at ++ thrown_constraints scope (number_in given) (map thrown_entry throws)) old new
+    let declared_is : map (thrown_entry core.labels) throws ≡ declared = ap (map (thrown_entry core.labels)) throws_are ∙ ap (λ (p : ProcedureEntry). p.throws) (sym is) in
+    added-same core table (end_constraints scope n) (end procedure.at ++ thrown_constraints scope (number_in given) (map (thrown_entry core.labels) throws)) old new
     (ap (λ b. if b then [] else own_end_constraints scope n number) (sym one ∙ several)
     ∙ (ap (λ cs. end (here scope).at ++ cs) (sym (thrown-numbers scope declared (suc n) level had taken are))
     ∙ (ap (λ thrown. end (here scope).at ++ thrown_constraints scope (number_in thrown) declared) (sym given_are)
     ∙ (ap (λ list. end (here scope).at ++ thrown_constraints scope (number_in given) list) (sym declared_is)
-    ∙ ap (λ at. end at ++ thrown_constraints scope (number_in given) (map thrown_entry throws)) (sym at_is)))))
-    (added-then core table (end procedure.at) (thrown_constraints scope (number_in given) (map thrown_entry throws)) old middle new first (second at_is))
+    ∙ ap (λ at. end at ++ thrown_constraints scope (number_in given) (map (thrown_entry core.labels) throws)) (sym at_is)))))
+    (added-then core table (end procedure.at) (thrown_constraints scope (number_in given) (map (thrown_entry core.labels) throws)) old middle new first (second at_is))
 
 pub procedure-passed : (core : Core) (table : List Label) (entries : List Exits) (f barrier level start count : ℕ) (procedure : Procedure) (throws noted : List Thrown) (noting : List Entry) (block : List S.Statement) (pc : Atom) (takers : Takers) (only : Bool) (left : List Exits) (old middle walked new : Progress)
     → IsOf core f procedure
@@ -105,7 +105,7 @@ pub procedure-passed : (core : Core) (table : List Label) (entries : List Exits)
     (map (λ (declared : Thrown). declared.exception) noted) x (moments_at old.journal.moments.items x))
     → length middle.journal.moments.items ≡ length old.journal.moments.items → noting ≡ middle.thrown.items → noted ≡ throws
     → length middle.thrown.items ≡ length old.thrown.items
-    → ((b : ℕ) → b < level → AreWithin b old.thrown.items → AreDeclaredTakers (map thrown_entry throws) start level old.thrown.items middle.thrown.items)
+    → ((b : ℕ) → b < level → AreWithin b old.thrown.items → AreDeclaredTakers (map (thrown_entry core.labels) throws) start level old.thrown.items middle.thrown.items)
     → IsBlockWalked core table entries f pc takers (block_of block) middle walked
     → StaysInPlace walked new
     → ((l : ℕ) (had : List Entry) → IsOf core f procedure → only ≡ has_one_end (scope_of core f)
@@ -120,7 +120,7 @@ procedure-passed core table entries f barrier level start count procedure throws
     let begin : NamedAtom = renamed Real (label_of program (ToBegin f)) in
     let body : Block = block_of block in
     let body_is : body ≡ (here scope).body = ap block_of block_is ∙ ap (λ (p : ProcedureEntry). p.body) (sym is) in
-    let declared_is : map thrown_entry throws ≡ declared = ap (map thrown_entry) throws_are ∙ ap (λ (p : ProcedureEntry). p.throws) (sym is) in
+    let declared_is : map (thrown_entry core.labels) throws ≡ declared = ap (map (thrown_entry core.labels)) throws_are ∙ ap (λ (p : ProcedureEntry). p.throws) (sym is) in
     let start_suc : start ≡ suc n = omega (arith, start_is) in
     let level_suc : level ≡ suc barrier = omega (arith, level_is) in
     let below : barrier < level = omega (arith, level_is) in
@@ -128,8 +128,8 @@ procedure-passed core table entries f barrier level start count procedure throws
     let upto : barrier ≤ suc barrier = omega arith in
     let taken : AreDeclaredTakers declared (suc n) (suc barrier) old.thrown.items middle.thrown.items =
     subst (λ list. AreDeclaredTakers list (suc n) (suc barrier) old.thrown.items middle.thrown.items) declared_is
-    (subst (λ k. AreDeclaredTakers (map thrown_entry throws) k (suc barrier) old.thrown.items middle.thrown.items) start_suc
-    (subst (λ l. AreDeclaredTakers (map thrown_entry throws) start l old.thrown.items middle.thrown.items) level_suc (takes barrier below within))) in
+    (subst (λ k. AreDeclaredTakers (map (thrown_entry core.labels) throws) k (suc barrier) old.thrown.items middle.thrown.items) start_suc
+    (subst (λ l. AreDeclaredTakers (map (thrown_entry core.labels) throws) start l old.thrown.items middle.thrown.items) level_suc (takes barrier below within))) in
     let inside : AreWithin (suc barrier) middle.thrown.items = taken-within declared (suc n) barrier (suc barrier) old.thrown.items middle.thrown.items upto within taken in
     let takers_suc : takers ≡ end_takers_of n barrier (suc barrier) only = takers_are ∙ ap (λ l. end_takers_of n barrier l only) level_suc in
     let passed : HasPassed core table entries pc (λ named. inner_block scope named (takers_of takers middle.thrown.items) middle.number body) (made_by_block body) left middle walked =
@@ -139,7 +139,7 @@ procedure-passed core table entries f barrier level start count procedure throws
     ap (λ t. takers_of t middle.thrown.items) takers_suc
     ∙ (takers-at-end declared n barrier (suc barrier) only old.thrown.items middle.thrown.items below_suc within inside taken
     ∙ ap (λ b. if b then nowhere else at_end n declared) one) in
-    let counted : count ≡ length declared = count_is ∙ (sym (length-map procedure.throws.items thrown_entry) ∙ ap (λ (p : ProcedureEntry). length p.throws) (sym is)) in
+    let counted : count ≡ length declared = count_is ∙ (sym (length-map procedure.throws.items (thrown_entry core.labels)) ∙ ap (λ (p : ProcedureEntry). length p.throws) (sym is)) in
     let number_suc : middle.number ≡ suc n + length declared = omega (arith, number_is, start_is, counted) in
     let inside_it : List NamedConstraint = inner_block scope begin (end_takers scope n) (suc n + length declared) (here scope).body in
     let first : Thinned core table inside_it middle walked =
@@ -153,7 +153,7 @@ procedure-passed core table entries f barrier level start count procedure throws
     (λ x. moments x ∙ ap (λ es. noted_all (length old.journal.moments.items) (length old.journal.calls.items) es (map (λ (d : Thrown). d.exception) noted) x (moments_at old.journal.moments.items x)) noting_is)
     counted_is wide
     (λ x none.
-    let undeclared : declares declared x ≡ false = ap (λ list. declares list x) (sym (ap (map thrown_entry) noted_is ∙ declared_is)) ∙ (sym (declared-ones noted x) ∙ none) in
+    let undeclared : declares declared x ≡ false = ap (λ list. declares list x) (sym (ap (map (thrown_entry core.labels)) noted_is ∙ declared_is)) ∙ (sym (declared-ones core.labels noted x) ∙ none) in
     taken x ∙ undeclared-stay declared (suc n) (suc barrier) x (get_or old.thrown.items x no_entry) undeclared) in
     let made : made_by_block body ≡ made_by_block (here scope).body = ap made_by_block body_is in
     let walked_number : walked.number ≡ middle.number + made_by_block body = passed.number_is in
@@ -178,7 +178,7 @@ pub body-ready : (core : Core) (entries : List Exits) (f barrier level start : �
     → level ≡ barrier + 1 → throws ≡ procedure.throws.items → block ≡ procedure.body.items
     → takers ≡ end_takers_of old.number barrier level only
     → middle.index ≡ old.index → middle.number ≡ (old.number + 1) + length procedure.throws.items → length middle.thrown.items ≡ length old.thrown.items
-    → ((b : ℕ) → b < level → AreWithin b old.thrown.items → AreDeclaredTakers (map thrown_entry throws) start level old.thrown.items middle.thrown.items)
+    → ((b : ℕ) → b < level → AreWithin b old.thrown.items → AreDeclaredTakers (map (thrown_entry core.labels) throws) start level old.thrown.items middle.thrown.items)
     → IsBlockReady core entries f takers (block_of block) middle
 body-ready core entries f barrier level start procedure throws block takers only old middle ready level_is throws_are block_is takers_are index_is number_is wide takes =
     let program : Program = program_of core in
@@ -188,7 +188,7 @@ body-ready core entries f barrier level start procedure throws block takers only
     let below : barrier < level = omega (arith, level_is) in
     let upto : barrier ≤ level = omega (arith, level_is) in
     let inside : AreWithin level middle.thrown.items =
-    taken-within (map thrown_entry throws) start barrier level old.thrown.items middle.thrown.items upto ready.within (takes barrier below ready.within) in
+    taken-within (map (thrown_entry core.labels) throws) start barrier level old.thrown.items middle.thrown.items upto ready.within (takes barrier below ready.within) in
     let inside_suc : AreWithin (suc barrier) middle.thrown.items = subst (λ l. AreWithin l middle.thrown.items) level_suc inside in
     let takers_suc : takers ≡ end_takers_of old.number barrier (suc barrier) only = takers_are ∙ ap (λ l. end_takers_of old.number barrier l only) level_suc in
     record {
@@ -200,7 +200,7 @@ body-ready core entries f barrier level start procedure throws block takers only
       room =
           let made : made_by_block (block_of block) ≡ made_by_block entry.body = ap made_by_block body_is in
           let count : length entry.throws ≡ length procedure.throws.items =
-          ap (λ (p : ProcedureEntry). length p.throws) ready.is ∙ length-map procedure.throws.items thrown_entry in
+          ap (λ (p : ProcedureEntry). length p.throws) ready.is ∙ length-map procedure.throws.items (thrown_entry core.labels) in
           let own : made_by_procedure (scope_of core f) ≡ suc (length entry.throws + made_by_block entry.body) = refl in
           omega (arith, ready.room, made, count, own, number_is);
       deep =
@@ -219,7 +219,7 @@ pub procedure-room : (core : Core) (entries : List Exits) (f barrier : ℕ) (pro
 procedure-room core entries f barrier procedure now ready =
     let entry : ProcedureEntry = here (scope_of core f) in
     let count : length entry.throws ≡ length procedure.throws.items =
-    ap (λ (p : ProcedureEntry). length p.throws) ready.is ∙ length-map procedure.throws.items thrown_entry in
+    ap (λ (p : ProcedureEntry). length p.throws) ready.is ∙ length-map procedure.throws.items (thrown_entry core.labels) in
     let own : made_by_procedure (scope_of core f) ≡ suc (length entry.throws + made_by_block entry.body) = refl in
     (omega (arith, ready.room, ready.deep, own), omega (arith, ready.room, count, own))
 
@@ -229,8 +229,8 @@ pub throws-inside : (core : Core) (entries : List Exits) (f barrier : ℕ) (proc
 throws-inside core entries f barrier procedure throws now ready throws_are =
     let program : Program = program_of core in
     let entry : ProcedureEntry = here (scope_of core f) in
-    let same : entry.throws ≡ map thrown_entry throws = ap (λ (p : ProcedureEntry). p.throws) ready.is ∙ ap (map thrown_entry) (sym throws_are) in
-    thrown-inside program (length now.thrown.items) ready.wide throws
+    let same : entry.throws ≡ map (thrown_entry core.labels) throws = ap (λ (p : ProcedureEntry). p.throws) ready.is ∙ ap (map (thrown_entry core.labels)) (sym throws_are) in
+    thrown-inside program (length now.thrown.items) ready.wide core.labels throws
     (subst (λ list. throws_fit program list ≡ true) same (procedure_parts program entry ready.fitting).throws_are)
 
 -- ---- procedures
@@ -283,16 +283,16 @@ few-procedures (procedure ∷ rest) =
 
 pub procedures-numbered : (core : Core) → length core.procedures.items ≤ MAX_TEXT
 procedures-numbered core =
-    omega (arith, program-small core, few-procedures (program_of core).procedures, length-map core.procedures.items procedure_entry)
+    omega (arith, program-small core, few-procedures (program_of core).procedures, length-map core.procedures.items (procedure_entry core.labels))
 
 pub exceptions-numbered : (core : Core) → length core.exceptions.items ≤ MAX_TEXT
 exceptions-numbered core = omega (arith, program-small core, length-map core.exceptions.items string_bytes)
 
 -- the first procedures were walked past
 pub record ArePassed (core : Core) (table : List Label) (entries : List Exits) (i : ℕ) (progress : Progress) : Type 0 where
-  pub added : ThinnedWhole core table (constraints_from (program_of core) 0 (real_unknowns (program_of core)) (map procedure_entry (take i core.procedures.items))) progress
-  pub entries_left : drop progress.index entries ≡ map exits_of (paths_of (program_of core) (map procedure_entry (drop i core.procedures.items)))
-  pub number_is : progress.number ≡ real_unknowns (program_of core) + made_from (program_of core) 0 (map procedure_entry (take i core.procedures.items))
+  pub added : ThinnedWhole core table (constraints_from (program_of core) 0 (real_unknowns (program_of core)) (map (procedure_entry core.labels) (take i core.procedures.items))) progress
+  pub entries_left : drop progress.index entries ≡ map exits_of (paths_of (program_of core) (map (procedure_entry core.labels) (drop i core.procedures.items)))
+  pub number_is : progress.number ≡ real_unknowns (program_of core) + made_from (program_of core) 0 (map (procedure_entry core.labels) (take i core.procedures.items))
   pub low : i ≤ progress.number
   pub within : AreWithin i progress.thrown.items
   pub wide : exception_count core ≤ length progress.thrown.items
@@ -340,28 +340,28 @@ passed-none core table entries n progress mapped index number constraints thrown
 pub passed-added : (core : Core) (table : List Label) (entries : List Exits) (i : ℕ) (progress : Progress) → length core.procedures.items ≤ i
     → ArePassed core table entries i progress → ThinnedWhole core table (program_constraints (program_of core)) progress
 passed-added core table entries i progress all passed =
-    subst (λ list. ThinnedWhole core table (constraints_from (program_of core) 0 (real_unknowns (program_of core)) (map procedure_entry list)) progress)
+    subst (λ list. ThinnedWhole core table (constraints_from (program_of core) 0 (real_unknowns (program_of core)) (map (procedure_entry core.labels) list)) progress)
     (take_all i core.procedures.items all) passed.added
 
 pub passed-number : (core : Core) (table : List Label) (entries : List Exits) (i : ℕ) (progress : Progress) → length core.procedures.items ≤ i
     → ArePassed core table entries i progress → progress.number ≡ unknown_count (program_of core)
 passed-number core table entries i progress all passed =
-    passed.number_is ∙ ap (λ list. real_unknowns (program_of core) + made_from (program_of core) 0 (map procedure_entry list)) (take_all i core.procedures.items all)
+    passed.number_is ∙ ap (λ list. real_unknowns (program_of core) + made_from (program_of core) 0 (map (procedure_entry core.labels) list)) (take_all i core.procedures.items all)
 
 -- the path map goes on with the paths of the next procedure
 next-goes : (core : Core) (entries : List Exits) (i : ℕ) (procedure : Procedure) (index : ℕ)
     → i < length core.procedures.items → procedure ≡ get_or core.procedures.items i procedure
-    → drop index entries ≡ map exits_of (paths_of (program_of core) (map procedure_entry (drop i core.procedures.items)))
+    → drop index entries ≡ map exits_of (paths_of (program_of core) (map (procedure_entry core.labels) (drop i core.procedures.items)))
     → drop index entries ≡ map exits_of (block_paths (program_of core) (here (scope_of core i)).body)
-    ++ map exits_of (paths_of (program_of core) (map procedure_entry (drop (i + 1) core.procedures.items)))
+    ++ map exits_of (paths_of (program_of core) (map (procedure_entry core.labels) (drop (i + 1) core.procedures.items)))
 next-goes core entries i procedure index inside is entries_left =
     let program : Program = program_of core in
     let procedures : List Procedure = core.procedures.items in
-    let after : List ProcedureEntry = map procedure_entry (drop (i + 1) procedures) in
-    let own : here (scope_of core i) ≡ procedure_entry procedure = get_or-map procedure_entry procedures i procedure _ inside ∙ ap procedure_entry (sym is) in
+    let after : List ProcedureEntry = map (procedure_entry core.labels) (drop (i + 1) procedures) in
+    let own : here (scope_of core i) ≡ procedure_entry core.labels procedure = get_or-map (procedure_entry core.labels) procedures i procedure _ inside ∙ ap (procedure_entry core.labels) (sym is) in
     entries_left
-    ∙ (ap (λ ps. map exits_of (paths_of program ps)) (next-procedure procedures i procedure inside is)
-    ∙ (map-append exits_of (block_paths program (procedure_entry procedure).body) (paths_of program after)
+    ∙ (ap (λ ps. map exits_of (paths_of program ps)) (next-procedure (procedure_entry core.labels) procedures i procedure inside is)
+    ∙ (map-append exits_of (block_paths program (procedure_entry core.labels procedure).body) (paths_of program after)
     ∙ ap (λ (p : ProcedureEntry). map exits_of (block_paths program p.body) ++ map exits_of (paths_of program after)) (sym own)))
 
 pub passed-next : (core : Core) (table : List Label) (entries : List Exits) (i : ℕ) (procedure : Procedure) (old new : Progress)
@@ -372,28 +372,28 @@ passed-next core table entries i procedure old new inside is walks had =
     let program : Program = program_of core in
     let scope : Scope = scope_of core i in
     let procedures : List Procedure = core.procedures.items in
-    let before : List ProcedureEntry = map procedure_entry (take i procedures) in
-    let after : List ProcedureEntry = map procedure_entry (drop (i + 1) procedures) in
+    let before : List ProcedureEntry = map (procedure_entry core.labels) (take i procedures) in
+    let after : List ProcedureEntry = map (procedure_entry core.labels) (drop (i + 1) procedures) in
     let within : i ≤ length procedures = omega (arith, inside) in
-    let count : length before ≡ i = length-map (take i procedures) procedure_entry ∙ length-take-le i procedures within in
+    let count : length before ≡ i = length-map (take i procedures) (procedure_entry core.labels) ∙ length-take-le i procedures within in
     let count' : 0 + length before ≡ i = omega (arith, count) in
-    let own : here scope ≡ procedure_entry procedure = get_or-map procedure_entry procedures i procedure _ inside ∙ ap procedure_entry (sym is) in
+    let own : here scope ≡ procedure_entry core.labels procedure = get_or-map (procedure_entry core.labels) procedures i procedure _ inside ∙ ap (procedure_entry core.labels) (sym is) in
     let left : List Exits = map exits_of (paths_of program after) in
     let goes : drop old.index entries ≡ map exits_of (block_paths program (here scope).body) ++ left =
     next-goes core entries i procedure old.index inside is had.entries_left in
     let passed = walks own left goes had.within in
-    let next : map procedure_entry (take (i + 1) procedures) ≡ before ++ procedure_entry procedure ∷ [] = map_next procedure_entry procedures i procedure inside is in
-    let made : made_from program 0 (map procedure_entry (take (i + 1) procedures)) ≡ made_from program 0 before + made_by_procedure scope =
-    ap (made_from program 0) next ∙ (made-append program 0 before (procedure_entry procedure) ∙ ap (λ g. made_from program 0 before + made_by_procedure (record { program = program; number = g })) count') in
+    let next : map (procedure_entry core.labels) (take (i + 1) procedures) ≡ before ++ procedure_entry core.labels procedure ∷ [] = map_next (procedure_entry core.labels) procedures i procedure inside is in
+    let made : made_from program 0 (map (procedure_entry core.labels) (take (i + 1) procedures)) ≡ made_from program 0 before + made_by_procedure scope =
+    ap (made_from program 0) next ∙ (made-append program 0 before (procedure_entry core.labels procedure) ∙ ap (λ g. made_from program 0 before + made_by_procedure (record { program = program; number = g })) count') in
     let real : ℕ = real_unknowns program in
     let old_number : old.number ≡ real + made_from program 0 before = had.number_is in
     let new_number : new.number ≡ old.number + made_by_procedure scope = passed.number_is in
     let start : real + made_from program 0 before ≡ old.number = omega (arith, old_number) in
     record {
-      added = whole-same core table (constraints_from program 0 real (map procedure_entry (take (i + 1) procedures)))
+      added = whole-same core table (constraints_from program 0 real (map (procedure_entry core.labels) (take (i + 1) procedures)))
           (constraints_from program 0 real before ++ procedure_constraints scope old.number) new
           (ap (constraints_from program 0 real) next
-          ∙ (from-append program 0 real before (procedure_entry procedure)
+          ∙ (from-append program 0 real before (procedure_entry core.labels procedure)
           ∙ (ap (λ g. constraints_from program 0 real before ++ procedure_constraints (record { program = program; number = g }) (real + made_from program 0 before)) count'
           ∙ ap (λ k. constraints_from program 0 real before ++ procedure_constraints scope k) start)))
           (whole-then core table (constraints_from program 0 real before) (procedure_constraints scope old.number) old new had.added passed.added);
@@ -418,11 +418,11 @@ pub next-ready : (core : Core) (table : List Label) (entries : List Exits) (i : 
 next-ready core table entries i procedure now inside is had =
     let program : Program = program_of core in
     let procedures : List Procedure = core.procedures.items in
-    let after : List ProcedureEntry = map procedure_entry (drop (i + 1) procedures) in
-    let own : here (scope_of core i) ≡ procedure_entry procedure = get_or-map procedure_entry procedures i procedure _ inside ∙ ap procedure_entry (sym is) in
-    let entries_of : List ProcedureEntry = map procedure_entry procedures in
-    let same : get_or entries_of i (procedure_entry procedure) ≡ here (scope_of core i) =
-    get_or-map procedure_entry procedures i procedure (procedure_entry procedure) inside ∙ ap procedure_entry (sym is) ∙ sym own in
+    let after : List ProcedureEntry = map (procedure_entry core.labels) (drop (i + 1) procedures) in
+    let own : here (scope_of core i) ≡ procedure_entry core.labels procedure = get_or-map (procedure_entry core.labels) procedures i procedure _ inside ∙ ap (procedure_entry core.labels) (sym is) in
+    let entries_of : List ProcedureEntry = map (procedure_entry core.labels) procedures in
+    let same : get_or entries_of i (procedure_entry core.labels procedure) ≡ here (scope_of core i) =
+    get_or-map (procedure_entry core.labels) procedures i procedure (procedure_entry core.labels procedure) inside ∙ ap (procedure_entry core.labels) (sym is) ∙ sym own in
     record {
       left = map exits_of (paths_of program after);
       goes_on = next-goes core entries i procedure now.index inside is had.entries_left;
@@ -430,17 +430,17 @@ next-ready core table entries i procedure now inside is had =
       wide = had.wide;
       is = own;
       fitting = subst (λ entry. procedure_fits program entry ≡ true) same
-          (AllPass-from_list_all (procedure_fits program) entries_of (program_parts program core.well_formed).procedures_fit i (procedure_entry procedure)
-          (omega (arith, length-map procedures procedure_entry, inside)));
+          (AllPass-from_list_all (procedure_fits program) entries_of (program_parts program core.well_formed).procedures_fit i (procedure_entry core.labels procedure)
+          (omega (arith, length-map procedures (procedure_entry core.labels), inside)));
       room =
-          let before : List ProcedureEntry = map procedure_entry (take i procedures) in
+          let before : List ProcedureEntry = map (procedure_entry core.labels) (take i procedures) in
           let within : i ≤ length procedures = omega (arith, inside) in
-          let count : 0 + length before ≡ i = omega (arith, length-map (take i procedures) procedure_entry, length-take-le i procedures within) in
-          let next : map procedure_entry (take (i + 1) procedures) ≡ before ++ procedure_entry procedure ∷ [] = map_next procedure_entry procedures i procedure inside is in
-          let made : made_from program 0 (map procedure_entry (take (i + 1) procedures)) ≡ made_from program 0 before + made_by_procedure (scope_of core i) =
-          ap (made_from program 0) next ∙ (made-append program 0 before (procedure_entry procedure) ∙ ap (λ g. made_from program 0 before + made_by_procedure (record { program = program; number = g })) count) in
-          let upto : made_from program 0 (map procedure_entry (take (i + 1) procedures)) ≤ made_from program 0 program.procedures =
-          subst (λ list. made_from program 0 list ≤ made_from program 0 program.procedures) (take-map procedure_entry (i + 1) procedures)
+          let count : 0 + length before ≡ i = omega (arith, length-map (take i procedures) (procedure_entry core.labels), length-take-le i procedures within) in
+          let next : map (procedure_entry core.labels) (take (i + 1) procedures) ≡ before ++ procedure_entry core.labels procedure ∷ [] = map_next (procedure_entry core.labels) procedures i procedure inside is in
+          let made : made_from program 0 (map (procedure_entry core.labels) (take (i + 1) procedures)) ≡ made_from program 0 before + made_by_procedure (scope_of core i) =
+          ap (made_from program 0) next ∙ (made-append program 0 before (procedure_entry core.labels procedure) ∙ ap (λ g. made_from program 0 before + made_by_procedure (record { program = program; number = g })) count) in
+          let upto : made_from program 0 (map (procedure_entry core.labels) (take (i + 1) procedures)) ≤ made_from program 0 program.procedures =
+          subst (λ list. made_from program 0 list ≤ made_from program 0 program.procedures) (take-map (procedure_entry core.labels) (i + 1) procedures)
           (made-within program 0 (i + 1) program.procedures) in
           omega (arith, had.number_is, made, upto, unknowns-counted program core.well_formed, program-small core);
       deep = had.low;

@@ -57,19 +57,19 @@ declared-append (y ∷ xs) x n level e old free =
     go true rest = taken (e == x.exception)
     go false rest = rest ∙ ap (λ k. entry_after x.exception (entry_at k level) e (declared_entry xs (suc n) level e old)) total
 
-pub declared-next : (throws : List Thrown) (i : ℕ) (x : Thrown) (n number level e : ℕ) (before after old : Entry)
+pub declared-next : (labels : List Label) (throws : List Thrown) (i : ℕ) (x : Thrown) (n number level e : ℕ) (before after old : Entry)
     → i < length throws → x ≡ get_or throws i x → number ≡ n + i → (old.level == level) ≡ false
-    → before ≡ declared_entry (map thrown_entry (take i throws)) n level e old
+    → before ≡ declared_entry (map (thrown_entry labels) (take i throws)) n level e old
     → after ≡ entry_after x.exception (entry_at number level) e before
-    → after ≡ declared_entry (map thrown_entry (take (i + 1) throws)) n level e old
-declared-next throws i x n number level e before after old inside is counted free was taken =
-    let xs : List ThrownEntry = map thrown_entry (take i throws) in
+    → after ≡ declared_entry (map (thrown_entry labels) (take (i + 1) throws)) n level e old
+declared-next labels throws i x n number level e before after old inside is counted free was taken =
+    let xs : List ThrownEntry = map (thrown_entry labels) (take i throws) in
     let within : i ≤ length throws = omega (arith, inside) in
-    let count : length xs ≡ i = length-map (take i throws) thrown_entry ∙ length-take-le i throws within in
+    let count : length xs ≡ i = length-map (take i throws) (thrown_entry labels) ∙ length-take-le i throws within in
     taken ∙ (ap (entry_after x.exception (entry_at number level) e) was
     ∙ (ap (λ k. entry_after x.exception (entry_at k level) e (declared_entry xs n level e old)) (counted ∙ ap (λ k. n + k) (sym count))
-    ∙ (sym (declared-append xs (thrown_entry x) n level e old free)
-    ∙ ap (λ list. declared_entry list n level e old) (sym (map_next thrown_entry throws i x inside is)))))
+    ∙ (sym (declared-append xs (thrown_entry labels x) n level e old free)
+    ∙ ap (λ list. declared_entry list n level e old) (sym (map_next (thrown_entry labels) throws i x inside is)))))
 
 -- a level that no entry has
 pub level-free : (barrier level : ℕ) (old : Entry) → barrier < level → old.level ≤ barrier → (old.level == level) ≡ false
@@ -166,14 +166,14 @@ thrown-append scope f (y ∷ xs) x =
 
 pub demands-next : (core : Core) (table : List Label) (f at : ℕ) (number : ℕ → ℕ) (throws : List Thrown) (i : ℕ) (x : Thrown) (old middle new : List Stored)
     → i < length throws → x ≡ get_or throws i x → at ≡ (here (scope_of core f)).at
-    → AreAdded core table (thrown_constraints (scope_of core f) number (map thrown_entry (take i throws))) old middle
+    → AreAdded core table (thrown_constraints (scope_of core f) number (map (thrown_entry core.labels) (take i throws))) old middle
     → AreAdded core table (rule_constraint (scope_of core f) at 13 (inner_atom (number x.exception) ∷ []) (ToThrown f x.exception)) middle new
-    → AreAdded core table (thrown_constraints (scope_of core f) number (map thrown_entry (take (i + 1) throws))) old new
+    → AreAdded core table (thrown_constraints (scope_of core f) number (map (thrown_entry core.labels) (take (i + 1) throws))) old new
 demands-next core table f at number throws i x old middle new inside is stands first second =
     let scope : Scope = scope_of core f in
-    let before : List ThrownEntry = map thrown_entry (take i throws) in
+    let before : List ThrownEntry = map (thrown_entry core.labels) (take i throws) in
     let last : ℕ → List NamedConstraint = λ a. rule_constraint scope a 13 (inner_atom (number x.exception) ∷ []) (ToThrown f x.exception) in
-    added-same core table (thrown_constraints scope number (map thrown_entry (take (i + 1) throws))) (thrown_constraints scope number before ++ last at) old new
-    (ap (thrown_constraints scope number) (map_next thrown_entry throws i x inside is)
-    ∙ (thrown-append scope number before (thrown_entry x) ∙ ap (λ a. thrown_constraints scope number before ++ last a) (sym stands)))
+    added-same core table (thrown_constraints scope number (map (thrown_entry core.labels) (take (i + 1) throws))) (thrown_constraints scope number before ++ last at) old new
+    (ap (thrown_constraints scope number) (map_next (thrown_entry core.labels) throws i x inside is)
+    ∙ (thrown-append scope number before (thrown_entry core.labels x) ∙ ap (λ a. thrown_constraints scope number before ++ last a) (sym stands)))
     (added-then core table (thrown_constraints scope number before) (last at) old middle new first second)

@@ -1,8 +1,9 @@
 -- Stored constraints that stand for what is gathered: they are just that, and their numbers are in range.
-use Rattle.std.proofs.Common.{◌≡◌, refl, sym, ap, ◌∙◌, subst, ℕ, ◌+◌, ◌<◌, List, [], ◌∷◌, ◌++◌, map, length}
-use Rattle.std.specs.Prelude.{◌↔◌, Contains, Some, slice_get}
+use Rattle.std.proofs.Common.{◌≡◌, refl, sym, ap, ◌∙◌, subst, ℕ, ◌<◌, List, [], ◌∷◌, ◌++◌, map, length, ⊎_elim}
+use Rattle.std.specs.Prelude.{◌↔◌, Contains, Some, nat_le, slice_get}
 use Rattle.std.proofs.lemmas.List.{map-append}
-use Rattle.std.proofs.lemmas.List.Elements.{All-cons, All-nil}
+use Rattle.std.proofs.lemmas.List.Elements.{All-cons, All-nil, Contains-append_cases, Contains-append_left, Contains-append_right}
+use Rattle.labels.proofs.Elements.{All-from_each, each_from_All}
 use Rattle.principals.proofs.Closure.{Contains-first, Contains-later}
 use Rattle.std.proofs.lemmas.Option.{get_or_from_slice_get, slice_get_within}
 use Rattle.labels.specs.Label.{Label}
@@ -14,23 +15,24 @@ use Rattle.resolved.specs.CoreOf.{program_of}
 use Rattle.resolved.specs.EndFaults.{end_faults}
 use Rattle.resolved.specs.Labelled.{FitsDemands, Labelling, program_demands}
 use Rattle.gathering.specs.Gathered.{AreConstraintsOf, FitsConstraints}
-use Rattle.gathering.specs.Names.{numbered}
+use Rattle.gathering.specs.Names.{numbered, real_unknowns}
+use Rattle.gathering.specs.Rerouted.{IsRerouted}
 use Rattle.gathering.specs.Walk as walk
-use Rattle.gathering.specs.Walk.{program_constraints, unknown_count}
+use Rattle.gathering.specs.Walk.{gathered_constraints, program_constraints, unknown_count}
 use Rattle.gathering.proofs.ReroutedPrograms.{constraints-fit, rerouted-constraints}
 use Rattle.solver.specs.Links.{AreBelow, InRange, IsBelow}
 use Rattle.solver.specs.Constraints.{atom_of, constraint_of}
 use Rattle.solver.specs.declared.constraints.Atom.{Atom}
 use Rattle.solver.specs.declared.constraints.Atom.TheVariants as stored
 use Rattle.constraints.specs.LeftSides.{part, left_parts}
-use Rattle.constraints.specs.Added.{AreAdded, Stored, stand_for, stands_for}
-use Rattle.constraints.specs.Spreading.{AreSpread, Declares}
+use Rattle.constraints.specs.Added.{AreAdded, Stored, stand_for, stands_for, wanted_constraint}
+use Rattle.constraints.specs.Merging.{AreSpreadMerged}
 use Rattle.constraints.specs.Thinned.{ThinnedWhole}
 use Rattle.constraints.specs.declared.progress.Progress.{Progress}
 use Rattle.constraints.specs.declared.spreading.Made.{Made}
-use Rattle.constraints.proofs.Added.{added-then}
-use Rattle.constraints.proofs.SpreadCalls.{all-numbered, calls-rerouted, spread-below}
-use Rattle.constraints.proofs.Wanted.{wanted, wanted_of}
+use Rattle.constraints.proofs.Merged.{FitsIn, meant-rerouted, merged-in-range}
+use Rattle.constraints.proofs.SpreadCalls.{all-numbered, calls-rerouted, ranged-unknowns, spread-below}
+use Rattle.constraints.proofs.Wanted.{constraints-numbered, wanted, wanted_of}
 
 module _ (l : Lattice Label) (table : List Label) where
   atom-is : (a : Atom) (b : formal.Atom ℕ Label) → part table a ≡ wanted b → atom_of l table a ≡ b
@@ -104,28 +106,52 @@ module _ (table : List Label) (count : ℕ) where
   constraints-in-range [] (g ∷ gs) is below = absurd (cc)
   constraints-in-range (c ∷ cs) [] is below = absurd (cc)
 
--- what a walk kept, and the flows of the calls that it noted
+-- what a walk kept, and the flows of the calls that it noted, put together by their right sides
 module _ (core : Core) (table : List Label) (walked : Progress) (old new : Made)
     (whole : ThinnedWhole core table (program_constraints (program_of core)) walked)
-    (spread : AreSpread core table walked.journal (Declares core) walked.journal.calls.items old new)
+    (made : AreSpreadMerged core table walked.journal walked.journal.calls.items old new)
     (first : old.number ≡ unknown_count (program_of core))
     (same : old.constraints.items ≡ walked.constraints.items) where
-  stand-for-all : stand_for table new.constraints.items ≡ map wanted_of (map (numbered (program_of core)) (whole.now.kept ++ spread.added))
+  numbered-all : map (wanted_constraint (program_of core)) (whole.now.kept ++ made.are_spread.added) ≡ map wanted_of (map (numbered (program_of core)) (whole.now.kept ++ made.are_spread.added))
+  numbered-all = all-numbered core table walked old.number new.number made.spread whole made.are_spread first
+
+  -- before they are put together
+  stand-for-all : stand_for table (old.constraints.items ++ made.spread) ≡ map wanted_of (map (numbered (program_of core)) (whole.now.kept ++ made.are_spread.added))
   stand-for-all =
-      added-then core table whole.now.kept spread.added [] old.constraints.items new.constraints.items
-      (subst (AreAdded core table whole.now.kept []) (sym same) whole.now.kept_added) spread.are_added
-      ∙ all-numbered core table walked old new whole spread first
+      map-append (stands_for table) old.constraints.items made.spread
+      ∙ (ap (λ xs. xs ++ stand_for table made.spread) (subst (AreAdded core table whole.now.kept []) (sym same) whole.now.kept_added)
+      ∙ (ap (λ xs. map (wanted_constraint (program_of core)) whole.now.kept ++ xs) made.are_spread.stored_are
+      ∙ (sym (map-append (wanted_constraint (program_of core)) whole.now.kept made.are_spread.added) ∙ numbered-all)))
 
   pub all-gathered : end_faults (program_of core) ≡ []
       → AreConstraintsOf (program_of core) (map (constraint_of (label_lattice (program_of core).hierarchy) table) new.constraints.items)
   all-gathered ended =
       let l : Lattice Label = label_lattice (program_of core).hierarchy in
-      let base : List Gathered = map (numbered (program_of core)) whole.now.kept in
-      let added : List Gathered = map (numbered (program_of core)) spread.added in
+      let base : List Gathered = map (constraint_of l table) old.constraints.items in
+      let kept : base ≡ map (numbered (program_of core)) whole.now.kept = kept-are in
+      let added : map (constraint_of l table) made.spread ≡ map (numbered (program_of core)) made.are_spread.added = added-are in
+      let rerouted : IsRerouted (λ k. nat_le (real_unknowns (program_of core)) k) (λ k. nat_le (unknown_count (program_of core)) k)
+      (gathered_constraints (program_of core)) base (map (constraint_of l table) made.spread) =
+      rw (kept, added) (calls-rerouted core table walked old.number new.number made.spread whole made.are_spread first) in
       subst (AreConstraintsOf (program_of core))
-      (sym (constraints-are l table new.constraints.items (map (numbered (program_of core)) (whole.now.kept ++ spread.added)) stand-for-all
-      ∙ map-append (numbered (program_of core)) whole.now.kept spread.added))
-      (rerouted-constraints (program_of core) core.well_formed ended base added (calls-rerouted core table walked old new whole spread first))
+      (sym (ap (map (constraint_of l table)) made.merged_is ∙ map-append (constraint_of l table) old.constraints.items made.merged))
+      (rerouted-constraints (program_of core) core.well_formed ended base (map (constraint_of l table) made.merged)
+      (meant-rerouted l table (λ k. nat_le (real_unknowns (program_of core)) k) (λ k. nat_le (unknown_count (program_of core)) k) (gathered_constraints (program_of core)) base
+      made.spread made.merged made.are_merged rerouted))
+    where
+      kept-are : map (constraint_of (label_lattice (program_of core).hierarchy) table) old.constraints.items ≡ map (numbered (program_of core)) whole.now.kept
+      kept-are =
+          constraints-are (label_lattice (program_of core).hierarchy) table old.constraints.items (map (numbered (program_of core)) whole.now.kept)
+          (subst (AreAdded core table whole.now.kept []) (sym same) whole.now.kept_added
+          ∙ constraints-numbered (program_of core) whole.now.kept
+          (λ c h. ranged-unknowns core table walked old.number new.number made.spread whole made.are_spread first c (Contains-append_left whole.now.kept made.are_spread.added c h)))
+
+      added-are : map (constraint_of (label_lattice (program_of core).hierarchy) table) made.spread ≡ map (numbered (program_of core)) made.are_spread.added
+      added-are =
+          constraints-are (label_lattice (program_of core).hierarchy) table made.spread (map (numbered (program_of core)) made.are_spread.added)
+          (made.are_spread.stored_are
+          ∙ constraints-numbered (program_of core) made.are_spread.added
+          (λ c h. ranged-unknowns core table walked old.number new.number made.spread whole made.are_spread first c (Contains-append_right whole.now.kept made.are_spread.added c h)))
 
   pub all-fit : end_faults (program_of core) ≡ [] → (labelling : Labelling)
       → FitsDemands (program_of core).hierarchy labelling (program_demands (program_of core))
@@ -135,5 +161,15 @@ module _ (core : Core) (table : List Label) (walked : Progress) (old new : Made)
 
   pub all-in-range : InRange (length table) new.number new.constraints.items
   all-in-range =
-      constraints-in-range table new.number new.constraints.items (map (numbered (program_of core)) (whole.now.kept ++ spread.added)) stand-for-all
-      (spread-below core table walked old new whole spread first)
+      let before : InRange (length table) new.number (old.constraints.items ++ made.spread) =
+      constraints-in-range table new.number (old.constraints.items ++ made.spread) (map (numbered (program_of core)) (whole.now.kept ++ made.are_spread.added)) stand-for-all
+      (spread-below core table walked old.number new.number made.spread whole made.are_spread first) in
+      let each : (c : Stored) → Contains (old.constraints.items ++ made.spread) c → FitsIn (length table) new.number c =
+      each_from_All (FitsIn (length table) new.number) (old.constraints.items ++ made.spread) before in
+      let merged : InRange (length table) new.number made.merged =
+      merged-in-range (length table) new.number made.spread made.merged made.are_merged
+      (All-from_each (FitsIn (length table) new.number) made.spread (λ c h. each c (Contains-append_right old.constraints.items made.spread c h))) in
+      subst (InRange (length table) new.number) (sym made.merged_is)
+      (All-from_each (FitsIn (length table) new.number) (old.constraints.items ++ made.merged)
+      (λ c h. ⊎_elim (λ k. each c (Contains-append_left old.constraints.items made.spread c k))
+      (λ k. each_from_All (FitsIn (length table) new.number) made.merged merged c k) (Contains-append_cases old.constraints.items made.merged c h)))

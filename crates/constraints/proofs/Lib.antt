@@ -22,7 +22,9 @@ pub mod Moments
 pub mod OneTaker
 pub mod FixedFlows
 pub mod Spread
+pub mod PartRows
 pub mod CallRows
 pub mod SpreadRows
 pub mod SpreadCalls
+pub mod Merged
 mod Gathered

@@ -8,6 +8,7 @@ use Rattle.std.proofs.lemmas.List.{get_or_past}
 use Rattle.std.proofs.lemmas.List.Elements.{Contains-append_cases}
 use Rattle.common.proofs.Cases.{by_test}
 use Rattle.principals.proofs.Closure.{none_in_nil, Contains-cons_cases, Contains-first, Contains-later}
+use Rattle.labels.specs.Label.{Label}
 use Rattle.resolved.specs.Ends.{handles}
 use Rattle.resolved.specs.Program.{ThrownEntry}
 use Rattle.resolved.specs.ProgramOf.{thrown_entry}
@@ -149,9 +150,9 @@ pub handled-ones : (handlers : List Handler) (x : ℕ) → is_one_of (map (λ (h
 handled-ones [] x = refl
 handled-ones (handler ∷ rest) x = ap (λ b. (x == handler.exception) || b) (handled-ones rest x)
 
-pub declared-ones : (throws : List Thrown) (x : ℕ) → is_one_of (map (λ (declared : Thrown). declared.exception) throws) x ≡ declares (map thrown_entry throws) x
-declared-ones [] x = refl
-declared-ones (declared ∷ rest) x = ap (λ b. (x == declared.exception) || b) (declared-ones rest x)
+pub declared-ones : (labels : List Label) (throws : List Thrown) (x : ℕ) → is_one_of (map (λ (declared : Thrown). declared.exception) throws) x ≡ declares (map (thrown_entry labels) throws) x
+declared-ones labels [] x = refl
+declared-ones labels (declared ∷ rest) x = ap (λ b. (x == declared.exception) || b) (declared-ones labels rest x)
 
 -- those that are not keep their entries
 or-false : (a b : Bool) → (a || b) ≡ false → (a ≡ false) × (b ≡ false)

@@ -7,6 +7,7 @@ use Rattle.std.proofs.lemmas.List.{length-drop}
 use Rattle.std.proofs.lemmas.List.Elements.{All-cons, All-nil}
 use Rattle.common.specs.declared.exceptions.TheConstants.{BUILT_IN}
 use Rattle.labels.specs.Label.{Label}
+use Rattle.labels.specs.LabelTable.{label_at}
 use Rattle.resolved.specs.CoreOf.{program_of}
 use Rattle.resolved.specs.declared.program.Core.{Core}
 use Rattle.resolved.specs.declared.statement.Exit.{Exit}
@@ -133,15 +134,15 @@ module _ (program : Program) (width : ℕ) (wide : exceptions program ≤ width)
       let below : handler.exception < exceptions program = ltb-true handler.exception (exceptions program) parts.0 in
       All-cons (λ (h : Handler). h.exception < width) handler rest (omega (arith, below, wide)) (handled-inside procedure rest parts.2)
 
-  pub thrown-inside : (throws : List Thrown) → throws_fit program (map thrown_entry throws) ≡ true
+  pub thrown-inside : (labels : List Label) (throws : List Thrown) → throws_fit program (map (thrown_entry labels) throws) ≡ true
       → All (λ (declared : Thrown). declared.exception < width) throws
-  thrown-inside [] fit = All-nil (λ (declared : Thrown). declared.exception < width)
-  thrown-inside (declared ∷ rest) fit =
-      let last = and_parts (is_exception program declared.exception && label_fits program.hierarchy declared.label && not (list_any (λ (other : ThrownEntry). other.exception == declared.exception) (map thrown_entry rest)))
-      (throws_fit program (map thrown_entry rest)) fit in
-      let first = and-three (is_exception program declared.exception) (label_fits program.hierarchy declared.label) (not (list_any (λ (other : ThrownEntry). other.exception == declared.exception) (map thrown_entry rest))) last.0 in
+  thrown-inside labels [] fit = All-nil (λ (declared : Thrown). declared.exception < width)
+  thrown-inside labels (declared ∷ rest) fit =
+      let last = and_parts (is_exception program declared.exception && label_fits program.hierarchy (label_at labels declared.label) && not (list_any (λ (other : ThrownEntry). other.exception == declared.exception) (map (thrown_entry labels) rest)))
+      (throws_fit program (map (thrown_entry labels) rest)) fit in
+      let first = and-three (is_exception program declared.exception) (label_fits program.hierarchy (label_at labels declared.label)) (not (list_any (λ (other : ThrownEntry). other.exception == declared.exception) (map (thrown_entry labels) rest))) last.0 in
       let below : declared.exception < exceptions program = ltb-true declared.exception (exceptions program) first.0 in
-      All-cons (λ (d : Thrown). d.exception < width) declared rest (omega (arith, below, wide)) (thrown-inside rest last.1)
+      All-cons (λ (d : Thrown). d.exception < width) declared rest (omega (arith, below, wide)) (thrown-inside labels rest last.1)
 
 -- what holds of each element of a list, of the one at a place
 pub held-at : {X : Type 0} (P : X → Type 0) (xs : List X) (i : ℕ) (x : X) → All P xs → i < length xs → x ≡ get_or xs i x → P x

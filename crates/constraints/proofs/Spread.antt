@@ -16,10 +16,10 @@ use Rattle.gathering.specs.Names.{NamedAtom, NamedConstraint, named_atoms}
 use Rattle.gathering.specs.Rerouted.{Leads, arrived, onward}
 use Rattle.gathering.specs.Walk.{call_atoms, inner_atom, inner_constraint}
 use Rattle.solver.specs.declared.constraints.Atom as stored
-use Rattle.constraints.specs.Added.{AreAdded, IsLeft, IsPart}
+use Rattle.constraints.specs.Added.{AreAdded, IsLeft, IsPart, PartConstraint, Stored, stand_for, stands_for, wanted_constraint}
 use Rattle.constraints.specs.LeftSides.{left_parts, part as part-of, wanted_part}
 use Rattle.constraints.specs.Journals.{HasOneTaker, raised_flow, taker_at}
-use Rattle.constraints.specs.Spreading.{AreCallsOf, AreLabelsOf, AreSpread, AreSpreadTo, IsNode, IsSpread, IsSpreadTo, StandForThemselves, StandFrom, exceptions_of, fixed_flows, joining_flow, owns_of}
+use Rattle.constraints.specs.Spreading.{AreCallsOf, AreLabelsOf, AreSpread, AreSpreadTo, IsNode, IsSpread, IsSpreadTo, IsSpreadWhole, StandForThemselves, StandFrom, exceptions_of, fixed_flows, joining_flow, owns_of}
 use Rattle.constraints.specs.declared.journal.Called.{Called}
 use Rattle.constraints.specs.declared.journal.Journal.{Journal}
 use Rattle.constraints.specs.declared.rows.ThrownLabel.{ThrownLabel}
@@ -435,3 +435,62 @@ joined-two core table journal labels n calls a b parts old middle late new first
     (two-spread core table journal labels a b parts old middle late new first second atom are number added part
     (one callee (λ called h. of' called (Contains-append_left a b called h)) labelled)
     (other callee (λ called h. of' called (Contains-append_right a b called h)) labelled))
+
+-- ---- constraints that stand by themselves
+pub whole-none : (core : Core) (table : List Label) (journal : Journal) (raises : Called → ℕ → Type 0) (calls : List Called) (first : ℕ)
+    → length calls ≡ 0 → IsSpreadWhole core table journal raises calls first first []
+whole-none core table journal raises calls first none = record {
+  added = [];
+  meanings = [];
+  stored_are = refl;
+  number_is = omega arith;
+  few = omega arith;
+  each = λ stands themselves from c h. absurd (none_in_nil c h);
+  leads = λ called inside exception raised. let below = inside.1 in absurd (omega (arith, none, below));
+}
+
+pub whole-then : (core : Core) (table : List Label) (journal : Journal) (raises : Called → ℕ → Type 0) (a b : List Called) (first : ℕ) (before : List Stored) (old new : Made)
+    → IsSpreadWhole core table journal raises a first old.number before → AreSpread core table journal raises b old new → old.constraints.items ≡ []
+    → IsSpreadWhole core table journal raises (a ++ b) first new.number (before ++ new.constraints.items)
+whole-then core table journal raises a b first before old new one other none =
+    let wanted : NamedConstraint → PartConstraint = wanted_constraint (program_of core) in
+    record {
+      added = one.added ++ other.added;
+      meanings = one.meanings ++ other.meanings;
+      stored_are = map-append (stands_for table) before new.constraints.items
+          ∙ (ap (λ xs. xs ++ stand_for table new.constraints.items) one.stored_are
+          ∙ (ap (λ ys. map wanted one.added ++ ys) (other.are_added ∙ ap (λ xs. stand_for table xs ++ map wanted other.added) none)
+          ∙ sym (map-append wanted one.added other.added)));
+      number_is = omega (arith, one.number_is, other.number_is, length-append one.meanings other.meanings);
+      few = omega (arith, one.few, other.few, length-append one.meanings other.meanings, length-append a b);
+      each = λ stands themselves from c h. ⊎_elim
+          (λ k. spread-more core journal stands first old.number first new.number a (a ++ b) c (omega arith) (omega (arith, other.number_is)) (Contains-append_left a b)
+          (one.each stands (λ called inside. themselves called (Contains-append_left a b called inside)) (stand-left stands first one.meanings other.meanings from) c k))
+          (λ k. spread-more core journal stands old.number new.number first new.number b (a ++ b) c (omega (arith, one.number_is)) (omega arith) (Contains-append_right a b)
+          (other.each stands (λ called inside. themselves called (Contains-append_right a b called inside))
+          (stand-right stands first old.number one.meanings other.meanings one.number_is from) c k))
+          (Contains-append_cases one.added other.added c h);
+      leads = λ called inside exception raised taker takes from in_left. ⊎_elim
+          (λ k. leads-more one.added (one.added ++ other.added) (Contains-append_left one.added other.added) from (inner_atom taker)
+          (one.leads called k exception raised taker takes from in_left))
+          (λ k. leads-more other.added (one.added ++ other.added) (Contains-append_right one.added other.added) from (inner_atom taker)
+          (other.leads called k exception raised taker takes from in_left))
+          (Contains-append_cases a b called inside);
+    }
+
+pub whole-less : (core : Core) (table : List Label) (journal : Journal) (raises raises' : Called → ℕ → Type 0) (calls calls' : List Called) (first next : ℕ) (stored : List Stored)
+    → length calls ≤ length calls' → ((called : Called) → Contains calls called → Contains calls' called)
+    → ((called : Called) (exception : ℕ) → Contains calls' called → raises' called exception → Contains calls called × raises called exception)
+    → IsSpreadWhole core table journal raises calls first next stored → IsSpreadWhole core table journal raises' calls' first next stored
+whole-less core table journal raises raises' calls calls' first next stored fewer within is spread = record {
+  added = spread.added;
+  meanings = spread.meanings;
+  stored_are = spread.stored_are;
+  number_is = spread.number_is;
+  few = omega (arith, fewer, spread.few);
+  each = λ stands themselves from c h. spread-more core journal stands first next first next calls calls' c (omega arith) (omega arith) within
+      (spread.each stands (λ called inside. themselves called (within called inside)) from c h);
+  leads = λ called inside exception raised.
+      let had = is called exception inside raised in
+      spread.leads called had.0 exception had.1;
+}

@@ -24,12 +24,11 @@ use Rattle.gathering.proofs.Ranged.{InRange, Ranged}
 use Rattle.gathering.proofs.RangedPrograms.{ranged-program}
 use Rattle.constraints.specs.Ready.{most_unknowns}
 use Rattle.constraints.specs.Journals.{IsRaised, raised_flow, taker_at}
-use Rattle.constraints.specs.Spreading.{AreSpread, Declares, IsJoin, IsNode, IsSpread, IsSpreadRaise, StandFrom, StandForThemselves}
-use Rattle.constraints.specs.Added.{wanted_constraint}
+use Rattle.constraints.specs.Spreading.{Declares, IsJoin, IsNode, IsSpread, IsSpreadRaise, IsSpreadWhole, StandFrom, StandForThemselves}
+use Rattle.constraints.specs.Added.{Stored, wanted_constraint}
 use Rattle.constraints.specs.Thinned.{IsOwnOf, ThinnedWhole}
 use Rattle.constraints.specs.declared.journal.Called.{Called}
 use Rattle.constraints.specs.declared.progress.Progress.{Progress}
-use Rattle.constraints.specs.declared.spreading.Made.{Made}
 use Rattle.constraints.proofs.Small.{program-small}
 use Rattle.constraints.proofs.Wanted.{AreNumbered, constraints-numbered, map-inner, numbered-ranged, wanted_of}
 
@@ -89,10 +88,10 @@ module _ (program : Program) where
   below-old (Written v) below = refl
   below-old (Unknown u) below = lt-leb (unknown_count program) u below
 
-module _ (core : Core) (table : List Label) (walked : Progress) (old new : Made)
+module _ (core : Core) (table : List Label) (walked : Progress) (from_number next_number : ℕ) (stored : List Stored)
     (whole : ThinnedWhole core table (program_constraints (program_of core)) walked)
-    (spread : AreSpread core table walked.journal (Declares core) walked.journal.calls.items old new)
-    (first : old.number ≡ unknown_count (program_of core)) where
+    (spread : IsSpreadWhole core table walked.journal (Declares core) walked.journal.calls.items from_number next_number stored)
+    (first : from_number ≡ unknown_count (program_of core)) where
   abbrev program : Program
   program = program_of core
 
@@ -136,17 +135,17 @@ module _ (core : Core) (table : List Label) (walked : Progress) (old new : Made)
   for-themselves : StandForThemselves stands calls
   for-themselves called h = stands-old called.own (own-below called h)
 
-  stand-from : StandFrom stands old.number spread.meanings
+  stand-from : StandFrom stands from_number spread.meanings
   stand-from = subst (λ n. StandFrom stands n spread.meanings) (sym first) (stand-where stands spread.meanings count (λ i.
       let past : nat_lt (count + i) count ≡ false = le-ltb (count + i) count (omega arith) in
       let less : (count + i) - count ≡ i = omega arith in
       ap (λ b. if b then (count + i) ∷ [] else nth spread.meanings ((count + i) - count)) past ∙ ap (nth spread.meanings) less))
 
-  each : (c : NamedConstraint) → Contains spread.added c → IsSpread core walked.journal stands old.number new.number calls c
+  each : (c : NamedConstraint) → Contains spread.added c → IsSpread core walked.journal stands from_number next_number calls c
   each = spread.each stands for-themselves stand-from
 
   -- a node is an own label or a further unknown
-  node-old : (node : ℕ) → IsNode old.number new.number calls node → node < count → stands node ≡ node ∷ []
+  node-old : (node : ℕ) → IsNode from_number next_number calls node → node < count → stands node ≡ node ∷ []
   node-old node is below = stands-old node below
 
   abbrev unknown : ℕ → formal.Atom ℕ Label
@@ -165,7 +164,7 @@ module _ (core : Core) (table : List Label) (walked : Progress) (old new : Made)
   same-number u k e = cc
 
   -- what a part of a left side that is an unknown brings
-  brought : (node : ℕ) (from : formal.Atom ℕ Label) → IsNode old.number new.number calls node
+  brought : (node : ℕ) (from : formal.Atom ℕ Label) → IsNode from_number next_number calls node
       → Brings (further (program_of core)) meanings (unknown node) from → (own : ℕ) × Contains (stands node) own × (unknown own ≡ from)
   brought node from is (itself f same) =
       let below : node < count = ⊎_elim
@@ -182,7 +181,7 @@ module _ (core : Core) (table : List Label) (walked : Progress) (old new : Made)
   brought-old part from e (others u is f stand) = absurd (not-both (further (program_of core) u) f (subst (λ a. is_inner (further (program_of core)) a ≡ false) is e))
 
   -- ---- each constraint that was added
-  join-added : (c : NamedConstraint) → IsJoin stands old.number new.number calls c
+  join-added : (c : NamedConstraint) → IsJoin stands from_number next_number calls c
       → IsAdded (inner_number (program_of core)) (further (program_of core)) meanings (gathered_constraints (program_of core)) (numbered (program_of core) c)
   join-added c join =
       let least : count ≤ join.to = subst (λ n. n ≤ join.to) first join.from_first in
@@ -202,7 +201,7 @@ module _ (core : Core) (table : List Label) (walked : Progress) (old new : Made)
         to_old = λ f. absurd (not-both (further (program_of core) join.to) (is-further join.to least) f);
       }
 
-  raise-there : (c : NamedConstraint) (r : IsSpreadRaise core walked.journal stands old.number new.number calls c) (called : Called) → Contains r.of called
+  raise-there : (c : NamedConstraint) (r : IsSpreadRaise core walked.journal stands from_number next_number calls c) (called : Called) → Contains r.of called
       → Contains constraints (raised_flow (program_of core) r.callee called.own r.exception r.taker)
   raise-there c r called h =
       let callee : called.callee ≡ r.callee = r.of_callee called h in
@@ -221,12 +220,12 @@ module _ (core : Core) (table : List Label) (walked : Progress) (old new : Made)
   first-of [] some = absurd (omega (arith, some))
   first-of (called ∷ rest) some = (called, Contains-first called rest)
 
-  taker-below : (c : NamedConstraint) (r : IsSpreadRaise core walked.journal stands old.number new.number calls c) → (real ≤ r.taker) × (r.taker < count)
+  taker-below : (c : NamedConstraint) (r : IsSpreadRaise core walked.journal stands from_number next_number calls c) → (real ≤ r.taker) × (r.taker < count)
   taker-below c r =
       let one = first-of r.of r.some in
       (ranged (raised_flow (program_of core) r.callee one.0.own r.exception r.taker) (raise-there c r one.0 one.1)).1
 
-  raise-added : (c : NamedConstraint) → IsSpreadRaise core walked.journal stands old.number new.number calls c
+  raise-added : (c : NamedConstraint) → IsSpreadRaise core walked.journal stands from_number next_number calls c
       → IsAdded (inner_number (program_of core)) (further (program_of core)) meanings (gathered_constraints (program_of core)) (numbered (program_of core) c)
   raise-added c r =
       let label : List NamedAtom = named_atoms (call_atoms (program_of core) r.callee (Throw r.exception)) in
@@ -312,37 +311,37 @@ module _ (core : Core) (table : List Label) (walked : Progress) (old new : Made)
   }
 
   -- ---- numbers
-  node-below : (node : ℕ) → IsNode old.number new.number calls node → node < new.number
+  node-below : (node : ℕ) → IsNode from_number next_number calls node → node < next_number
   node-below node is = ⊎_elim
       (λ own. let below : node < count = subst (λ k. k < count) own.2 (own-below own.0 own.1) in omega (arith, below, first, spread.number_is))
       (λ within. within.1) is
 
-  atoms-more : (a : formal.Atom ℕ Label) → walk.IsUnknownBelow (unknown_count (program_of core)) a → walk.IsUnknownBelow new.number a
+  atoms-more : (a : formal.Atom ℕ Label) → walk.IsUnknownBelow (unknown_count (program_of core)) a → walk.IsUnknownBelow next_number a
   atoms-more (Written v) below = tt
   atoms-more (Unknown u) below = omega (arith, below, first, spread.number_is)
 
   abbrev AreBelow : NamedConstraint → Type 0
-  AreBelow c = ((a : formal.Atom ℕ Label) → Contains (map (numbered_atom (program_of core)) c.left) a → walk.IsUnknownBelow new.number a)
-      × walk.IsUnknownBelow new.number (numbered_atom (program_of core) c.right)
+  AreBelow c = ((a : formal.Atom ℕ Label) → Contains (map (numbered_atom (program_of core)) c.left) a → walk.IsUnknownBelow next_number a)
+      × walk.IsUnknownBelow next_number (numbered_atom (program_of core) c.right)
 
   old-below : (c : NamedConstraint) → Contains constraints c → AreBelow c
   old-below c h =
       let below = numbers-below (program_of core) core.well_formed (numbered (program_of core) c) (contained_map (numbered (program_of core)) constraints c h) in
       (λ a there. atoms-more a (below.0 a there), atoms-more (numbered_atom (program_of core) c.right) below.1)
 
-  join-below : (c : NamedConstraint) → IsJoin stands old.number new.number calls c → AreBelow c
+  join-below : (c : NamedConstraint) → IsJoin stands from_number next_number calls c → AreBelow c
   join-below c join =
       subst AreBelow (sym join.is) (
         λ a there.
             let named = contained_map_only (numbered_atom (program_of core)) (map inner_atom join.parts) a there in
             let node = contained_map_only inner_atom join.parts named.0 named.1 in
-            let below : node.0 < new.number = node-below node.0 (join.nodes node.0 node.1) in
-            let within : walk.IsUnknownBelow new.number (unknown node.0) = omega (arith, below) in
-            subst (walk.IsUnknownBelow new.number) (ap (numbered_atom (program_of core)) node.2 ∙ named.2) within,
-        (let below : join.to < new.number = join.below_next in omega (arith, below)),
+            let below : node.0 < next_number = node-below node.0 (join.nodes node.0 node.1) in
+            let within : walk.IsUnknownBelow next_number (unknown node.0) = omega (arith, below) in
+            subst (walk.IsUnknownBelow next_number) (ap (numbered_atom (program_of core)) node.2 ∙ named.2) within,
+        (let below : join.to < next_number = join.below_next in omega (arith, below)),
       )
 
-  raise-below : (c : NamedConstraint) → IsSpreadRaise core walked.journal stands old.number new.number calls c → AreBelow c
+  raise-below : (c : NamedConstraint) → IsSpreadRaise core walked.journal stands from_number next_number calls c → AreBelow c
   raise-below c r =
       let label : List NamedAtom = named_atoms (call_atoms (program_of core) r.callee (Throw r.exception)) in
       let one = first-of r.of r.some in
@@ -351,23 +350,23 @@ module _ (core : Core) (table : List Label) (walked : Progress) (old new : Made)
       subst AreBelow (sym r.is) (
         λ a there. ⊎_elim
             (λ same.
-            let below : r.node < new.number = node-below r.node r.is_node in
-            let within : walk.IsUnknownBelow new.number (unknown r.node) = omega (arith, below) in
-            subst (walk.IsUnknownBelow new.number) same within)
+            let below : r.node < next_number = node-below r.node r.is_node in
+            let within : walk.IsUnknownBelow next_number (unknown r.node) = omega (arith, below) in
+            subst (walk.IsUnknownBelow next_number) same within)
             (λ k. like.0 a (Contains-later (unknown one.0.own) (map (numbered_atom (program_of core)) label) a k))
             (Contains-cons_cases (unknown r.node) (map (numbered_atom (program_of core)) label) a there),
         like.1,
       )
 
-  pub spread-below : walk.AreUnknownsBelow new.number (map (numbered (program_of core)) (whole.now.kept ++ spread.added))
+  pub spread-below : walk.AreUnknownsBelow next_number (map (numbered (program_of core)) (whole.now.kept ++ spread.added))
   spread-below c' h =
       let found = contained_map_only (numbered (program_of core)) (whole.now.kept ++ spread.added) c' h in
-      subst (λ (z : Gathered). ((a : formal.Atom ℕ Label) → Contains z.left a → walk.IsUnknownBelow new.number a) × walk.IsUnknownBelow new.number z.right) found.2
+      subst (λ (z : Gathered). ((a : formal.Atom ℕ Label) → Contains z.left a → walk.IsUnknownBelow next_number a) × walk.IsUnknownBelow next_number z.right) found.2
       (⊎_elim (λ k. old-below found.0 (whole.now.stays found.0 k)) (λ k. ⊎_elim (join-below found.0) (raise-below found.0) (each found.0 k))
       (Contains-append_cases whole.now.kept spread.added found.0 found.1))
 
   -- the constraints that were kept and added are in range, so that each part is the unknown with its number
-  ranged-unknowns : (c : NamedConstraint) → Contains (whole.now.kept ++ spread.added) c → AreNumbered (program_of core) c
+  pub ranged-unknowns : (c : NamedConstraint) → Contains (whole.now.kept ++ spread.added) c → AreNumbered (program_of core) c
   ranged-unknowns c h = ⊎_elim (λ k. numbered-ranged (program_of core) count c (ranged c (whole.now.stays c k)))
       (λ k. ⊎_elim
       (λ join. subst (AreNumbered (program_of core)) (sym join.is) (map-inner (program_of core) join.parts, refl))
@@ -378,7 +377,7 @@ module _ (core : Core) (table : List Label) (walked : Progress) (old new : Made)
   all-numbered = constraints-numbered (program_of core) (whole.now.kept ++ spread.added) ranged-unknowns
 
   -- and few
-  pub spread-few : new.number ≤ 4 * program_nodes (program_of core)
+  pub spread-few : next_number ≤ 4 * program_nodes (program_of core)
   spread-few =
       let none : length whole.start.calls.items ≡ 0 = ap length whole.no_calls in
       omega (arith, calls-counted (program_of core) core.well_formed, spread.number_is, spread.few, whole.now.few, none, first)

@@ -19,16 +19,17 @@ use Rattle.resolved.specs.WellFormed.{is_exception, label_fits, procedure_fits, 
 use Rattle.resolved.proofs.WellFormedParts.{procedure_parts, program_parts}
 use Rattle.gathering.specs.Names.{unknowns_before}
 use Rattle.solver.specs.declared.constraints.Atom.{Atom}
+use Rattle.constraints.specs.Added.{Stored}
 use Rattle.constraints.specs.LeftSides.{Written, part}
 use Rattle.constraints.specs.Rows.{IsRow, thrown_parts}
-use Rattle.constraints.specs.Spreading.{AreCallsOf, AreLabelsOf, AreRowsOf, AreSpread, AreSpreadTo, Declares, IsSpreadTo, all_calls, exceptions_of}
+use Rattle.constraints.specs.Spreading.{AreCallsOf, AreLabelsOf, AreRowsOf, AreSpread, AreSpreadTo, Declares, IsSpreadTo, IsSpreadWhole, all_calls, exceptions_of}
 use Rattle.constraints.specs.declared.journal.Called.{Called}
 use Rattle.constraints.specs.declared.journal.Journal.{Journal}
 use Rattle.constraints.specs.declared.rows.ProcedureLabels.{ProcedureLabels}
 use Rattle.constraints.specs.declared.rows.ThrownLabel.{ThrownLabel}
 use Rattle.constraints.specs.declared.spreading.Made.{Made}
 use Rattle.constraints.proofs.CallRows.{all-next, row-calls}
-use Rattle.constraints.proofs.Spread.{both-spread, none-spread, raises-less}
+use Rattle.constraints.proofs.Spread.{none-spread, raises-less, whole-less, whole-then}
 use Rattle.constraints.proofs.Tables.{no_procedure}
 
 -- ---- the labels of a procedure's exceptions: each of them is declared once
@@ -113,15 +114,17 @@ row-quiet core table journal callee row labels calls made is same none of =
     absurd (omega (arith, none, below, length-map labels (λ (thrown : ThrownLabel). thrown.exception))))
 
 -- ---- those of all procedures
-pub calls-next : (core : Core) (table : List Label) (journal : Journal) (rows : List (Vec Called Global)) (count i : ℕ) (row : Vec Called Global) (own calls : List Called) (old middle new : Made)
+pub calls-next : (core : Core) (table : List Label) (journal : Journal) (rows : List (Vec Called Global)) (count i : ℕ) (row : Vec Called Global) (own calls : List Called)
+    (first : ℕ) (before : List Stored) (old new : Made)
     → i < length rows → row ≡ get_or rows i row → own ≡ row.items → AreRowsOf count calls rows
-    → AreSpread core table journal (Declares core) (all_calls (take i rows)) old middle
-    → (AreCallsOf i own → AreSpread core table journal (Declares core) own middle new)
-    → AreSpread core table journal (Declares core) (all_calls (take (i + 1) rows)) old new
-calls-next core table journal rows count i row own calls old middle new inside found same are before step =
-    subst (λ list. AreSpread core table journal (Declares core) list old new) (ap (λ xs. all_calls (take i rows) ++ xs) same ∙ sym (all-next rows i row inside found))
-    (both-spread core table journal (Declares core) (all_calls (take i rows)) own old middle new before
-    (step (subst (AreCallsOf i) (sym same) (row-calls rows i row count calls inside found are))))
+    → IsSpreadWhole core table journal (Declares core) (all_calls (take i rows)) first old.number before
+    → (AreCallsOf i own → AreSpread core table journal (Declares core) own old new) → old.constraints.items ≡ []
+    → IsSpreadWhole core table journal (Declares core) (all_calls (take (i + 1) rows)) first new.number (before ++ new.constraints.items)
+calls-next core table journal rows count i row own calls first before old new inside found same are so_far step none =
+    subst (λ list. IsSpreadWhole core table journal (Declares core) list first new.number (before ++ new.constraints.items))
+    (ap (λ xs. all_calls (take i rows) ++ xs) same ∙ sym (all-next rows i row inside found))
+    (whole-then core table journal (Declares core) (all_calls (take i rows)) own first before old new so_far
+    (step (subst (AreCallsOf i) (sym same) (row-calls rows i row count calls inside found are))) none)
 
 not-there : (program : Program) (f x : ℕ) → length program.procedures ≤ f → Contains (declared_by (procedure_at program f).throws) x → ⊥
 not-there program f x outside h = none_in_nil x (subst (λ (p : ProcedureEntry). Contains (declared_by p.throws) x) (past program.procedures f outside) h)
@@ -131,17 +134,17 @@ not-there program f x outside h = none_in_nil x (subst (λ (p : ProcedureEntry).
     past (p ∷ ps) zero h = absurd (omega (arith, h))
     past (p ∷ ps) (suc f) h = past ps f (omega (arith, h))
 
-pub calls-all : (core : Core) (table : List Label) (journal : Journal) (rows : List (Vec Called Global)) (count i : ℕ) (calls : List Called) (old new : Made)
+pub calls-all : (core : Core) (table : List Label) (journal : Journal) (rows : List (Vec Called Global)) (count i : ℕ) (calls : List Called) (first next : ℕ) (stored : List Stored)
     → length rows ≤ i → count ≡ length core.procedures.items → AreRowsOf count calls rows
-    → AreSpread core table journal (Declares core) (all_calls (take i rows)) old new
-    → AreSpread core table journal (Declares core) calls old new
-calls-all core table journal rows count i calls old new outside counted are spread =
-    let whole : AreSpread core table journal (Declares core) (all_calls rows) old new =
-    subst (λ list. AreSpread core table journal (Declares core) (all_calls list) old new) (take_all i rows outside) spread in
-    raises-less core table journal (Declares core) (Declares core) (all_calls rows) calls old new are.no_more are.only
+    → IsSpreadWhole core table journal (Declares core) (all_calls (take i rows)) first next stored
+    → IsSpreadWhole core table journal (Declares core) calls first next stored
+calls-all core table journal rows count i calls first next stored outside counted are spread =
+    let whole : IsSpreadWhole core table journal (Declares core) (all_calls rows) first next stored =
+    subst (λ list. IsSpreadWhole core table journal (Declares core) (all_calls list) first next stored) (take_all i rows outside) spread in
+    whole-less core table journal (Declares core) (Declares core) (all_calls rows) calls first next stored are.no_more are.only
     (λ called x inside raised. by_test (nat_lt called.callee count)
     (λ e. (are.all called inside (ltb-true called.callee count e), raised))
     (λ e.
     let least : count ≤ called.callee = ltb-false called.callee count e in
-    absurd (not-there (program_of core) called.callee x (omega (arith, least, counted, length-map core.procedures.items procedure_entry)) raised)))
+    absurd (not-there (program_of core) called.callee x (omega (arith, least, counted, length-map core.procedures.items (procedure_entry core.labels))) raised)))
     whole

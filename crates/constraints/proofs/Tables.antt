@@ -1,20 +1,19 @@
--- Tables of labels that grow, and what stands in them.
-use Rattle.std.proofs.Common.{◌≡◌, refl, sym, ap, ◌∙◌, subst, ℕ, suc, zero, ◌+◌, ◌<◌, ◌≤◌, List, [], ◌∷◌, ◌++◌, map, take, length, length-append, get_or, arith, append_assoc, append-nil}
+-- Tables of parts that stand for labels, and what stands in them.
+use Rattle.std.proofs.Common.{◌≡◌, refl, sym, ap, ◌∙◌, subst, ℕ, suc, zero, ◌+◌, ◌<◌, ◌≤◌, List, [], ◌∷◌, ◌++◌, map, take, length, get_or, arith}
 use Rattle.std.specs.Prelude.{Option, Some, None, Bool, true, false, sum_by, if◌then◌else◌, nat_lt, ◌==◌}
 use Rattle.std.proofs.lemmas.Bool.{le-ltb, lt-ltb, ltb-false, ltb-true}
-use Rattle.std.proofs.lemmas.List.{get_or_append_left, map-append, length-map, length-take-le, take-map}
+use Rattle.std.proofs.lemmas.List.{get_or-map, get_or_past, map-append, length-map, length-take-le}
 use Rattle.std.proofs.lemmas.Option.{slice_get-get_or}
-use Rattle.std.proofs.lemmas.List.Sums.{sum_by-append, sum_by-cons, sum_by-take-le}
+use Rattle.std.proofs.lemmas.List.Sums.{sum_by-cons}
 use Rattle.common.proofs.Cases.{by_test, map_next}
 use Rattle.labels.specs.Label.{Label}
+use Rattle.labels.specs.LabelTable.{label_at}
 use Rattle.labels.specs.Constraints.{renamed}
 use Rattle.labels.specs.Constraints as formal
-use Rattle.resolved.specs.Program.{Program, ChannelEntry, GlobalEntry, ProcedureEntry, SlotEntry, ThrownEntry, procedure_at, slot_at}
-use Rattle.resolved.specs.ProgramOf.{channel_entry, global_entry, procedure_entry, result_entry, slot_entry, thrown_entry}
+use Rattle.resolved.specs.Program.{Program, ProcedureEntry, SlotEntry, ThrownEntry, procedure_at, slot_at}
+use Rattle.resolved.specs.ProgramOf.{procedure_entry, result_entry, slot_entry, thrown_entry}
 use Rattle.resolved.specs.CoreOf.{program_of}
 use Rattle.resolved.specs.declared.program.Core.{Core}
-use Rattle.resolved.specs.declared.tables.Channel.{Channel}
-use Rattle.resolved.specs.declared.tables.GlobalVariable.{GlobalVariable}
 use Rattle.resolved.specs.declared.tables.Procedure.{Procedure}
 use Rattle.resolved.specs.declared.tables.Slot.{Slot}
 use Rattle.resolved.specs.declared.tables.Thrown.{Thrown}
@@ -24,104 +23,56 @@ use Rattle.resolved.specs.Labelled.{OfLocal, parameter_label, result_label, thro
 use Rattle.resolved.specs.Ends.{declared_by}
 use Rattle.resolved.specs.Tree.{Empty}
 use Rattle.gathering.specs.Names.{Real, own_unknowns, unknowns_before}
+use Rattle.path_map.specs.Exceptions.{exceptions_of}
+use Rattle.path_map.proofs.Declared.{declared-same}
 use Rattle.solver.specs.declared.constraints.Atom.{Atom}
 use Rattle.solver.specs.declared.constraints.Atom.TheVariants as stored
 use Rattle.constraints.specs.LeftSides.{Part, Unknown, Written, part, part_of, left_parts, wanted_part}
-use Rattle.constraints.specs.Rows.{TableGrows, Mean, Means, AreProcedureRows, IsRow, IsTable, label_among, slot_parts, thrown_parts, written_atom, written_part}
+use Rattle.constraints.specs.Rows.{AreProcedureRows, IsRow, IsTable, label_among, slot_parts, thrown_parts, written_atom, written_part}
 use Rattle.constraints.specs.declared.rows.ProcedureLabels.{ProcedureLabels}
 use Rattle.constraints.specs.declared.rows.ThrownLabel.{ThrownLabel}
 
--- a table that grew
-pub grows-none : (table : List Label) → TableGrows table table
-grows-none table = record { added = []; is = sym (append-nil table) }
+-- a label of a table: what is under its number, and the least one under number 0
+pub part-there : (labels : List Label) (n : ℕ) → n < length labels → part labels (stored.Written n) ≡ Written (label_at labels n)
+part-there labels n inside = ap (λ found. formal.Written found) (slice_get-get_or labels n [] inside)
 
-pub grows-then : (a b c : List Label) → TableGrows a b → TableGrows b c → TableGrows a c
-grows-then a b c first second = record {
-  added = first.added ++ second.added;
-  is = second.is ∙ (ap (λ t. t ++ second.added) first.is ∙ append_assoc a first.added second.added);
-}
+pub part-least : (labels : List Label) (n : ℕ) → 0 < length labels → label_at labels 0 ≡ [] → n ≡ 0 → part labels (stored.Written n) ≡ Written []
+part-least labels n some least zero-is = ap (λ k. part labels (stored.Written k)) zero-is ∙ (part-there labels 0 some ∙ ap (λ l. Written l) least)
 
--- more behind a table that grew
-pub behind : (old new more : List Label) (grown : TableGrows old new) → new ++ more ≡ old ++ (grown.added ++ more)
-behind old new more grown = ap (λ t. t ++ more) grown.is ∙ append_assoc old grown.added more
+-- parts: one more
+pub parts-next : (labels : List Label) (atoms atoms' : List Atom) (atom : Atom) (ms : List Part) (m : Part)
+    → atoms' ≡ atoms ++ atom ∷ [] → left_parts labels atoms ≡ ms → part labels atom ≡ m → left_parts labels atoms' ≡ ms ++ m ∷ []
+parts-next labels atoms atoms' atom ms m pushed before here =
+    ap (left_parts labels) pushed
+    ∙ (map-append (part labels) atoms (atom ∷ [])
+    ∙ (ap (λ xs. xs ++ (part labels atom ∷ [])) before
+    ∙ ap (λ x. ms ++ (x ∷ [])) here))
 
-pub means-more : (old new : List Label) (atom : Atom) (m : Part) → TableGrows old new → Means old atom m → Means new atom m
-means-more old new atom m grown means = λ more.
-    ap (λ t. part t atom) (behind old new more grown) ∙ means (grown.added ++ more)
-
--- a label that stands in a table
-pub means-listed : (table : List Label) (n : ℕ) (label : Label) → n < length table → ((none : Label) → get_or table n none ≡ label)
-    → Means table (stored.Written n) (Written label)
-means-listed table n label inside listed = λ more.
-    ap (λ found. formal.Written found)
-    (slice_get-get_or (table ++ more) n [] (let within : n < length (table ++ more) = omega (arith, inside, length-append table more) in within)
-    ∙ ap (λ l. Some l) (get_or_append_left table more [] n inside ∙ listed []))
-
-pub mean-more : (old new : List Label) (atoms : List Atom) (ms : List Part) → TableGrows old new → Mean old atoms ms → Mean new atoms ms
-mean-more old new atoms ms grown mean = λ more.
-    ap (λ t. left_parts t atoms) (behind old new more grown) ∙ mean (grown.added ++ more)
-
-pub mean-step : (old new : List Label) (atoms : List Atom) (atom : Atom) (ms : List Part) (m : Part)
-    → TableGrows old new → Mean old atoms ms → Means new atom m → Mean new (atoms ++ atom ∷ []) (ms ++ m ∷ [])
-mean-step old new atoms atom ms m grown mean means = λ more.
-    map-append (part (new ++ more)) atoms (atom ∷ [])
-    ∙ (ap (λ xs. xs ++ (part (new ++ more) atom ∷ [])) (mean-more old new atoms ms grown mean more)
-    ∙ ap (λ x. ms ++ (x ∷ [])) (means more))
-
--- what is counted of procedures: one more
-pub counted-next : (f : ProcedureEntry → ℕ) (procedures : List Procedure) (i : ℕ) (p : Procedure) → i < length procedures → p ≡ get_or procedures i p
-    → sum_by f (map procedure_entry (take (i + 1) procedures)) ≡ sum_by f (map procedure_entry (take i procedures)) + f (procedure_entry p)
-counted-next f procedures i p inside is =
-    let before : List ProcedureEntry = map procedure_entry (take i procedures) in
-    let one : sum_by f (procedure_entry p ∷ []) ≡ f (procedure_entry p) = omega (arith, sum_by-cons f (procedure_entry p) []) in
-    ap (sum_by f) (map_next procedure_entry procedures i p inside is)
-    ∙ (sum_by-append f before (procedure_entry p ∷ []) ∙ ap (λ n. sum_by f before + n) one)
-
-pub counted-upto : (f : ProcedureEntry → ℕ) (procedures : List Procedure) (n : ℕ)
-    → sum_by f (map procedure_entry (take n procedures)) ≤ sum_by f (map procedure_entry procedures)
-counted-upto f procedures n =
-    subst (λ list. sum_by f list ≤ sum_by f (map procedure_entry procedures)) (take-map procedure_entry n procedures)
-    (sum_by-take-le f (map procedure_entry procedures) n)
-
--- written labels: one more
-pub written-next : {A : Type 0} (label : A → Label) (xs : List A) (i : ℕ) (x : A) (old new : List Label) (atoms atoms' : List Atom) (atom : Atom)
-    → i < length xs → x ≡ get_or xs i x → atoms' ≡ atoms ++ atom ∷ [] → TableGrows old new
-    → Mean old atoms (map (λ y. Written (label y)) (take i xs)) → Means new atom (Written (label x))
-    → Mean new atoms' (map (λ y. Written (label y)) (take (i + 1) xs))
-written-next label xs i x old new atoms atoms' atom inside is pushed grown mean means = λ more.
-    ap (left_parts (new ++ more)) pushed
-    ∙ (mean-step old new atoms atom (map (λ y. Written (label y)) (take i xs)) (Written (label x)) grown mean means more
-    ∙ sym (map_next (λ y. Written (label y)) xs i x inside is))
-
--- declared exceptions
-pub exceptions-next : (throws : List Thrown) (i : ℕ) (x : Thrown) (labels labels' : List ThrownLabel) (label : Atom)
-    → i < length throws → x ≡ get_or throws i x → labels' ≡ labels ++ record { exception = x.exception; label = label } ∷ []
-    → map (λ (thrown : ThrownLabel). thrown.exception) labels ≡ declared_by (map thrown_entry (take i throws))
-    → map (λ (thrown : ThrownLabel). thrown.exception) labels' ≡ declared_by (map thrown_entry (take (i + 1) throws))
-exceptions-next throws i x labels labels' label inside is pushed before =
+-- declared exceptions: one more
+pub exceptions-next : (throws : List Thrown) (i : ℕ) (x : Thrown) (found found' : List ThrownLabel) (label : Atom)
+    → i < length throws → x ≡ get_or throws i x → found' ≡ found ++ record { exception = x.exception; label = label } ∷ []
+    → map (λ (thrown : ThrownLabel). thrown.exception) found ≡ exceptions_of (take i throws)
+    → map (λ (thrown : ThrownLabel). thrown.exception) found' ≡ exceptions_of (take (i + 1) throws)
+exceptions-next throws i x found found' label inside is pushed before =
     ap (map (λ (thrown : ThrownLabel). thrown.exception)) pushed
-    ∙ (map-append (λ (thrown : ThrownLabel). thrown.exception) labels (record { exception = x.exception; label = label } ∷ [])
+    ∙ (map-append (λ (thrown : ThrownLabel). thrown.exception) found (record { exception = x.exception; label = label } ∷ [])
     ∙ (ap (λ es. es ++ (x.exception ∷ [])) before
-    ∙ (sym (map-append (λ (entry : ThrownEntry). entry.exception) (map thrown_entry (take i throws)) (thrown_entry x ∷ []))
-    ∙ ap declared_by (sym (map_next thrown_entry throws i x inside is)))))
+    ∙ sym (map_next (λ (thrown : Thrown). thrown.exception) throws i x inside is)))
 
-pub labels-next : (throws : List Thrown) (i : ℕ) (x : Thrown) (old new : List Label) (labels labels' : List ThrownLabel) (label : Atom)
-    → i < length throws → x ≡ get_or throws i x → labels' ≡ labels ++ record { exception = x.exception; label = label } ∷ []
-    → TableGrows old new
-    → ((more : List Label) → thrown_parts (old ++ more) labels
-    ≡ map (λ (entry : ThrownEntry). Written entry.label) (map thrown_entry (take i throws)))
-    → Means new label (Written x.label)
-    → (more : List Label) → thrown_parts (new ++ more) labels'
-    ≡ map (λ (entry : ThrownEntry). Written entry.label) (map thrown_entry (take (i + 1) throws))
-labels-next throws i x old new labels labels' label inside is pushed grown mean means more =
+pub labels-next : (labels : List Label) (throws : List Thrown) (i : ℕ) (x : Thrown) (found found' : List ThrownLabel) (label : Atom)
+    → i < length throws → x ≡ get_or throws i x → found' ≡ found ++ record { exception = x.exception; label = label } ∷ []
+    → thrown_parts labels found ≡ map (λ (entry : ThrownEntry). Written entry.label) (map (thrown_entry labels) (take i throws))
+    → part labels label ≡ Written (label_at labels x.label)
+    → thrown_parts labels found' ≡ map (λ (entry : ThrownEntry). Written entry.label) (map (thrown_entry labels) (take (i + 1) throws))
+labels-next labels throws i x found found' label inside is pushed before here =
     let written : ThrownEntry → Part = λ (entry : ThrownEntry). Written entry.label in
-    ap (thrown_parts (new ++ more)) pushed
-    ∙ (map-append (λ (thrown : ThrownLabel). part (new ++ more) thrown.label) labels (record { exception = x.exception; label = label } ∷ [])
-    ∙ (ap (λ ys. ys ++ (part (new ++ more) label ∷ []))
-    (ap (λ table. thrown_parts table labels) (behind old new more grown) ∙ mean (grown.added ++ more))
-    ∙ (ap (λ y. map written (map thrown_entry (take i throws)) ++ (y ∷ [])) (means more)
-    ∙ (sym (map-append written (map thrown_entry (take i throws)) (thrown_entry x ∷ []))
-    ∙ ap (map written) (sym (map_next thrown_entry throws i x inside is))))))
+    let entries : List ThrownEntry = map (thrown_entry labels) (take i throws) in
+    ap (thrown_parts labels) pushed
+    ∙ (map-append (λ (thrown : ThrownLabel). part labels thrown.label) found (record { exception = x.exception; label = label } ∷ [])
+    ∙ (ap (λ ys. ys ++ (part labels label ∷ [])) before
+    ∙ (ap (λ y. map written entries ++ (y ∷ [])) here
+    ∙ (sym (map-append written entries (thrown_entry labels x ∷ []))
+    ∙ ap (map written) (sym (map_next (thrown_entry labels) throws i x inside is))))))
 
 -- slots: one more
 pub slots-append : (first : ℕ) (xs : List SlotEntry) (x : SlotEntry)
@@ -132,30 +83,21 @@ slots-append first (y ∷ xs) x =
     (slots-append (suc first) xs x
     ∙ ap (λ n. slot_parts (suc first) xs ++ written_part x.written n ∷ []) (let e : suc first + length xs ≡ first + suc (length xs) = omega arith in e))
 
-pub slots-next : (slots : List Slot) (i : ℕ) (x : Slot) (first number : ℕ) (old new : List Label) (atoms atoms' : List Atom) (atom : Atom)
+pub slots-next : (labels : List Label) (slots : List Slot) (i : ℕ) (x : Slot) (first number : ℕ) (atoms atoms' : List Atom) (atom : Atom)
     → i < length slots → x ≡ get_or slots i x → number ≡ first + i → atoms' ≡ atoms ++ atom ∷ []
-    → TableGrows old new → Mean old atoms (slot_parts first (map slot_entry (take i slots))) → Means new atom (written_part x.written number)
-    → Mean new atoms' (slot_parts first (map slot_entry (take (i + 1) slots)))
-slots-next slots i x first number old new atoms atoms' atom inside is counted pushed grown mean means = λ more.
-    let before : List SlotEntry = map slot_entry (take i slots) in
-    let count : length before ≡ i = length-map (take i slots) slot_entry ∙ length-take-le i slots (let le : i ≤ length slots = omega (arith, inside) in le) in
-    ap (left_parts (new ++ more)) pushed
-    ∙ (mean-step old new atoms atom (slot_parts first before) (written_part x.written number) grown mean means more
-    ∙ (ap (λ n. slot_parts first before ++ written_part x.written n ∷ []) (counted ∙ ap (λ k. first + k) (sym count))
-    ∙ (sym (slots-append first before (slot_entry x))
-    ∙ ap (slot_parts first) (sym (map_next slot_entry slots i x inside is)))))
+    → left_parts labels atoms ≡ slot_parts first (map (slot_entry labels) (take i slots))
+    → part labels atom ≡ written_part (slot_entry labels x).written number
+    → left_parts labels atoms' ≡ slot_parts first (map (slot_entry labels) (take (i + 1) slots))
+slots-next labels slots i x first number atoms atoms' atom inside is counted pushed mean means =
+    let before : List SlotEntry = map (slot_entry labels) (take i slots) in
+    let count : length before ≡ i =
+    length-map (take i slots) (slot_entry labels) ∙ length-take-le i slots (let le : i ≤ length slots = omega (arith, inside) in le) in
+    parts-next labels atoms atoms' atom (slot_parts first before) (written_part (slot_entry labels x).written number) pushed mean means
+    ∙ (ap (λ n. slot_parts first before ++ written_part (slot_entry labels x).written n ∷ []) (counted ∙ ap (λ k. first + k) (sym count))
+    ∙ (sym (slots-append first before (slot_entry labels x))
+    ∙ ap (slot_parts first) (sym (map_next (slot_entry labels) slots i x inside is))))
 
 -- rows
-pub row-more : (old new more : List Label) (first : ℕ) (procedure : ProcedureEntry) (row : ProcedureLabels) → TableGrows old new
-    → ((more : List Label) → IsRow (old ++ more) first procedure row) → IsRow (new ++ more) first procedure row
-row-more old new more first procedure row grown each =
-    subst (λ table. IsRow table first procedure row) (sym (behind old new more grown)) (each (grown.added ++ more))
-
-pub rows-more : (old new more : List Label) (first : ℕ) (procedures : List ProcedureEntry) (rows : List ProcedureLabels) → TableGrows old new
-    → ((more : List Label) → AreProcedureRows (old ++ more) first procedures rows) → AreProcedureRows (new ++ more) first procedures rows
-rows-more old new more first procedures rows grown each =
-    subst (λ table. AreProcedureRows table first procedures rows) (sym (behind old new more grown)) (each (grown.added ++ more))
-
 step-count : (first : ℕ) (p : ProcedureEntry) (procedures : List ProcedureEntry)
     → first + sum_by own_unknowns (p ∷ procedures) ≡ (first + own_unknowns p) + sum_by own_unknowns procedures
 step-count first p procedures = omega (arith, sum_by-cons own_unknowns p procedures)
@@ -173,50 +115,46 @@ rows-append table first (p ∷ procedures) procedure (r ∷ rows) row are is = (
 rows-append table first [] procedure (r ∷ rows) row are is = absurd are
 rows-append table first (p ∷ procedures) procedure [] row are is = absurd are
 
-pub row-made : (procedure : Procedure) (first : ℕ) (t1 t2 t3 t4 t5 : List Label) (begin end value : Atom) (slots : List Slot) (atoms : List Atom) (throws : List Thrown) (labels : List ThrownLabel) (count loops : ℕ)
-    → TableGrows t1 t2 → TableGrows t2 t3 → TableGrows t3 t4 → TableGrows t4 t5
-    → Means t1 begin (Written procedure.begin_label) → Means t2 end (Written procedure.end_label)
-    → Means t3 value (Written (result_label (result_entry procedure.result)))
-    → slots ≡ procedure.slots.items → Mean t4 atoms (slot_parts first (map slot_entry slots))
+pub row-made : (labels : List Label) (procedure : Procedure) (first : ℕ) (begin end value : Atom) (slots : List Slot) (atoms : List Atom)
+    (throws : List Thrown) (found : List ThrownLabel) (count loops : ℕ)
+    → part labels begin ≡ Written (label_at labels procedure.begin_label) → part labels end ≡ Written (label_at labels procedure.end_label)
+    → part labels value ≡ Written (result_label (result_entry labels procedure.result))
+    → slots ≡ procedure.slots.items → left_parts labels atoms ≡ slot_parts first (map (slot_entry labels) slots)
     → throws ≡ procedure.throws.items
-    → map (λ (thrown : ThrownLabel). thrown.exception) labels ≡ declared_by (map thrown_entry throws)
-    → ((more : List Label) → thrown_parts (t5 ++ more) labels
-    ≡ map (λ (entry : ThrownEntry). Written entry.label) (map thrown_entry throws))
+    → map (λ (thrown : ThrownLabel). thrown.exception) found ≡ exceptions_of throws
+    → thrown_parts labels found ≡ map (λ (entry : ThrownEntry). Written entry.label) (map (thrown_entry labels) throws)
     → count ≡ length procedure.slots.items → loops ≡ first + count
-    → (more : List Label)
-    → (row : ProcedureLabels) → row.begin ≡ begin → row.end ≡ end → row.value ≡ value → row.slots.items ≡ atoms → row.throws.items ≡ labels → row.loops ≡ loops → row.loop_count ≡ procedure.loops
-    → IsRow (t5 ++ more) first (procedure_entry procedure) row
-row-made procedure first t1 t2 t3 t4 t5 begin end value slots atoms throws labels count loops g2 g3 g4 g5 b e v same-slots ss same-throws es ls counted summed more row rb re rv rs rt rl rc = record {
-  begin_is = ap (part (t5 ++ more)) rb
-      ∙ means-more t1 t5 begin (Written procedure.begin_label) (grows-then t1 t2 t5 g2 (grows-then t2 t3 t5 g3 (grows-then t3 t4 t5 g4 g5))) b more;
-  end_is = ap (part (t5 ++ more)) re
-      ∙ means-more t2 t5 end (Written procedure.end_label) (grows-then t2 t3 t5 g3 (grows-then t3 t4 t5 g4 g5)) e more;
-  value_is = ap (part (t5 ++ more)) rv
-      ∙ means-more t3 t5 value (Written (result_label (result_entry procedure.result))) (grows-then t3 t4 t5 g4 g5) v more;
-  slots_are = ap (left_parts (t5 ++ more)) rs
-      ∙ (mean-more t4 t5 atoms (slot_parts first (map slot_entry slots)) g5 ss more
-      ∙ ap (λ list. slot_parts first (map slot_entry list)) same-slots);
-  exceptions_are = ap (map (λ (thrown : ThrownLabel). thrown.exception)) rt ∙ (es ∙ ap (λ list. declared_by (map thrown_entry list)) same-throws);
-  labels_are = ap (thrown_parts (t5 ++ more)) rt
-      ∙ (ls more ∙ ap (λ list. map (λ (entry : ThrownEntry). Written entry.label) (map thrown_entry list)) same-throws);
-  loops_is = rl ∙ (summed ∙ ap (λ n. first + n) (counted ∙ sym (length-map procedure.slots.items slot_entry)));
+    → (row : ProcedureLabels) → row.begin ≡ begin → row.end ≡ end → row.value ≡ value → row.slots.items ≡ atoms → row.throws.items ≡ found → row.loops ≡ loops → row.loop_count ≡ procedure.loops
+    → IsRow labels first (procedure_entry labels procedure) row
+row-made labels procedure first begin end value slots atoms throws found count loops b e v same-slots ss same-throws es ls counted summed row rb re rv rs rt rl rc = record {
+  begin_is = ap (part labels) rb ∙ b;
+  end_is = ap (part labels) re ∙ e;
+  value_is = ap (part labels) rv ∙ v;
+  slots_are = ap (left_parts labels) rs ∙ (ss ∙ ap (λ xs. slot_parts first (map (slot_entry labels) xs)) same-slots);
+  exceptions_are = ap (map (λ (thrown : ThrownLabel). thrown.exception)) rt
+      ∙ (es ∙ (ap exceptions_of same-throws ∙ sym (declared-same labels procedure.throws.items)));
+  labels_are = ap (thrown_parts labels) rt
+      ∙ (ls ∙ ap (λ xs. map (λ (entry : ThrownEntry). Written entry.label) (map (thrown_entry labels) xs)) same-throws);
+  loops_is =
+      let all : length (map (slot_entry labels) procedure.slots.items) ≡ length procedure.slots.items = length-map procedure.slots.items (slot_entry labels) in
+      rl ∙ (summed ∙ ap (λ n. first + n) (counted ∙ sym all));
   loop_count_is = rc;
 }
 
-pub rows-next : (procedures : List Procedure) (i : ℕ) (p : Procedure) (old new : List Label) (rows rows' : List ProcedureLabels) (row : ProcedureLabels) (first : ℕ)
-    → i < length procedures → p ≡ get_or procedures i p → rows' ≡ rows ++ row ∷ [] → TableGrows old new
-    → ((more : List Label) → AreProcedureRows (old ++ more) 0 (map procedure_entry (take i procedures)) rows)
-    → ((more : List Label) → IsRow (new ++ more) first (procedure_entry p) row)
-    → first ≡ sum_by own_unknowns (map procedure_entry (take i procedures))
-    → (more : List Label) → AreProcedureRows (new ++ more) 0 (map procedure_entry (take (i + 1) procedures)) rows'
-rows-next procedures i p old new rows rows' row first inside is pushed grown are each counted more =
-    let before : List ProcedureEntry = map procedure_entry (take i procedures) in
-    subst (λ all. AreProcedureRows (new ++ more) 0 all rows') (sym (map_next procedure_entry procedures i p inside is))
-    (subst (λ all. AreProcedureRows (new ++ more) 0 (before ++ procedure_entry p ∷ []) all) (sym pushed)
-    (rows-append (new ++ more) 0 before (procedure_entry p) rows row
-    (rows-more old new more 0 before rows grown (λ rest. are rest))
-    (subst (λ n. IsRow (new ++ more) n (procedure_entry p) row)
-    (counted ∙ (let e : sum_by own_unknowns before ≡ 0 + sum_by own_unknowns before = omega arith in e)) (each more))))
+pub rows-next : (labels : List Label) (procedures : List Procedure) (i : ℕ) (p : Procedure) (rows rows' : List ProcedureLabels) (row : ProcedureLabels) (first : ℕ)
+    → i < length procedures → p ≡ get_or procedures i p → rows' ≡ rows ++ row ∷ []
+    → AreProcedureRows labels 0 (map (procedure_entry labels) (take i procedures)) rows
+    → IsRow labels first (procedure_entry labels p) row
+    → first ≡ sum_by own_unknowns (map (procedure_entry labels) (take i procedures))
+    → AreProcedureRows labels 0 (map (procedure_entry labels) (take (i + 1) procedures)) rows'
+rows-next labels procedures i p rows rows' row first inside is pushed are each counted =
+    let entry : Procedure → ProcedureEntry = procedure_entry labels in
+    let before : List ProcedureEntry = map entry (take i procedures) in
+    subst (λ all. AreProcedureRows labels 0 all rows') (sym (map_next entry procedures i p inside is))
+    (subst (λ all. AreProcedureRows labels 0 (before ++ entry p ∷ []) all) (sym pushed)
+    (rows-append labels 0 before (entry p) rows row are
+    (subst (λ n. IsRow labels n (entry p) row)
+    (counted ∙ (let e : sum_by own_unknowns before ≡ 0 + sum_by own_unknowns before = omega arith in e)) each)))
 
 -- what stands in a list under a number, of lists that mean the same
 pub looked-up : {A B C : Type 0} (f : A → C) (g : B → C) (xs : List A) (ys : List B) (n : ℕ) (d : A) (e : B)
@@ -408,49 +346,48 @@ no_procedure = record {
 }
 
 -- the parts of a whole program
-pub table-made : (core : Core) (t1 t2 t3 t4 : List Label) (nothing : Atom) (channels globals : List Atom) (rows : List ProcedureLabels) (outside : ProcedureLabels)
-    (cs : List Channel) (gs : List GlobalVariable) (ps : List Procedure) (unknowns : ℕ)
-    → TableGrows t1 t2 → TableGrows t2 t3 → TableGrows t3 t4
-    → Means t1 nothing (Written []) → Mean t2 channels (map (λ (channel : Channel). Written channel.label) cs)
-    → Mean t3 globals (map (λ (variable : GlobalVariable). Written variable.label) gs)
-    → ((more : List Label) → AreProcedureRows (t4 ++ more) 0 (map procedure_entry ps) rows)
-    → unknowns ≡ sum_by own_unknowns (map procedure_entry ps)
-    → cs ≡ core.channels.items → gs ≡ core.globals.items → ps ≡ core.procedures.items
+pub table-made : (core : Core) (nothing : Atom) (rows : List ProcedureLabels) (outside : ProcedureLabels) (ps : List Procedure) (unknowns : ℕ)
+    → part core.labels nothing ≡ Written []
+    → AreProcedureRows core.labels 0 (map (procedure_entry core.labels) ps) rows
+    → unknowns ≡ sum_by own_unknowns (map (procedure_entry core.labels) ps)
+    → ps ≡ core.procedures.items
     → outside.begin ≡ nothing → outside.end ≡ nothing → outside.value ≡ nothing → outside.slots.items ≡ [] → outside.throws.items ≡ []
     → outside.loops ≡ unknowns → outside.loop_count ≡ 0
-    → IsTable core t4 nothing channels globals rows outside
-table-made core t1 t2 t3 t4 nothing channels globals rows outside cs gs ps unknowns g2 g3 g4 none chans globs are counted same-cs same-gs same-ps ob oe ov os ot ol oc =
+    → IsTable core nothing rows outside
+table-made core nothing rows outside ps unknowns none are counted same-ps ob oe ov os ot ol oc =
+    let labels : List Label = core.labels in
     let program : Program = program_of core in
-    let nil : t4 ++ [] ≡ t4 = append-nil t4 in
-    let nothing-is : part t4 nothing ≡ Written [] =
-    subst (λ t. part t nothing ≡ Written []) nil (means-more t1 t4 nothing (Written []) (grows-then t1 t2 t4 g2 (grows-then t2 t3 t4 g3 g4)) none []) in
-    let rows-here : AreProcedureRows t4 0 program.procedures rows =
-    subst (λ t. AreProcedureRows t 0 program.procedures rows) nil
-    (subst (λ list. AreProcedureRows (t4 ++ []) 0 (map procedure_entry list) rows) same-ps (are [])) in
-    let total : unknowns ≡ sum_by own_unknowns program.procedures = counted ∙ ap (λ list. sum_by own_unknowns (map procedure_entry list)) same-ps in
+    let rows-here : AreProcedureRows labels 0 program.procedures rows =
+    subst (λ list. AreProcedureRows labels 0 (map (procedure_entry labels) list) rows) same-ps are in
+    let total : unknowns ≡ sum_by own_unknowns program.procedures = counted ∙ ap (λ list. sum_by own_unknowns (map (procedure_entry labels) list)) same-ps in
     let all : 0 + sum_by own_unknowns program.procedures ≡ unknowns = omega (arith, total) in
     record {
-      nothing_is = nothing-is;
-      channels_are = subst (λ t. left_parts t channels ≡ map (λ (entry : ChannelEntry). Written entry.label) program.channels) nil
-          (mean-more t2 t4 channels (map (λ (channel : Channel). Written channel.label) cs) (grows-then t2 t3 t4 g3 g4) chans []
-          ∙ (ap (map (λ (channel : Channel). Written channel.label)) same-cs
-          ∙ map-map channel_entry (λ (entry : ChannelEntry). Written entry.label) core.channels.items));
-      globals_are = subst (λ t. left_parts t globals ≡ map (λ (entry : GlobalEntry). Written entry.label) program.globals) nil
-          (mean-more t3 t4 globals (map (λ (variable : GlobalVariable). Written variable.label) gs) g4 globs []
-          ∙ (ap (map (λ (variable : GlobalVariable). Written variable.label)) same-gs
-          ∙ map-map global_entry (λ (entry : GlobalEntry). Written entry.label) core.globals.items));
+      nothing_is = none;
       rows_are = λ f.
-          subst (λ n. IsRow t4 n (procedure_at program f) (get_or rows f outside))
+          subst (λ n. IsRow labels n (procedure_at program f) (get_or rows f outside))
           (let e : 0 + sum_by own_unknowns (take f program.procedures) ≡ unknowns_before program f = omega arith in e)
-          (row-at t4 0 program.procedures rows f no_procedure outside rows-here
-          (subst (λ n. IsRow t4 n no_procedure outside) (sym all) (record {
-            begin_is = ap (part t4) ob ∙ nothing-is;
-            end_is = ap (part t4) oe ∙ nothing-is;
-            value_is = ap (part t4) ov ∙ nothing-is;
-            slots_are = ap (left_parts t4) os;
+          (row-at labels 0 program.procedures rows f no_procedure outside rows-here
+          (subst (λ n. IsRow labels n no_procedure outside) (sym all) (record {
+            begin_is = ap (part labels) ob ∙ none;
+            end_is = ap (part labels) oe ∙ none;
+            value_is = ap (part labels) ov ∙ none;
+            slots_are = ap (left_parts labels) os;
             exceptions_are = ap (map (λ (thrown : ThrownLabel). thrown.exception)) ot;
-            labels_are = ap (thrown_parts t4) ot;
+            labels_are = ap (thrown_parts labels) ot;
             loops_is = ol ∙ (let e : unknowns ≡ unknowns + 0 = omega arith in e);
             loop_count_is = oc;
           })));
     }
+
+-- the label of a channel or a global, which is the least one where there is none
+pub label-there : {X Y : Type 0} (labels : List Label) (entry : X → Y) (label : Y → Label) (xs : List X) (n : ℕ) (x : X) (none : Y) (found : Atom)
+    → n < length xs → x ≡ get_or xs n x → part labels found ≡ Written (label (entry x))
+    → part labels found ≡ Written (label (get_or (map entry xs) n none))
+label-there labels entry label xs n x none found inside is here =
+    here ∙ ap (λ y. Written (label y)) (sym (get_or-map entry xs n x none inside ∙ ap entry (sym is)))
+
+pub label-past : {X Y : Type 0} (labels : List Label) (entry : X → Y) (label : Y → Label) (xs : List X) (n : ℕ) (none : Y) (nothing : Atom)
+    → length xs ≤ n → label none ≡ [] → part labels nothing ≡ Written []
+    → part labels nothing ≡ Written (label (get_or (map entry xs) n none))
+label-past labels entry label xs n none nothing past empty is =
+    is ∙ ap (λ l. Written l) (sym (ap label (get_or_past (map entry xs) n none (let far : length (map entry xs) ≤ n = omega (arith, past, length-map xs entry) in far)) ∙ empty))

@@ -1,6 +1,6 @@
 -- Parts that are to stand for labels: the unknowns with their numbers, where the program has them.
-use Rattle.std.proofs.Common.{◌≡◌, refl, ap, ◌∙◌, ℕ, ◌<◌, List, [], ◌∷◌, map, length, true}
-use Rattle.std.specs.Prelude.{Contains, Option, if◌then◌else◌, nat_lt}
+use Rattle.std.proofs.Common.{◌≡◌, refl, ap, ◌∙◌, ℕ, List, [], ◌∷◌, map, length, true}
+use Rattle.std.specs.Prelude.{Contains, if◌then◌else◌, nat_lt}
 use Rattle.std.proofs.lemmas.Bool.{lt-ltb}
 use Rattle.principals.proofs.Closure.{Contains-first, Contains-later}
 use Rattle.labels.specs.Label.{Label}

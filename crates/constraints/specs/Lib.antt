@@ -9,3 +9,4 @@ pub mod Ready
 pub mod Journals
 pub mod Thinned
 pub mod Spreading
+pub mod Merging

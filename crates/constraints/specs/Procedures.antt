@@ -52,7 +52,7 @@ pub record StaysInPlace (old new : Progress) : Type 0 where
 
 -- this is the procedure of a program with this number
 abbrev pub IsOf : Core → (f : ℕ) → Procedure → Type 0
-IsOf core f procedure = here (scope_of core f) ≡ procedure_entry procedure
+IsOf core f procedure = here (scope_of core f) ≡ procedure_entry core.labels procedure
 
 -- a walk that came past a procedure, with these entries of the path map left, and takers up to a level
 pub record HasPassedProcedure (core : Core) (table : List Label) (entries : List Exits) (f level : ℕ) (left : List Exits) (old new : Progress) : Type 0 where

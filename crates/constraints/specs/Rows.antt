@@ -1,10 +1,10 @@
 -- Private: the stored parts that stand for the labels of a program's tables.
 -- Source: our own.
-use Rattle.std.specs.Prelude.{◌≡◌, ℕ, suc, ◌+◌, List, [], ◌∷◌, ◌++◌, map, length, Option, Some, None, slice_index_or, if◌then◌else◌, ◌==◌}
+use Rattle.std.specs.Prelude.{◌≡◌, ℕ, suc, ◌+◌, List, [], ◌∷◌, map, length, Option, Some, None, slice_index_or, if◌then◌else◌, ◌==◌}
 use Rattle.labels.specs.Label.{Label}
 use Rattle.resolved.specs.declared.program.Core.{Core}
 use Rattle.resolved.specs.CoreOf.{program_of}
-use Rattle.resolved.specs.Program.{ProcedureEntry, SlotEntry, ThrownEntry, ChannelEntry, GlobalEntry, procedure_at}
+use Rattle.resolved.specs.Program.{ProcedureEntry, SlotEntry, ThrownEntry, procedure_at}
 use Rattle.resolved.specs.Ends.{declared_by}
 use Rattle.resolved.specs.Labelled.{result_label}
 use Rattle.gathering.specs.Names.{own_unknowns, unknowns_before}
@@ -40,10 +40,6 @@ pub record IsRow (table : List Label) (first : ℕ) (procedure : ProcedureEntry)
   pub loops_is : row.loops ≡ first + length procedure.slots
   pub loop_count_is : row.loop_count ≡ procedure.loops
 
--- at most so many labels are written in a procedure: three of its own, those of its slots, and those of its exceptions
-abbrev pub label_count : ProcedureEntry → ℕ
-label_count procedure = 3 + length procedure.slots + length procedure.throws
-
 -- rows for procedures in order
 abbrev pub AreProcedureRows : (table : List Label) → (first : ℕ) → List ProcedureEntry → List ProcedureLabels → Type 0
 AreProcedureRows table first [] [] = Unit {0}
@@ -62,24 +58,8 @@ label_among [] exception default = default
 label_among (thrown ∷ rest) exception default =
     if exception == thrown.exception then thrown.label else label_among rest exception default
 
--- under each longer table
-abbrev pub Means : (table : List Label) → Atom → Part → Type 0
-Means table atom meaning = (more : List Label) → part (table ++ more) atom ≡ meaning
-
-abbrev pub Mean : (table : List Label) → List Atom → List Part → Type 0
-Mean table atoms meanings = (more : List Label) → left_parts (table ++ more) atoms ≡ meanings
-
--- a table of written labels that grew
-pub record TableGrows (old new : List Label) : Type 0 where
-  pub added : List Label
-  pub is : new ≡ old ++ added
-
--- the parts of a whole program
-pub record IsTable (core : Core) (table : List Label) (nothing : Atom) (channels globals : List Atom) (rows : List ProcedureLabels) (outside : ProcedureLabels) : Type 0 where
-  pub nothing_is : part table nothing ≡ Written []
-  pub channels_are : left_parts table channels
-      ≡ map (λ (entry : ChannelEntry). Written entry.label) (program_of core).channels
-  pub globals_are : left_parts table globals
-      ≡ map (λ (entry : GlobalEntry). Written entry.label) (program_of core).globals
-  pub rows_are : (f : ℕ) → IsRow table (unknowns_before (program_of core) f) (procedure_at (program_of core) f)
+-- the parts of a whole program, by the table of its labels
+pub record IsTable (core : Core) (nothing : Atom) (rows : List ProcedureLabels) (outside : ProcedureLabels) : Type 0 where
+  pub nothing_is : part core.labels nothing ≡ Written []
+  pub rows_are : (f : ℕ) → IsRow core.labels (unknowns_before (program_of core) f) (procedure_at (program_of core) f)
       (slice_index_or rows f outside)

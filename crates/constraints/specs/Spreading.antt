@@ -15,7 +15,7 @@ use Rattle.gathering.specs.Names.{NamedAtom, NamedConstraint, named_atoms}
 use Rattle.gathering.specs.Rerouted.{Leads}
 use Rattle.gathering.specs.Walk.{call_atoms, flow, inner_atom}
 use Rattle.solver.specs.declared.constraints.Atom.{Atom}
-use Rattle.constraints.specs.Added.{AreAdded, IsPart}
+use Rattle.constraints.specs.Added.{AreAdded, IsPart, Stored, stand_for, wanted_constraint}
 use Rattle.constraints.specs.Journals.{raised_flow, taker_at}
 use Rattle.constraints.specs.LeftSides.{Written, part}
 use Rattle.constraints.specs.declared.journal.Called.{Called}
@@ -84,6 +84,20 @@ pub record AreSpread (core : Core) (table : List Label) (journal : Journal) (rai
   pub few : length meanings ≤ length calls
   pub each : (stands : ℕ → List ℕ) → StandForThemselves stands calls → StandFrom stands old.number meanings →
       (c : NamedConstraint) → Contains added c → IsSpread core journal stands old.number new.number calls c
+  pub leads : (called : Called) → Contains calls called → (exception : ℕ) → raises called exception →
+      (taker : ℕ) → taker_at journal called exception ≡ Some taker →
+      (from : NamedAtom) → Contains (raised_flow (program_of core) called.callee called.own exception taker).left from →
+      Leads added from (inner_atom taker)
+
+-- the same of constraints that stand by themselves, with unknowns from a first number on
+pub record IsSpreadWhole (core : Core) (table : List Label) (journal : Journal) (raises : Called → ℕ → Type 0) (calls : List Called) (first next : ℕ) (stored : List Stored) : Type 0 where
+  pub added : List NamedConstraint
+  pub meanings : List (List ℕ)
+  pub stored_are : stand_for table stored ≡ map (wanted_constraint (program_of core)) added
+  pub number_is : next ≡ first + length meanings
+  pub few : length meanings ≤ length calls
+  pub each : (stands : ℕ → List ℕ) → StandForThemselves stands calls → StandFrom stands first meanings →
+      (c : NamedConstraint) → Contains added c → IsSpread core journal stands first next calls c
   pub leads : (called : Called) → Contains calls called → (exception : ℕ) → raises called exception →
       (taker : ℕ) → taker_at journal called exception ≡ Some taker →
       (from : NamedAtom) → Contains (raised_flow (program_of core) called.callee called.own exception taker).left from →

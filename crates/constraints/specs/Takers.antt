@@ -2,8 +2,8 @@
 -- counts where its level is above the barrier, so that raising the barrier takes all of them away at once.
 -- Source: our own.
 use Rattle.std.specs.Prelude.{ℕ, suc, ◌≤◌, ◌==◌, List, [], ◌∷◌, set, Option, Some, None, if◌then◌else◌, nat_lt, slice_index_or}
-use Rattle.resolved.specs.declared.statement.Exit.TheVariants.{Normal, Return, Break, Continue, Throw}
 use Rattle.resolved.specs.Tree.{Handlers, NoMore, Catch}
+use Rattle.path_map.specs.PathMaps.{value_at}
 use Rattle.gathering.specs.Walk as walk
 use Rattle.constraints.specs.declared.takers.Entry.{Entry}
 use Rattle.constraints.specs.declared.takers.Saved.{Saved}
@@ -16,12 +16,13 @@ no_entry = record { number = 0; level = 0 }
 abbrev pub taker_of : (barrier : ℕ) → Entry → Option ℕ
 taker_of barrier entry = if nat_lt barrier entry.level then Some entry.number else None
 
+-- the taker of an exception, by the barrier
+abbrev pub thrown_taker : (thrown : List Entry) → (barrier exception : ℕ) → Option ℕ
+thrown_taker thrown barrier exception = taker_of barrier (slice_index_or thrown exception no_entry)
+
+-- the taker of each end
 abbrev pub takers_of : Takers → (thrown : List Entry) → walk.Takers
-takers_of takers thrown Normal = takers.ends.normal
-takers_of takers thrown Return = takers.ends.returns
-takers_of takers thrown Break = takers.ends.breaks
-takers_of takers thrown Continue = takers.ends.continues
-takers_of takers thrown (Throw x) = taker_of takers.ends.raised (slice_index_or thrown x no_entry)
+takers_of takers thrown = value_at (thrown_taker thrown) takers.ends
 
 -- no level is above this one
 abbrev pub AreWithin : (level : ℕ) → (thrown : List Entry) → Type 0

@@ -27,8 +27,8 @@ impl<'a> Table<'a> {
         constraints: &mut Vec<Constraint<Option<Target>>>,
     ) -> Result<(), AllocError>
         ensures { OnOk result ((procedure : ℕ) (atoms : List NamedAtom) →
-            IsLeft self.now.core.now self.now.written.items atoms left.items →
-            AreAdded self.now.core.now self.now.written.items
+            IsLeft self.now.core.now self.now.core.now.labels atoms left.items →
+            AreAdded self.now.core.now self.now.core.now.labels
             (rule_constraint (scope_of self.now.core.now procedure) at rule atoms target)
             constraints.old.items constraints.new.items) }
     {
@@ -51,8 +51,8 @@ impl<'a> Table<'a> {
         constraints: &mut Vec<Constraint<Option<Target>>>,
     ) -> Result<(), AllocError>
         ensures { OnOk result ((atoms : List NamedAtom) →
-            IsLeft self.now.core.now self.now.written.items atoms left.items →
-            AreAdded self.now.core.now self.now.written.items (inner_constraint atoms number)
+            IsLeft self.now.core.now self.now.core.now.labels atoms left.items →
+            AreAdded self.now.core.now self.now.core.now.labels (inner_constraint atoms number)
             constraints.old.items constraints.new.items) }
     {
         let right = Atom::Unknown(number);
@@ -75,8 +75,8 @@ impl<'a> Table<'a> {
         constraints: &mut Vec<Constraint<Option<Target>>>,
     ) -> Result<(), AllocError>
         ensures { OnOk result ((atoms : List NamedAtom) →
-            IsLeft self.now.core.now self.now.written.items atoms left.now →
-            AreAdded self.now.core.now self.now.written.items (flow atoms taker)
+            IsLeft self.now.core.now self.now.core.now.labels atoms left.now →
+            AreAdded self.now.core.now self.now.core.now.labels (flow atoms taker)
             constraints.old.items constraints.new.items) }
     {
         match taker {
@@ -95,8 +95,8 @@ impl<'a> Table<'a> {
         constraints: &mut Vec<Constraint<Option<Target>>>,
     ) -> Result<(), AllocError>
         ensures { OnOk result ((atoms : List NamedAtom) →
-            IsLeft self.now.core.now self.now.written.items atoms left.now →
-            AreAdded self.now.core.now self.now.written.items (flow_if test atoms taker)
+            IsLeft self.now.core.now self.now.core.now.labels atoms left.now →
+            AreAdded self.now.core.now self.now.core.now.labels (flow_if test atoms taker)
             constraints.old.items constraints.new.items) }
     {
         if test {
@@ -116,9 +116,9 @@ impl<'a> Table<'a> {
         constraints: &mut Vec<Constraint<Option<Target>>>,
     ) -> Result<(), AllocError>
         ensures { OnOk result ((atoms : List NamedAtom) (exceptions : List ℕ) →
-            IsLeft self.now.core.now self.now.written.items atoms left.now →
+            IsLeft self.now.core.now self.now.core.now.labels atoms left.now →
             AreRaised found exceptions →
-            AreAdded self.now.core.now self.now.written.items
+            AreAdded self.now.core.now self.now.core.now.labels
             (raised_flows atoms (takers_of takers thrown.now) exceptions)
             constraints.old.items constraints.new.items) }
     {
@@ -141,9 +141,9 @@ impl<'a> Table<'a> {
         constraints: &mut Vec<Constraint<Option<Target>>>,
     ) -> Result<(), AllocError>
         ensures { OnOk result ((atoms : List NamedAtom) (exceptions : List ℕ) →
-            IsLeft self.now.core.now self.now.written.items atoms left.now →
+            IsLeft self.now.core.now self.now.core.now.labels atoms left.now →
             AreRaised found exceptions →
-            AreAdded self.now.core.now self.now.written.items
+            AreAdded self.now.core.now self.now.core.now.labels
             (flow atoms (takers_of takers thrown.now exit)
             ++ raised_flows atoms (takers_of takers thrown.now) exceptions)
             constraints.old.items constraints.new.items) }

@@ -48,7 +48,7 @@ impl<'a> Walk<'a> {
         constraints: &mut Vec<Constraint<Option<Target>>>,
     ) -> Result<(), AllocError>
         ensures { OnOk result ((ends : List Exit) → exits ≡ exits_of ends →
-            IsGatheredAt self.now.table.now.core.now self.now.table.now.written.items pc
+            IsGatheredAt self.now.table.now.core.now self.now.table.now.core.now.labels pc
             (λ (named : NamedAtom).
             single (one_end ends) named (takers_of takers thrown.now) ends)
             constraints.old.items constraints.new.items) }
@@ -73,7 +73,7 @@ impl<'a> Walk<'a> {
         constraints: &mut Vec<Constraint<Option<Target>>>,
     ) -> Result<(), AllocError>
         ensures { OnOk result (IsGatheredAt self.now.table.now.core.now
-            self.now.table.now.written.items pc
+            self.now.table.now.core.now.labels pc
             (λ (named : NamedAtom). inner_constraint (named ∷ named_atoms (value_label
             (scope_of self.now.table.now.core.now self.now.procedure)
             (expression_of condition.now))) number)
@@ -96,7 +96,7 @@ impl<'a> Walk<'a> {
         constraints: &mut Vec<Constraint<Option<Target>>>,
     ) -> Result<(), AllocError>
         ensures { OnOk result (IsGatheredAt self.now.table.now.core.now
-            self.now.table.now.written.items pc
+            self.now.table.now.core.now.labels pc
             (λ (named : NamedAtom). raised_flows (named ∷ named_atoms (raise_atoms
             (scope_of self.now.table.now.core.now self.now.procedure)
             (expression_of condition.now))) (takers_of takers thrown.now)
@@ -121,7 +121,7 @@ impl<'a> Walk<'a> {
         constraints: &mut Vec<Constraint<Option<Target>>>,
     ) -> Result<(), AllocError>
         ensures { OnOk result (IsGatheredAt self.now.table.now.core.now
-            self.now.table.now.written.items pc
+            self.now.table.now.core.now.labels pc
             (λ (named : NamedAtom). rule_constraint
             (scope_of self.now.table.now.core.now self.now.procedure) at 8 (named ∷ [])
             (ToLoop self.now.procedure number))
@@ -146,7 +146,7 @@ impl<'a> Walk<'a> {
         constraints: &mut Vec<Constraint<Option<Target>>>,
     ) -> Result<(), AllocError>
         ensures { OnOk result (IsGatheredAt self.now.table.now.core.now
-            self.now.table.now.written.items pc
+            self.now.table.now.core.now.labels pc
             (λ (named : NamedAtom). loop_head_constraints
             (scope_of self.now.table.now.core.now self.now.procedure) named
             (takers_of takers thrown.now) inner at number (expression_of condition.now))

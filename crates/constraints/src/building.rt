@@ -1,98 +1,66 @@
 //! How the table of a program's labels is built.
-ghost use Rattle.constraints.specs.Rows.{AreProcedureRows, TableGrows, IsRow, Mean, Means, label_count, slot_parts, thrown_parts, written_part};
-ghost use Rattle.gathering.specs.Names.{own_unknowns};
-ghost use Rattle.constraints.specs.LeftSides.{Written};
-ghost use Rattle.labels.specs.Label.{Label};
-ghost use Rattle.resolved.specs.Ends.{declared_by};
-ghost use Rattle.resolved.specs.Labelled.{result_label};
-ghost use Rattle.resolved.specs.Program.{Program, ThrownEntry};
-ghost use Rattle.resolved.specs.ProgramOf.{procedure_entry, result_entry, slot_entry, thrown_entry};
-ghost use Rattle.resolved.specs.declared.tables.Channel.{Channel};
-ghost use Rattle.resolved.specs.declared.tables.GlobalVariable.{GlobalVariable};
+ghost use Rattle.constraints.specs.LeftSides.{Written, left_parts, part};
+ghost use Rattle.constraints.specs.Rows.{AreProcedureRows, IsRow, slot_parts, thrown_parts, written_part};
 ghost use Rattle.constraints.specs.declared.rows.ThrownLabel.{ThrownLabel};
-ghost use Rattle.std.specs.Prelude.{IfOk, List, OnOk, [], length, map, sum_by, ℕ, ◌+◌, ◌++◌, ◌<◌, ◌^◌, ◌∷◌, ◌≡◌, ◌≤◌};
+ghost use Rattle.gathering.specs.Names.{own_unknowns};
+ghost use Rattle.labels.specs.LabelTable.{label_at};
+ghost use Rattle.path_map.specs.Exceptions.{exceptions_of};
+ghost use Rattle.resolved.specs.Labelled.{result_label};
+ghost use Rattle.resolved.specs.Program.{ThrownEntry};
+ghost use Rattle.resolved.specs.ProgramOf.{procedure_entry, result_entry, slot_entry, thrown_entry};
+ghost use Rattle.std.specs.Prelude.{IfOk, [], length, map, sum_by, ◌+◌, ◌<◌, ◌^◌, ◌≡◌};
 
 use crate::rows::{ProcedureLabels, ThrownLabel};
-use crate::written::{Labels, add};
 use gathering::unknowns::first_after;
-use labels::Label;
-use resolved::tables::{Channel, GlobalVariable, Procedure, ResultType, Slot, Thrown};
+use labels::LabelTable;
+use resolved::tables::{Procedure, ResultType, Slot, Thrown};
 use solver::Atom;
 use std::alloc::{AllocError, Global};
 
-// The parts of the labels of channels.
-pub(crate) fn channel_parts(
-    alloc: Global,
-    written: &mut Labels,
-    channels: &[Channel],
-) -> Result<Vec<Atom>, AllocError>
-    requires room { length written.old.list.items + length channels.now ≤ 2 ^ 32 }
-    ensures grown { OnOk result (TableGrows written.old.list.items written.new.list.items) }
-    ensures few { OnOk result (length written.new.list.items
-        ≤ length written.old.list.items + length channels.now) }
-    ensures meaning { IfOk result (λ atoms. Mean written.new.list.items atoms.items
-        (map (λ (channel : Channel). Written channel.label) channels.now)) }
+// The part of the least label.
+pub(crate) fn least_part(labels: &LabelTable) -> Atom
+    ensures { part labels.now result ≡ Written [] }
 {
-    let mut atoms = Vec::new(alloc);
-    for channel in channels {
-        atoms.push(add(written, &channel.label)?)?;
-    }
-    Ok(atoms)
+    // It brings that the table has the least label under number 0.
+    let _count = labels.len();
+    Atom::Written(0)
 }
 
-// The parts of the labels of globals.
-pub(crate) fn global_parts(
-    alloc: Global,
-    written: &mut Labels,
-    globals: &[GlobalVariable],
-) -> Result<Vec<Atom>, AllocError>
-    requires room { length written.old.list.items + length globals.now ≤ 2 ^ 32 }
-    ensures grown { OnOk result (TableGrows written.old.list.items written.new.list.items) }
-    ensures few { OnOk result (length written.new.list.items
-        ≤ length written.old.list.items + length globals.now) }
-    ensures meaning { IfOk result (λ atoms. Mean written.new.list.items atoms.items
-        (map (λ (variable : GlobalVariable). Written variable.label) globals.now)) }
+// The part of the label with this number, which is the least one where there is none.
+pub(crate) fn label_part(labels: &LabelTable, number: u32) -> Atom
+    ensures { part labels.now result ≡ Written (label_at labels.now number) }
 {
-    let mut atoms = Vec::new(alloc);
-    for variable in globals {
-        atoms.push(add(written, &variable.label)?)?;
+    if number as usize >= labels.len() {
+        return least_part(labels);
     }
-    Ok(atoms)
+    Atom::Written(number)
 }
 
 // The part of a slot's label, which is the unknown with this number if it is not written.
-fn slot_part(written: &mut Labels, label: &Option<Label>, number: u32) -> Result<Atom, AllocError>
-    requires room { length written.old.list.items + 1 ≤ 2 ^ 32 }
-    ensures grown { OnOk result (TableGrows written.old.list.items written.new.list.items) }
-    ensures few { OnOk result (length written.new.list.items
-        ≤ length written.old.list.items + 1) }
-    ensures meaning { IfOk result (λ atom. Means written.new.list.items atom
-        (written_part label.now number)) }
+fn slot_part(labels: &LabelTable, slot: &Slot, number: u32) -> Atom
+    ensures { part labels.now result
+        ≡ written_part (slot_entry labels.now slot.now).written number }
 {
-    match label {
-        None => Ok(Atom::Unknown(number)),
-        Some(label) => add(written, label),
+    match slot.written {
+        None => Atom::Unknown(number),
+        Some(label) => label_part(labels, label),
     }
 }
 
 // The parts of the labels of slots, of which the first is the unknown with this number if its label is not written.
 fn slot_parts(
     alloc: Global,
-    written: &mut Labels,
+    labels: &LabelTable,
     slots: &[Slot],
     first: u32,
 ) -> Result<Vec<Atom>, AllocError>
-    requires numbers { first + length slots.now < 2 ^ 32 }
-    requires room { length written.old.list.items + length slots.now ≤ 2 ^ 32 }
-    ensures grown { OnOk result (TableGrows written.old.list.items written.new.list.items) }
-    ensures few { OnOk result (length written.new.list.items
-        ≤ length written.old.list.items + length slots.now) }
-    ensures meaning { IfOk result (λ atoms. Mean written.new.list.items atoms.items
-        (slot_parts first (map slot_entry slots.now))) }
+    requires { first + length slots.now < 2 ^ 32 }
+    ensures { IfOk result (λ atoms. left_parts labels.now atoms.items
+        ≡ slot_parts first (map (slot_entry labels.now) slots.now)) }
 {
     let mut atoms = Vec::new(alloc);
     for (i, slot) in slots.iter().enumerate() {
-        atoms.push(slot_part(written, &slot.written, first + i as u32)?)?;
+        atoms.push(slot_part(labels, slot, first + i as u32))?;
     }
     Ok(atoms)
 }
@@ -100,72 +68,52 @@ fn slot_parts(
 // The parts of the labels of declared exceptions.
 fn thrown_labels(
     alloc: Global,
-    written: &mut Labels,
+    labels: &LabelTable,
     throws: &[Thrown],
 ) -> Result<Vec<ThrownLabel>, AllocError>
-    requires room { length written.old.list.items + length throws.now ≤ 2 ^ 32 }
-    ensures grown { OnOk result (TableGrows written.old.list.items written.new.list.items) }
-    ensures few { OnOk result (length written.new.list.items
-        ≤ length written.old.list.items + length throws.now) }
-    ensures exceptions { IfOk result (λ labels.
-        map (λ (thrown : ThrownLabel). thrown.exception) labels.items
-        ≡ declared_by (map thrown_entry throws.now)) }
-    ensures meaning { IfOk result (λ labels. (more : List Label) →
-        thrown_parts (written.new.list.items ++ more) labels.items
-        ≡ map (λ (entry : ThrownEntry). Written entry.label) (map thrown_entry throws.now)) }
+    ensures exceptions { IfOk result (λ found.
+        map (λ (thrown : ThrownLabel). thrown.exception) found.items ≡ exceptions_of throws.now) }
+    ensures meaning { IfOk result (λ found. thrown_parts labels.now found.items
+        ≡ map (λ (entry : ThrownEntry). Written entry.label)
+        (map (thrown_entry labels.now) throws.now)) }
 {
-    let mut labels = Vec::new(alloc);
+    let mut found = Vec::new(alloc);
     for thrown in throws {
-        let label = add(written, &thrown.label)?;
-        labels.push(ThrownLabel {
+        found.push(ThrownLabel {
             exception: thrown.exception,
-            label,
+            label: label_part(labels, thrown.label),
         })?;
     }
-    Ok(labels)
+    Ok(found)
 }
 
 // The part of the label of a procedure's value, which is empty for one without a value.
-fn value_part(
-    alloc: Global,
-    written: &mut Labels,
-    value: &Option<ResultType>,
-) -> Result<Atom, AllocError>
-    requires room { length written.old.list.items + 1 ≤ 2 ^ 32 }
-    ensures grown { OnOk result (TableGrows written.old.list.items written.new.list.items) }
-    ensures few { OnOk result (length written.new.list.items
-        ≤ length written.old.list.items + 1) }
-    ensures meaning { IfOk result (λ atom. Means written.new.list.items atom
-        (Written (result_label (result_entry value.now)))) }
+fn value_part(labels: &LabelTable, value: &Option<ResultType>) -> Atom
+    ensures { part labels.now result
+        ≡ Written (result_label (result_entry labels.now value.now)) }
 {
     match value {
-        None => add(written, &Label::least(alloc)),
-        Some(value) => add(written, &value.label),
+        None => least_part(labels),
+        Some(value) => label_part(labels, value.label),
     }
 }
 
 // The row of a procedure whose first unknown has this number.
 fn row_of(
     alloc: Global,
-    written: &mut Labels,
+    labels: &LabelTable,
     procedure: &Procedure,
     first: u32,
 ) -> Result<ProcedureLabels, AllocError>
-    requires numbers { first + own_unknowns (procedure_entry procedure.now) < 2 ^ 32 }
-    requires room { length written.old.list.items
-        + label_count (procedure_entry procedure.now) ≤ 2 ^ 32 }
-    ensures grown { OnOk result (TableGrows written.old.list.items written.new.list.items) }
-    ensures few { OnOk result (length written.new.list.items
-        ≤ length written.old.list.items + label_count (procedure_entry procedure.now)) }
-    ensures row { IfOk result (λ row. (more : List Label) →
-        IsRow (written.new.list.items ++ more) first (procedure_entry procedure.now) row) }
+    requires { first + (length procedure.now.slots.items + procedure.now.loops) < 2 ^ 32 }
+    ensures { IfOk result (IsRow labels.now first (procedure_entry labels.now procedure.now)) }
 {
     Ok(ProcedureLabels {
-        begin: add(written, &procedure.begin_label)?,
-        end: add(written, &procedure.end_label)?,
-        value: value_part(alloc, written, &procedure.result)?,
-        slots: slot_parts(alloc, written, &procedure.slots, first)?,
-        throws: thrown_labels(alloc, written, &procedure.throws)?,
+        begin: label_part(labels, procedure.begin_label),
+        end: label_part(labels, procedure.end_label),
+        value: value_part(labels, &procedure.result),
+        slots: slot_parts(alloc, labels, &procedure.slots, first)?,
+        throws: thrown_labels(alloc, labels, &procedure.throws)?,
         loops: first + procedure.slots.len() as u32,
         loop_count: procedure.loops,
     })
@@ -174,25 +122,19 @@ fn row_of(
 // The rows of procedures, and how many unknowns they have.
 pub(crate) fn rows_of(
     alloc: Global,
-    written: &mut Labels,
+    labels: &LabelTable,
     procedures: &[Procedure],
 ) -> Result<(Vec<ProcedureLabels>, u32), AllocError>
-    requires numbers { sum_by own_unknowns (map procedure_entry procedures.now) < 2 ^ 32 }
-    requires room { length written.old.list.items
-        + sum_by label_count (map procedure_entry procedures.now) ≤ 2 ^ 32 }
-    ensures grown { OnOk result (TableGrows written.old.list.items written.new.list.items) }
-    ensures few { OnOk result (length written.new.list.items
-        ≤ length written.old.list.items + sum_by label_count (map procedure_entry procedures.now)) }
-    ensures rows { IfOk result (λ found. (more : List Label) →
-        AreProcedureRows (written.new.list.items ++ more) 0
-        (map procedure_entry procedures.now) found.0.items) }
+    requires { sum_by own_unknowns (map (procedure_entry labels.now) procedures.now) < 2 ^ 32 }
+    ensures rows { IfOk result (λ found. AreProcedureRows labels.now 0
+        (map (procedure_entry labels.now) procedures.now) found.0.items) }
     ensures count { IfOk result (λ found. found.1
-        ≡ sum_by own_unknowns (map procedure_entry procedures.now)) }
+        ≡ sum_by own_unknowns (map (procedure_entry labels.now) procedures.now)) }
 {
     let mut rows = Vec::new(alloc);
     let mut first = 0;
     for procedure in procedures {
-        rows.push(row_of(alloc, written, procedure, first)?)?;
+        rows.push(row_of(alloc, labels, procedure, first)?)?;
         first = first_after(first, procedure);
     }
     Ok((rows, first))

@@ -38,7 +38,7 @@ impl<'a> Walk<'a> {
     // The label of a call, and what its normal end has beside it.
     fn left_of_end(&self, own: Atom, callee: u32) -> Result<Vec<Atom>, AllocError>
         ensures { IfOk result (λ left. IsLeftFrom self.now.table.now.core.now
-            self.now.table.now.written.items own
+            self.now.table.now.core.now.labels own
             (call_atoms (program_of self.now.table.now.core.now) callee Normal) left.items) }
     {
         if self.throws_any(callee) {
@@ -52,7 +52,7 @@ impl<'a> Walk<'a> {
     // The label of the value of a call.
     fn left_of_result(&self, own: Atom, callee: u32) -> Result<Vec<Atom>, AllocError>
         ensures { IfOk result (λ left. IsLeftFrom self.now.table.now.core.now
-            self.now.table.now.written.items own
+            self.now.table.now.core.now.labels own
             (call_atoms (program_of self.now.table.now.core.now) callee Normal
             ++ one (label_of (program_of self.now.table.now.core.now) (ToValue callee)))
             left.items) }
@@ -72,8 +72,8 @@ impl<'a> Walk<'a> {
         constraints: &mut Vec<Constraint<Option<Target>>>,
     ) -> Result<(), AllocError>
         ensures { OnOk result ((k : ℕ) →
-            IsPart self.now.table.now.core.now self.now.table.now.written.items (inner_atom k) own →
-            AreAdded self.now.table.now.core.now self.now.table.now.written.items
+            IsPart self.now.table.now.core.now self.now.table.now.core.now.labels (inner_atom k) own →
+            AreAdded self.now.table.now.core.now self.now.table.now.core.now.labels
             (argument_constraints (scope_of self.now.table.now.core.now self.now.procedure)
             at k callee 0 (map expression_of arguments.now))
             constraints.old.items constraints.new.items) }
@@ -99,7 +99,7 @@ impl<'a> Walk<'a> {
         constraints: &mut Vec<Constraint<Option<Target>>>,
     ) -> Result<(), AllocError>
         ensures { OnOk result (IsGatheredAt self.now.table.now.core.now
-            self.now.table.now.written.items own
+            self.now.table.now.core.now.labels own
             (λ (named : NamedAtom). flow (named ∷ named_atoms (call_atoms
             (program_of self.now.table.now.core.now) callee (Throw exception)))
             (takers_of takers thrown.now (Throw exception)))
@@ -128,7 +128,7 @@ impl<'a> Walk<'a> {
         constraints: &mut Vec<Constraint<Option<Target>>>,
     ) -> Result<(), AllocError>
         ensures { OnOk result (IsGatheredAt self.now.table.now.core.now
-            self.now.table.now.written.items own
+            self.now.table.now.core.now.labels own
             (λ (named : NamedAtom). flow_if test (named ∷ named_atoms (call_atoms
             (program_of self.now.table.now.core.now) callee (Throw exception)))
             (takers_of takers thrown.now (Throw exception)))
@@ -151,9 +151,9 @@ impl<'a> Walk<'a> {
         constraints: &mut Vec<Constraint<Option<Target>>>,
     ) -> Result<(), AllocError>
         ensures { OnOk result ((k : ℕ) (exceptions : List ℕ) →
-            IsPart self.now.table.now.core.now self.now.table.now.written.items (inner_atom k) own →
+            IsPart self.now.table.now.core.now self.now.table.now.core.now.labels (inner_atom k) own →
             AreRaised found exceptions →
-            AreAdded self.now.table.now.core.now self.now.table.now.written.items
+            AreAdded self.now.table.now.core.now self.now.table.now.core.now.labels
             (call_flows (program_of self.now.table.now.core.now) callee k
             (takers_of takers thrown.now) (thrown_ends (raised_once exceptions)))
             constraints.old.items constraints.new.items) }
@@ -176,8 +176,8 @@ impl<'a> Walk<'a> {
         constraints: &mut Vec<Constraint<Option<Target>>>,
     ) -> Result<(), AllocError>
         ensures { OnOk result ((k : ℕ) →
-            IsPart self.now.table.now.core.now self.now.table.now.written.items (inner_atom k) own →
-            AreAdded self.now.table.now.core.now self.now.table.now.written.items
+            IsPart self.now.table.now.core.now self.now.table.now.core.now.labels (inner_atom k) own →
+            AreAdded self.now.table.now.core.now self.now.table.now.core.now.labels
             (call_flows (program_of self.now.table.now.core.now) callee k
             (takers_of takers thrown.now)
             (kept_ends (map expression_of arguments.now)))
@@ -206,7 +206,7 @@ impl<'a> Walk<'a> {
         constraints: &mut Vec<Constraint<Option<Target>>>,
     ) -> Result<(), AllocError>
         ensures { OnOk result (IsGatheredAt self.now.table.now.core.now
-            self.now.table.now.written.items pc
+            self.now.table.now.core.now.labels pc
             (λ (named : NamedAtom). kept_call
             (scope_of self.now.table.now.core.now self.now.procedure) named
             (takers_of takers thrown.now) number at callee (map expression_of arguments.now) target)

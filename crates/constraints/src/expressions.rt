@@ -32,7 +32,7 @@ fn can_divide_by_zero(operator: Operator, divisor: &Expression) -> bool
 impl<'a> Table<'a> {
     /// Adds the label of what a rule names.
     pub fn add_label(&self, target: Target, left: &mut Vec<Atom>) -> Result<(), AllocError>
-        ensures { OnOk result (IsJoined self.now.core.now self.now.written.items
+        ensures { OnOk result (IsJoined self.now.core.now self.now.core.now.labels
             (one (label_of (program_of self.now.core.now) target))
             left.old.items left.new.items) }
     {
@@ -47,7 +47,7 @@ impl<'a> Table<'a> {
         expression: &Expression,
         left: &mut Vec<Atom>,
     ) -> Result<(), AllocError>
-        ensures { OnOk result (IsJoined self.now.core.now self.now.written.items
+        ensures { OnOk result (IsJoined self.now.core.now self.now.core.now.labels
             (value_label (scope_of self.now.core.now procedure) (expression_of expression.now))
             left.old.items left.new.items) }
     {
@@ -80,7 +80,7 @@ impl<'a> Table<'a> {
         expression: &Expression,
         left: &mut Vec<Atom>,
     ) -> Result<bool, AllocError>
-        ensures joined { OnOk result (IsJoined self.now.core.now self.now.written.items
+        ensures joined { OnOk result (IsJoined self.now.core.now self.now.core.now.labels
             (raise_atoms (scope_of self.now.core.now procedure) (expression_of expression.now))
             left.old.items left.new.items) }
         ensures raises { IfOk result (λ raised. raised
@@ -123,7 +123,7 @@ impl<'a> Table<'a> {
         expressions: &[Expression],
         left: &mut Vec<Atom>,
     ) -> Result<(), AllocError>
-        ensures { OnOk result (IsJoined self.now.core.now self.now.written.items
+        ensures { OnOk result (IsJoined self.now.core.now self.now.core.now.labels
             (raise_atoms_all (scope_of self.now.core.now procedure)
             (map expression_of expressions.now))
             left.old.items left.new.items) }

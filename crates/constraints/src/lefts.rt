@@ -31,7 +31,7 @@ impl<'a> Table<'a> {
         pc: Atom,
         target: Target,
     ) -> Result<Vec<Atom>, AllocError>
-        ensures { IfOk result (λ left. IsLeftFrom self.now.core.now self.now.written.items pc
+        ensures { IfOk result (λ left. IsLeftFrom self.now.core.now self.now.core.now.labels pc
             (one (label_of (program_of self.now.core.now) target)) left.items) }
     {
         let mut left = left_of_pc(alloc, pc)?;
@@ -47,7 +47,7 @@ impl<'a> Table<'a> {
         procedure: u32,
         expression: &Expression,
     ) -> Result<Vec<Atom>, AllocError>
-        ensures { IfOk result (λ left. IsLeftFrom self.now.core.now self.now.written.items pc
+        ensures { IfOk result (λ left. IsLeftFrom self.now.core.now self.now.core.now.labels pc
             (value_label (scope_of self.now.core.now procedure) (expression_of expression.now))
             left.items) }
     {
@@ -64,7 +64,7 @@ impl<'a> Table<'a> {
         procedure: u32,
         expression: &Expression,
     ) -> Result<Vec<Atom>, AllocError>
-        ensures { IfOk result (λ left. IsLeftFrom self.now.core.now self.now.written.items pc
+        ensures { IfOk result (λ left. IsLeftFrom self.now.core.now self.now.core.now.labels pc
             (raise_atoms (scope_of self.now.core.now procedure) (expression_of expression.now))
             left.items) }
     {
@@ -81,7 +81,7 @@ impl<'a> Table<'a> {
         procedure: u32,
         arguments: &[Expression],
     ) -> Result<Vec<Atom>, AllocError>
-        ensures { IfOk result (λ left. IsLeftFrom self.now.core.now self.now.written.items pc
+        ensures { IfOk result (λ left. IsLeftFrom self.now.core.now self.now.core.now.labels pc
             (raise_atoms_all (scope_of self.now.core.now procedure)
             (map expression_of arguments.now))
             left.items) }
@@ -100,7 +100,7 @@ impl<'a> Table<'a> {
         index: &Expression,
         value: &Expression,
     ) -> Result<Vec<Atom>, AllocError>
-        ensures { IfOk result (λ left. IsLeftFrom self.now.core.now self.now.written.items pc
+        ensures { IfOk result (λ left. IsLeftFrom self.now.core.now self.now.core.now.labels pc
             (value_label (scope_of self.now.core.now procedure) (expression_of index.now)
             ++ value_label (scope_of self.now.core.now procedure) (expression_of value.now))
             left.items) }
@@ -121,7 +121,7 @@ impl<'a> Table<'a> {
         index: &Expression,
         value: &Expression,
     ) -> Result<Vec<Atom>, AllocError>
-        ensures { IfOk result (λ left. IsLeftFrom self.now.core.now self.now.written.items pc
+        ensures { IfOk result (λ left. IsLeftFrom self.now.core.now self.now.core.now.labels pc
             (store_atoms (scope_of self.now.core.now procedure) length
             (expression_of index.now) (expression_of value.now))
             left.items) }
@@ -140,7 +140,7 @@ impl<'a> Table<'a> {
         index: &Expression,
         left: &mut Vec<Atom>,
     ) -> Result<(), AllocError>
-        ensures { OnOk result (IsJoined self.now.core.now self.now.written.items
+        ensures { OnOk result (IsJoined self.now.core.now self.now.core.now.labels
             (index_atoms (scope_of self.now.core.now procedure) length (expression_of index.now))
             left.old.items left.new.items) }
     {

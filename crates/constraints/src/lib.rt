@@ -8,6 +8,7 @@ mod calls;
 mod expressions;
 mod journal;
 mod lefts;
+mod merging;
 mod pieces;
 mod plain;
 mod procedures;
@@ -19,6 +20,5 @@ mod statements;
 mod table;
 mod takers;
 mod walking;
-mod written;
 
-pub use program::gather;
+pub use program::{LabelConstraints, gather};

@@ -61,7 +61,7 @@ impl<'a> Walk<'a> {
             drop progress.old.index (entries_of self.now.map.now) ≡ first ∷ left →
             exits ≡ first) }
         ensures added { OnOk result ((ends : List Exit) →
-            IsWalked self.now.table.now.core.now self.now.table.now.written.items
+            IsWalked self.now.table.now.core.now self.now.table.now.core.now.labels
             (entries_of self.now.map.now) pc takers (ends ∷ [])
             (λ (named : NamedAtom).
             single (one_end ends) named (takers_of takers progress.old.thrown.items) ends) 0
@@ -81,8 +81,8 @@ impl<'a> Walk<'a> {
     // The pc of what follows a statement with these ends, whose normal end has the taker with this number.
     pub(crate) fn onward_pc(&self, exits: Exits, pc: Atom, number: u32) -> Atom
         ensures { (ends : List Exit) (named : NamedAtom) → exits ≡ exits_of ends →
-            IsPart self.now.table.now.core.now self.now.table.now.written.items named pc →
-            IsPart self.now.table.now.core.now self.now.table.now.written.items
+            IsPart self.now.table.now.core.now self.now.table.now.core.now.labels named pc →
+            IsPart self.now.table.now.core.now self.now.table.now.core.now.labels
             (onward_pc (one_end ends) named number) result }
     {
         if exits.is_single() {
@@ -100,7 +100,7 @@ impl<'a> Walk<'a> {
         progress: &mut Progress,
     ) -> Result<(), AllocError>
         ensures { OnOk result ((n : ℕ) →
-            IsWalked self.now.table.now.core.now self.now.table.now.written.items
+            IsWalked self.now.table.now.core.now self.now.table.now.core.now.labels
             (entries_of self.now.map.now) pc takers []
             (λ (named : NamedAtom). block_constraints
             (scope_of self.now.table.now.core.now self.now.procedure) reached named
@@ -128,7 +128,7 @@ impl<'a> Walk<'a> {
         requires { HasRoom 1 progress.old }
         ensures number { IfOk result (λ number. number ≡ progress.old.number) }
         ensures added { OnOk result (
-            IsWalked self.now.table.now.core.now self.now.table.now.written.items
+            IsWalked self.now.table.now.core.now self.now.table.now.core.now.labels
             (entries_of self.now.map.now) pc takers []
             (λ (named : NamedAtom). branch_constraints
             (scope_of self.now.table.now.core.now self.now.procedure) named
@@ -162,7 +162,7 @@ impl<'a> Walk<'a> {
         ensures inner { IfOk result (λ pcs. pcs.0 ≡ progress.old.number) }
         ensures back { IfOk result (λ pcs. pcs.1 ≡ progress.old.number + 1) }
         ensures added { OnOk result (
-            IsWalked self.now.table.now.core.now self.now.table.now.written.items
+            IsWalked self.now.table.now.core.now self.now.table.now.core.now.labels
             (entries_of self.now.map.now) pc takers []
             (λ (named : NamedAtom). loop_head_constraints
             (scope_of self.now.table.now.core.now self.now.procedure) named
@@ -193,7 +193,7 @@ impl<'a> Walk<'a> {
         progress: &mut Progress,
     ) -> Result<(), AllocError>
         ensures { OnOk result ((pc : Atom) (takers : Takers) →
-            IsWalked self.now.table.now.core.now self.now.table.now.written.items
+            IsWalked self.now.table.now.core.now self.now.table.now.core.now.labels
             (entries_of self.now.map.now) pc takers []
             (λ (named : NamedAtom). rule_constraint
             (scope_of self.now.table.now.core.now self.now.procedure) at 8
@@ -249,7 +249,7 @@ impl<'a> Walk<'a> {
     ) -> Result<(), AllocError>
         requires { HasRoom 1 progress.old }
         ensures { OnOk result (
-            IsWalked self.now.table.now.core.now self.now.table.now.written.items
+            IsWalked self.now.table.now.core.now self.now.table.now.core.now.labels
             (entries_of self.now.map.now) pc takers []
             (λ (named : NamedAtom). call_constraints
             (scope_of self.now.table.now.core.now self.now.procedure) named

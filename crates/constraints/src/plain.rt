@@ -25,7 +25,7 @@ impl<'a> Walk<'a> {
         progress: &mut Progress,
     ) -> Result<(), AllocError>
         ensures { OnOk result (IsFormWalked self.now.table.now.core.now
-            self.now.table.now.written.items (entries_of self.now.map.now) self.now.procedure
+            self.now.table.now.core.now.labels (entries_of self.now.map.now) self.now.procedure
             pc takers (Assign at variable (expression_of value.now))
             progress.old progress.new) }
     {
@@ -50,7 +50,7 @@ impl<'a> Walk<'a> {
         progress: &mut Progress,
     ) -> Result<(), AllocError>
         ensures { OnOk result (IsFormWalked self.now.table.now.core.now
-            self.now.table.now.written.items (entries_of self.now.map.now) self.now.procedure
+            self.now.table.now.core.now.labels (entries_of self.now.map.now) self.now.procedure
             pc takers (Clear at slot)
             progress.old progress.new) }
     {
@@ -77,7 +77,7 @@ impl<'a> Walk<'a> {
         progress: &mut Progress,
     ) -> Result<(), AllocError>
         ensures { OnOk result (IsFormWalked self.now.table.now.core.now
-            self.now.table.now.written.items (entries_of self.now.map.now) self.now.procedure
+            self.now.table.now.core.now.labels (entries_of self.now.map.now) self.now.procedure
             pc takers (Store at array length (expression_of index.now) (expression_of value.now))
             progress.old progress.new) }
     {
@@ -105,7 +105,7 @@ impl<'a> Walk<'a> {
         progress: &mut Progress,
     ) -> Result<(), AllocError>
         ensures { OnOk result (IsFormWalked self.now.table.now.core.now
-            self.now.table.now.written.items (entries_of self.now.map.now) self.now.procedure
+            self.now.table.now.core.now.labels (entries_of self.now.map.now) self.now.procedure
             pc takers (Receive at channel target)
             progress.old progress.new) }
     {
@@ -131,7 +131,7 @@ impl<'a> Walk<'a> {
         progress: &mut Progress,
     ) -> Result<(), AllocError>
         ensures { OnOk result (IsFormWalked self.now.table.now.core.now
-            self.now.table.now.written.items (entries_of self.now.map.now) self.now.procedure
+            self.now.table.now.core.now.labels (entries_of self.now.map.now) self.now.procedure
             pc takers (Send at channel (expression_of value.now))
             progress.old progress.new) }
     {
@@ -156,7 +156,7 @@ impl<'a> Walk<'a> {
         progress: &mut Progress,
     ) -> Result<(), AllocError>
         ensures { OnOk result (IsFormWalked self.now.table.now.core.now
-            self.now.table.now.written.items (entries_of self.now.map.now) self.now.procedure
+            self.now.table.now.core.now.labels (entries_of self.now.map.now) self.now.procedure
             pc takers (Leave at exit)
             progress.old progress.new) }
     {
@@ -180,7 +180,7 @@ impl<'a> Walk<'a> {
         progress: &mut Progress,
     ) -> Result<(), AllocError>
         ensures { OnOk result (IsFormWalked self.now.table.now.core.now
-            self.now.table.now.written.items (entries_of self.now.map.now) self.now.procedure
+            self.now.table.now.core.now.labels (entries_of self.now.map.now) self.now.procedure
             pc takers (ReturnWith at (some_expression_of value.now))
             progress.old progress.new) }
     {

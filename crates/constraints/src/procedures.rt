@@ -6,6 +6,7 @@ ghost use Rattle.constraints.specs.Ready.{entries_of, AreThrownInside, IsProcedu
 ghost use Rattle.constraints.specs.Takers.{AreWithin};
 ghost use Rattle.constraints.specs.Thinned.{ThinnedWhole};
 ghost use Rattle.gathering.specs.Walk.{end_constraints, has_one_end, program_constraints, thrown_constraints, unknown_count};
+ghost use Rattle.labels.specs.Label.{Label};
 ghost use Rattle.path_map.specs.EndsOf.{AreEndsOf};
 ghost use Rattle.resolved.specs.CoreOf.{program_of};
 ghost use Rattle.resolved.specs.ProgramOf.{thrown_entry};
@@ -38,8 +39,9 @@ fn take_declared(
     requires inside { AreThrownInside throws.now thrown.old.items }
     requires room { number + length throws.now ≤ most_unknowns }
     ensures wide { OnOk result (length thrown.new.items ≡ length thrown.old.items) }
-    ensures taken { OnOk result ((barrier : ℕ) → barrier < level →
-        AreWithin barrier thrown.old.items → AreDeclaredTakers (map thrown_entry throws.now)
+    ensures taken { OnOk result ((labels : List Label) (barrier : ℕ) → barrier < level →
+        AreWithin barrier thrown.old.items →
+        AreDeclaredTakers (map (thrown_entry labels) throws.now)
         number level thrown.old.items thrown.new.items) }
 {
     // What was there is not put back: its level is not above the barrier of this procedure.
@@ -65,9 +67,10 @@ impl<'a> Walk<'a> {
     ) -> Result<(), AllocError>
         ensures { OnOk result (
             at ≡ (here (scope_of self.now.table.now.core.now self.now.procedure)).at →
-            AreAdded self.now.table.now.core.now self.now.table.now.written.items
+            AreAdded self.now.table.now.core.now self.now.table.now.core.now.labels
             (thrown_constraints (scope_of self.now.table.now.core.now self.now.procedure)
-            (number_in thrown.now) (map thrown_entry throws.now))
+            (number_in thrown.now)
+            (map (thrown_entry self.now.table.now.core.now.labels) throws.now))
             constraints.old.items constraints.new.items) }
     {
         for declared in throws {
@@ -94,7 +97,7 @@ impl<'a> Walk<'a> {
             only ≡ has_one_end (scope_of self.now.table.now.core.now self.now.procedure) →
             AreDeclaredTakers (here (scope_of self.now.table.now.core.now
             self.now.procedure)).throws (suc number) level had progress.old.thrown.items →
-            AreAdded self.now.table.now.core.now self.now.table.now.written.items
+            AreAdded self.now.table.now.core.now self.now.table.now.core.now.labels
             (end_constraints (scope_of self.now.table.now.core.now self.now.procedure) number)
             progress.old.constraints.items progress.new.constraints.items) }
     {
@@ -124,7 +127,7 @@ impl<'a> Walk<'a> {
         requires { IsProcedureReady self.now.table.now.core.now (entries_of self.now.map.now)
             self.now.procedure barrier procedure.now progress.old }
         ensures { OnOk result (IsOf self.now.table.now.core.now self.now.procedure procedure.now →
-            IsProcedureWalked self.now.table.now.core.now self.now.table.now.written.items
+            IsProcedureWalked self.now.table.now.core.now self.now.table.now.core.now.labels
             (entries_of self.now.map.now) self.now.procedure barrier progress.old progress.new) }
     {
         let level = barrier + 1;
@@ -180,7 +183,7 @@ pub(crate) fn walk_procedures(
 ) -> Result<Progress, AllocError>
     requires mapped { AreEndsOf (program_of table.now.core.now) ends.now }
     ensures added { IfOk result (λ progress. ThinnedWhole table.now.core.now
-        table.now.written.items (program_constraints (program_of table.now.core.now)) progress) }
+        table.now.core.now.labels (program_constraints (program_of table.now.core.now)) progress) }
     ensures number { IfOk result (λ progress. progress.number
         ≡ unknown_count (program_of table.now.core.now)) }
 {

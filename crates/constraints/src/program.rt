@@ -13,12 +13,19 @@ ghost use Rattle.std.specs.Prelude.{IfOk, [], length, ◌*◌, ◌↔◌, ◌≡
 use crate::procedures::walk_procedures;
 use crate::spreading::{Made, spread_calls};
 use crate::table::Table;
-use labels::Label;
 use path_map::Ends;
 use resolved::program::Core;
 use resolved::target::Target;
-use solver::Constraints;
+use solver::Constraint;
 use std::alloc::{AllocError, Global};
+
+/// The label constraints of a program: how many unknowns there are, and the constraints in their order. A written label stands in them
+/// by its number among the labels of the program.
+#[derive(Debug, Drop)]
+pub struct LabelConstraints {
+    pub unknowns: u32,
+    pub constraints: Vec<Constraint<Option<Target>>>,
+}
 
 /// Gathers the label constraints of a program: some labels for their unknowns fit them exactly where the labels of the locals and the
 /// loops among these make every procedure labelled. Each has its byte and its rule, and a target by name, unless it is an inner one.
@@ -30,26 +37,25 @@ use std::alloc::{AllocError, Global};
 /// # Errors
 ///
 /// Memory ran out.
-pub fn gather(
-    alloc: Global,
-    core: &Core,
-    ends: &Ends,
-) -> Result<Constraints<Label, Option<Target>>, AllocError>
+pub fn gather(alloc: Global, core: &Core, ends: &Ends) -> Result<LabelConstraints, AllocError>
     requires ended { end_faults (program_of core.now) ≡ [] }
     requires mapped { AreEndsOf (program_of core.now) ends.now }
 
     // They stand for the program's demands, in their order, and a label that is not written has its number.
-    ensures gathered { IfOk result (λ system. AreConstraintsOf (program_of core.now)
-        (constraints_of (label_lattice (program_of core.now).hierarchy) system)) }
+    ensures gathered { let program = program_of core.now in
+        IfOk result (λ system. AreConstraintsOf program
+        (constraints_of (label_lattice program.hierarchy) core.now.labels
+        system.constraints.items)) }
 
     // A labelling fits them, with some labels for the other unknowns, exactly where it meets the demands.
-    ensures fits { IfOk result (λ system. (labelling : Labelling) →
-        FitsDemands (program_of core.now).hierarchy labelling (program_demands (program_of core.now))
-        ↔ FitsConstraints (program_of core.now)
-        (constraints_of (label_lattice (program_of core.now).hierarchy) system) labelling) }
+    ensures fits { let program = program_of core.now in
+        IfOk result (λ system. (labelling : Labelling) →
+        FitsDemands program.hierarchy labelling (program_demands program)
+        ↔ FitsConstraints program (constraints_of (label_lattice program.hierarchy)
+        core.now.labels system.constraints.items) labelling) }
 
     // Their numbers are in range, and there are few unknowns.
-    ensures in_range { IfOk result (λ system. InRange (length system.written.items)
+    ensures in_range { IfOk result (λ system. InRange (length core.now.labels)
         system.unknowns system.constraints.items) }
     ensures few { IfOk result (λ system. system.unknowns
         ≤ 4 * program_nodes (program_of core.now)) }
@@ -61,8 +67,7 @@ pub fn gather(
         constraints: progress.constraints,
     };
     spread_calls(alloc, &table, &progress.journal, &mut made)?;
-    Ok(Constraints {
-        written: table.written,
+    Ok(LabelConstraints {
         unknowns: made.number,
         constraints: made.constraints,
     })

@@ -1,6 +1,7 @@
 //! The flows of the exceptions that calls raise: all calls at which an exception has one taker reach it by one inner unknown.
 ghost use Rattle.constraints.specs.Added.{AreAdded, IsLeft, IsPart};
 ghost use Rattle.constraints.specs.Journals.{AreInOrder, HasOneTaker};
+ghost use Rattle.constraints.specs.Merging.{AreSpreadMerged};
 ghost use Rattle.constraints.specs.Ready.{most_unknowns};
 ghost use Rattle.constraints.specs.Spreading.{AreCallsOf, AreLabelsOf, AreRowsOf, AreSpread, AreSpreadTo, Declares, fixed_flows};
 ghost use Rattle.constraints.specs.declared.journal.Called.{Called};
@@ -12,6 +13,7 @@ ghost use Rattle.std.specs.List.{All};
 ghost use Rattle.std.specs.Prelude.{Contains, IfOk, IsTrue, List, OnOk, [], if◌then◌else◌, length, map, ℕ, ◌+◌, ◌++◌, ◌<◌, ◌∷◌, ◌≡◌, ◌≤◌, ◌⊎◌};
 
 use crate::journal::{Called, Journal};
+use crate::merging::{lay_out, no_parts, take_all};
 use crate::rows::ThrownLabel;
 use crate::table::Table;
 use crate::takers::taker_in;
@@ -139,11 +141,11 @@ impl<'a> Spreading<'a> {
         requires { AreInOrder self.now.journal.now }
         ensures number { OnOk result (made.new.number ≡ made.old.number) }
         ensures added { OnOk result ((callee number : ℕ) →
-            IsPart self.now.table.now.core.now self.now.table.now.written.items
+            IsPart self.now.table.now.core.now self.now.table.now.core.now.labels
             (inner_atom number) node →
-            AreLabelsOf self.now.table.now.core.now self.now.table.now.written.items callee
+            AreLabelsOf self.now.table.now.core.now self.now.table.now.core.now.labels callee
             fixed.now →
-            AreAdded self.now.table.now.core.now self.now.table.now.written.items
+            AreAdded self.now.table.now.core.now self.now.table.now.core.now.labels
             (fixed_flows (program_of self.now.table.now.core.now) self.now.journal.now called
             callee number fixed.now)
             made.old.constraints.items made.new.constraints.items) }
@@ -165,9 +167,9 @@ impl<'a> Spreading<'a> {
     ) -> Result<(), AllocError>
         ensures number { OnOk result (made.new.number ≡ made.old.number) }
         ensures added { OnOk result ((named of_label : NamedAtom) →
-            IsPart self.now.table.now.core.now self.now.table.now.written.items named node →
-            IsPart self.now.table.now.core.now self.now.table.now.written.items of_label label →
-            AreAdded self.now.table.now.core.now self.now.table.now.written.items
+            IsPart self.now.table.now.core.now self.now.table.now.core.now.labels named node →
+            IsPart self.now.table.now.core.now self.now.table.now.core.now.labels of_label label →
+            AreAdded self.now.table.now.core.now self.now.table.now.core.now.labels
             (flow (named ∷ of_label ∷ []) taker)
             made.old.constraints.items made.new.constraints.items) }
     {
@@ -179,7 +181,7 @@ impl<'a> Spreading<'a> {
     // The parts of the labels of calls.
     fn owns(&self, calls: &[Called]) -> Result<Vec<Atom>, AllocError>
         ensures { IfOk result (λ atoms.
-            IsLeft self.now.table.now.core.now self.now.table.now.written.items
+            IsLeft self.now.table.now.core.now self.now.table.now.core.now.labels
             (map (λ (called : Called). inner_atom called.own) calls.now) atoms.items) }
     {
         let mut atoms = Vec::with_capacity(self.alloc, calls.len())?;
@@ -194,12 +196,12 @@ impl<'a> Spreading<'a> {
         requires { made.old.number < most_unknowns }
         ensures number { OnOk result (made.new.number ≡ made.old.number + 1) }
         ensures added { OnOk result ((atoms : List NamedAtom) →
-            IsLeft self.now.table.now.core.now self.now.table.now.written.items atoms parts.items →
-            AreAdded self.now.table.now.core.now self.now.table.now.written.items
+            IsLeft self.now.table.now.core.now self.now.table.now.core.now.labels atoms parts.items →
+            AreAdded self.now.table.now.core.now self.now.table.now.core.now.labels
             (inner_constraint atoms made.old.number)
             made.old.constraints.items made.new.constraints.items) }
         ensures part { IfOk result (λ atom.
-            IsPart self.now.table.now.core.now self.now.table.now.written.items
+            IsPart self.now.table.now.core.now self.now.table.now.core.now.labels
             (inner_atom made.old.number) atom) }
     {
         let number = made.number;
@@ -218,7 +220,7 @@ impl<'a> Spreading<'a> {
         requires { AreInOrder self.now.journal.now }
         ensures number { OnOk result (made.new.number ≡ made.old.number) }
         ensures spread { IfOk result (λ atom. AreSpreadTo self.now.table.now.core.now
-            self.now.table.now.written.items self.now.journal.now labels.now (called ∷ [])
+            self.now.table.now.core.now.labels self.now.journal.now labels.now (called ∷ [])
             made.old made.new atom) }
     {
         let node = Atom::Unknown(called.own);
@@ -240,7 +242,7 @@ fn spread(
     requires room { made.old.number + length calls.now ≤ most_unknowns }
     ensures fewer { OnOk result (made.new.number < made.old.number + length calls.now) }
     ensures spread { IfOk result (λ atom. AreSpreadTo of.now.table.now.core.now
-        of.now.table.now.written.items of.now.journal.now labels.now calls.now
+        of.now.table.now.core.now.labels of.now.journal.now labels.now calls.now
         made.old made.new atom) }
 {
     let one = calls[0];
@@ -266,7 +268,7 @@ fn spread_halves(
     requires room { made.old.number + length calls.now ≤ most_unknowns }
     ensures fewer { OnOk result (made.new.number < made.old.number + length calls.now) }
     ensures spread { IfOk result (λ atom. AreSpreadTo of.now.table.now.core.now
-        of.now.table.now.written.items of.now.journal.now varied.now calls.now
+        of.now.table.now.core.now.labels of.now.journal.now varied.now calls.now
         made.old made.new atom) }
 {
     if varied.is_empty() {
@@ -330,7 +332,7 @@ fn spread_row(
     requires room { made.old.number + length calls.now ≤ most_unknowns }
     ensures few { OnOk result (made.new.number ≤ made.old.number + length calls.now) }
     ensures spread { OnOk result (AreCallsOf callee calls.now →
-        AreSpread of.now.table.now.core.now of.now.table.now.written.items of.now.journal.now
+        AreSpread of.now.table.now.core.now of.now.table.now.core.now.labels of.now.journal.now
         (Declares of.now.table.now.core.now) calls.now made.old made.new) }
 {
     let throws = &of.table.row(callee).throws;
@@ -341,7 +343,7 @@ fn spread_row(
     Ok(())
 }
 
-/// Adds the flows of the exceptions that calls raise.
+/// Adds the flows of the exceptions that calls raise: to each taker by one constraint.
 pub(crate) fn spread_calls<'a>(
     alloc: Global,
     table: &'a Table<'a>,
@@ -350,8 +352,8 @@ pub(crate) fn spread_calls<'a>(
 ) -> Result<(), AllocError>
     requires ordered { AreInOrder journal.now }
     requires room { made.old.number + length journal.now.calls.items ≤ most_unknowns }
-    ensures { OnOk result (AreSpread table.now.core.now table.now.written.items journal.now
-        (Declares table.now.core.now) journal.now.calls.items made.old made.new) }
+    ensures { OnOk result (AreSpreadMerged table.now.core.now table.now.core.now.labels journal.now
+        journal.now.calls.items made.old made.new) }
 {
     let spreading = Spreading {
         alloc,
@@ -359,8 +361,16 @@ pub(crate) fn spread_calls<'a>(
         journal,
     };
     let rows = rows_of(alloc, table.core.procedures.len(), &journal.calls)?;
+    let mut kept = no_parts(alloc, made.number as usize)?;
     for (i, row) in rows.iter().enumerate() {
-        spread_row(&spreading, i as u32, row, made)?;
+        let mut own = Made {
+            number: made.number,
+            constraints: Vec::new(alloc),
+        };
+        spread_row(&spreading, i as u32, row, &mut own)?;
+        made.number = own.number;
+        take_all(own.constraints, &mut kept, &mut made.constraints)?;
     }
+    lay_out(alloc, &kept, &mut made.constraints)?;
     Ok(())
 }

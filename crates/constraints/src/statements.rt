@@ -47,7 +47,7 @@ impl<'a> Walk<'a> {
         constraints: &mut Vec<Constraint<Option<Target>>>,
     ) -> Result<(), AllocError>
         ensures { OnOk result (IsGatheredAt self.now.table.now.core.now
-            self.now.table.now.written.items pc (λ (named : NamedAtom). valued_constraints
+            self.now.table.now.core.now.labels pc (λ (named : NamedAtom). valued_constraints
             (scope_of self.now.table.now.core.now self.now.procedure) named
             (takers_of takers thrown.now) at rule (expression_of value.now) target exit)
             constraints.old.items constraints.new.items) }
@@ -75,7 +75,7 @@ impl<'a> Walk<'a> {
         thrown: &[Entry],
         constraints: &mut Vec<Constraint<Option<Target>>>,
     ) -> Result<(), AllocError>
-        ensures { OnOk result (IsSimple self.now.table.now.core.now self.now.table.now.written.items
+        ensures { OnOk result (IsSimple self.now.table.now.core.now self.now.table.now.core.now.labels
             self.now.procedure pc (takers_of takers thrown.now)
             (Assign at variable (expression_of value.now))
             constraints.old.items constraints.new.items) }
@@ -106,7 +106,7 @@ impl<'a> Walk<'a> {
         thrown: &[Entry],
         constraints: &mut Vec<Constraint<Option<Target>>>,
     ) -> Result<(), AllocError>
-        ensures { OnOk result (IsSimple self.now.table.now.core.now self.now.table.now.written.items
+        ensures { OnOk result (IsSimple self.now.table.now.core.now self.now.table.now.core.now.labels
             self.now.procedure pc (takers_of takers thrown.now)
             (Send at channel (expression_of value.now))
             constraints.old.items constraints.new.items) }
@@ -136,7 +136,7 @@ impl<'a> Walk<'a> {
         thrown: &[Entry],
         constraints: &mut Vec<Constraint<Option<Target>>>,
     ) -> Result<(), AllocError>
-        ensures { OnOk result (IsSimple self.now.table.now.core.now self.now.table.now.written.items
+        ensures { OnOk result (IsSimple self.now.table.now.core.now self.now.table.now.core.now.labels
             self.now.procedure pc (takers_of takers thrown.now)
             (Leave at exit)
             constraints.old.items constraints.new.items) }
@@ -157,7 +157,7 @@ impl<'a> Walk<'a> {
         thrown: &[Entry],
         constraints: &mut Vec<Constraint<Option<Target>>>,
     ) -> Result<(), AllocError>
-        ensures { OnOk result (IsSimple self.now.table.now.core.now self.now.table.now.written.items
+        ensures { OnOk result (IsSimple self.now.table.now.core.now self.now.table.now.core.now.labels
             self.now.procedure pc (takers_of takers thrown.now)
             (ReturnWith at (some_expression_of value.now))
             constraints.old.items constraints.new.items) }
@@ -188,7 +188,7 @@ impl<'a> Walk<'a> {
         thrown: &[Entry],
         constraints: &mut Vec<Constraint<Option<Target>>>,
     ) -> Result<(), AllocError>
-        ensures { OnOk result (IsSimple self.now.table.now.core.now self.now.table.now.written.items
+        ensures { OnOk result (IsSimple self.now.table.now.core.now self.now.table.now.core.now.labels
             self.now.procedure pc (takers_of takers thrown.now)
             (Clear at slot)
             constraints.old.items constraints.new.items) }
@@ -215,7 +215,7 @@ impl<'a> Walk<'a> {
         thrown: &[Entry],
         constraints: &mut Vec<Constraint<Option<Target>>>,
     ) -> Result<(), AllocError>
-        ensures { OnOk result (IsSimple self.now.table.now.core.now self.now.table.now.written.items
+        ensures { OnOk result (IsSimple self.now.table.now.core.now self.now.table.now.core.now.labels
             self.now.procedure pc (takers_of takers thrown.now)
             (Store at array length (expression_of index.now) (expression_of value.now))
             constraints.old.items constraints.new.items) }
@@ -245,8 +245,8 @@ impl<'a> Walk<'a> {
         constraints: &mut Vec<Constraint<Option<Target>>>,
     ) -> Result<(), AllocError>
         ensures { OnOk result ((atoms : List NamedAtom) →
-            IsLeft self.now.table.now.core.now self.now.table.now.written.items atoms left.items →
-            AreAdded self.now.table.now.core.now self.now.table.now.written.items
+            IsLeft self.now.table.now.core.now self.now.table.now.core.now.labels atoms left.items →
+            AreAdded self.now.table.now.core.now self.now.table.now.core.now.labels
             (target_constraint (scope_of self.now.table.now.core.now self.now.procedure)
             at rule atoms target)
             constraints.old.items constraints.new.items) }
@@ -272,7 +272,7 @@ impl<'a> Walk<'a> {
         thrown: &[Entry],
         constraints: &mut Vec<Constraint<Option<Target>>>,
     ) -> Result<(), AllocError>
-        ensures { OnOk result (IsSimple self.now.table.now.core.now self.now.table.now.written.items
+        ensures { OnOk result (IsSimple self.now.table.now.core.now self.now.table.now.core.now.labels
             self.now.procedure pc (takers_of takers thrown.now)
             (Receive at channel target)
             constraints.old.items constraints.new.items) }

@@ -9,30 +9,24 @@ ghost use Rattle.resolved.specs.declared.expression.Variable.TheVariants.{Local}
 ghost use Rattle.resolved.specs.declared.target.Target.TheVariants.{ToLoop, ToParameter, ToVariable};
 ghost use Rattle.std.specs.Prelude.{IfOk, slice_index_or, ◌≡◌};
 
-use crate::building::{channel_parts, global_parts, rows_of};
+use crate::building::{label_part, least_part, rows_of};
 use crate::rows::{ProcedureLabels, ThrownLabel};
-use crate::written::{Labels, add};
-use labels::Label;
 use resolved::expression::Variable;
 use resolved::program::Core;
 use resolved::target::Target;
 use solver::Atom;
 use std::alloc::{AllocError, Global};
 
-/// The labels of a program's tables. What is in no table, as no well-formed program asks for it, has an empty label.
+/// The labels of a program's tables. What is in no table, as no well-formed program asks for it, has the least label.
 #[derive(Drop)]
 pub struct Table<'a> {
     pub core: &'a Core,
-    pub written: Vec<Label>,
     /// How many unknowns stand for labels that are not written.
     pub unknowns: u32,
     nothing: Atom,
-    channels: Vec<Atom>,
-    globals: Vec<Atom>,
     rows: Vec<ProcedureLabels>,
     outside: ProcedureLabels,
-    ghost are: { IsTable core.now written.items nothing channels.items globals.items rows.items
-        outside },
+    ghost are: { IsTable core.now nothing rows.items outside },
     ghost count: { unknowns ≡ real_unknowns (program_of core.now) },
 }
 
@@ -73,11 +67,8 @@ impl<'a> Table<'a> {
     pub fn of(alloc: Global, core: &'a Core) -> Result<Table<'a>, AllocError>
         ensures { IfOk result (λ table. table.core.now ≡ core.now) }
     {
-        let mut written = Labels::new(alloc);
-        let nothing = add(&mut written, &Label::least(alloc))?;
-        let channels = channel_parts(alloc, &mut written, &core.channels)?;
-        let globals = global_parts(alloc, &mut written, &core.globals)?;
-        let (rows, unknowns) = rows_of(alloc, &mut written, &core.procedures)?;
+        let nothing = least_part(&core.labels);
+        let (rows, unknowns) = rows_of(alloc, &core.labels, &core.procedures)?;
         let outside = ProcedureLabels {
             begin: nothing,
             end: nothing,
@@ -89,11 +80,8 @@ impl<'a> Table<'a> {
         };
         Ok(Table {
             core,
-            written: written.list,
             unknowns,
             nothing,
-            channels,
-            globals,
             rows,
             outside,
         })
@@ -101,23 +89,29 @@ impl<'a> Table<'a> {
 
     // The part of a channel's label.
     fn channel(&self, channel: u32) -> Atom
-        ensures { part self.now.written.items result
+        ensures { part self.now.core.now.labels result
             ≡ Written (channel_at (program_of self.now.core.now) channel).label }
     {
-        at(&self.channels, channel as usize, self.nothing)
+        match self.core.channels.get(channel as usize) {
+            None => self.nothing,
+            Some(entry) => label_part(&self.core.labels, entry.label),
+        }
     }
 
     // The part of a global's label.
     fn global(&self, variable: u32) -> Atom
-        ensures { part self.now.written.items result
+        ensures { part self.now.core.now.labels result
             ≡ Written (global_at (program_of self.now.core.now) variable).label }
     {
-        at(&self.globals, variable as usize, self.nothing)
+        match self.core.globals.get(variable as usize) {
+            None => self.nothing,
+            Some(entry) => label_part(&self.core.labels, entry.label),
+        }
     }
 
     // The row of a procedure.
     pub(crate) fn row(&self, procedure: u32) -> &ProcedureLabels
-        ensures { IsRow self.now.written.items
+        ensures { IsRow self.now.core.now.labels
             (unknowns_before (program_of self.now.core.now) procedure)
             (procedure_at (program_of self.now.core.now) procedure) result.now }
     {
@@ -129,7 +123,7 @@ impl<'a> Table<'a> {
 
     // The part of the label of a slot.
     fn slot(&self, procedure: u32, slot: u32) -> Atom
-        ensures { part self.now.written.items result
+        ensures { part self.now.core.now.labels result
             ≡ part_of (program_of self.now.core.now) (ToVariable procedure (Local slot)) }
     {
         at(&self.row(procedure).slots, slot as usize, self.nothing)
@@ -137,7 +131,7 @@ impl<'a> Table<'a> {
 
     // The part of the label of a loop.
     fn turn(&self, procedure: u32, number: u32) -> Atom
-        ensures { part self.now.written.items result
+        ensures { part self.now.core.now.labels result
             ≡ part_of (program_of self.now.core.now) (ToLoop procedure number) }
     {
         let row = self.row(procedure);
@@ -149,7 +143,7 @@ impl<'a> Table<'a> {
 
     // The part of the label of a parameter.
     fn parameter(&self, procedure: u32, parameter: usize) -> Atom
-        ensures { part self.now.written.items result
+        ensures { part self.now.core.now.labels result
             ≡ part_of (program_of self.now.core.now) (ToParameter procedure parameter) }
     {
         written_or(
@@ -160,7 +154,7 @@ impl<'a> Table<'a> {
 
     // The part of the label of an exception that a procedure declares.
     fn thrown_label(&self, procedure: u32, exception: u32) -> Atom
-        ensures { part self.now.written.items result
+        ensures { part self.now.core.now.labels result
             ≡ Written (thrown_label (procedure_at (program_of self.now.core.now) procedure).throws
             exception) }
     {
@@ -169,7 +163,7 @@ impl<'a> Table<'a> {
 
     /// The part of the label of what a rule names.
     pub fn part(&self, target: Target) -> Atom
-        ensures { part self.now.written.items result
+        ensures { part self.now.core.now.labels result
             ≡ part_of (program_of self.now.core.now) target }
     {
         match target {

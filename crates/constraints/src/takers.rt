@@ -1,13 +1,13 @@
 //! Where the label of each end flows.
 ghost use Rattle.constraints.specs.Ready.{AreHandledInside, most_unknowns};
-ghost use Rattle.constraints.specs.Takers.{AreLevelled, AreWithin, entry_after, entry_in_try, no_entry, taker_of, takers_of, undone};
+ghost use Rattle.constraints.specs.Takers.{AreLevelled, AreWithin, entry_after, entry_in_try, no_entry, taker_of, takers_of, thrown_taker, undone};
 ghost use Rattle.gathering.specs.Walk.{in_loop, with_normal, within_single};
 ghost use Rattle.resolved.specs.TreeOf.{handlers_of};
 ghost use Rattle.resolved.specs.declared.statement.Handler.{Handler};
 ghost use Rattle.std.specs.Prelude.{IfOk, List, OnOk, length, map, set, slice_index_or, ℕ, ◌+◌, ◌<◌, ◌≡◌, ◌≤◌};
 ghost use Rattle.constraints.specs.declared.takers.Entry.{Entry};
 
-use path_map::PathMap;
+use path_map::{ExceptionMap, PathMap};
 use resolved::statement::{Exit, Handler};
 use std::alloc::{AllocError, Global};
 
@@ -18,12 +18,27 @@ pub struct Entry {
     pub level: u32,
 }
 
-/// The inner unknown to which the label of each end flows, if to any: of exceptions by the barrier, since their takers stand in a list
-/// of entries; and the level of the innermost `try`.
+/// The inner unknown to which the label of each end flows, if to any; and the level of the innermost `try`. The path map has a barrier for
+/// exceptions, whose takers stand in a list of entries.
 #[derive(Clone, Copy, Debug, PartialEq, Eq)]
 pub struct Takers {
     pub ends: PathMap<Option<u32>, u32>,
     pub level: u32,
+}
+
+/// The takers of exceptions: those of the entries that count.
+#[derive(Clone, Copy, Debug)]
+pub struct ThrownTakers<'a> {
+    pub barrier: u32,
+    pub thrown: &'a [Entry],
+}
+
+impl<'a> ExceptionMap<Option<u32>> for ThrownTakers<'a> {
+    ghost value_of = { λ takers. thrown_taker takers.thrown.now takers.barrier };
+
+    fn get(&self, exception: u32) -> Option<u32> {
+        taker_in(self.barrier, entry_in(self.thrown, exception))
+    }
 }
 
 /// An entry that was there before another one took its place.
@@ -145,13 +160,11 @@ impl Takers {
     pub fn at(self, thrown: &[Entry], exit: Exit) -> Option<u32>
         ensures { result ≡ takers_of self thrown.now exit }
     {
-        match exit {
-            Exit::Normal => self.ends.normal,
-            Exit::Return => self.ends.returns,
-            Exit::Break => self.ends.breaks,
-            Exit::Continue => self.ends.continues,
-            Exit::Throw(exception) => taker_in(self.ends.raised, entry_in(thrown, exception)),
-        }
+        let raised = ThrownTakers {
+            barrier: self.ends.raised,
+            thrown,
+        };
+        self.ends.with_raised(raised).at(exit)
     }
 
     /// The same takers but for that of the normal end.

@@ -30,7 +30,7 @@ pub(crate) fn walk_block(
     requires { IsBlockReady walk.now.table.now.core.now (entries_of walk.now.map.now)
         walk.now.procedure takers (block_of block.now) progress.old }
     ensures { OnOk result (IsBlockWalked walk.now.table.now.core.now
-        walk.now.table.now.written.items (entries_of walk.now.map.now) walk.now.procedure
+        walk.now.table.now.core.now.labels (entries_of walk.now.map.now) walk.now.procedure
         pc takers (block_of block.now) progress.old progress.new) }
 {
     let exits = walk.begin(pc, takers, progress)?;
@@ -51,7 +51,7 @@ fn walk_statements(
     requires { AreStatementsReady walk.now.table.now.core.now (entries_of walk.now.map.now)
         walk.now.procedure takers (block_of block.now) progress.old }
     ensures { OnOk result (AreStatementsWalked walk.now.table.now.core.now
-        walk.now.table.now.written.items (entries_of walk.now.map.now) walk.now.procedure
+        walk.now.table.now.core.now.labels (entries_of walk.now.map.now) walk.now.procedure
         pc takers (block_of block.now) progress.old progress.new) }
 {
     let mut reached = true;
@@ -81,7 +81,7 @@ fn walk_statement(
     ensures exits { IfOk result (λ exits. (first : Exits) (left : List Exits) →
         drop progress.old.index (entries_of walk.now.map.now) ≡ first ∷ left → exits ≡ first) }
     ensures added { OnOk result (IsStatementWalked walk.now.table.now.core.now
-        walk.now.table.now.written.items (entries_of walk.now.map.now) walk.now.procedure
+        walk.now.table.now.core.now.labels (entries_of walk.now.map.now) walk.now.procedure
         pc takers number (statement_of statement.now)
         progress.old progress.new) }
 {
@@ -105,7 +105,7 @@ fn walk_form(
     requires { IsFormReady walk.now.table.now.core.now (entries_of walk.now.map.now)
         walk.now.procedure takers (statement_of statement.now) progress.old }
     ensures { OnOk result (IsFormWalked walk.now.table.now.core.now
-        walk.now.table.now.written.items (entries_of walk.now.map.now) walk.now.procedure
+        walk.now.table.now.core.now.labels (entries_of walk.now.map.now) walk.now.procedure
         pc takers (statement_of statement.now) progress.old progress.new) }
 {
     match statement {
@@ -157,7 +157,7 @@ fn walk_if(
         progress.old }
     ensures { OnOk result ((at : ℕ) →
         IsFormWalked walk.now.table.now.core.now
-        walk.now.table.now.written.items (entries_of walk.now.map.now) walk.now.procedure
+        walk.now.table.now.core.now.labels (entries_of walk.now.map.now) walk.now.procedure
         pc takers
         (If at (expression_of condition.now) (block_of yes_block.now) (block_of no_block.now))
         progress.old progress.new) }
@@ -185,7 +185,7 @@ fn walk_while(
         walk.now.procedure takers
         (While at number (expression_of condition.now) (block_of body.now)) progress.old }
     ensures { OnOk result (IsFormWalked walk.now.table.now.core.now
-        walk.now.table.now.written.items (entries_of walk.now.map.now) walk.now.procedure
+        walk.now.table.now.core.now.labels (entries_of walk.now.map.now) walk.now.procedure
         pc takers (While at number (expression_of condition.now) (block_of body.now))
         progress.old progress.new) }
 {
@@ -211,7 +211,7 @@ fn walk_try(
         progress.old }
     ensures { OnOk result ((at : ℕ) →
         IsFormWalked walk.now.table.now.core.now
-        walk.now.table.now.written.items (entries_of walk.now.map.now) walk.now.procedure
+        walk.now.table.now.core.now.labels (entries_of walk.now.map.now) walk.now.procedure
         pc takers (Try at (block_of block.now) (handlers_of handlers.now))
         progress.old progress.new) }
 {
@@ -238,7 +238,7 @@ fn walk_handlers(
     ensures { OnOk result ((number : ℕ → ℕ) (pc : Atom) →
         numbers.now ≡ map (λ (handler : Handler). number handler.exception) handlers.now →
         AreHandlersWalked walk.now.table.now.core.now
-        walk.now.table.now.written.items (entries_of walk.now.map.now) walk.now.procedure
+        walk.now.table.now.core.now.labels (entries_of walk.now.map.now) walk.now.procedure
         pc takers number (handlers_of handlers.now) progress.old progress.new) }
 {
     for (i, handler) in handlers.iter().enumerate() {

@@ -9,7 +9,7 @@ use Rattle.labels.proofs.Prefixes.{prefix-itself}
 use Rattle.resolved.specs.CoreOf.{program_of}
 use Rattle.resolved.specs.Labelled.{OfLocal}
 use Rattle.resolved.specs.Program.{ProcedureEntry, SlotEntry}
-use Rattle.resolved.specs.ProgramOf.{procedure_entry, slot_entry}
+use Rattle.resolved.specs.ProgramOf.{procedure_entry, slot_entry, written_at}
 use Rattle.resolved.specs.declared.tables.Procedure.{Procedure}
 use Rattle.resolved.specs.declared.tables.Slot.{Slot}
 use Rattle.channels.specs.Sink.{AppendsPrefix}
@@ -41,47 +41,51 @@ so_many g xs i within =
     let e : length (map g (take i xs)) ≡ i = length-map (take i xs) g ∙ length-take-le i xs (omega arith) in
     omega (arith, e)
 
-module _ (f : ℕ) (slots : List Slot) (i : ℕ) where
+module _ (labels : List Label) (f : ℕ) (slots : List Slot) (i : ℕ) where
   abbrev first_slots : List LocalEntry
-  first_slots = locals_in f 0 (map slot_entry (take i slots))
+  first_slots = locals_in f 0 (map (slot_entry labels) (take i slots))
 
   pub slots-more : (d : Slot) → i < length slots
-      → first_slots ++ if_unlabelled (local_of f i (slot_entry (get_or slots i d))) (slot_entry (get_or slots i d)).written
-      ≡ locals_in f 0 (map slot_entry (take (i + 1) slots))
+      → first_slots ++ if_unlabelled (local_of f i (slot_entry labels (get_or slots i d))) (slot_entry labels (get_or slots i d)).written
+      ≡ locals_in f 0 (map (slot_entry labels) (take (i + 1) slots))
   slots-more d within =
-      let x = slot_entry (get_or slots i d) in
-      sym (ap (locals_in f 0) (map_more slot_entry slots i d within)
-      ∙ locals_in-append f 0 (map slot_entry (take i slots)) (x ∷ [])
-      ∙ ap (λ k. first_slots ++ (if_unlabelled (local_of f k x) x.written ++ [])) (so_many slot_entry slots i within)
+      let x = slot_entry labels (get_or slots i d) in
+      sym (ap (locals_in f 0) (map_more (slot_entry labels) slots i d within)
+      ∙ locals_in-append f 0 (map (slot_entry labels) (take i slots)) (x ∷ [])
+      ∙ ap (λ k. first_slots ++ (if_unlabelled (local_of f k x) x.written ++ [])) (so_many (slot_entry labels) slots i within)
       ∙ ap (λ locals. first_slots ++ locals) (append-nil (if_unlabelled (local_of f i x) x.written)))
 
-  pub slots-rest : first_slots ++ locals_in f (0 + length (map slot_entry (take i slots))) (map slot_entry (drop i slots))
-      ≡ locals_in f 0 (map slot_entry slots)
+  pub slots-rest : first_slots ++ locals_in f (0 + length (map (slot_entry labels) (take i slots))) (map (slot_entry labels) (drop i slots))
+      ≡ locals_in f 0 (map (slot_entry labels) slots)
   slots-rest =
-      sym (locals_in-append f 0 (map slot_entry (take i slots)) (map slot_entry (drop i slots)))
-      ∙ ap (locals_in f 0) (sym (map-append slot_entry (take i slots) (drop i slots)) ∙ ap (map slot_entry) (take-append-drop i slots))
+      sym (locals_in-append f 0 (map (slot_entry labels) (take i slots)) (map (slot_entry labels) (drop i slots)))
+      ∙ ap (locals_in f 0) (sym (map-append (slot_entry labels) (take i slots) (drop i slots)) ∙ ap (map (slot_entry labels)) (take-append-drop i slots))
 
-module _ (procedures : List Procedure) (i : ℕ) where
+module _ (labels : List Label) (procedures : List Procedure) (i : ℕ) where
   abbrev first_procedures : List LocalEntry
-  first_procedures = locals_from 0 (map procedure_entry (take i procedures))
+  first_procedures = locals_from 0 (map (procedure_entry labels) (take i procedures))
 
   pub procedures-more : (d : Procedure) → i < length procedures
-      → first_procedures ++ locals_in i 0 (procedure_entry (get_or procedures i d)).slots
-      ≡ locals_from 0 (map procedure_entry (take (i + 1) procedures))
+      → first_procedures ++ locals_in i 0 (procedure_entry labels (get_or procedures i d)).slots
+      ≡ locals_from 0 (map (procedure_entry labels) (take (i + 1) procedures))
   procedures-more d within =
-      let x = procedure_entry (get_or procedures i d) in
-      sym (ap (locals_from 0) (map_more procedure_entry procedures i d within)
-      ∙ locals_from-append 0 (map procedure_entry (take i procedures)) (x ∷ [])
-      ∙ ap (λ k. first_procedures ++ (locals_in k 0 x.slots ++ [])) (so_many procedure_entry procedures i within)
+      let x = procedure_entry labels (get_or procedures i d) in
+      sym (ap (locals_from 0) (map_more (procedure_entry labels) procedures i d within)
+      ∙ locals_from-append 0 (map (procedure_entry labels) (take i procedures)) (x ∷ [])
+      ∙ ap (λ k. first_procedures ++ (locals_in k 0 x.slots ++ [])) (so_many (procedure_entry labels) procedures i within)
       ∙ ap (λ locals. first_procedures ++ locals) (append-nil (locals_in i 0 x.slots)))
 
-  pub procedures-rest : first_procedures ++ locals_from (0 + length (map procedure_entry (take i procedures))) (map procedure_entry (drop i procedures))
-      ≡ locals_from 0 (map procedure_entry procedures)
+  pub procedures-rest : first_procedures ++ locals_from (0 + length (map (procedure_entry labels) (take i procedures))) (map (procedure_entry labels) (drop i procedures))
+      ≡ locals_from 0 (map (procedure_entry labels) procedures)
   procedures-rest =
-      sym (locals_from-append 0 (map procedure_entry (take i procedures)) (map procedure_entry (drop i procedures)))
-      ∙ ap (locals_from 0) (sym (map-append procedure_entry (take i procedures) (drop i procedures)) ∙ ap (map procedure_entry) (take-append-drop i procedures))
+      sym (locals_from-append 0 (map (procedure_entry labels) (take i procedures)) (map (procedure_entry labels) (drop i procedures)))
+      ∙ ap (locals_from 0) (sym (map-append (procedure_entry labels) (take i procedures) (drop i procedures)) ∙ ap (map (procedure_entry labels)) (take-append-drop i procedures))
 
 -- ---- a local with and without a written label
+pub some-written : (labels : List Label) (written : Option ℕ) → is_some (written_at labels written) ≡ is_some written
+some-written labels None = refl
+some-written labels (Some number) = refl
+
 pub with_label : (local : LocalEntry) (written : Option Label) → is_some written ≡ true → [] ≡ if_unlabelled local written
 with_label local None is = cc
 with_label local (Some label) is = refl
@@ -171,49 +175,49 @@ module _ (source : List ℕ) (checked : CheckedProgram) where
 
   -- the lines of one more slot, or a part of them
   module _ (f : ℕ) (slots : List Slot) (i : ℕ) (x : Slot) (old mid new : Option (List ℕ)) (within : i < length slots) (is : x ≡ get_or slots i x)
-      (before : Writes (AreLines source checked (first_slots f slots i)) old mid) where
-    slot_joined : first_slots f slots i ++ if_unlabelled (local_of f i (slot_entry x)) (slot_entry x).written ≡ first_slots f slots (i + 1)
+      (before : Writes (AreLines source checked (first_slots checked.core.labels f slots i)) old mid) where
+    slot_joined : first_slots checked.core.labels f slots i ++ if_unlabelled (local_of f i (slot_entry checked.core.labels x)) (slot_entry checked.core.labels x).written ≡ first_slots checked.core.labels f slots (i + 1)
     slot_joined =
-        ap (λ s. first_slots f slots i ++ if_unlabelled (local_of f i (slot_entry s)) (slot_entry s).written) is ∙ slots-more f slots i x within
+        ap (λ s. first_slots checked.core.labels f slots i ++ if_unlabelled (local_of f i (slot_entry checked.core.labels s)) (slot_entry checked.core.labels s).written) is ∙ slots-more checked.core.labels f slots i x within
 
-    pub writes_slot : Writes (AreLines source checked (if_unlabelled (local_of f i (slot_entry x)) (slot_entry x).written)) mid new
-        → Writes (AreLines source checked (first_slots f slots (i + 1))) old new
-    writes_slot now = writes_more (first_slots f slots i) _ (first_slots f slots (i + 1)) slot_joined old mid new before now
+    pub writes_slot : Writes (AreLines source checked (if_unlabelled (local_of f i (slot_entry checked.core.labels x)) (slot_entry checked.core.labels x).written)) mid new
+        → Writes (AreLines source checked (first_slots checked.core.labels f slots (i + 1))) old new
+    writes_slot now = writes_more (first_slots checked.core.labels f slots i) _ (first_slots checked.core.labels f slots (i + 1)) slot_joined old mid new before now
 
-    pub writes_some_slots : WritesPrefix (AreLines source checked (if_unlabelled (local_of f i (slot_entry x)) (slot_entry x).written)) mid new
-        → WritesPrefix (AreLines source checked (locals_in f 0 (map slot_entry slots))) old new
+    pub writes_some_slots : WritesPrefix (AreLines source checked (if_unlabelled (local_of f i (slot_entry checked.core.labels x)) (slot_entry checked.core.labels x).written)) mid new
+        → WritesPrefix (AreLines source checked (locals_in f 0 (map (slot_entry checked.core.labels) slots))) old new
     writes_some_slots part =
-        cut_lines (first_slots f slots (i + 1)) _ _ (slots-rest f slots (i + 1)) old new
-        (writes_some (first_slots f slots i) _ (first_slots f slots (i + 1)) slot_joined old mid new before part)
+        cut_lines (first_slots checked.core.labels f slots (i + 1)) _ _ (slots-rest checked.core.labels f slots (i + 1)) old new
+        (writes_some (first_slots checked.core.labels f slots i) _ (first_slots checked.core.labels f slots (i + 1)) slot_joined old mid new before part)
 
   -- the lines of one more procedure, or a part of them
   module _ (procedures : List Procedure) (i : ℕ) (x : Procedure) (slots : List Slot) (old mid new : Option (List ℕ)) (within : i < length procedures)
       (is : x ≡ get_or procedures i x) (slots_are : slots ≡ x.slots.items)
-      (before : Writes (AreLines source checked (first_procedures procedures i)) old mid) where
-    procedure_joined : first_procedures procedures i ++ locals_in i 0 (map slot_entry slots) ≡ first_procedures procedures (i + 1)
+      (before : Writes (AreLines source checked (first_procedures checked.core.labels procedures i)) old mid) where
+    procedure_joined : first_procedures checked.core.labels procedures i ++ locals_in i 0 (map (slot_entry checked.core.labels) slots) ≡ first_procedures checked.core.labels procedures (i + 1)
     procedure_joined =
-        ap (λ list. first_procedures procedures i ++ locals_in i 0 (map slot_entry list)) slots_are
-        ∙ ap (λ p. first_procedures procedures i ++ locals_in i 0 (procedure_entry p).slots) is
-        ∙ procedures-more procedures i x within
+        ap (λ list. first_procedures checked.core.labels procedures i ++ locals_in i 0 (map (slot_entry checked.core.labels) list)) slots_are
+        ∙ ap (λ p. first_procedures checked.core.labels procedures i ++ locals_in i 0 (procedure_entry checked.core.labels p).slots) is
+        ∙ procedures-more checked.core.labels procedures i x within
 
-    pub writes_procedure : (text : List ℕ) → text ≡ source → Writes (AreLines text checked (locals_in i 0 (map slot_entry slots))) mid new
-        → Writes (AreLines source checked (first_procedures procedures (i + 1))) old new
+    pub writes_procedure : (text : List ℕ) → text ≡ source → Writes (AreLines text checked (locals_in i 0 (map (slot_entry checked.core.labels) slots))) mid new
+        → Writes (AreLines source checked (first_procedures checked.core.labels procedures (i + 1))) old new
     writes_procedure text same now =
-        writes_more (first_procedures procedures i) _ (first_procedures procedures (i + 1)) procedure_joined old mid new before
-        (subst (λ (t : List ℕ). Writes (AreLines t checked (locals_in i 0 (map slot_entry slots))) mid new) same now)
+        writes_more (first_procedures checked.core.labels procedures i) _ (first_procedures checked.core.labels procedures (i + 1)) procedure_joined old mid new before
+        (subst (λ (t : List ℕ). Writes (AreLines t checked (locals_in i 0 (map (slot_entry checked.core.labels) slots))) mid new) same now)
 
     pub writes_some_procedures : (text : List ℕ) → text ≡ source
-        → WritesPrefix (AreLines text checked (locals_in i 0 (map slot_entry slots))) mid new
-        → WritesPrefix (AreLines source checked (locals_from 0 (map procedure_entry procedures))) old new
+        → WritesPrefix (AreLines text checked (locals_in i 0 (map (slot_entry checked.core.labels) slots))) mid new
+        → WritesPrefix (AreLines source checked (locals_from 0 (map (procedure_entry checked.core.labels) procedures))) old new
     writes_some_procedures text same part =
-        cut_lines (first_procedures procedures (i + 1)) _ _ (procedures-rest procedures (i + 1)) old new
-        (writes_some (first_procedures procedures i) _ (first_procedures procedures (i + 1)) procedure_joined old mid new before
-        (subst (λ (t : List ℕ). WritesPrefix (AreLines t checked (locals_in i 0 (map slot_entry slots))) mid new) same part))
+        cut_lines (first_procedures checked.core.labels procedures (i + 1)) _ _ (procedures-rest checked.core.labels procedures (i + 1)) old new
+        (writes_some (first_procedures checked.core.labels procedures i) _ (first_procedures checked.core.labels procedures (i + 1)) procedure_joined old mid new before
+        (subst (λ (t : List ℕ). WritesPrefix (AreLines t checked (locals_in i 0 (map (slot_entry checked.core.labels) slots))) mid new) same part))
 
     -- these are the first of all lines
-    pub writes_procedures : (text : List ℕ) → text ≡ source → Writes (AreLines text checked (locals_in i 0 (map slot_entry slots))) mid new
-        → WritesPrefix (AreLines source checked (locals_from 0 (map procedure_entry procedures))) old new
+    pub writes_procedures : (text : List ℕ) → text ≡ source → Writes (AreLines text checked (locals_in i 0 (map (slot_entry checked.core.labels) slots))) mid new
+        → WritesPrefix (AreLines source checked (locals_from 0 (map (procedure_entry checked.core.labels) procedures))) old new
     writes_procedures text same now =
         let there = writes_procedure text same now in
-        cut_lines (first_procedures procedures (i + 1)) _ _ (procedures-rest procedures (i + 1)) old new
+        cut_lines (first_procedures checked.core.labels procedures (i + 1)) _ _ (procedures-rest checked.core.labels procedures (i + 1)) old new
         (there.0, there.1, (there.0, prefix-itself there.0, there.2))

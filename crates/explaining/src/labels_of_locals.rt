@@ -60,10 +60,14 @@ fn write_locals<O: Sink>(
 ) -> Result<(), ViewFault>
     requires first { first ≡ unknowns_before (program_of checked.now.core) procedure }
     requires few { first + length slots.now < 2 ^ 32 }
-    ensures accepted { OnOk result (Writes (AreLines marked.now.text.now checked.now
-        (locals_in procedure 0 (map slot_entry slots.now))) (O.taken out.old) (O.taken out.new)) }
-    ensures prefix { OnErr result (WritesPrefix (AreLines marked.now.text.now checked.now
-        (locals_in procedure 0 (map slot_entry slots.now))) (O.taken out.old) (O.taken out.new)) }
+    ensures accepted { let labels = checked.now.core.labels in
+        OnOk result (Writes (AreLines marked.now.text.now checked.now
+        (locals_in procedure 0 (map (slot_entry labels) slots.now)))
+        (O.taken out.old) (O.taken out.new)) }
+    ensures prefix { let labels = checked.now.core.labels in
+        OnErr result (WritesPrefix (AreLines marked.now.text.now checked.now
+        (locals_in procedure 0 (map (slot_entry labels) slots.now)))
+        (O.taken out.old) (O.taken out.new)) }
     ensures rejected { IfErr result (IfRefused (λ _. IsTrue (O.has_failed out.new))) }
 {
     for (number, slot) in slots.iter().enumerate() {
@@ -85,11 +89,13 @@ fn write_local<O: Sink>(
 ) -> Result<(), ViewFault>
     requires first { first ≡ unknowns_before (program_of checked.now.core) procedure }
     requires few { first + number < 2 ^ 32 }
-    ensures accepted { OnOk result (Writes (AreLines marked.now.text.now checked.now
-        (if_unlabelled (local_of procedure number (slot_entry slot.now)) slot.now.written))
+    ensures accepted { let entry = slot_entry checked.now.core.labels slot.now in
+        OnOk result (Writes (AreLines marked.now.text.now checked.now
+        (if_unlabelled (local_of procedure number entry) entry.written))
         (O.taken out.old) (O.taken out.new)) }
-    ensures prefix { OnErr result (WritesPrefix (AreLines marked.now.text.now checked.now
-        (if_unlabelled (local_of procedure number (slot_entry slot.now)) slot.now.written))
+    ensures prefix { let entry = slot_entry checked.now.core.labels slot.now in
+        OnErr result (WritesPrefix (AreLines marked.now.text.now checked.now
+        (if_unlabelled (local_of procedure number entry) entry.written))
         (O.taken out.old) (O.taken out.new)) }
     ensures rejected { IfErr result (IfRefused (λ _. IsTrue (O.has_failed out.new))) }
 {
@@ -114,7 +120,8 @@ fn line_of_local(
     requires first { first ≡ unknowns_before (program_of checked.now.core) procedure }
     requires few { first + number < 2 ^ 32 }
     ensures { IfOk result (λ line. IsLocalLine marked.now.text.now checked.now
-        (local_of procedure number (slot_entry slot.now)) (string_bytes line)) }
+        (local_of procedure number (slot_entry checked.now.core.labels slot.now))
+        (string_bytes line)) }
 {
     let label = checked.label_of_unknown(alloc, first + number as u32)?;
     let Place { line, column } = marked.place_of(slot.at);

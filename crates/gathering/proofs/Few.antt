@@ -4,6 +4,7 @@ use Rattle.std.specs.Prelude.{IsTrue, slice_index_or, sum_by}
 use Rattle.std.proofs.lemmas.List.{take-map}
 use Rattle.std.proofs.lemmas.List.Recursion.{is_sum_by}
 use Rattle.std.proofs.lemmas.List.Sums.{sum_by-cons, sum_by-take-le}
+use Rattle.labels.specs.Label.{Label}
 use Rattle.resolved.specs.Program.{Program, ProcedureEntry, procedure_at}
 use Rattle.resolved.specs.ProgramOf.{procedure_entry}
 use Rattle.resolved.specs.WellFormed.{node_limit, procedure_nodes, program_nodes, well_formed}
@@ -18,14 +19,15 @@ use Rattle.gathering.proofs.Numbers.{total-sum}
 use Rattle.gathering.proofs.Small.{nodes_in}
 
 -- counted from procedure to procedure
-pub counted-within : (ps : List Procedure) (n first : ℕ) (x : Procedure) → first ≡ sum_by own_unknowns (map procedure_entry (take n ps))
-    → n < length ps → x ≡ get_or ps n x → first + own_unknowns (procedure_entry x) ≤ sum_by own_unknowns (map procedure_entry ps)
-counted-within ps n first x counted within is =
-    let next : first + own_unknowns (procedure_entry x) ≡ sum_by own_unknowns (map procedure_entry (take (n + 1) ps)) =
-    before-next ps n first counted x (first + own_unknowns (procedure_entry x)) within is refl in
-    let front : sum_by own_unknowns (map procedure_entry (take (n + 1) ps)) ≡ sum_by own_unknowns (take (n + 1) (map procedure_entry ps)) =
-    ap (sum_by own_unknowns) (sym (take-map procedure_entry (n + 1) ps)) in
-    omega (arith, next, front, sum_by-take-le own_unknowns (map procedure_entry ps) (n + 1))
+pub counted-within : (labels : List Label) (ps : List Procedure) (n first : ℕ) (x : Procedure)
+    → first ≡ sum_by own_unknowns (map (procedure_entry labels) (take n ps))
+    → n < length ps → x ≡ get_or ps n x → first + (length x.slots.items + x.loops) ≤ sum_by own_unknowns (map (procedure_entry labels) ps)
+counted-within labels ps n first x counted within is =
+    let next : first + (length x.slots.items + x.loops) ≡ sum_by own_unknowns (map (procedure_entry labels) (take (n + 1) ps)) =
+    before-next labels ps n first counted x (first + (length x.slots.items + x.loops)) within is refl in
+    let front : sum_by own_unknowns (map (procedure_entry labels) (take (n + 1) ps)) ≡ sum_by own_unknowns (take (n + 1) (map (procedure_entry labels) ps)) =
+    ap (sum_by own_unknowns) (sym (take-map (procedure_entry labels) (n + 1) ps)) in
+    omega (arith, next, front, sum_by-take-le own_unknowns (map (procedure_entry labels) ps) (n + 1))
 
 -- those of a well-formed program
 pub real-few : (program : Program) → IsTrue (well_formed program) → real_unknowns program ≤ 1048576
@@ -53,8 +55,9 @@ before-few program formed f =
     omega (arith, own, real-few program formed)
 
 -- so those of a program of the code are, wherever they have been counted to
-pub core-few : (core : Core) (n first : ℕ) (x : Procedure) → first ≡ sum_by own_unknowns (map procedure_entry (take n core.procedures.items))
-    → n < length core.procedures.items → x ≡ get_or core.procedures.items n x → first + own_unknowns (procedure_entry x) ≤ 1048576
+pub core-few : (core : Core) (n first : ℕ) (x : Procedure)
+    → first ≡ sum_by own_unknowns (map (procedure_entry core.labels) (take n core.procedures.items))
+    → n < length core.procedures.items → x ≡ get_or core.procedures.items n x → first + (length x.slots.items + x.loops) ≤ 1048576
 core-few core n first x counted within is =
     let few : real_unknowns (program_of core) ≤ 1048576 = real-few (program_of core) core.well_formed in
-    omega (arith, few, counted-within core.procedures.items n first x counted within is)
+    omega (arith, few, counted-within core.labels core.procedures.items n first x counted within is)

@@ -1,7 +1,5 @@
 //! The numbers of unknowns, as they are counted.
-ghost use Rattle.gathering.specs.Names.{own_unknowns};
-ghost use Rattle.resolved.specs.ProgramOf.{procedure_entry};
-ghost use Rattle.std.specs.Prelude.{◌+◌, ◌<◌, ◌^◌, ◌≡◌};
+ghost use Rattle.std.specs.Prelude.{length, ◌+◌, ◌<◌, ◌^◌, ◌≡◌};
 
 use resolved::tables::Procedure;
 
@@ -9,8 +7,8 @@ use resolved::tables::Procedure;
 ///
 /// Precondition: the number fits 32 bits, as those of all programs within the limits do.
 pub fn first_after(first: u32, procedure: &Procedure) -> u32
-    requires { first + own_unknowns (procedure_entry procedure.now) < 2 ^ 32 }
-    ensures { result ≡ first + own_unknowns (procedure_entry procedure.now) }
+    requires { first + (length procedure.now.slots.items + procedure.now.loops) < 2 ^ 32 }
+    ensures { result ≡ first + (length procedure.now.slots.items + procedure.now.loops) }
 {
     first + procedure.slots.len() as u32 + procedure.loops
 }

@@ -2,9 +2,12 @@ pub mod Ascending
 pub mod Carried
 pub mod Elements
 pub mod Flow
+pub mod Held
+pub mod Found
 pub mod FlowTests
 pub mod Joined
 pub mod Meaning
+pub mod Names
 pub mod Merge
 pub mod Order
 pub mod Prefixes

@@ -1,6 +1,7 @@
 -- The truth values of a row are the bits of its words: what the operations on words mean for them.
-use Rattle.std.proofs.Common.{◌≡◌, refl, sym, ap, subst, ◌∙◌, ℕ, zero, suc, ◌<◌, ◌≤◌, ◌+◌, ◌/◌, ◌^◌, length, set, List, Bool, true, false, arith, nat_eq, ◌||◌, ◌&&◌, ◌≢◌, ⊎_elim, not, replicate, []}
+use Rattle.std.proofs.Common.{◌≡◌, refl, sym, ap, subst, ◌∙◌, ℕ, zero, suc, ◌<◌, ◌≤◌, ◌+◌, ◌/◌, ◌%◌, ◌^◌, length, set, List, Bool, true, false, arith, nat_eq, ◌||◌, ◌&&◌, ◌≢◌, ⊎_elim, not, replicate, []}
 use Rattle.std.specs.Prelude.{IsTrue, ◌==◌, ◌↔◌, Option, Some, None}
+use Rattle.std.specs.Int.{bit_at}
 use Rattle.std.proofs.lemmas.Bool.{eqb-true, eqb-false, cases_lt}
 use Rattle.std.proofs.lemmas.List.{ext_get_or, length-set, get_or-set_other}
 use Rattle.std.proofs.lemmas.Grind.{get_or-set_at}
@@ -135,6 +136,18 @@ module _ (n : ℕ) (old others new : List ℕ) (grew : Bool) (count : length oth
       from true e differs = e
       from false e differs = absurd (differs (stays e))
 
+-- what words that no more words are joined into mean
+or-false : (b : Bool) → (b || false) ≡ b
+or-false true = refl
+or-false false = refl
+
+pub included-bits : (old others new : List ℕ) (grew : Bool) → AreJoined old others new 0 (length others) grew → (k : ℕ) → has_bit new k ≡ (has_bit old k || has_bit others k)
+included-bits old others new grew joined k = ⊎_elim
+    (λ (lt : k / 64 < length others). joined-bit old others new k (joined.joined (k / 64) (omega arith) lt))
+    (λ (ge : length others ≤ k / 64).
+    ap (λ w. bit_at w (k % 64) == 1) (joined.behind (k / 64) ge) ∙ sym (ap (λ b. has_bit old k || b) (bit-beyond others k ge) ∙ or-false (has_bit old k)))
+    (cases_lt (k / 64) (length others))
+
 -- what comparing words means
 module _ (n : ℕ) (words others : List ℕ) (covers : Bool) (count : length others ≡ length words) (small : (j : ℕ) → word others j < 2 ^ 64)
     (clear : (k : ℕ) → n ≤ k → has_bit words k ≡ false) (clear' : (k : ℕ) → n ≤ k → has_bit others k ≡ false)
@@ -159,17 +172,17 @@ module _ (n : ℕ) (words others : List ℕ) (covers : Bool) (count : length oth
           absurd (some.grows (includes-kept words others some.at (small some.at) (λ k there.
           subst IsTrue (bits-all words n clear k) (includes k (subst IsTrue (sym (bits-all others n clear' k)) there)))))
 
--- the least number that others lack
-pub first-beyond : (n : ℕ) (words others : List ℕ) (from : ℕ) (found : Option ℕ) → ((k : ℕ) → n ≤ k → has_bit words k ≡ false) →
-    ((k : ℕ) → n ≤ k → has_bit others k ≡ false) → FirstNew words others from n found → FirstBeyond (bits_of words 0 n) (bits_of others 0 n) from found
-first-beyond n words others from None clear clear' new = λ k ge lt there.
-    subst IsTrue (sym (bits-all others n clear' k)) (new k ge (omega (arith, lt, length-bits words 0 n)) (subst IsTrue (bits-all words n clear k) there))
-first-beyond n words others from (Some i) clear clear' new = record {
+-- the least number that others, below a bound of their own, lack
+pub first-beyond : (n m : ℕ) (words others : List ℕ) (from : ℕ) (found : Option ℕ) → ((k : ℕ) → n ≤ k → has_bit words k ≡ false) →
+    ((k : ℕ) → m ≤ k → has_bit others k ≡ false) → FirstNew words others from n found → FirstBeyond (bits_of words 0 n) (bits_of others 0 m) from found
+first-beyond n m words others from None clear clear' new = λ k ge lt there.
+    subst IsTrue (sym (bits-all others m clear' k)) (new k ge (omega (arith, lt, length-bits words 0 n)) (subst IsTrue (bits-all words n clear k) there))
+first-beyond n m words others from (Some i) clear clear' new = record {
   from_on = new.from_on;
   inside = omega (arith, new.inside, length-bits words 0 n);
   there = subst IsTrue (sym (bits-all words n clear i)) new.there;
-  missing = bits-all others n clear' i ∙ new.missing;
-  before = λ k ge lt there. subst IsTrue (sym (bits-all others n clear' k)) (new.before k ge lt (subst IsTrue (bits-all words n clear k) there));
+  missing = bits-all others m clear' i ∙ new.missing;
+  before = λ k ge lt there. subst IsTrue (sym (bits-all others m clear' k)) (new.before k ge lt (subst IsTrue (bits-all words n clear k) there));
 }
 
 -- the least number, where there are no others
@@ -195,6 +208,19 @@ module _ (n : ℕ) (words : List ℕ) (clear : (k : ℕ) → n ≤ k → has_bit
 pub bounds-same : (a b : List ℕ) (n m : ℕ) (xs ys : List Bool) → bits_of a 0 n ≡ xs → bits_of b 0 m ≡ ys → length xs ≡ length ys → m ≡ n
 bounds-same a b n m xs ys e e' same =
     sym (length-bits b 0 m) ∙ (ap length e' ∙ (sym same ∙ (ap length (sym e) ∙ length-bits a 0 n)))
+
+pub bound-most : (a b : List ℕ) (n m : ℕ) (xs ys : List Bool) → bits_of a 0 n ≡ xs → bits_of b 0 m ≡ ys → length ys ≤ length xs → m ≤ n
+bound-most a b n m xs ys e e' most = omega (arith, most, ap length e, ap length e', length-bits a 0 n, length-bits b 0 m)
+
+-- two rows of one bound that include each other are the same
+pub includes-both : (row other : List Bool) → length row ≡ length other → Includes row other → Includes other row → row ≡ other
+includes-both row other same more less = ext_get_or false row other same (λ k lt. each (has row k) (has other k) (less k) (more k))
+  where
+    each : (a b : Bool) → (IsTrue a → IsTrue b) → (IsTrue b → IsTrue a) → a ≡ b
+    each true true to from = refl
+    each true false to from = absurd (let no = to refl in cc)
+    each false true to from = absurd (let no = from refl in cc)
+    each false false to from = refl
 
 pub below-bound : (a : List ℕ) (n i : ℕ) (xs : List Bool) → bits_of a 0 n ≡ xs → i < length xs → i < n
 below-bound a n i xs e h = subst (λ k. i < k) (ap length (sym e) ∙ length-bits a 0 n) h

@@ -1,12 +1,10 @@
--- What a policy and a label keep inside, and what of it they mean. Our own.
+-- What a policy keeps inside, and what of it it means. Our own.
 use Rattle.std.specs.Prelude.{ℕ, ◌<◌, ◌↔◌, List, Contains, IsTrue}
 use Rattle.common.specs.declared.limits.TheConstants.{MAX_PRINCIPALS}
 use Rattle.principals.specs.Table.{has}
 use Rattle.principals.specs.declared.principal_set.PrincipalSet.{PrincipalSet}
 use Rattle.labels.specs.Canonical.{IsCanonicalPolicy}
 use Rattle.labels.specs.Label.{ReaderPolicy}
-use Rattle.labels.specs.declared.label_sets.Policies.{Policies}
-use Rattle.labels.specs.declared.label_sets.Policies.TheVariants.{Own, Shared}
 use Rattle.labels.specs.declared.policies.Policy.TheInside.{Inside}
 
 -- its owner and its readers
@@ -21,8 +19,3 @@ IsRowOf numbers row = (number : ℕ) → IsTrue (has row number) ↔ ((number < 
 pub record IsStoredPolicy (inside : Inside) : Type 0 where
   pub canonical : IsCanonicalPolicy (policy_of inside)
   pub row : IsRowOf inside.readers.items inside.row
-
--- the policies of a label, whether they are its own or shared
-abbrev pub held_policies : Policies → List ReaderPolicy
-held_policies (Own policies) = policies.items
-held_policies (Shared policies) = policies.value.items

@@ -1,8 +1,10 @@
 pub mod Canonical
 pub mod Carried
 pub mod Constraints
+pub mod Entries
 pub mod Inside
 pub mod Label
+pub mod LabelTable
 pub mod Lattice
 pub mod PolicyOrder
 pub mod Printed

@@ -52,7 +52,7 @@ fn union(alloc: Global, left: &[Policy], right: &[Policy]) -> Result<Vec<Policy>
 }
 
 // Puts copies of these policies at the end.
-fn append(policies: &mut Vec<Policy>, more: &[Policy]) -> Result<(), AllocError>
+pub(crate) fn append(policies: &mut Vec<Policy>, more: &[Policy]) -> Result<(), AllocError>
     ensures { OnOk result (policies.new.items ≡ policies.old.items ++ more.now) }
 {
     for policy in more {

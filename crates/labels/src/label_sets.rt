@@ -2,25 +2,17 @@
 ghost use Rattle.labels.specs.Canonical.{IsCanonicalLabel, IsCanonicalPolicy, policy_cmp, written_label};
 ghost use Rattle.labels.specs.PolicyOrder.{label_eq, label_eq-equivalence, label_eq-partial};
 ghost use Rattle.std.specs.List.Sorted.{IsStrictlySortedBy};
-ghost use Rattle.std.specs.Prelude.{All, IfOk, IsTrue, [], ◌↔◌, ◌≡◌};
+ghost use Rattle.std.specs.Prelude.{All, IsTrue, [], ◌↔◌, ◌≡◌};
 
 use crate::policies::Policy;
 use std::alloc::{AllocError, Global};
 use std::marker::Model;
-use std::sync::Arc;
-
-// The policies of a label: its own, or held together with the labels that were cloned from it.
-#[derive(Debug, Drop)]
-enum Policies {
-    Own(Vec<Policy>),
-    Shared(Arc<Vec<Policy>>),
-}
 
 /// A label of the decentralized label model (Myers and Liskov 1997): a set of policies, in ascending order by owner and then by
 /// the list of readers, each policy once.
 #[derive(Debug, Drop)]
 pub struct Label {
-    policies: Policies,
+    policies: Vec<Policy>,
 }
 
 impl Model for Label {
@@ -30,11 +22,19 @@ impl Model for Label {
     ghost Value = { List ReaderPolicy };
 
     ghost use Rattle.labels.specs.Canonical.{IsCanonicalLabel};
-    ghost use Rattle.labels.specs.Inside.{held_policies};
 
-    ghost view = { λ label. held_policies label.policies };
+    ghost view = { λ label. label.policies.items };
 
-    ghost invariant = { λ label. IsCanonicalLabel (held_policies label.policies) };
+    ghost invariant = { λ label. IsCanonicalLabel label.policies.items };
+}
+
+// Policies in ascending order and each once.
+pub(crate) fn each_once(mut policies: Vec<Policy>) -> Vec<Policy>
+    ensures { result.items ≡ written_label policies.items }
+{
+    policies.sort_unstable();
+    policies.dedup();
+    policies
 }
 
 impl Label {
@@ -43,7 +43,7 @@ impl Label {
         ensures { result ≡ [] }
     {
         Label {
-            policies: Policies::Own(Vec::new(alloc)),
+            policies: Vec::new(alloc),
         }
     }
 
@@ -54,32 +54,16 @@ impl Label {
         requires each_canonical { All IsCanonicalPolicy policies.items }
         ensures { result ≡ policies.items }
     {
-        Label {
-            policies: Policies::Own(policies),
-        }
+        Label { policies }
     }
 
     /// The label that is written with these policies, in any order and any number of times. Precondition: each is
     /// canonical, as every `Policy` is (see `Policy::of`).
-    pub fn written(mut policies: Vec<Policy>) -> Label
+    pub fn written(policies: Vec<Policy>) -> Label
         requires { All IsCanonicalPolicy policies.items }
         ensures { result ≡ written_label policies.items }
     {
-        policies.sort_unstable();
-        policies.dedup();
-        Label::of(policies)
-    }
-
-    /// The same label, held so that its clones share its policies with it: cloning it takes no memory then, however long it is.
-    pub fn share(self, alloc: Global) -> Result<Label, AllocError>
-        ensures { IfOk result (λ label. label ≡ self) }
-    {
-        let Label { policies } = self;
-        let policies = match policies {
-            Policies::Own(own) => Policies::Shared(Arc::new(alloc, own)?),
-            Policies::Shared(shared) => Policies::Shared(shared),
-        };
-        Ok(Label { policies })
+        Label::of(each_once(policies))
     }
 
     /// The policies, in ascending order.
@@ -87,10 +71,7 @@ impl Label {
         ensures policies { result.now ≡ self.now }
         ensures canonical { IsCanonicalLabel self.now }
     {
-        match &self.policies {
-            Policies::Own(own) => own.as_slice(),
-            Policies::Shared(shared) => shared.as_ref().as_slice(),
-        }
+        self.policies.as_slice()
     }
 
     /// Whether this is the least label, which has no policy.
@@ -105,11 +86,9 @@ impl Clone for Label {
     ghost is_clone = { λ label copy. copy ≡ label };
 
     fn clone(&self) -> Result<Label, AllocError> {
-        let policies = match &self.policies {
-            Policies::Own(own) => Policies::Own(own.clone()?),
-            Policies::Shared(shared) => Policies::Shared(shared.clone()?),
-        };
-        Ok(Label { policies })
+        Ok(Label {
+            policies: self.policies.clone()?,
+        })
     }
 }
 

@@ -2,8 +2,10 @@
 #![tactic(auto)]
 
 pub mod constraint_laws;
+mod entries;
 pub mod joins;
 pub mod label_sets;
+pub mod label_tables;
 pub mod lattices;
 pub mod laws;
 pub mod policies;
@@ -16,6 +18,7 @@ mod words;
 
 pub use joins::join;
 pub use label_sets::Label;
+pub use label_tables::LabelTable;
 pub use lattices::{LabelLattice, Lattice};
 pub use policies::Policy;
 pub use printed::PrintedLabel;

@@ -1,8 +1,9 @@
 //! Sets of numbers below a bound, a bit for each number.
 ghost use Rattle.labels.specs.Row.{FirstBeyond, Includes, has, union};
-ghost use Rattle.std.specs.Prelude.{IfOk, IsTrue, [], false, length, replicate, set, true, ◌<◌, ◌↔◌, ◌≡◌, ◌≢◌};
+ghost use Rattle.std.specs.Prelude.{IfOk, IsTrue, [], false, length, replicate, set, true, ℕ, ◌<◌, ◌||◌, ◌↔◌, ◌≡◌, ◌≢◌, ◌≤◌};
 
-use crate::words::{covers_words, first_bit, first_new, has_bit, join_words};
+use crate::words::{covers_words, first_bit, first_new, has_any_bit, has_bit, join_words};
+use smallvec::SmallVec;
 use std::alloc::{AllocError, Global};
 use std::marker::Model;
 
@@ -10,7 +11,8 @@ use std::marker::Model;
 #[derive(Debug, Drop)]
 pub struct Row {
     n: usize,
-    words: Vec<u64>,
+    // One word lies in the row itself: most rows have no more.
+    words: SmallVec<u64, 1>,
 }
 
 impl Model for Row {
@@ -34,7 +36,7 @@ impl Row {
     pub fn new(alloc: Global, n: usize) -> Result<Row, AllocError>
         ensures { IfOk result (λ row. row ≡ replicate n false) }
     {
-        let words = vec![in alloc; 0u64; n / 64 + 1]?;
+        let words = SmallVec::from_elem(alloc, 0u64, n / 64 + 1)?;
         Ok(Row { n, words })
     }
 
@@ -44,6 +46,13 @@ impl Row {
         ensures { result ≡ has self.now i }
     {
         has_bit(self.words.as_slice(), i)
+    }
+
+    /// Whether any number is in the set: one that is not below the bound is not.
+    pub fn contains(&self, i: usize) -> bool
+        ensures { result ≡ has self.now i }
+    {
+        has_any_bit(self.words.as_slice(), i)
     }
 
     /// Adds a number. Precondition: it is below the bound.
@@ -71,6 +80,29 @@ impl Row {
         join_words(self.words.as_mut_slice(), other.words.as_slice())
     }
 
+    /// Adds the numbers of another set. Precondition: its bound is not greater.
+    pub fn include(&mut self, other: &Row)
+        requires { length other.now ≤ length self.old }
+        ensures bound { length self.new ≡ length self.old }
+        ensures members { (i : ℕ) → has self.new i ≡ (has self.old i || has other.now i) }
+    {
+        let others = other.words.as_slice();
+        join_words(self.words.as_mut_slice(), others);
+    }
+
+    /// Whether the sets are the same and have the same bound.
+    pub fn is_same(&self, other: &Row) -> bool
+        ensures { IsTrue result ↔ (self.now ≡ other.now) }
+    {
+        if self.n != other.n {
+            return false;
+        }
+        if !self.covers(other) {
+            return false;
+        }
+        other.covers(self)
+    }
+
     /// Whether the set includes the other one. Precondition: both have the same bound.
     pub fn covers(&self, other: &Row) -> bool
         requires { length self.now ≡ length other.now }
@@ -79,9 +111,8 @@ impl Row {
         covers_words(self.words.as_slice(), other.words.as_slice())
     }
 
-    /// The least number, from one on, that is in the set and not in the other one. Precondition: both have the same bound.
+    /// The least number, from one on, that is in the set and not in the other one.
     pub fn first_beyond(&self, other: &Row, from: usize) -> Option<usize>
-        requires { length self.now ≡ length other.now }
         ensures { FirstBeyond self.now other.now from result }
     {
         first_new(self.words.as_slice(), other.words.as_slice(), from, self.n)

@@ -1,5 +1,5 @@
 //! Words of bits: joined and compared four at a time.
-ghost use Rattle.labels.specs.Words.{AreJoined, AreWords, FirstNew, GrowBetween, has_bit};
+ghost use Rattle.labels.specs.Words.{AreJoined, AreWords, FirstNew, GrowBetween, has_bit, word};
 ghost use Rattle.std.specs.Prelude.{[], length, not, ◌*◌, ◌+◌, ◌/◌, ◌<◌, ◌≡◌, ◌≤◌};
 
 use std::simd::prelude::*;
@@ -12,19 +12,19 @@ pub(crate) fn has_bit(words: &[u64], i: usize) -> bool
     (words[i / 64] >> (i % 64)) & 1 == 1
 }
 
-/// Joins words into these ones. The answer is whether some word grew.
+/// Joins words, no more than there are, into these ones. The answer is whether some word grew.
 pub(crate) fn join_words(words: &mut [u64], others: &[u64]) -> bool
-    requires { length words.old ≡ length others.now }
-    ensures joined { AreJoined words.old others.now words.new 0 (length words.old) result }
+    requires { length others.now ≤ length words.old }
+    ensures joined { AreJoined words.old others.now words.new 0 (length others.now) result }
     ensures fit { AreWords others.now }
 {
     let mut grew = false;
     let mut at = 0;
-    'fours: while words.len() - at >= 4 {
+    'fours: while others.len() - at >= 4 {
         grew |= join_four(words, others, at);
         at += 4;
     }
-    'rest: while at < words.len() {
+    'rest: while at < others.len() {
         grew |= join_one(words, others, at);
         at += 1;
     }
@@ -97,18 +97,39 @@ fn one_grows(words: &[u64], others: &[u64], at: usize) -> bool
     words[at] | others[at] != words[at]
 }
 
+// A word, 0 beyond the last one.
+fn word(words: &[u64], j: usize) -> u64
+    ensures { result ≡ word words.now j }
+{
+    if j < words.len() { words[j] } else { 0 }
+}
+
+// Whether a word has a bit that the other one in its place lacks.
+fn has_more(words: &[u64], others: &[u64], at: usize) -> bool
+    ensures { GrowBetween others.now words.now at (at + 1) result }
+{
+    let other = word(others, at);
+    other | word(words, at) != other
+}
+
+/// Whether the bit of a number is set, of any number.
+pub(crate) fn has_any_bit(words: &[u64], i: usize) -> bool
+    ensures { result ≡ has_bit words.now i }
+{
+    (word(words, i / 64) >> (i % 64)) & 1 == 1
+}
+
 /// The least number, from one on and below another one, whose bit is set here and not in other words. A word without such a number
 /// costs one step.
 pub(crate) fn first_new(words: &[u64], others: &[u64], from: usize, to: usize) -> Option<usize>
-    requires words { to / 64 < length words.now }
-    requires others { to / 64 < length others.now }
+    requires { to / 64 < length words.now }
     ensures { FirstNew words.now others.now from to result }
 {
     let mut i = from;
     while i < to {
-        if i % 64 == 0 && !one_grows(others, words, i / 64) {
+        if i % 64 == 0 && !has_more(words, others, i / 64) {
             i += (to - i).min(64);
-        } else if has_bit(words, i) && !has_bit(others, i) {
+        } else if has_bit(words, i) && !has_any_bit(others, i) {
             return Some(i);
         } else {
             i += 1;

@@ -1,9 +1,11 @@
 //! What a graph shows before any run: the hierarchy, the exceptions, the channels and the globals.
+ghost use Rattle.labels.specs.Label.{Label};
 ghost use Rattle.resolved.specs.ProgramOf.{channel_entry, global_entry};
 ghost use Rattle.lowering.specs.Interface.{channel_contents, declared_global, global_contents, hierarchy_contents, kind_of_base, scalar_global};
 ghost use Rattle.lowering.specs.Fitting.{IsShortValue};
-ghost use Rattle.std.specs.Prelude.{All, IfOk, map, ◌≡◌};
+ghost use Rattle.std.specs.Prelude.{All, IfOk, List, map, ◌≡◌};
 
+use labels::LabelTable;
 use modules::{Channel, Kind};
 use principals::Hierarchy;
 use resolved::expression::{Base, Value};
@@ -26,20 +28,21 @@ pub(crate) fn hierarchy_of(alloc: Global, hierarchy: &Hierarchy) -> Result<Hiera
     Hierarchy::of(alloc, names, pairs)
 }
 
-/// The same channels, in their order.
+/// The same channels, in their order, each with its whole label.
 pub(crate) fn channels_of(
     alloc: Global,
+    labels: &LabelTable,
     channels: &[tables::Channel],
 ) -> Result<Vec<Channel>, AllocError>
-    ensures { IfOk result (λ made.
-        made.items ≡ map channel_contents (map channel_entry channels.now)) }
+    ensures { IfOk result (λ made. made.items
+        ≡ map channel_contents (map (channel_entry labels.now) channels.now)) }
 {
     let mut made = Vec::new(alloc);
     for channel in channels {
         made.push(Channel::new(
             channel.direction,
             channel.name.clone()?,
-            channel.label.clone()?,
+            labels.label(alloc, channel.label)?,
         ))?;
     }
     Ok(made)
@@ -82,10 +85,10 @@ pub(crate) fn globals_of(
     alloc: Global,
     globals: &[tables::GlobalVariable],
 ) -> Result<Vec<modules::Global>, AllocError>
-    ensures exact { IfOk result (λ made.
-        made.items ≡ map global_contents (map global_entry globals.now)) }
-    ensures short { IfOk result (λ _. All (λ entry. IsShortValue entry.first)
-        (map global_entry globals.now)) }
+    ensures exact { (labels : List Label) → IfOk result (λ made.
+        made.items ≡ map global_contents (map (global_entry labels) globals.now)) }
+    ensures short { (labels : List Label) → IfOk result (λ _.
+        All (λ entry. IsShortValue entry.first) (map (global_entry labels) globals.now)) }
 {
     let mut made = Vec::new(alloc);
     for variable in globals {

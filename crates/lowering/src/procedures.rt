@@ -1,11 +1,12 @@
 //! Procedures: what they take and give, the slots of their frames, their code and their handlers.
+ghost use Rattle.labels.specs.Label.{Label};
 ghost use Rattle.resolved.specs.CoreOf.{program_of};
 ghost use Rattle.resolved.specs.ProgramOf.{procedure_entry, result_entry, slot_entry};
 ghost use Rattle.resolved.specs.TreeOf.{block_of};
 ghost use Rattle.lowering.specs.Code.{block_size};
 ghost use Rattle.lowering.specs.Graphs.{end_code, procedure_contents};
 ghost use Rattle.lowering.specs.Interface.{declared_slot, returned_kind, slot_contents};
-ghost use Rattle.std.specs.Prelude.{IfOk, OnOk, map, ◌++◌, ◌+◌, ◌<◌, ◌^◌, ◌≡◌};
+ghost use Rattle.std.specs.Prelude.{IfOk, List, OnOk, map, ◌++◌, ◌+◌, ◌<◌, ◌^◌, ◌≡◌};
 
 use crate::emission::{LoopPlaces, push_block};
 use crate::emitter::push;
@@ -30,7 +31,8 @@ fn declared_slot(base: Base, size: Option<u32>) -> Slot
 
 /// The slots of a frame, in their order.
 fn slots_of(alloc: Global, slots: &[tables::Slot]) -> Result<Vec<Slot>, AllocError>
-    ensures { IfOk result (λ made. made.items ≡ map slot_contents (map slot_entry slots.now)) }
+    ensures { (labels : List Label) → IfOk result (λ made.
+        made.items ≡ map slot_contents (map (slot_entry labels) slots.now)) }
 {
     let mut made = Vec::new(alloc);
     for slot in slots {
@@ -41,7 +43,7 @@ fn slots_of(alloc: Global, slots: &[tables::Slot]) -> Result<Vec<Slot>, AllocErr
 
 /// The kind of value that a procedure gives, if it gives one.
 fn returned_kind(given: &Option<tables::ResultType>) -> Option<Kind>
-    ensures { result ≡ returned_kind (result_entry given.now) }
+    ensures { (labels : List Label) → result ≡ returned_kind (result_entry labels given.now) }
 {
     given.as_ref().map(|given| kind_of_base(given.base))
 }
@@ -63,8 +65,8 @@ fn procedure_of(
     procedure: &tables::Procedure,
 ) -> Result<Procedure, AllocError>
     requires { block_size (program_of core.now) (block_of procedure.now.body.items) + 1 < 2 ^ 32 }
-    ensures { IfOk result (λ made.
-        made ≡ procedure_contents (program_of core.now) (procedure_entry procedure.now)) }
+    ensures { IfOk result (λ made. made ≡ procedure_contents (program_of core.now)
+        (procedure_entry core.now.labels procedure.now)) }
 {
     let outside = LoopPlaces { behind: 0, test: 0 };
     let mut code = Vec::new(alloc);

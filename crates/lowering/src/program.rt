@@ -50,7 +50,7 @@ fn make_graph(alloc: Global, core: &Core) -> Result<Graph, AllocError>
 {
     let hierarchy = hierarchy_of(alloc, &core.hierarchy)?;
     let exceptions = copy_names(alloc, &core.exceptions)?;
-    let channels = channels_of(alloc, &core.channels)?;
+    let channels = channels_of(alloc, &core.labels, &core.channels)?;
     let globals = globals_of(alloc, &core.globals)?;
     let procedures = procedures_of(alloc, core)?;
     Ok(Graph::new(

@@ -1,5 +1,5 @@
 -- Rows of the exceptions that procedures declare, one more at a time.
-use Rattle.std.proofs.Common.{◌≡◌, refl, sym, ap, subst, ◌∙◌, ℕ, ◌<◌, ◌≤◌, List, [], ◌∷◌, ◌++◌, length, get_or, arith, ◌⊎◌, inl, inr}
+use Rattle.std.proofs.Common.{◌≡◌, refl, sym, ap, subst, ◌∙◌, ℕ, ◌<◌, ◌≤◌, List, [], ◌∷◌, ◌++◌, length, map, get_or, arith, ◌⊎◌, inl, inr}
 use Rattle.std.specs.Prelude.{Option, None}
 use Rattle.std.proofs.Math.Nat.{eq-or-lt_of_le}
 use Rattle.std.proofs.Math.Seq.{get_or-append_seam}
@@ -7,25 +7,38 @@ use Rattle.std.proofs.lemmas.Bool.{cases_lt}
 use Rattle.std.proofs.lemmas.List.{get_or-map, get_or_append_left, get_or_past, length-append}
 use Rattle.resolved.specs.declared.program.Core.{Core}
 use Rattle.resolved.specs.declared.tables.Procedure.{Procedure}
+use Rattle.resolved.specs.declared.tables.Thrown.{Thrown}
+use Rattle.labels.specs.Label.{Label}
 use Rattle.resolved.specs.CoreOf.{program_of}
-use Rattle.resolved.specs.Program.{ThrownEntry, procedure_at}
-use Rattle.resolved.specs.ProgramOf.{procedure_entry}
+use Rattle.resolved.specs.Program.{procedure_at}
+use Rattle.resolved.specs.ProgramOf.{procedure_entry, thrown_entry}
 use Rattle.resolved.specs.Ends.{declared_by}
 use Rattle.path_map.specs.declared.members.ExceptionSet.{ExceptionSet}
 use Rattle.path_map.specs.Rows.{AreDeclaredRows, HasBound, HaveBound, no_row, says}
-use Rattle.path_map.specs.Exceptions.{is_one_of}
+use Rattle.path_map.specs.Exceptions.{exceptions_of, is_one_of}
 
 -- the procedure of a program that has an item of its table
 pub procedure-there : (core : Core) (i : ℕ) (procedure : Procedure) → i < length core.procedures.items
-    → procedure ≡ get_or core.procedures.items i procedure → procedure_at (program_of core) i ≡ procedure_entry procedure
+    → procedure ≡ get_or core.procedures.items i procedure → procedure_at (program_of core) i ≡ procedure_entry core.labels procedure
 procedure-there core i procedure inside is =
-    get_or-map procedure_entry core.procedures.items i procedure _ inside ∙ ap procedure_entry (sym is)
+    get_or-map (procedure_entry core.labels) core.procedures.items i procedure _ inside ∙ ap (procedure_entry core.labels) (sym is)
+
+-- whatever the labels of a program are, the entries of a procedure's declared exceptions have these exceptions
+pub declared-same : (labels : List Label) (throws : List Thrown) → declared_by (map (thrown_entry labels) throws) ≡ exceptions_of throws
+declared-same labels [] = refl
+declared-same labels (thrown ∷ rest) = ap (λ xs. thrown.exception ∷ xs) (declared-same labels rest)
+
+pub declared-there : (core : Core) (i : ℕ) (procedure : Procedure) → i < length core.procedures.items
+    → procedure ≡ get_or core.procedures.items i procedure
+    → declared_by (procedure_at (program_of core) i).throws ≡ exceptions_of procedure.throws.items
+declared-there core i procedure inside is =
+    ap (λ p. declared_by p.throws) (procedure-there core i procedure inside is) ∙ declared-same core.labels procedure.throws.items
 
 -- a row behind those of the procedures before it
 pub rows-grow : (core : Core) (rows : List (Option ExceptionSet)) (row : Option ExceptionSet) (i : ℕ) (procedure : Procedure)
-    (thrown : List ThrownEntry) → length rows ≡ i → i < length core.procedures.items
-    → procedure ≡ get_or core.procedures.items i procedure → (procedure_entry procedure).throws ≡ thrown
-    → ((exception : ℕ) → says row (declared_by thrown) exception ≡ is_one_of (declared_by thrown) exception)
+    (thrown : List ℕ) → length rows ≡ i → i < length core.procedures.items
+    → procedure ≡ get_or core.procedures.items i procedure → exceptions_of procedure.throws.items ≡ thrown
+    → ((exception : ℕ) → says row thrown exception ≡ is_one_of thrown exception)
     → AreDeclaredRows core rows → AreDeclaredRows core (rows ++ row ∷ [])
 rows-grow core rows row i procedure thrown count inside is throws has old f exception = go (cases_lt f (length rows))
   where
@@ -37,9 +50,8 @@ rows-grow core rows row i procedure thrown count inside is throws has old f exce
 
     here : Says row i
     here =
-        let same : thrown ≡ (procedure_at (program_of core) i).throws =
-        sym throws ∙ sym (ap (λ p. p.throws) (procedure-there core i procedure inside is)) in
-        subst (λ (t : List ThrownEntry). says row (declared_by t) exception ≡ is_one_of (declared_by t) exception) same (has exception)
+        let same : thrown ≡ declared i = sym throws ∙ sym (declared-there core i procedure inside is) in
+        subst (λ (t : List ℕ). says row t exception ≡ is_one_of t exception) same (has exception)
 
     behind : (length rows ≡ f) ⊎ (length rows < f) → Says (get_or (rows ++ row ∷ []) f no_row) f
     behind (inl last) =

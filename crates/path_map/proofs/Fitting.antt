@@ -7,6 +7,8 @@ use Rattle.std.proofs.lemmas.List.{length-map}
 use Rattle.std.proofs.lemmas.List.Elements.{All-cons, All-nil}
 use Rattle.common.specs.declared.exceptions.TheConstants.{BUILT_IN}
 use Rattle.common.specs.declared.limits.TheConstants.{MAX_TEXT}
+use Rattle.labels.specs.Label.{Label}
+use Rattle.labels.specs.LabelTable.{label_at}
 use Rattle.resolved.specs.CoreOf.{program_of}
 use Rattle.resolved.specs.declared.program.Core.{Core}
 use Rattle.resolved.specs.declared.statement.Handler.{Handler}
@@ -109,42 +111,44 @@ module _ (program : Program) where
   }
 
   -- declared exceptions
-  pub declared-inside : (throws : List Thrown) → throws_fit program (map thrown_entry throws) ≡ true → AreThrownInside (BUILT_IN + length program.exceptions) throws
-  declared-inside [] fit = All-nil (λ (declared : Thrown). declared.exception < BUILT_IN + length program.exceptions)
-  declared-inside (declared ∷ rest) fit =
+  pub declared-inside : (labels : List Label) (throws : List Thrown) → throws_fit program (map (thrown_entry labels) throws) ≡ true
+      → AreThrownInside (BUILT_IN + length program.exceptions) throws
+  declared-inside labels [] fit = All-nil (λ (declared : Thrown). declared.exception < BUILT_IN + length program.exceptions)
+  declared-inside labels (declared ∷ rest) fit =
       let bound : ℕ = BUILT_IN + length program.exceptions in
-      let named = not (list_any (λ (other : ThrownEntry). other.exception == declared.exception) (map thrown_entry rest)) in
-      let last = and_parts (is_exception program declared.exception && label_fits program.hierarchy declared.label && named) (throws_fit program (map thrown_entry rest)) fit in
-      let two = and_parts (is_exception program declared.exception && label_fits program.hierarchy declared.label) named last.0 in
-      let one = and_parts (is_exception program declared.exception) (label_fits program.hierarchy declared.label) two.0 in
-      All-cons (λ (d : Thrown). d.exception < bound) declared rest (ltb-true declared.exception bound one.0) (declared-inside rest last.1)
+      let named = not (list_any (λ (other : ThrownEntry). other.exception == declared.exception) (map (thrown_entry labels) rest)) in
+      let last = and_parts (is_exception program declared.exception && label_fits program.hierarchy (label_at labels declared.label) && named) (throws_fit program (map (thrown_entry labels) rest)) fit in
+      let two = and_parts (is_exception program declared.exception && label_fits program.hierarchy (label_at labels declared.label)) named last.0 in
+      let one = and_parts (is_exception program declared.exception) (label_fits program.hierarchy (label_at labels declared.label)) two.0 in
+      All-cons (λ (d : Thrown). d.exception < bound) declared rest (ltb-true declared.exception bound one.0) (declared-inside labels rest last.1)
 
-  procedure-at : (procedures : List Procedure) (i : ℕ) (procedure : Procedure) → i < length procedures → procedure ≡ get_or procedures i procedure
-      → list_all (procedure_fits program) (map procedure_entry procedures) ≡ true → procedure_fits program (procedure_entry procedure) ≡ true
-  procedure-at [] i procedure inside is fits = absurd (omega (arith, inside))
-  procedure-at (x ∷ procedures) zero procedure inside is fits =
-      ap (λ y. procedure_fits program (procedure_entry y)) is
-      ∙ (and_parts (procedure_fits program (procedure_entry x)) (list_all (procedure_fits program) (map procedure_entry procedures)) fits).0
-  procedure-at (x ∷ procedures) (suc i) procedure inside is fits =
-      procedure-at procedures i procedure (omega (arith, inside)) is
-      (and_parts (procedure_fits program (procedure_entry x)) (list_all (procedure_fits program) (map procedure_entry procedures)) fits).1
+  procedure-at : (entry : Procedure → ProcedureEntry) (procedures : List Procedure) (i : ℕ) (procedure : Procedure)
+      → i < length procedures → procedure ≡ get_or procedures i procedure
+      → list_all (procedure_fits program) (map entry procedures) ≡ true → procedure_fits program (entry procedure) ≡ true
+  procedure-at entry [] i procedure inside is fits = absurd (omega (arith, inside))
+  procedure-at entry (x ∷ procedures) zero procedure inside is fits =
+      ap (λ y. procedure_fits program (entry y)) is
+      ∙ (and_parts (procedure_fits program (entry x)) (list_all (procedure_fits program) (map entry procedures)) fits).0
+  procedure-at entry (x ∷ procedures) (suc i) procedure inside is fits =
+      procedure-at entry procedures i procedure (omega (arith, inside)) is
+      (and_parts (procedure_fits program (entry x)) (list_all (procedure_fits program) (map entry procedures)) fits).1
 
 -- the procedures of a program that is well-formed
 module _ (core : Core) (i : ℕ) (procedure : Procedure) (inside : i < length core.procedures.items) (is : procedure ≡ get_or core.procedures.items i procedure) where
-  pub procedure-fits : IsTrue (procedure_fits (program_of core) (procedure_entry procedure))
+  pub procedure-fits : IsTrue (procedure_fits (program_of core) (procedure_entry core.labels procedure))
   procedure-fits =
-      procedure-at (program_of core) core.procedures.items i procedure inside is (program_parts (program_of core) core.well_formed).procedures_fit
+      procedure-at (program_of core) (procedure_entry core.labels) core.procedures.items i procedure inside is (program_parts (program_of core) core.well_formed).procedures_fit
 
   pub thrown-inside : AreThrownInside (exception_count core) procedure.throws.items
-  thrown-inside = declared-inside (program_of core) procedure.throws.items (procedure_parts (program_of core) (procedure_entry procedure) procedure-fits).throws_are
+  thrown-inside = declared-inside (program_of core) core.labels procedure.throws.items (procedure_parts (program_of core) (procedure_entry core.labels procedure) procedure-fits).throws_are
 
 -- the body of a procedure, which may be lent
 pub lent-body-fits : (core : Core) (procedure : Procedure) (body : List S.Statement) → body ≡ procedure.body.items
-    → IsTrue (procedure_fits (program_of core) (procedure_entry procedure)) → BlockFits core body
+    → IsTrue (procedure_fits (program_of core) (procedure_entry core.labels procedure)) → BlockFits core body
 lent-body-fits core procedure body lent fits = record {
-  procedure = procedure_entry procedure;
-  fits = subst (λ list. IsTrue (block_fits (program_of core) (procedure_entry procedure) (block_of list))) (sym lent)
-      (procedure_parts (program_of core) (procedure_entry procedure) fits).body_fits;
+  procedure = procedure_entry core.labels procedure;
+  fits = subst (λ list. IsTrue (block_fits (program_of core) (procedure_entry core.labels procedure) (block_of list))) (sym lent)
+      (procedure_parts (program_of core) (procedure_entry core.labels procedure) fits).body_fits;
 }
 
 pub counted : (core : Core) → exception_count core ≡ BUILT_IN + length core.exceptions.items

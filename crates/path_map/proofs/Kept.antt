@@ -15,6 +15,8 @@ use Rattle.path_map.specs.declared.table.Entry.{Entry}
 use Rattle.path_map.specs.Exits.{exits_of, raised_by, thrown_in}
 use Rattle.path_map.specs.Entries.{below, listed, row_at, exceptions_at, end_if, entry_ends, IsKept, AreKept, RowsGrow, IsRowFor, IsRowOf, HasExits, IsPut}
 use Rattle.path_map.specs.Joins.{only_raised}
+use Rattle.path_map.specs.PathMaps.{value_at}
+use Rattle.path_map.specs.ThrownEnds.{is_raised}
 use Rattle.path_map.specs.Exceptions.{is_one_of}
 use Rattle.path_map.specs.declared.members.Kept.{Kept}
 use Rattle.path_map.specs.declared.members.Kept.TheVariants.{Empty, Single, Many}
@@ -182,6 +184,21 @@ pub row-is : (rows : List ExceptionSet) (row : ℕ) (set none : ExceptionSet) �
 row-is [] row set none there is = absurd (omega arith)
 row-is (x ∷ rows) zero set none there is = ap listed (sym is)
 row-is (x ∷ rows) (suc row) set none there is = row-is rows row set none (omega arith) is
+
+-- the ends of an entry, as its path map has them
+raised-among : (rows : List ExceptionSet) (row : ℕ) (set : ExceptionSet) (raised : Raised) (x : ℕ) → row_at rows row ≡ listed set
+    → is_raised raised set x ≡ is_one_of (exceptions_at rows row raised) x
+raised-among rows row set Nothing x is = refl
+raised-among rows row set (One only) x is = sym (or-false (x == only))
+raised-among rows row set Several x is = sym (listed-has set x) ∙ ap (λ list. is_one_of list x) (sym is)
+
+pub entry-value : (rows : List ExceptionSet) (entry : Entry) (set : ExceptionSet) → row_at rows entry.row ≡ listed set
+    → (exit : Exit) → value_at (λ (raised : Raised). is_raised entry.exits.raised set) entry.exits exit ≡ has_end (entry_ends rows entry) exit
+entry-value rows entry set is Normal = sym (entry-normal rows entry)
+entry-value rows entry set is Return = sym (entry-returns rows entry)
+entry-value rows entry set is Break = sym (entry-breaks rows entry)
+entry-value rows entry set is Continue = sym (entry-continues rows entry)
+entry-value rows entry set is (Throw x) = raised-among rows entry.row set entry.exits.raised x is ∙ sym (entry-raised rows entry x)
 
 -- more entries
 pub kept-append : (rows : List ExceptionSet) (entries : List Entry) (entry : Entry) → AreKept rows entries → IsKept rows entry → AreKept rows (entries ++ entry ∷ [])

@@ -15,8 +15,9 @@ use Rattle.resolved.specs.TreeOf.{block_of}
 use Rattle.resolved.specs.declared.tables.ResultType.{ResultType}
 use Rattle.resolved.specs.declared.tables.Thrown.{Thrown}
 use Rattle.resolved.specs.declared.tables.Procedure.{Procedure}
-use Rattle.resolved.specs.Program.{Program, ProcedureEntry, ThrownEntry}
-use Rattle.resolved.specs.ProgramOf.{result_entry, thrown_entry, procedure_entry}
+use Rattle.labels.specs.Label.{Label}
+use Rattle.resolved.specs.Program.{Program, ProcedureEntry}
+use Rattle.resolved.specs.ProgramOf.{result_entry, procedure_entry}
 use Rattle.resolved.specs.Ends.{has_end, declared_by, block_ends}
 use Rattle.resolved.specs.EndFaults.{fault_unless, may_end, block_faults, procedure_faults}
 use Rattle.resolved.specs.declared.fault.EndDefect.TheVariants.{NoValueReturned, Undeclared}
@@ -30,10 +31,11 @@ use Rattle.path_map.specs.FirstFault.{IsFirstEndFault}
 use Rattle.path_map.specs.Exits.{exits_of, raised_by}
 use Rattle.path_map.specs.Joins.{join_raised}
 use Rattle.path_map.specs.Paths.{AreAlike, block_paths}
-use Rattle.path_map.specs.Exceptions.{is_one_of}
+use Rattle.path_map.specs.Exceptions.{exceptions_of, is_one_of}
 use Rattle.path_map.specs.Sets.{AreDeclared, throws}
 use Rattle.path_map.specs.Walks.{IsFound}
 use Rattle.path_map.proofs.Summary.{same-number, raised-append, throws-thrown}
+use Rattle.path_map.proofs.Declared.{declared-same}
 use Rattle.path_map.proofs.Alike.{alike-refl, alike-step, alike-end}
 use Rattle.path_map.proofs.Walking.{first-left}
 use Rattle.resolved.proofs.Exits.{all-has}
@@ -74,9 +76,12 @@ module _ (procedure : ProcedureEntry) where
           rw (e, f) (not-all (may_end procedure) ends (Throw are.exception) (sym (same are.exception) ∙ are.has) (throw-ends are.exception ∙ are.none))
 
 -- whether there is a result
-pub some-result : (result : Option ResultType) → is_some (result_entry result) ≡ is_some result
-some-result None = refl
-some-result (Some type) = refl
+some-result : (labels : List Label) (result : Option ResultType) → is_some (result_entry labels result) ≡ is_some result
+some-result labels None = refl
+some-result labels (Some type) = refl
+
+pub some-value : (labels : List Label) (result : Option ResultType) (normal : Bool) → (is_some (result_entry labels result) && normal) ≡ (is_some result && normal)
+some-value labels result normal = ap (λ some. some && normal) (some-result labels result)
 
 -- the faults of a procedure
 module _ (program : Program) (procedure : ProcedureEntry) where
@@ -115,12 +120,12 @@ pub record Ended (program : Program) (procedure : ProcedureEntry) (raised : ℕ 
   pub clean : block_faults program false true procedure.body ≡ []
   pub value : (is_some procedure.result && has_end (block_ends program procedure.body) Normal) ≡ (is_some procedure.result && exits.normal)
 
-pub walked : (program : Program) (procedure : Procedure) (body : List S.Statement) (old new : List (List Exit)) (none raised : ℕ → Bool) (exits : Exits)
+pub walked : (labels : List Label) (program : Program) (procedure : Procedure) (body : List S.Statement) (old new : List (List Exit)) (none raised : ℕ → Bool) (exits : Exits)
     → body ≡ procedure.body.items → ((e : ℕ) → none e ≡ false)
     → IsFound (block_ends program (block_of body)) (block_paths program (block_of body)) old new none raised exits
     → block_faults program false true (block_of body) ≡ []
-    → Ended program (procedure_entry procedure) raised exits
-walked program procedure body old new none raised exits lent empty found clean =
+    → Ended program (procedure_entry labels procedure) raised exits
+walked labels program procedure body old new none raised exits lent empty found clean =
     let summary : exits ≡ exits_of (block_ends program (block_of procedure.body.items)) =
     found.summary ∙ ap (λ list. exits_of (block_ends program (block_of list))) lent in
     record {
@@ -129,16 +134,16 @@ walked program procedure body old new none raised exits lent empty found clean =
           found.raised.has e ∙ ap (λ b. b || throws (block_ends program (block_of body)) e) (empty e)
           ∙ ap (λ list. throws (block_ends program (block_of list)) e) lent;
       clean = sym (ap (λ list. block_faults program false true (block_of list)) lent) ∙ clean;
-      value = ap (λ (x : Exits). is_some (result_entry procedure.result) && x.normal) (sym summary);
+      value = ap (λ (x : Exits). is_some (result_entry labels procedure.result) && x.normal) (sym summary);
     }
 
-pub all-may-end : (program : Program) (procedure : Procedure) (list : List Thrown) (raised : ℕ → Bool) (exits : Exits) (declared : Bool)
-    → list ≡ procedure.throws.items → Ended program (procedure_entry procedure) raised exits
-    → AreDeclared raised (declared_by (map thrown_entry list)) declared
-    → list_all (may_end (procedure_entry procedure)) (block_ends program (block_of procedure.body.items)) ≡ not (exits.breaks || (exits.continues || not declared))
-all-may-end program procedure list raised exits declared lent ended are =
-    may-all (procedure_entry procedure) (block_ends program (block_of procedure.body.items)) raised declared ended.same
-    (subst (λ throws. AreDeclared raised (declared_by (map thrown_entry throws)) declared) lent are)
+pub all-may-end : (labels : List Label) (program : Program) (procedure : Procedure) (list : List Thrown) (raised : ℕ → Bool) (exits : Exits) (declared : Bool)
+    → list ≡ procedure.throws.items → Ended program (procedure_entry labels procedure) raised exits
+    → AreDeclared raised (exceptions_of list) declared
+    → list_all (may_end (procedure_entry labels procedure)) (block_ends program (block_of procedure.body.items)) ≡ not (exits.breaks || (exits.continues || not declared))
+all-may-end labels program procedure list raised exits declared lent ended are =
+    may-all (procedure_entry labels procedure) (block_ends program (block_of procedure.body.items)) raised declared ended.same
+    (subst (λ exceptions. AreDeclared raised exceptions declared) (ap exceptions_of lent ∙ sym (declared-same labels procedure.throws.items)) are)
     ∙ ap (λ (x : Exits). not (x.breaks || (x.continues || not declared))) (sym ended.summary)
 
 -- along the procedures of a program
@@ -184,34 +189,33 @@ module _ (program : Program) (all : List ProcedureEntry) where
 
 -- along declared exceptions
 pub declared-more : (throws : List Thrown) (i : ℕ) (thrown : Thrown) → i < length throws → thrown ≡ get_or throws i thrown → (e : ℕ)
-    → is_one_of (declared_by (map thrown_entry (take (i + 1) throws))) e
-    ≡ (is_one_of (declared_by (map thrown_entry (take i throws))) e || (e == thrown.exception))
+    → is_one_of (exceptions_of (take (i + 1) throws)) e ≡ (is_one_of (exceptions_of (take i throws)) e || (e == thrown.exception))
 declared-more throws i thrown inside is e =
-    ap (λ list. is_one_of (declared_by (map thrown_entry list)) e) (take_more throws i thrown inside ∙ ap (λ t. take i throws ++ t ∷ []) (sym is))
-    ∙ ap (λ list. is_one_of (declared_by list) e) (map-append thrown_entry (take i throws) (thrown ∷ []))
-    ∙ ap (λ list. is_one_of list e) (map-append (λ (entry : ThrownEntry). entry.exception) (map thrown_entry (take i throws)) (map thrown_entry (thrown ∷ [])))
-    ∙ list_any-append (λ other. e == other) (declared_by (map thrown_entry (take i throws))) (thrown.exception ∷ [])
-    ∙ ap (λ b. is_one_of (declared_by (map thrown_entry (take i throws))) e || b) (or-false (e == thrown.exception))
+    ap (λ list. is_one_of (exceptions_of list) e) (take_more throws i thrown inside ∙ ap (λ t. take i throws ++ t ∷ []) (sym is))
+    ∙ ap (λ list. is_one_of list e) (map-append (λ (t : Thrown). t.exception) (take i throws) (thrown ∷ []))
+    ∙ list_any-append (λ other. e == other) (exceptions_of (take i throws)) (thrown.exception ∷ [])
+    ∙ ap (λ b. is_one_of (exceptions_of (take i throws)) e || b) (or-false (e == thrown.exception))
 
 -- along procedures
-pub next-procedure : (procedures : List Procedure) (i : ℕ) (procedure : Procedure) → i < length procedures → procedure ≡ get_or procedures i procedure
-    → map procedure_entry (drop i procedures) ≡ procedure_entry procedure ∷ map procedure_entry (drop (i + 1) procedures)
-next-procedure procedures i procedure inside is =
-    ap (map procedure_entry) (drop-cons procedures i procedure inside ∙ ap (λ p. p ∷ drop (suc i) procedures) (sym is))
-    ∙ ap (λ n. procedure_entry procedure ∷ map procedure_entry (drop n procedures)) (sym (add-one i))
+pub next-procedure : (entry : Procedure → ProcedureEntry) (procedures : List Procedure) (i : ℕ) (procedure : Procedure)
+    → i < length procedures → procedure ≡ get_or procedures i procedure
+    → map entry (drop i procedures) ≡ entry procedure ∷ map entry (drop (i + 1) procedures)
+next-procedure entry procedures i procedure inside is =
+    ap (map entry) (drop-cons procedures i procedure inside ∙ ap (λ p. p ∷ drop (suc i) procedures) (sym is))
+    ∙ ap (λ n. entry procedure ∷ map entry (drop n procedures)) (sym (add-one i))
 
-pub last-procedure : (procedures : List Procedure) (i : ℕ) → length procedures ≤ i → map procedure_entry (drop i procedures) ≡ []
-last-procedure procedures i past = ap (map procedure_entry) (drop_of_length-le procedures past)
+pub last-procedure : (entry : Procedure → ProcedureEntry) (procedures : List Procedure) (i : ℕ) → length procedures ≤ i → map entry (drop i procedures) ≡ []
+last-procedure entry procedures i past = ap (map entry) (drop_of_length-le procedures past)
 
 -- more than one exception stays more than one
-pub several-stays : (throws : List Thrown) (i : ℕ) → raised_by (declared_by (map thrown_entry (take i throws))) ≡ Several
-    → Several ≡ raised_by (declared_by (map thrown_entry throws))
+pub several-stays : (throws : List Thrown) (i : ℕ) → raised_by (exceptions_of (take i throws)) ≡ Several
+    → Several ≡ raised_by (exceptions_of throws)
 several-stays throws i some =
-    let first : List ℕ = declared_by (map thrown_entry (take i throws)) in
-    let rest : List ℕ = declared_by (map thrown_entry (drop i throws)) in
+    let first : List ℕ = exceptions_of (take i throws) in
+    let rest : List ℕ = exceptions_of (drop i throws) in
     sym (ap (λ r. join_raised r (raised_by rest)) some)
     ∙ sym (raised-append first rest)
     ∙ ap raised_by (
-    sym (map-append (λ (entry : ThrownEntry). entry.exception) (map thrown_entry (take i throws)) (map thrown_entry (drop i throws)))
-    ∙ ap declared_by (sym (map-append thrown_entry (take i throws) (drop i throws)) ∙ ap (map thrown_entry) (take-append-drop i throws))
+    sym (map-append (λ (t : Thrown). t.exception) (take i throws) (drop i throws))
+    ∙ ap exceptions_of (take-append-drop i throws)
     )

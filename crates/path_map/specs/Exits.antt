@@ -8,13 +8,13 @@ use Rattle.resolved.specs.Ends.{same_exit, has_end}
 use Rattle.path_map.specs.declared.exits.Raised.{Raised}
 use Rattle.path_map.specs.declared.exits.Raised.TheVariants.{Nothing, One, Several}
 use Rattle.path_map.specs.declared.exits.PathMap.{PathMap}
+use Rattle.path_map.specs.PathMaps.{path_map_of}
 
 -- the same for each end that is no exception
 abbrev pub for_all : {T : Type 0} {E : Type 0} → T → E → PathMap T E
-for_all value raised =
-    record { normal = value; returns = value; breaks = value; continues = value; raised = raised }
+for_all value = path_map_of (λ exit. value)
 
--- the summary of ends: whether each that is no exception is among them, and which exceptions are
+-- whether each end is among some, of exceptions by a summary
 abbrev pub Exits : Type 0
 Exits = PathMap Bool Raised
 
@@ -34,13 +34,7 @@ raised_by (exception ∷ rest) = if list_all (λ other. exception == other) rest
 
 -- the summary of ends
 abbrev pub exits_of : List Exit → Exits
-exits_of ends = record {
-  normal = has_end ends Normal;
-  returns = has_end ends Return;
-  breaks = has_end ends Break;
-  continues = has_end ends Continue;
-  raised = raised_by (thrown_in ends);
-}
+exits_of ends = path_map_of (has_end ends) (raised_by (thrown_in ends))
 
 -- the one end that these are, if they are one only
 abbrev pub single_end : List Exit → Option Exit

@@ -5,7 +5,7 @@ use Rattle.resolved.specs.Tree.{Expression}
 use Rattle.resolved.specs.Ends.{raises}
 use Rattle.path_map.specs.declared.exits.Raised.{Raised}
 use Rattle.path_map.specs.declared.exits.Raised.TheVariants.{Nothing, One, Several}
-use Rattle.path_map.specs.Exits.{Exits}
+use Rattle.path_map.specs.Exits.{Exits, for_all}
 
 -- of the exceptions of two lists
 abbrev pub join_raised : Raised → Raised → Raised
@@ -31,7 +31,7 @@ after first rest = if first.normal then join (record first { normal = false }) r
 
 -- of no end, and of some exceptions alone
 abbrev pub only_raised : Raised → Exits
-only_raised raised = record { normal = false; returns = false; breaks = false; continues = false; raised = raised }
+only_raised = for_all false
 
 -- of a loop by those of its body
 abbrev pub of_loop : Exits → Exits

@@ -1,3 +1,4 @@
+pub mod PathMaps
 pub mod Exits
 pub mod Exceptions
 pub mod Pieces
@@ -9,4 +10,5 @@ pub mod Kept
 pub mod Sets
 pub mod Rows
 pub mod Entries
+pub mod ThrownEnds
 pub mod Walks

@@ -1,14 +1,13 @@
 //! What calls raise: the exceptions that procedures declare.
 ghost use Rattle.path_map.specs.Exits.{raised_by};
 ghost use Rattle.path_map.specs.Rows.{AreDeclaredRows, HasBound, HaveBound, says};
-ghost use Rattle.path_map.specs.Exceptions.{is_one_of};
+ghost use Rattle.path_map.specs.Exceptions.{exceptions_of, is_one_of};
 ghost use Rattle.path_map.specs.Sets.{IsSum, members};
 ghost use Rattle.path_map.specs.Walks.{AreThrownInside, exception_count};
 ghost use Rattle.resolved.specs.CoreOf.{program_of};
 ghost use Rattle.resolved.specs.Ends.{declared_by};
 ghost use Rattle.resolved.specs.Program.{procedure_at};
-ghost use Rattle.resolved.specs.ProgramOf.{thrown_entry};
-ghost use Rattle.std.specs.Prelude.{IfOk, OnOk, map, ℕ, ◌≡◌};
+ghost use Rattle.std.specs.Prelude.{IfOk, OnOk, ℕ, ◌≡◌};
 
 use crate::exits::Raised;
 use crate::members::ExceptionSet;
@@ -80,8 +79,8 @@ fn row_of(alloc: Global, throws: &[Thrown], bound: u32) -> Result<Option<Excepti
     requires { AreThrownInside bound throws.now }
     ensures bound { IfOk result (HasBound bound) }
     ensures declared { IfOk result (λ row. (exception : ℕ) →
-        says row (declared_by (map thrown_entry throws.now)) exception
-        ≡ is_one_of (declared_by (map thrown_entry throws.now)) exception) }
+        says row (exceptions_of throws.now) exception
+        ≡ is_one_of (exceptions_of throws.now) exception) }
 {
     if throws.len() <= bound as usize / 64 {
         return Ok(None);
@@ -96,7 +95,7 @@ fn insert_all(throws: &[Thrown], set: &mut ExceptionSet) -> Result<(), AllocErro
     requires { AreThrownInside set.old.bound throws.now }
     ensures bound { set.new.bound ≡ set.old.bound }
     ensures added { OnOk result (IsSum (members set.old)
-        (is_one_of (declared_by (map thrown_entry throws.now))) (members set.new)) }
+        (is_one_of (exceptions_of throws.now)) (members set.new)) }
 {
     for thrown in throws {
         set.insert(thrown.exception)?;
@@ -106,7 +105,7 @@ fn insert_all(throws: &[Thrown], set: &mut ExceptionSet) -> Result<(), AllocErro
 
 // The summary of declared exceptions.
 fn summary_of(throws: &[Thrown]) -> Raised
-    ensures { result ≡ raised_by (declared_by (map thrown_entry throws.now)) }
+    ensures { result ≡ raised_by (exceptions_of throws.now) }
 {
     let mut summary = Raised::Nothing;
     for thrown in throws {

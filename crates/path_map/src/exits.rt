@@ -1,10 +1,11 @@
 //! What a path map keeps of the possible ends of a statement or block.
 ghost use Rattle.path_map.specs.Exits.{exits_of, for_all, single_end};
 ghost use Rattle.path_map.specs.Joins.{after, join, join_raised, of_loop, only_raised};
+ghost use Rattle.path_map.specs.PathMaps.{value_at};
 ghost use Rattle.resolved.specs.Ends.{one_end};
 ghost use Rattle.resolved.specs.Labelled.{as_one_end};
 ghost use Rattle.resolved.specs.declared.statement.Exit.{Exit};
-ghost use Rattle.std.specs.Prelude.{List, map, true, ◌≡◌};
+ghost use Rattle.std.specs.Prelude.{List, map, true, ℕ, ◌≡◌};
 
 use resolved::statement::Exit;
 
@@ -16,7 +17,17 @@ pub enum Raised {
     Several,
 }
 
-/// What there is for each end of a statement or block: a `T` for each that is no exception, and an `E` that says it of exceptions.
+/// A `T` for each exception, by its number.
+pub trait ExceptionMap<T> {
+    ghost value_of: { Self → ℕ → T };
+
+    /// What there is for an exception.
+    fn get(&self, exception: u32) -> T
+        ensures { result ≡ value_of self.now exception };
+}
+
+/// A `T` for each end of a statement or block: a finite map. It has one of its own for each end that is no exception, and an `E` that
+/// has one for each exception, of which there may be a thousand.
 #[derive(Clone, Copy, Debug, PartialEq, Eq)]
 pub struct PathMap<T, E> {
     pub normal: T,
@@ -55,6 +66,37 @@ impl<T: Copy, E> PathMap<T, E> {
             breaks: value,
             continues: value,
             raised,
+        }
+    }
+
+    /// The same for each end that is no exception, and this for exceptions.
+    pub fn with_raised<F>(&self, raised: F) -> PathMap<T, F>
+        ensures raised { result.raised ≡ raised }
+        ensures others { (of_raised : F → ℕ → T) (exit : Exit) →
+            value_at of_raised result exit
+            ≡ value_at (λ _. of_raised raised) self.now exit }
+    {
+        PathMap {
+            normal: self.normal,
+            returns: self.returns,
+            breaks: self.breaks,
+            continues: self.continues,
+            raised,
+        }
+    }
+}
+
+impl<T: Copy, E: ExceptionMap<T>> PathMap<T, E> {
+    /// What there is for an end.
+    pub fn at(&self, exit: Exit) -> T
+        ensures { result ≡ value_at E.value_of self.now exit }
+    {
+        match exit {
+            Exit::Normal => self.normal,
+            Exit::Return => self.returns,
+            Exit::Break => self.breaks,
+            Exit::Continue => self.continues,
+            Exit::Throw(exception) => self.raised.get(exception),
         }
     }
 }

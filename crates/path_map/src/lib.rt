@@ -11,9 +11,9 @@ mod set;
 pub mod table;
 mod walk;
 
-pub use exits::{Exits, PathMap, Raised};
+pub use exits::{ExceptionMap, Exits, PathMap, Raised};
 pub use fault::EndFault;
 pub use map::ends;
 pub use raises::Raises;
 pub use resolved::{EndDefect, EndRefusal};
-pub use table::Ends;
+pub use table::{Ends, Exceptions};

@@ -1,15 +1,15 @@
 //! The path map of a program.
 ghost use Rattle.common.specs.Answers.{IfRefused};
 ghost use Rattle.path_map.specs.EndsOf.{AreEndsOf};
+ghost use Rattle.path_map.specs.Exceptions.{exceptions_of};
 ghost use Rattle.path_map.specs.FirstFault.{IsFirstEndFault};
 ghost use Rattle.path_map.specs.Paths.{AreAlike, block_paths};
 ghost use Rattle.path_map.specs.Sets.{AreDeclared, members};
 ghost use Rattle.resolved.specs.CoreOf.{program_of};
 ghost use Rattle.resolved.specs.EndFaults.{end_faults, procedure_faults};
-ghost use Rattle.resolved.specs.Ends.{declared_by};
-ghost use Rattle.resolved.specs.ProgramOf.{procedure_entry, thrown_entry};
+ghost use Rattle.resolved.specs.ProgramOf.{procedure_entry};
 ghost use Rattle.resolved.specs.WellFormed.{procedure_fits};
-ghost use Rattle.std.specs.Prelude.{IfErr, IfOk, IsTrue, OnOk, [], is_some, map, not, ◌&&◌, ◌++◌, ◌||◌, ◌≡◌};
+ghost use Rattle.std.specs.Prelude.{IfErr, IfOk, IsTrue, OnOk, [], is_some, not, ◌&&◌, ◌++◌, ◌||◌, ◌≡◌};
 
 use crate::calls::Walk;
 use crate::exits::{Exits, Raised};
@@ -44,14 +44,17 @@ pub fn ends(alloc: Global, core: &Core) -> Result<Ends, EndFault>
 
 // Finds the ends of a procedure's body and of what is in it.
 fn walk_procedure(walk: &Walk, procedure: &Procedure, table: &mut Ends) -> Result<(), EndFault>
-    requires { IsTrue (procedure_fits (program_of walk.now.core.now)
-        (procedure_entry procedure.now)) }
-    ensures found { OnOk result (AreAlike table.new (table.old ++ block_paths
-        (program_of walk.now.core.now) (procedure_entry procedure.now).body)) }
-    ensures accepted { OnOk result (procedure_faults
-        (program_of walk.now.core.now) (procedure_entry procedure.now) ≡ []) }
-    ensures first_fault { IfErr result (IfRefused (IsFirstEndFault (procedure_faults
-        (program_of walk.now.core.now) (procedure_entry procedure.now)))) }
+    requires { let core = walk.now.core.now in
+        IsTrue (procedure_fits (program_of core) (procedure_entry core.labels procedure.now)) }
+    ensures found { let core = walk.now.core.now in
+        OnOk result (AreAlike table.new (table.old
+        ++ block_paths (program_of core) (procedure_entry core.labels procedure.now).body)) }
+    ensures accepted { let core = walk.now.core.now in
+        OnOk result (procedure_faults (program_of core)
+        (procedure_entry core.labels procedure.now) ≡ []) }
+    ensures first_fault { let core = walk.now.core.now in
+        IfErr result (IfRefused (IsFirstEndFault (procedure_faults (program_of core)
+        (procedure_entry core.labels procedure.now)))) }
 {
     let mut raised = ExceptionSet::new(walk.alloc, walk.bound);
     let exits = walk_block(walk, false, &procedure.body, table, &mut raised)?;
@@ -67,7 +70,7 @@ fn walk_procedure(walk: &Walk, procedure: &Procedure, table: &mut Ends) -> Resul
 
 // Whether a procedure has a value and its body, with these ends, can end without one.
 fn lacks_value(procedure: &Procedure, exits: Exits) -> bool
-    ensures { result ≡ (is_some (procedure_entry procedure.now).result && exits.normal) }
+    ensures { result ≡ (is_some procedure.now.result && exits.normal) }
 {
     procedure.result.is_some() && exits.normal
 }
@@ -82,7 +85,7 @@ fn lets_out(exits: Exits, declared: bool) -> bool
 // Whether all exceptions of a set are declared. Those that are, are taken out.
 fn are_declared(throws: &[Thrown], set: &mut ExceptionSet) -> bool
     ensures { AreDeclared (members set.old)
-        (declared_by (map thrown_entry throws.now)) result }
+        (exceptions_of throws.now) result }
 {
     for thrown in throws {
         let _there = set.remove(thrown.exception);

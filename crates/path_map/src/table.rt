@@ -1,12 +1,14 @@
 //! The possible ends of the statements and blocks of a program, as they are kept.
-ghost use Rattle.path_map.specs.Entries.{IsPut, IsRowFor, IsRowOf, RowsGrow, entry_ends, exceptions_at};
+ghost use Rattle.path_map.specs.Entries.{IsPut, IsRowFor, IsRowOf, RowsGrow, entry_ends};
+ghost use Rattle.path_map.specs.ThrownEnds.{has_exception};
+ghost use Rattle.path_map.specs.PathMaps.{value_at};
 ghost use Rattle.path_map.specs.Exits.{exits_of};
-ghost use Rattle.path_map.specs.Exceptions.{is_one_of};
 ghost use Rattle.path_map.specs.Sets.{members};
 ghost use Rattle.resolved.specs.Ends.{has_end};
+ghost use Rattle.resolved.specs.declared.statement.Exit.{Exit};
 ghost use Rattle.std.specs.Prelude.{IfOk, OnOk, IsTrue, [], length, slice_index_or, ◌++◌, ◌<◌, ◌∷◌, ◌≡◌};
 
-use crate::exits::{Exits, Raised};
+use crate::exits::{ExceptionMap, Exits, PathMap, Raised};
 use crate::members::ExceptionSet;
 use crate::raises::Raises;
 use resolved::statement::Exit;
@@ -18,6 +20,26 @@ use std::marker::Model;
 struct Entry {
     exits: Exits,
     row: usize,
+}
+
+/// The exceptions among the ends of a statement or block: whether each is one of them.
+#[derive(Clone, Copy)]
+pub struct Exceptions<'a> {
+    raised: Raised,
+    // Where they are several, these.
+    row: &'a ExceptionSet,
+}
+
+impl<'a> ExceptionMap<bool> for Exceptions<'a> {
+    ghost value_of = { has_exception };
+
+    fn get(&self, exception: u32) -> bool {
+        match self.raised {
+            Raised::Nothing => false,
+            Raised::One(only) => exception == only,
+            Raised::Several => self.row.has(exception),
+        }
+    }
 }
 
 /// The possible ends of each statement and block of a program, by their numbers: a block comes before its statements, and a statement
@@ -115,40 +137,35 @@ impl Ends {
         self.entries[number].exits
     }
 
+    /// The possible ends of a statement or block as a path map: of each end, an exception by its number, whether it is one of them.
+    pub fn ends_of(&self, number: usize) -> PathMap<bool, Exceptions<'_>>
+        requires { number < length self.now }
+        ensures { (exit : Exit) → value_at has_exception result exit
+            ≡ has_end (slice_index_or self.now number []) exit }
+    {
+        let entry = self.entries[number];
+        path_map_of(&self.rows, entry)
+    }
+
     /// Whether a statement or block can end thus; an exception is one of its ends by its number, also among several.
     pub fn has(&self, number: usize, exit: Exit) -> bool
         requires { number < length self.now }
         ensures { result ≡ has_end (slice_index_or self.now number []) exit }
     {
-        let entry = self.entries[number];
-        can_end(&self.rows, entry, exit)
+        self.ends_of(number).at(exit)
     }
 }
 
-// Whether a statement or block with this entry can end thus.
-fn can_end(rows: &[ExceptionSet], entry: Entry, exit: Exit) -> bool
+// The ends of an entry.
+fn path_map_of<'a>(rows: &'a [ExceptionSet], entry: Entry) -> PathMap<bool, Exceptions<'a>>
     requires { entry.row < length rows.now }
-    ensures { result ≡ has_end (entry_ends rows.now entry) exit }
+    ensures { (exit : Exit) → value_at has_exception result exit
+        ≡ has_end (entry_ends rows.now entry) exit }
 {
-    match exit {
-        Exit::Normal => entry.exits.normal,
-        Exit::Return => entry.exits.returns,
-        Exit::Break => entry.exits.breaks,
-        Exit::Continue => entry.exits.continues,
-        Exit::Throw(exception) => has_raised(rows, entry, exception),
-    }
-}
-
-// Whether an exception is among the ends of an entry.
-fn has_raised(rows: &[ExceptionSet], entry: Entry, exception: u32) -> bool
-    requires { entry.row < length rows.now }
-    ensures { result ≡ is_one_of (exceptions_at rows.now entry.row entry.exits.raised) exception }
-{
-    match entry.exits.raised {
-        Raised::Nothing => false,
-        Raised::One(only) => exception == only,
-        Raised::Several => rows[entry.row].has(exception),
-    }
+    entry.exits.with_raised(Exceptions {
+        raised: entry.exits.raised,
+        row: &rows[entry.row],
+    })
 }
 
 // The number of a row for a set with this summary: of one of its exceptions, if they are several.

@@ -1,6 +1,6 @@
 -- Where programs use the operators on bits.
 -- Source: our own.
-use Rattle.std.specs.Prelude.{List, Bool, true, false, Option, Some, None, ◌||◌}
+use Rattle.std.specs.Prelude.{Bool, true, false, Some, None, ◌||◌}
 use Rattle.std.specs.List.{list_any}
 use Rattle.resolved.specs.declared.expression.Operator.{Operator}
 use Rattle.resolved.specs.declared.expression.Operator.TheVariants.{Compute, Divide, Bits, Compare, Match}

@@ -6,4 +6,5 @@ use Rattle.resolved.specs.ProgramOf.{program_from}
 
 abbrev pub program_of : Core → Program
 program_of core =
-    program_from core.hierarchy core.channels.items core.exceptions.items core.globals.items core.procedures.items core.main
+    program_from core.hierarchy core.labels core.channels.items core.exceptions.items core.globals.items core.procedures.items
+    core.main

@@ -3,14 +3,14 @@
 use crate::expression::{Base, Value};
 use crate::statement::Statement;
 use common::Direction;
-use labels::Label;
 
 /// An input or an output.
 #[derive(Drop)]
 pub struct Channel {
     pub direction: Direction,
     pub name: String,
-    pub label: Label,
+    /// The number of its label.
+    pub label: u32,
 }
 
 /// A global: a scalar, or an array of `size` elements. Each of its cells holds `first` at first.
@@ -19,7 +19,8 @@ pub struct GlobalVariable {
     pub name: String,
     pub base: Base,
     pub size: Option<u32>,
-    pub label: Label,
+    /// The number of its label.
+    pub label: u32,
     pub first: Value,
 }
 
@@ -28,7 +29,8 @@ pub struct GlobalVariable {
 pub struct Slot {
     pub base: Base,
     pub size: Option<u32>,
-    pub written: Option<Label>,
+    /// The number of the label that is written.
+    pub written: Option<u32>,
     /// The byte at which its declaration begins.
     pub at: usize,
     pub name: String,
@@ -38,14 +40,16 @@ pub struct Slot {
 #[derive(Drop)]
 pub struct ResultType {
     pub base: Base,
-    pub label: Label,
+    /// The number of its label.
+    pub label: u32,
 }
 
 /// An exception that a procedure declares in `throws`, and its label.
 #[derive(Drop)]
 pub struct Thrown {
     pub exception: u32,
-    pub label: Label,
+    /// The number of its label.
+    pub label: u32,
 }
 
 /// A procedure. Its parameters are the first slots of its frame.
@@ -55,8 +59,9 @@ pub struct Procedure {
     pub at: usize,
     pub name: String,
     pub result: Option<ResultType>,
-    pub begin_label: Label,
-    pub end_label: Label,
+    /// The numbers of its begin label and its end label.
+    pub begin_label: u32,
+    pub end_label: u32,
     pub throws: Vec<Thrown>,
     pub parameters: u32,
     pub slots: Vec<Slot>,

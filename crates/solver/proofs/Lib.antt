@@ -5,6 +5,7 @@ pub mod Chains
 pub mod Comparing
 pub mod Counting
 pub mod Filling
+pub mod LabelValues
 pub mod Meaning
 pub mod Queued
 pub mod Refusing

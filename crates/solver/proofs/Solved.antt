@@ -105,13 +105,13 @@ find-at test (y ∷ ys) (suc i) x at passes before =
     rw y_fails (find-at test ys i x at passes (λ j z h k. before (suc j) z (omega (arith, h)) k))
 
 -- ---- what the calls promise, in the words of this file
-pub are-edges : {T : Type 0} (cs cs' : List (Constraint T)) (edges : Edges) → cs' ≡ cs → ((k : ℕ) → row_at edges.written.items k ≡ edges_at (Written k) (links_of 0 cs')) →
-    ((k : ℕ) → row_at edges.unknown.items k ≡ edges_at (Unknown k) (links_of 0 cs')) → AreEdges cs edges
-are-edges {T} cs cs' edges is written unknown = record { row = row }
+pub are-edges : {T : Type 0} (cs : List (Constraint T)) (edges : Edges) → ((k : ℕ) → row_at edges.written.items k ≡ edges_at (Written k) (links_of 0 cs)) →
+    ((k : ℕ) → row_at edges.unknown.items k ≡ edges_at (Unknown k) (links_of 0 cs)) → AreEdges cs edges
+are-edges {T} cs edges written unknown = record { row = row }
   where
     row : (from : Atom) → row_of edges from ≡ edges_at from (links_of 0 cs)
-    row (Written n) = written n ∙ ap (λ (xs : List (Constraint T)). edges_at (Written n) (links_of 0 xs)) is
-    row (Unknown u) = unknown u ∙ ap (λ (xs : List (Constraint T)). edges_at (Unknown u) (links_of 0 xs)) is
+    row (Written n) = written n
+    row (Unknown u) = unknown u
 
 right-below : {T : Type 0} (cs : List (Constraint T)) (edges : Edges) → AreEdges cs edges → (written unknowns : ℕ) → InRange written unknowns cs →
     (from : Atom) (by : ℕ) (to : Atom) → LeadsTo edges from by to → IsBelow written unknowns to

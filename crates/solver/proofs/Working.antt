@@ -20,7 +20,6 @@ use Rattle.solver.specs.declared.edges.Edges.{Edges}
 use Rattle.solver.specs.declared.constraints.Atom.{Atom}
 use Rattle.solver.specs.declared.constraints.Atom.TheVariants.{Unknown, Written}
 use Rattle.solver.specs.declared.constraints.Constraint.{Constraint}
-use Rattle.solver.specs.declared.constraints.Constraints.{Constraints}
 use Rattle.solver.proofs.Bits.{has-union, size, size-at_most, union-grows}
 use Rattle.solver.proofs.Comparing.{slice_get-at, slice_get-inside}
 use Rattle.solver.proofs.Counting.{room-first, room-grows}
@@ -309,11 +308,10 @@ looked-more cs edges rows rows' i order order' looks looks' so_far is fits longe
 abbrev pub solved : List (List ℕ) → ℕ → Solved
 solved reached looks = record { reached = reached; looks = looks }
 
-pub looks-last : {V T : Type 0} (system : Constraints V T) (edges : Edges) (rows : List (List Bool)) (looks : ℕ) → length edges.written.items ≡ length system.written.items →
-    AreSoFar system.constraints.items edges rows [] looks → AreLooks system looks
-looks-last system edges rows looks count so_far =
+pub looks-last : {T : Type 0} (elements : ℕ) (cs : List (Constraint T)) (edges : Edges) (rows : List (List Bool)) (looks : ℕ) → length edges.written.items ≡ elements →
+    AreSoFar cs edges rows [] looks → AreLooks elements cs looks
+looks-last elements cs edges rows looks count so_far =
     let low = so_far.at_least in
     let high = so_far.at_most in
-    let cs = system.constraints.items in
-    let is : written_left cs 0 (length edges.written.items) * unknowns_left cs ≡ written_left cs 0 (length system.written.items) * unknowns_left cs = ap (λ n. written_left cs 0 n * unknowns_left cs) count in
+    let is : written_left cs 0 (length edges.written.items) * unknowns_left cs ≡ written_left cs 0 elements * unknowns_left cs = ap (λ n. written_left cs 0 n * unknowns_left cs) count in
     record { at_least = omega (arith, low); at_most = omega (arith, high, is); greatest = so_far.greatest }

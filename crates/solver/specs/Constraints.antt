@@ -9,9 +9,8 @@ use Rattle.solver.specs.declared.fault.SolveRefusal.{SolveRefusal}
 use Rattle.solver.specs.declared.constraints.Atom.{Atom}
 use Rattle.solver.specs.declared.constraints.Atom.TheVariants.{Unknown, Written}
 use Rattle.solver.specs.declared.constraints.Constraint.{Constraint}
-use Rattle.solver.specs.declared.constraints.Constraints.{Constraints}
 
--- an atom, with the written element in place of its number, and so a constraint and all of a system
+-- an atom, with the written element in place of its number, and so a constraint and a list of them
 abbrev pub atom_of : {V : Type 0} → Lattice V → List V → Atom → formal.Atom ℕ V
 atom_of l table (Written n) = formal.Written (written_at l table n)
 atom_of l table (Unknown u) = formal.Unknown u
@@ -25,8 +24,8 @@ constraint_of l table c = record {
   right = atom_of l table c.right;
 }
 
-abbrev pub constraints_of : {T V : Type 0} → Lattice V → Constraints V T → List (formal.Constraint T ℕ V)
-constraints_of l system = map (constraint_of l system.written.items) system.constraints.items
+abbrev pub constraints_of : {T V : Type 0} → Lattice V → List V → List (Constraint T) → List (formal.Constraint T ℕ V)
+constraints_of l table constraints = map (constraint_of l table) constraints
 
 -- whether an unknown is among these
 abbrev pub is_among : ℕ → List ℕ → Bool
@@ -59,11 +58,11 @@ Picks xs (i ∷ indices) [] = ⊥
 Picks xs (i ∷ indices) (x ∷ picked) = (slice_get xs i ≡ Some x) × Picks xs indices picked
 
 -- a refusal: the first constraint with a written right side that the least values do not fit, and a chain that ends there
-pub record IsSolveRefusal {T V : Type 0} (l : Lattice V) (system : Constraints V T) (refusal : SolveRefusal) : Type 0 where
+pub record IsSolveRefusal {T V : Type 0} (l : Lattice V) (table : List V) (constraints : List (Constraint T)) (refusal : SolveRefusal) : Type 0 where
   pub chain : List (formal.Constraint T ℕ V)
   pub last : formal.Constraint T ℕ V
-  pub picked : Picks (constraints_of l system) refusal.chain.items chain
-  pub refused : IsRefusedAt l (constraints_of l system) (written_at l system.written.items refusal.from) chain last
+  pub picked : Picks (constraints_of l table constraints) refusal.chain.items chain
+  pub refused : IsRefusedAt l (constraints_of l table constraints) (written_at l table refusal.from) chain last
 
 -- what is seen of a solution: for each written element the unknowns that it reaches, and how often left sides were looked at
 pub record Solved : Type 0 where
@@ -71,7 +70,7 @@ pub record Solved : Type 0 where
   pub looks : ℕ
 
 -- a solution: what each written element reaches, and so values that fit all constraints and are least
-pub record IsSolution {T V : Type 0} (l : Lattice V) (system : Constraints V T) (solution : Solved) : Type 0 where
-  pub rows : length solution.reached ≡ length system.written.items
-  pub fits : FitsAll l (constraints_of l system) (values_of l system.written.items solution.reached)
-  pub least : IsLeast l (constraints_of l system) (values_of l system.written.items solution.reached)
+pub record IsSolution {T V : Type 0} (l : Lattice V) (table : List V) (constraints : List (Constraint T)) (solution : Solved) : Type 0 where
+  pub rows : length solution.reached ≡ length table
+  pub fits : FitsAll l (constraints_of l table constraints) (values_of l table solution.reached)
+  pub least : IsLeast l (constraints_of l table constraints) (values_of l table solution.reached)

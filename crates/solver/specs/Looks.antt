@@ -1,12 +1,11 @@
 -- How often left sides of constraints are looked at: at least once each, and at most once more for each written element that may
 -- come to each unknown in a left side.
 -- Source: our own.
-use Rattle.std.specs.Prelude.{ℕ, zero, suc, ◌+◌, ◌*◌, ◌≤◌, ◌<◌, ◌^◌, List, [], ◌∷◌, length, Bool, true, false, ◌==◌}
+use Rattle.std.specs.Prelude.{ℕ, zero, suc, ◌+◌, ◌*◌, ◌≤◌, ◌<◌, ◌^◌, List, [], ◌∷◌, Bool, true, false, ◌==◌}
 use Rattle.std.specs.List.{list_any}
 use Rattle.solver.specs.declared.constraints.Atom.{Atom}
 use Rattle.solver.specs.declared.constraints.Atom.TheVariants.{Unknown, Written}
 use Rattle.solver.specs.declared.constraints.Constraint.{Constraint}
-use Rattle.solver.specs.declared.constraints.Constraints.{Constraints}
 
 -- how many things pass a test
 abbrev pub one : Bool → ℕ
@@ -43,9 +42,8 @@ abbrev pub unknowns_left : {T : Type 0} → List (Constraint T) → ℕ
 unknowns_left [] = 0
 unknowns_left (c ∷ constraints) = count_of is_unknown c.left.items + unknowns_left constraints
 
--- the bounds, and the greatest number at which a count of 64 bits stays
-pub record AreLooks {V T : Type 0} (system : Constraints V T) (looks : ℕ) : Type 0 where
-  pub at_least : looked_at system.constraints.items ≤ looks
-  pub at_most : looks ≤ looked_at system.constraints.items
-      + written_left system.constraints.items 0 (length system.written.items) * unknowns_left system.constraints.items
+-- the bounds for so many written elements, and the greatest number at which a count of 64 bits stays
+pub record AreLooks {T : Type 0} (elements : ℕ) (constraints : List (Constraint T)) (looks : ℕ) : Type 0 where
+  pub at_least : looked_at constraints ≤ looks
+  pub at_most : looks ≤ looked_at constraints + written_left constraints 0 elements * unknowns_left constraints
   pub greatest : looks < 2 ^ 64

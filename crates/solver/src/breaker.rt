@@ -5,30 +5,32 @@ ghost use Rattle.solver.specs.Broken.{is_below};
 ghost use Rattle.solver.specs.Links.{AreBelow, InRange, IsBelow};
 ghost use Rattle.labels.specs.Row.{has};
 ghost use Rattle.solver.specs.Rows.{AreSized, atom_has, left_has};
-ghost use Rattle.std.specs.Prelude.{Bool, IfOk, IsTrue, OnOk, Some, false, length, true, ℕ, ◌+◌, ◌/◌, ◌<◌, ◌||◌, ◌≡◌};
+ghost use Rattle.std.specs.Prelude.{Bool, IfOk, IsTrue, OnOk, Some, false, length, true, ℕ, ◌+◌, ◌/◌, ◌<◌, ◌^◌, ◌||◌, ◌≡◌};
 
 use crate::broken::leq;
 use crate::constraints::{Atom, Constraint};
-use labels::{Lattice, Row};
+use crate::elements::WrittenElements;
+use labels::Row;
 use std::alloc::{AllocError, Global};
 
 /// A written element that breaks the first constraint that is broken, if one is. Each element is compared at most once with each
 /// right side.
-pub fn first_breaker<L: Lattice, T>(
+pub fn first_breaker<W: WrittenElements, T>(
     alloc: Global,
-    lattice: &L,
-    written: &[L::Elem],
+    written: &W,
     constraints: &[Constraint<T>],
     rows: &[Row],
 ) -> Result<Option<usize>, AllocError>
-    requires range { InRange (length written.now) (length rows.now) constraints.now }
-    requires sized { AreSized (length written.now) rows.now }
-    ensures { IfOk result (IsFirstBreaker (is_below (L.order lattice.now) written.now)
-        (length written.now) rows.now constraints.now) }
+    requires range { InRange (length (W.elements written.now)) (length rows.now)
+        constraints.now }
+    requires sized { AreSized (length (W.elements written.now)) rows.now }
+    ensures { IfOk result (IsFirstBreaker
+        (is_below (W.order written.now) (W.elements written.now))
+        (length (W.elements written.now)) rows.now constraints.now) }
 {
     let mut known = nothing_known(alloc, written.len())?;
     for constraint in constraints {
-        match breaker_of(alloc, lattice, written, constraint, rows, &mut known)? {
+        match breaker_of(alloc, written, constraint, rows, &mut known)? {
             Some(value) => return Ok(Some(value)),
             None => {}
         }
@@ -37,32 +39,36 @@ pub fn first_breaker<L: Lattice, T>(
 }
 
 // A written element that breaks this constraint, if one does.
-fn breaker_of<L: Lattice, T>(
+fn breaker_of<W: WrittenElements, T>(
     alloc: Global,
-    lattice: &L,
-    written: &[L::Elem],
+    written: &W,
     constraint: &Constraint<T>,
     rows: &[Row],
     known: &mut Vec<Option<Row>>,
 ) -> Result<Option<usize>, AllocError>
-    requires left { AreBelow (length written.now) (length rows.now) constraint.now.left.items }
-    requires right { IsBelow (length written.now) (length rows.now) constraint.now.right }
-    requires sized { AreSized (length written.now) rows.now }
-    requires all { length known.old.items ≡ length written.now }
-    requires kept { AreKnownRows (is_below (L.order lattice.now) written.now)
-        (length written.now) known.old.items }
-    ensures all { OnOk result (length known.new.items ≡ length written.now) }
-    ensures kept { OnOk result (AreKnownRows (is_below (L.order lattice.now) written.now)
-        (length written.now) known.new.items) }
-    ensures breaker { IfOk result (IsBreakerOf (is_below (L.order lattice.now) written.now)
-        (length written.now) rows.now constraint.now.left.items constraint.now.right) }
+    requires left { AreBelow (length (W.elements written.now)) (length rows.now)
+        constraint.now.left.items }
+    requires right { IsBelow (length (W.elements written.now)) (length rows.now)
+        constraint.now.right }
+    requires sized { AreSized (length (W.elements written.now)) rows.now }
+    requires all { length known.old.items ≡ length (W.elements written.now) }
+    requires kept { AreKnownRows (is_below (W.order written.now) (W.elements written.now))
+        (length (W.elements written.now)) known.old.items }
+    ensures all { OnOk result (length known.new.items ≡ length (W.elements written.now)) }
+    ensures kept { OnOk result (AreKnownRows
+        (is_below (W.order written.now) (W.elements written.now))
+        (length (W.elements written.now)) known.new.items) }
+    ensures breaker { IfOk result (IsBreakerOf
+        (is_below (W.order written.now) (W.elements written.now))
+        (length (W.elements written.now)) rows.now constraint.now.left.items
+        constraint.now.right) }
 {
     let Atom::Written(to) = constraint.right else {
         return Ok(None);
     };
     let to = to as usize;
     let left = left_row(alloc, constraint.left.as_slice(), rows, written.len())?;
-    first_above(alloc, lattice, written, &left, &mut known[to], to)
+    first_above(alloc, written, &left, &mut known[to], to)
 }
 
 // For each written element, that nothing is known yet of what lies below it.
@@ -110,25 +116,25 @@ fn add_atom(row: &mut Row, atom: Atom, rows: &[Row])
 }
 
 // The first number in a row whose element does not lie below another one. What is found to lie below is known from then on.
-fn first_above<L: Lattice>(
+fn first_above<W: WrittenElements>(
     alloc: Global,
-    lattice: &L,
-    written: &[L::Elem],
+    written: &W,
     left: &Row,
     known: &mut Option<Row>,
     to: usize,
 ) -> Result<Option<usize>, AllocError>
-    requires to { to < length written.now }
-    requires left { length left.now ≡ length written.now }
-    requires known { IsKnownRow (is_below (L.order lattice.now) written.now)
-        (length written.now) to known.old }
-    ensures known { OnOk result (IsKnownRow (is_below (L.order lattice.now) written.now)
-        (length written.now) to known.new) }
-    ensures above { IfOk result (IsAbove (is_below (L.order lattice.now) written.now)
-        (length written.now) left.now to) }
+    requires to { to < length (W.elements written.now) }
+    requires left { length left.now ≡ length (W.elements written.now) }
+    requires known { IsKnownRow (is_below (W.order written.now) (W.elements written.now))
+        (length (W.elements written.now)) to known.old }
+    ensures known { OnOk result (IsKnownRow
+        (is_below (W.order written.now) (W.elements written.now))
+        (length (W.elements written.now)) to known.new) }
+    ensures above { IfOk result (IsAbove (is_below (W.order written.now) (W.elements written.now))
+        (length (W.elements written.now)) left.now to) }
 {
     let mut below = known_row(alloc, known.take(), written.len())?;
-    let above = compare(lattice, written, left, &mut below, to);
+    let above = compare(written, left, &mut below, to);
     *known = Some(below);
     Ok(above)
 }
@@ -145,25 +151,22 @@ fn known_row(alloc: Global, known: Option<Row>, count: usize) -> Result<Row, All
 }
 
 // The same, given what is known to lie below. Numbers that are known cost one step for 64 of them.
-fn compare<L: Lattice>(
-    lattice: &L,
-    written: &[L::Elem],
-    left: &Row,
-    known: &mut Row,
-    to: usize,
-) -> Option<usize>
-    requires to { to < length written.now }
-    requires left { length left.now ≡ length written.now }
-    requires count { length known.old ≡ length written.now }
-    requires known { IsKnown (is_below (L.order lattice.now) written.now) known.old to }
+fn compare<W: WrittenElements>(written: &W, left: &Row, known: &mut Row, to: usize) -> Option<usize>
+    requires to { to < length (W.elements written.now) }
+    requires fits { length (W.elements written.now) < 2 ^ 64 }
+    requires left { length left.now ≡ length (W.elements written.now) }
+    requires count { length known.old ≡ length (W.elements written.now) }
+    requires known { IsKnown (is_below (W.order written.now) (W.elements written.now))
+        known.old to }
     ensures count { length known.new ≡ length known.old }
-    ensures known { IsKnown (is_below (L.order lattice.now) written.now) known.new to }
-    ensures above { IsAbove (is_below (L.order lattice.now) written.now)
-        (length written.now) left.now to result }
+    ensures known { IsKnown (is_below (W.order written.now) (W.elements written.now))
+        known.new to }
+    ensures above { IsAbove (is_below (W.order written.now) (W.elements written.now))
+        (length (W.elements written.now)) left.now to result }
 {
     let mut from = 0;
     while let Some(n) = left.first_beyond(known, from) {
-        if !leq(lattice, written, n, to) {
+        if !leq(written, n, to) {
             return Some(n);
         }
         known.set(n);

@@ -7,8 +7,8 @@ ghost use Rattle.std.specs.Prelude.{[], length, ◌++◌, ◌<◌, ◌∷◌, �
 
 use crate::constraints::Atom;
 use crate::edges::{Edge, Edges};
+use crate::elements::WrittenElements;
 use crate::search::Found;
-use labels::Lattice;
 
 /// A constraint that a written element breaks.
 #[derive(Clone, Copy, Debug, PartialEq, Eq, Drop)]
@@ -22,14 +22,14 @@ pub struct Broken {
 }
 
 /// Whether a written element lies below another one.
-pub fn leq<L: Lattice>(lattice: &L, written: &[L::Elem], value: usize, to: usize) -> bool
-    requires value { value < length written.now }
-    requires to { to < length written.now }
-    ensures { result ≡ is_below (L.order lattice.now) written.now value to }
+pub fn leq<W: WrittenElements>(written: &W, value: usize, to: usize) -> bool
+    requires value { value < length (W.elements written.now) }
+    requires to { to < length (W.elements written.now) }
+    ensures { result ≡ is_below (W.order written.now) (W.elements written.now) value to }
 {
-    lattice.keep_laws();
-    // Equal labels share a number, so that a great one is seldom compared with itself.
-    value == to || lattice.leq(&written[value], &written[to])
+    written.keep_laws();
+    // An element is not compared with itself, however great it is.
+    value == to || written.leq(value, to)
 }
 
 // Whether a constraint stands before the one that was found so far.
@@ -43,23 +43,22 @@ fn comes_before(by: usize, best: &Option<Broken>) -> bool
 }
 
 // The earlier of what was found so far and of the constraint of this edge, if the written element breaks it.
-fn earlier_of_edge<L: Lattice>(
-    lattice: &L,
-    written: &[L::Elem],
+fn earlier_of_edge<W: WrittenElements>(
+    written: &W,
     edge: Edge,
     value: usize,
     parent: usize,
     best: Option<Broken>,
 ) -> Option<Broken>
-    requires value { value < length written.now }
-    requires inside { RightsInside (length written.now) (edge ∷ []) }
+    requires value { value < length (W.elements written.now) }
+    requires inside { RightsInside (length (W.elements written.now)) (edge ∷ []) }
     ensures { result ≡ earliest best (broken_by
-        (is_below (L.order lattice.now) written.now) value parent edge.by edge.to) }
+        (is_below (W.order written.now) (W.elements written.now)) value parent edge.by edge.to) }
 {
     let Atom::Written(to) = edge.to else {
         return best;
     };
-    if leq(lattice, written, value, to as usize) {
+    if leq(written, value, to as usize) {
         return best;
     }
     if !comes_before(edge.by, &best) {
@@ -74,49 +73,48 @@ fn earlier_of_edge<L: Lattice>(
 }
 
 // The same of all these edges.
-fn earlier_of_edges<L: Lattice>(
-    lattice: &L,
-    written: &[L::Elem],
+fn earlier_of_edges<W: WrittenElements>(
+    written: &W,
     edges: &[Edge],
     value: usize,
     parent: usize,
     best: Option<Broken>,
 ) -> Option<Broken>
-    requires value { value < length written.now }
-    requires inside { RightsInside (length written.now) edges.now }
+    requires value { value < length (W.elements written.now) }
+    requires inside { RightsInside (length (W.elements written.now)) edges.now }
     ensures { result ≡ earliest best (candidates
-        (is_below (L.order lattice.now) written.now) value parent edges.now) }
+        (is_below (W.order written.now) (W.elements written.now)) value parent edges.now) }
 {
     let mut best = best;
     for edge in edges {
-        best = earlier_of_edge(lattice, written, *edge, value, parent, best);
+        best = earlier_of_edge(written, *edge, value, parent, best);
     }
     best
 }
 
 /// The same of the edges from a written element and from all that it reaches.
-pub fn earlier_of_value<L: Lattice>(
-    lattice: &L,
-    written: &[L::Elem],
+pub fn earlier_of_value<W: WrittenElements>(
+    written: &W,
     edges: &Edges,
     found: &[Found],
     value: usize,
     best: Option<Broken>,
 ) -> Option<Broken>
-    requires value { value < length written.now }
+    requires value { value < length (W.elements written.now) }
     requires row { value < length edges.now.written.items }
-    requires inside { AllRightsInside (length written.now) edges.now }
+    requires inside { AllRightsInside (length (W.elements written.now)) edges.now }
     requires found { FoundInside (length edges.now.unknown.items) found.now }
     ensures { result ≡ earliest best (candidates
-        (is_below (L.order lattice.now) written.now) value 0 (row_of edges.now (Written value))
+        (is_below (W.order written.now) (W.elements written.now)) value 0
+        (row_of edges.now (Written value))
         ++ found_candidates edges.now
-        (is_below (L.order lattice.now) written.now) value 0 found.now) }
+        (is_below (W.order written.now) (W.elements written.now)) value 0 found.now) }
 {
     let row = edges.written[value].as_slice();
-    let mut best = earlier_of_edges(lattice, written, row, value, 0, best);
+    let mut best = earlier_of_edges(written, row, value, 0, best);
     for (k, step) in found.iter().enumerate() {
         let row = edges.unknown[step.unknown as usize].as_slice();
-        best = earlier_of_edges(lattice, written, row, value, k + 1, best);
+        best = earlier_of_edges(written, row, value, k + 1, best);
     }
     best
 }

@@ -7,6 +7,7 @@ mod broken;
 mod chain;
 pub mod constraints;
 mod edges;
+pub mod elements;
 pub mod fault;
 mod order;
 mod queue;
@@ -16,6 +17,7 @@ pub mod solving;
 mod worklist;
 
 pub use constraints::{Atom, Constraint, Constraints};
+pub use elements::{ElementsOf, LabelsUnder, WrittenElements};
 pub use fault::{SolveFault, SolveRefusal};
 pub use solution::Solution;
-pub use solving::solve;
+pub use solving::{solve, solve_by_numbers};

@@ -49,6 +49,19 @@ impl Solution {
         self.looks
     }
 
+    /// The numbers of the written elements that reach an unknown, in ascending order: the value of the unknown is their join. It goes
+    /// through the row of the unknown alone.
+    ///
+    /// # Errors
+    ///
+    /// Memory ran out.
+    pub fn reaching(&self, alloc: Global, unknown: u32) -> Result<Vec<usize>, AllocError>
+        ensures { IfOk result (λ numbers. numbers.items ≡ rows_with 0 self.now.reached unknown) }
+    {
+        let rows = self.rows.as_slice();
+        numbers_of(alloc, self.count, rows, unknown as usize)
+    }
+
     /// The value of an unknown, exact up to the order: the join of the written elements that reach it. The precondition holds of the
     /// table of written elements that was solved. It fails only where memory ran out, and goes through the row of the unknown alone.
     pub fn value<L: Lattice>(

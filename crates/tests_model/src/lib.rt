@@ -4,6 +4,8 @@
 #[cfg(test)]
 mod hierarchies;
 #[cfg(test)]
+mod label_table;
+#[cfg(test)]
 mod labels_of;
 #[cfg(test)]
 mod rows;

@@ -1,10 +1,10 @@
 -- The labels of the channels of a program are canonical, and its hierarchy is the one under which it is resolved.
-use Rattle.std.proofs.Common.{◌≡◌, refl, sym, subst, ℕ, zero, suc, List, [], ◌∷◌, ◌++◌, Ok}
+use Rattle.std.proofs.Common.{◌≡◌, refl, sym, subst, ℕ, zero, suc, List, [], ◌∷◌}
 use Rattle.std.specs.Prelude.{All, IfOk, IfSome, Option, Some, None, slice_get, codes}
 use Rattle.std.proofs.lemmas.List.Elements.{All-nil, All-cons, All-head, All-tail, All-append}
 use Rattle.std.proofs.lemmas.Result.{IfOk-weaker}
 use Rattle.principals.specs.ActsFor.{PrincipalHierarchy}
-use Rattle.labels.specs.Label.{ReaderPolicy, Label}
+use Rattle.labels.specs.Label.{ReaderPolicy}
 use Rattle.labels.specs.Canonical.{IsCanonicalPolicy, IsCanonicalLabel}
 use Rattle.labels.proofs.Written.{IsCanonicalPolicy-written, IsCanonicalLabel-written}
 use Rattle.syntax.specs.Tree.{NameTree, ComponentTree, PolicyComponent, VariableComponent, LabelTree, ItemTree, ChannelItem, ExceptionItem, GlobalItem, ProcedureItem, ProgramTree}

@@ -1,10 +1,13 @@
 -- Declarations of locals, by what their parts were found to be.
-use Rattle.std.proofs.Common.{◌≡◌, ℕ, length, Option, Ok, sym, ◌∙◌, ap, subst}
+use Rattle.std.proofs.Common.{◌≡◌, ℕ, List, length, map, Option, Ok, sym, ◌∙◌, ap, subst}
+use Rattle.std.proofs.lemmas.List.{length-map}
 use Rattle.labels.specs.Label.{Label}
 use Rattle.syntax.specs.Tree.{NameTree, LabelTree, RightTree, SizeTree}
 use Rattle.resolved.specs.declared.expression.Base.{Base}
 use Rattle.resolved.specs.declared.expression.Variable.TheVariants.{Local}
+use Rattle.resolved.specs.declared.tables.Slot.{Slot}
 use Rattle.resolved.specs.Program.{SlotEntry}
+use Rattle.resolved.specs.ProgramOf.{slot_entry}
 use Rattle.resolved.specs.Tree.{Statement, Clear}
 use Rattle.common.specs.Answers.{IfRefused}
 use Rattle.common.specs.declared.fault.OrNoMemory.{OrNoMemory}
@@ -15,13 +18,20 @@ use Rattle.types.specs.Finding.{IsRefusalOf, give}
 use Rattle.types.specs.Environment.{fresh_finding}
 use Rattle.types.specs.Labels.{LabelScope, optional_label_finding}
 use Rattle.types.specs.Statements.{Setting, Point, label_scope, with_local, scalar_slot, array_slot, assigned_finding, size_finding, declare_finding, declare_array_finding}
+use Rattle.types.specs.VariableEntries.{VariableEntries, LabelPolicies, optional_label_with}
 use Rattle.types.proofs.Loops.{then_ok, fails_later, fails_second}
 use Rattle.types.proofs.Tables.{ok_inside}
 
 -- a label by what the place that it stands at is seen as
-pub labelled : (label : Option LabelTree) (written : Option Label) (seen scope : LabelScope) → seen ≡ scope → optional_label_finding seen label ≡ Ok written
-    → optional_label_finding scope label ≡ Ok written
-labelled label written seen scope same found = subst (λ one. optional_label_finding one label ≡ Ok written) same found
+pub labelled : (label : Option LabelTree) (parts : Option LabelPolicies) (seen scope : LabelScope) (there variables : VariableEntries) → seen ≡ scope → there ≡ variables
+    → optional_label_finding seen label ≡ Ok (optional_label_with there.labels parts) → optional_label_finding scope label ≡ Ok (optional_label_with variables.labels parts)
+labelled label parts seen scope there variables same held found =
+    ap (λ one. optional_label_finding one label) (sym same) ∙ found ∙ ap (λ (one : VariableEntries). Ok (optional_label_with one.labels parts)) held
+
+-- the number of the next slot
+pub next_slot : (labels : List Label) (slots : List Slot) (entries : List SlotEntry) (number : ℕ) → map (slot_entry labels) slots ≡ entries → number ≡ length slots
+    → number ≡ length entries
+next_slot labels slots entries number are counted = counted ∙ sym (length-map slots (slot_entry labels)) ∙ ap length are
 
 module _ (setting : Setting) (point : Point) (at : ℕ) (base : Base) (label : Option LabelTree) (name : NameTree) (written : Option Label)
     (found : Option Meaning) (number : ℕ) (written_is : optional_label_finding (label_scope setting point) label ≡ Ok written)

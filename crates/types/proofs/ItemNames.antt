@@ -1,7 +1,7 @@
 -- The names of the items of a program are names and all different, and so are those of what it resolves to.
 use Rattle.std.proofs.Common.{◌≡◌, ◌≢◌, refl, sym, ◌∙◌, subst, ap, ℕ, List, [], ◌∷◌, ◌++◌, map, Bool, true, false, cond, append-nil, append_assoc, arith}
 use Rattle.common.specs.Exceptions.{built_in_names}
-use Rattle.std.specs.Prelude.{All, IfOk, Option, Some, None, bytes_eq, codes, ◌==◌}
+use Rattle.std.specs.Prelude.{All, IfOk, Option, Some, None, bytes_eq, codes}
 use Rattle.std.proofs.lemmas.List.{map_push}
 use Rattle.std.proofs.lemmas.List.Elements.{All-nil, All-cons, All-head, All-tail}
 use Rattle.std.proofs.lemmas.List.Kept.{AllPairs-cons}

@@ -1,14 +1,14 @@
 -- The join of many labels is the label that is written with all their policies.
-use Rattle.std.proofs.Common.{◌≡◌, ℕ, ◌+◌, ◌<◌, List, [], ◌∷◌, ◌++◌, map, drop, take, get_or, length, sym, ◌∙◌, ap, subst, inl, inr, append_assoc}
-use Rattle.std.specs.Prelude.{All, Contains}
-use Rattle.std.proofs.lemmas.List.{drop_more, take_more}
-use Rattle.std.proofs.lemmas.List.Elements.{Contains-append_left, Contains-append_right, Contains-append_cases, All-get_or}
+use Rattle.std.proofs.Common.{◌≡◌, ℕ, ◌<◌, List, [], ◌∷◌, ◌++◌, arith, length, map, sym, ◌∙◌, ap, inl, inr, append_assoc, append-nil}
+use Rattle.std.specs.Prelude.{Contains}
+use Rattle.std.proofs.lemmas.List.Elements.{Contains-append_left, Contains-append_right, Contains-append_cases}
 use Rattle.labels.specs.Label.{ReaderPolicy, Label}
-use Rattle.labels.specs.Canonical.{IsCanonicalLabel, IsCanonicalPolicy, written_label, joined}
+use Rattle.labels.specs.LabelTable.{label_at, labels_of}
+use Rattle.labels.specs.Canonical.{written_label, joined}
 use Rattle.labels.specs.PolicyOrder.{policy_cmp-total}
 use Rattle.labels.proofs.Ascending.{ascending_set-sorted, ascending_set-unique, SameSet-trans}
 use Rattle.labels.proofs.Order.{policy_cmp-exact}
-use Rattle.labels.proofs.Written.{SameSet-joined, SameSet-written, written_label-canonical}
+use Rattle.labels.proofs.Written.{SameSet-joined, SameSet-written}
 use Rattle.resolved.specs.declared.tables.Thrown.{Thrown}
 use Rattle.resolved.specs.ProgramOf.{thrown_entry}
 use Rattle.types.specs.Resolution.{joined_all}
@@ -31,26 +31,23 @@ joined_written policies label =
       | inr second ↦ Contains-append_right (written_label policies) label policy second
     ]
 
-pub first_written : (empty policies : List ReaderPolicy) (first : Label) → empty ≡ [] → policies ≡ empty ++ first → IsCanonicalLabel first → written_label policies ≡ first
-first_written empty policies first none are canonical =
-    ap written_label (are ∙ ap (λ list. list ++ first) none) ∙ written_label-canonical first canonical
+abbrev pub thrown_labels : List Thrown → List ℕ
+thrown_labels throws = map (λ (thrown : Thrown). thrown.label) throws
 
--- the next exception
-pub next_written : (throws : List Thrown) (i : ℕ) (one : Thrown) (policies more : List ReaderPolicy) → one ≡ get_or throws i one → i < length throws → more ≡ policies ++ one.label
-    → joined_all (written_label policies) (map thrown_entry (drop i throws)) ≡ joined_all (written_label more) (map thrown_entry (drop (i + 1) throws))
-next_written throws i one policies more is within are =
-    ap (λ list. joined_all (written_label policies) (map thrown_entry list)) (drop_more throws i one within ∙ ap (λ first. first ∷ drop (i + 1) throws) (sym is))
-    ∙ ap (λ label. joined_all label (map thrown_entry (drop (i + 1) throws))) (joined_written policies one.label ∙ sym (ap written_label are))
+module _ (labels : List Label) where
+  joined_further : (policies : List ReaderPolicy) (throws : List Thrown)
+      → joined_all (written_label policies) (map (thrown_entry labels) throws) ≡ written_label (policies ++ labels_of labels (thrown_labels throws))
+  joined_further policies [] = ap written_label (sym (append-nil policies))
+  joined_further policies (thrown ∷ rest) =
+      let label = label_at labels thrown.label in
+      ap (λ one. joined_all one (map (thrown_entry labels) rest)) (joined_written policies label)
+      ∙ joined_further (policies ++ label) rest
+      ∙ ap written_label (append_assoc policies label (labels_of labels (thrown_labels rest)))
 
--- ---- the policies of one label
-
-pub policy_added : (start before policies : List ReaderPolicy) (i : ℕ) (policy copy : ReaderPolicy) → before ≡ start ++ take i policies → policy ≡ get_or policies i policy
-    → i < length policies → copy ≡ policy → before ++ copy ∷ [] ≡ start ++ take (i + 1) policies
-policy_added start before policies i policy copy are is within same =
-    ap (λ list. list ++ copy ∷ []) are ∙ append_assoc start (take i policies) (copy ∷ [])
-    ∙ ap (λ one. start ++ (take i policies ++ one ∷ [])) (same ∙ is) ∙ sym (ap (λ list. start ++ list) (take_more policies i policy within))
-
-pub policy_canonical : (label policies : Label) (i : ℕ) (policy copy : ReaderPolicy) → IsCanonicalLabel label → policies ≡ label → policy ≡ get_or policies i policy
-    → i < length policies → copy ≡ policy → IsCanonicalPolicy copy
-policy_canonical label policies i policy copy canonical lent is within same =
-    subst IsCanonicalPolicy (sym (same ∙ is)) (All-get_or IsCanonicalPolicy policies i policy within (subst (All IsCanonicalPolicy) (sym lent) canonical.each_canonical))
+  -- a label and those of some exceptions
+  pub joined_by_numbers : (first : ℕ) (throws : List Thrown) → 0 < length throws
+      → joined_all (label_at labels first) (map (thrown_entry labels) throws) ≡ written_label (labels_of labels (first ∷ thrown_labels throws))
+  joined_by_numbers first [] some = absurd (omega (arith, some))
+  joined_by_numbers first (thrown ∷ rest) some =
+      joined_further (label_at labels first ++ label_at labels thrown.label) rest
+      ∙ ap written_label (append_assoc (label_at labels first) (label_at labels thrown.label) (labels_of labels (thrown_labels rest)))

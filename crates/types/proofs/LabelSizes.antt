@@ -1,6 +1,6 @@
 -- A label that is found has each of its policies once, and each is written before it or in it: so it has no more nodes than those.
-use Rattle.std.proofs.Common.{◌≡◌, refl, sym, ◌∙◌, ap, subst, ℕ, ◌+◌, ◌≤◌, List, [], ◌∷◌, ◌++◌, length, append_assoc, true, inl, inr, Ok, Err, arith}
-use Rattle.std.specs.Prelude.{◌↔◌, ◌⊎◌, Contains, IfOk, IfSome, Option, Some, None, slice_get, sum_by}
+use Rattle.std.proofs.Common.{◌≡◌, sym, ap, subst, ℕ, ◌+◌, ◌≤◌, List, [], ◌∷◌, ◌++◌, length, append_assoc, true, inl, inr, Ok, Err, arith}
+use Rattle.std.specs.Prelude.{◌⊎◌, Contains, IfOk, IfSome, Option, Some, None, slice_get, sum_by}
 use Rattle.std.specs.declared.cmp.Ordering.{Ordering}
 use Rattle.std.specs.declared.cmp.Ordering.TheVariants.{Less, Equal, Greater}
 use Rattle.std.proofs.lemmas.List.Elements.{Contains-append_cases, Contains-append_left, Contains-append_right}

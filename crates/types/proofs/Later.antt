@@ -4,9 +4,10 @@ use Rattle.std.specs.Prelude.{bytes_eq, string_bytes}
 use Rattle.std.specs.List.{list_any}
 use Rattle.std.proofs.lemmas.List.{take-append-le, drop-append-le, take-append-drop, length-take, map-append}
 use Rattle.std.proofs.Math.Seq.{take-length, drop-length}
-use Rattle.resolved.specs.ProgramOf.{global_entry}
 use Rattle.types.specs.declared.body.Body.{Body}
-use Rattle.types.specs.Views.{IsLater, found_in, setting_of, signature_view, texts_of, without}
+use Rattle.types.specs.Resolution.{heads}
+use Rattle.types.specs.Views.{IsLater, found_in, item_scope_of, setting_of, signature_view, texts_of, top_view, without}
+use Rattle.types.proofs.LabelNumbers.{extends_itself, extends_through}
 use Rattle.types.proofs.Tables.{without_both}
 
 pub later_same : (body : Body) → IsLater body body
@@ -14,6 +15,7 @@ later_same body = record {
   hierarchy = refl;
   top = refl;
   globals = refl;
+  labels = extends_itself body.variables.labels;
   result = refl;
   declared = take-length body.declared.items;
   locals = λ name. ap (λ gone. without (texts_of gone) (found_in body.locals) name) (sym (drop-length body.declared.items));
@@ -34,6 +36,7 @@ later_through first second third p q =
       hierarchy = q.hierarchy ∙ p.hierarchy;
       top = q.top ∙ p.top;
       globals = q.globals ∙ p.globals;
+      labels = extends_through first.variables.labels second.variables.labels third.variables.labels p.labels q.labels;
       result = q.result ∙ p.result;
       declared = ap (take n) (sym split) ∙ take-append-le n b (drop m c) short ∙ p.declared;
       locals = λ name. p.locals name
@@ -45,7 +48,10 @@ later_through first second third p q =
 pub setting_same : (before after : Body) → IsLater before after → setting_of after ≡ setting_of before
 setting_same before after later = λ i. record {
   hierarchy = later.hierarchy i;
-  globals = map global_entry (later.globals i);
+  globals = later.globals i;
   signatures = map signature_view (later.top i).signatures.items;
   result = later.result i;
 }
+
+pub scope_same : (before after : Body) → IsLater before after → item_scope_of after ≡ item_scope_of before
+scope_same before after later = λ i. heads (later.hierarchy i) (top_view (later.top i)) (later.globals i)

@@ -1,10 +1,12 @@
-mod AloneLabels
 mod Along
 mod ChannelLabels
 mod Declarations
 mod Frames
+mod GatheredLabels
 mod Holding
 mod ItemNames
+mod ItemsAdded
+mod LabelNumbers
 mod LabelSizes
 mod NamedMeanings
 mod JoinAll

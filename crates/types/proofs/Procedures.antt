@@ -1,28 +1,44 @@
 -- Procedures, by what their parts were found to be.
-use Rattle.std.proofs.Common.{◌≡◌, ℕ, ◌≤◌, List, [], ◌∷◌, length, Option, Some, Ok, sym, ◌∙◌, ap, subst, arith}
-use Rattle.std.specs.Prelude.{sum_by}
+use Rattle.std.proofs.Common.{◌≡◌, ℕ, ◌*◌, ◌≤◌, List, [], ◌∷◌, ◌++◌, Bool, true, false, cond, refl, map, length, Option, Some, Ok, sym, ◌∙◌, ap, subst, arith}
+use Rattle.std.specs.Prelude.{sum_by, not, ◌||◌, ◌==◌}
+use Rattle.std.proofs.lemmas.List.{map_push}
+use Rattle.std.proofs.lemmas.List.Folds.{list_any-append}
 use Rattle.std.proofs.lemmas.List.Sums.{sum_by-cons}
 use Rattle.labels.specs.Label.{Label}
-use Rattle.syntax.specs.Nodes.{parameter_nodes}
-use Rattle.syntax.specs.Tree.{ParameterTree, ProcedureTree}
+use Rattle.labels.specs.LabelTable.{Extends}
+use Rattle.syntax.specs.Nodes.{parameter_nodes, thrown_nodes}
+use Rattle.syntax.specs.Tree.{LabelTree, ParameterTree, ProcedureTree, ThrownTree}
 use Rattle.resolved.specs.declared.expression.Base.{Base}
 use Rattle.resolved.specs.declared.expression.Variable.TheVariants.{Local}
-use Rattle.resolved.specs.Program.{SlotEntry, ResultEntry, ThrownEntry, ProcedureEntry}
+use Rattle.resolved.specs.declared.tables.Thrown.{Thrown}
+use Rattle.resolved.specs.ProgramOf.{thrown_entry}
+use Rattle.resolved.specs.Program.{SlotEntry, ResultEntry, ThrownEntry}
 use Rattle.resolved.specs.Tree.{Block}
 use Rattle.common.specs.Answers.{IfRefused}
 use Rattle.common.specs.declared.fault.OrNoMemory.{OrNoMemory}
 use Rattle.types.specs.declared.fault.TypeRefusal.{TypeRefusal}
 use Rattle.types.specs.declared.scope.Meaning.{Meaning}
 use Rattle.types.specs.declared.scope.Meaning.TheVariants.{Scalar}
-use Rattle.types.specs.Finding.{IsRefusalOf, give, along}
-use Rattle.types.specs.Environment.{fresh_finding}
+use Rattle.types.specs.declared.fault.TypeDefect.TheVariants as refusals
+use Rattle.types.specs.Finding.{IsRefusalOf, give, along, require}
+use Rattle.types.specs.Environment.{exception_finding, fresh_finding}
 use Rattle.types.specs.Expressions.{base_of}
 use Rattle.types.specs.Labels.{LabelScope, label_finding, optional_label_finding}
-use Rattle.types.specs.Resolution.{begin_label_of, end_label_of, next_parameter, parameters_finding, procedure_entry_finding, result_finding, setting_within, throws_finding}
+use Rattle.types.specs.declared.label.ItemPlace.{ItemPlace}
+use Rattle.types.specs.Views.{item_scope, top_view}
+use Rattle.types.specs.Resolution.{heads, begin_label_of, end_label_of, is_thrown, next_parameter, next_thrown, parameters_finding, procedure_entry_finding, result_finding, setting_within, throws_finding}
 use Rattle.types.specs.Statements.{Signature, Point, with_local, scalar_slot, block_finding}
+use Rattle.types.specs.VariableEntries.{VariableEntries, LabelPolicies, AreThrownInside, label_with}
+use Rattle.types.proofs.LabelNumbers.{same_thrown}
 use Rattle.types.proofs.Loops.{then_ok, fails_later, fails_second}
 
 -- ---- parameters
+
+-- the label of a parameter by what the place that it stands at is seen as
+pub item_labelled : (label : LabelTree) (parts : LabelPolicies) (seen scope : LabelScope) (there variables : VariableEntries) → seen ≡ scope → there ≡ variables
+    → label_finding seen label ≡ Ok (label_with there.labels parts) → label_finding scope label ≡ Ok (label_with variables.labels parts)
+item_labelled label parts seen scope there variables same held found =
+    ap (λ one. label_finding one label) (sym same) ∙ found ∙ ap (λ (one : VariableEntries). Ok (label_with one.labels parts)) held
 
 pub parameter_declared : (scope : LabelScope) (point after : Point) (parameter : ParameterTree) (label : Label) (found : Option Meaning) (base : Base) (number : ℕ) (slot : SlotEntry)
     → label_finding scope parameter.label ≡ Ok label → found ≡ point.names parameter.name.text → fresh_finding found parameter.name.at ≡ Ok tt → base ≡ base_of parameter.base
@@ -34,27 +50,72 @@ parameter_declared scope point after parameter label found base number slot labe
     ∙ ap (λ m. Ok (with_local point (scalar_slot parameter.at base (Some label) parameter.name.text) (Scalar (Local m) base))) (sym next)
     ∙ ap (λ one. Ok (with_local point one (Scalar (Local number) base))) (sym entry) ∙ declared
 
-pub parameters_are : (scope : LabelScope) (begin : Point) (parameters : List ParameterTree)
+parameters_are : (scope : LabelScope) (begin : Point) (parameters : List ParameterTree)
     → begin ≡ record { names = scope.names; slots = []; loops = 0 } → along (next_parameter scope) begin parameters ≡ parameters_finding scope parameters
 unfolding parameters_finding
 parameters_are scope begin parameters first = λ i. along (next_parameter scope) (first i) parameters
 
--- each parameter has a node of its own
-pub parameters_few : (parameters : List ParameterTree) → length parameters ≤ sum_by parameter_nodes parameters
+-- the parameters of a procedure, by what their labels may name
+pub parameters_in_scope : (seen scope : LabelScope) (begin : Point) (parameters all : List ParameterTree) → seen ≡ scope → begin ≡ record { names = scope.names; slots = []; loops = 0 } → parameters ≡ all
+    → along (next_parameter seen) begin parameters ≡ parameters_finding scope all
+parameters_in_scope seen scope begin parameters all same first are =
+    ap (λ one. along (next_parameter one) begin parameters) same ∙ parameters_are scope begin parameters first ∙ ap (parameters_finding scope) are
+
+-- each parameter has two nodes of its own
+pub parameters_few : (parameters : List ParameterTree) → 2 * length parameters ≤ sum_by parameter_nodes parameters
 parameters_few [] = omega arith
 parameters_few (parameter ∷ rest) = let few = parameters_few rest in omega (arith, few, sum_by-cons parameter_nodes parameter rest)
 
+-- ---- exceptions
+
+-- the entries of exceptions with one more
+pub thrown_pushed : (before after : List Label) → Extends before after → (throws pushed : List Thrown) (one : Thrown) → AreThrownInside before throws → pushed ≡ throws ++ one ∷ []
+    → map (thrown_entry after) pushed ≡ map (thrown_entry before) throws ++ thrown_entry after one ∷ []
+thrown_pushed before after extended throws pushed one inside is =
+    ap (map (thrown_entry after)) is ∙ map_push (thrown_entry after) throws one
+    ∙ ap (λ front. front ++ thrown_entry after one ∷ []) (same_thrown before after extended throws inside)
+
+pub thrown_found : (scope : LabelScope) (before after : List ThrownEntry) (thrown : ThrownTree) (exception : ℕ) (label : Label) → exception_finding (scope.names thrown.name.text) thrown.name.at ≡ Ok exception
+    → is_thrown before exception ≡ false → label_finding scope thrown.label ≡ Ok label → after ≡ before ++ record { exception = exception; label = label } ∷ []
+    → next_thrown scope before thrown ≡ Ok after
+thrown_found scope before after thrown exception label known new labelled is =
+    then_ok _ _ exception known ∙ then_ok _ _ tt (ap (λ test. require (not test) refusals.DeclaredTwice thrown.name.at) new) ∙ then_ok _ _ label labelled ∙ ap (λ list. Ok list) (sym is)
+
+-- which exceptions are named, with one more
+pub thrown_or_last : (throws : List ThrownEntry) (one : ThrownEntry) (number : ℕ) → is_thrown (throws ++ one ∷ []) number ≡ cond (one.exception == number) true (is_thrown throws number)
+thrown_or_last throws one number =
+    list_any-append (λ (thrown : ThrownEntry). thrown.exception == number) throws (one ∷ []) ∙ by (is_thrown throws number) (one.exception == number)
+  where
+    by : (before last : Bool) → (before || (last || false)) ≡ cond last true before
+    by true true = refl
+    by true false = refl
+    by false true = refl
+    by false false = refl
+
 -- ---- a whole procedure
 
--- what is found or refused where labels are seen so, by what is the same
-pub refused_in : (signatures : List Signature) (procedure : ProcedureTree) (fault : OrNoMemory TypeRefusal) (seen scope : LabelScope) → seen ≡ scope
-    → IfRefused (IsRefusalOf (procedure_entry_finding seen signatures procedure)) fault → IfRefused (IsRefusalOf (procedure_entry_finding scope signatures procedure)) fault
-refused_in signatures procedure fault seen scope same wrong =
-    subst (λ one. IfRefused (IsRefusalOf (procedure_entry_finding one signatures procedure)) fault) same wrong
+-- what the labels of an item may name where only labels have come since
+pub same_scope : (place : ItemPlace) (before after : VariableEntries) → after.globals ≡ before.globals → item_scope place after ≡ item_scope place before
+same_scope place before after same = λ i. heads place.hierarchy.now (top_view place.top.now) (same i)
 
-pub found_in_scope : (signatures : List Signature) (procedure : ProcedureTree) (entry : ProcedureEntry) (seen scope : LabelScope) → seen ≡ scope
-    → procedure_entry_finding seen signatures procedure ≡ Ok entry → procedure_entry_finding scope signatures procedure ≡ Ok entry
-found_in_scope signatures procedure entry seen scope same found = subst (λ one. procedure_entry_finding one signatures procedure ≡ Ok entry) same found
+-- what is found or refused in the one scope is so in the other
+pub optional_in_scope : (seen scope : LabelScope) (label : Option LabelTree) (found : Option Label) → seen ≡ scope → optional_label_finding seen label ≡ Ok found
+    → optional_label_finding scope label ≡ Ok found
+optional_in_scope seen scope label found same = subst (λ one. optional_label_finding one label ≡ Ok found) same
+
+pub optional_wrong_in_scope : (seen scope : LabelScope) (label : Option LabelTree) (fault : OrNoMemory TypeRefusal) → seen ≡ scope
+    → IfRefused (IsRefusalOf (optional_label_finding seen label)) fault → IfRefused (IsRefusalOf (optional_label_finding scope label)) fault
+optional_wrong_in_scope seen scope label fault same = subst (λ one. IfRefused (IsRefusalOf (optional_label_finding one label)) fault) same
+
+-- each exception has a node of its own
+pub throws_few : (throws : List ThrownTree) → length throws ≤ sum_by thrown_nodes throws
+throws_few [] = omega arith
+throws_few (thrown ∷ rest) = let few = throws_few rest in omega (arith, few, sum_by-cons thrown_nodes thrown rest)
+
+pub begin_wrong : (scope : LabelScope) (signatures : List Signature) (procedure : ProcedureTree) (result : Option ResultEntry) → result_finding scope procedure.result ≡ Ok result
+    → (fault : OrNoMemory TypeRefusal) → IfRefused (IsRefusalOf (optional_label_finding scope procedure.begin)) fault → IfRefused (IsRefusalOf (procedure_entry_finding scope signatures procedure)) fault
+unfolding procedure_entry_finding
+begin_wrong scope signatures procedure result valued fault wrong = fails_second _ _ result fault valued (fails_later _ _ fault wrong)
 
 module _ (scope : LabelScope) (signatures : List Signature) (procedure : ProcedureTree) (result : Option ResultEntry) (begin : Option Label)
     (valued : result_finding scope procedure.result ≡ Ok result) (begun : optional_label_finding scope procedure.begin ≡ Ok begin) where

@@ -19,7 +19,7 @@ use Rattle.types.specs.Labels.{LabelScope, label_finding, optional_label_finding
 use Rattle.types.specs.Expressions.{Typed, base_of, expression_finding, typed_finding}
 use Rattle.types.specs.Laws.{channel_names, global_names, MeaningHasName}
 use Rattle.types.specs.Statements.{Signature, Setting, Point, label_scope, with_local, CallUse, call_finding, assigned_finding, scalar_slot, array_slot, declare_finding, size_finding, declare_array_finding, assign_finding, store_finding, call_statement_finding, receive_finding, send_finding, throw_finding, returned_finding, return_finding, staying, in_loop, behind_block, statement_finding, block_finding, statements_finding, catches_finding}
-use Rattle.types.specs.Resolution.{TopLevel, heads, setting_within, result_finding, result_base_of, next_parameter, parameters_finding, is_thrown, next_thrown, throws_finding, procedure_entry_finding, channel_finding, global_finding, Tables, next_item, no_tables, items_finding, top_finding, main_finding, global_cells_finding, frames_finding, program_with, resolution}
+use Rattle.types.specs.Resolution.{TopLevel, heads, setting_within, result_finding, next_parameter, parameters_finding, is_thrown, next_thrown, throws_finding, procedure_entry_finding, channel_finding, global_finding, Tables, next_item, no_tables, items_finding, top_finding, main_finding, global_cells_finding, frames_finding, program_with, resolution}
 use Rattle.types.specs.ReadBack.{NameScope, top_scope, with_declared, leaving_block, innermost, IsChannel, IsException, IsProcedure, IsVariable, ReadsExpression, ReadsArguments, ReadsRight, ReadsStatement, ReadDeclare, ReadDeclareArray, ReadAssign, ReadStore, ReadCall, ReadReceive, ReadSend, ReadIf, ReadIfElse, ReadWhile, ReadBreak, ReadContinue, ReadThrow, ReadReturn, ReadReturnValue, ReadTry, ReadNested, ReadsBlock, ReadBlock, ReadsStatements, ReadNoStatement, ReadStatement, ReadsCatches, ReadNoCatch, ReadCatch, ReadsThrows, ReadNoThrown, ReadThrown, with_parameters, slot_declaration, ReadsProcedure, ReadsItems, ReadNoItem, ReadChannel, ReadException, ReadGlobal, ReadProcedure}
 use Rattle.types.proofs.ItemNames.{channel_name, global_name, channel_named, global_named}
 use Rattle.types.proofs.NamedMeanings.{finds_itself}

@@ -1,7 +1,7 @@
 -- The items of a program: how many they are, and that each is written as the program is and has no more nodes.
-use Rattle.std.proofs.Common.{◌≡◌, ℕ, ◌<◌, ◌≤◌, List, [], ◌∷◌, map, length, get_or, sym, ◌∙◌, ap, subst, sum_by, arith}
+use Rattle.std.proofs.Common.{◌≡◌, ℕ, ◌+◌, ◌<◌, ◌≤◌, List, [], ◌∷◌, drop, map, length, get_or, sym, ◌∙◌, ap, subst, sum_by, arith}
 use Rattle.std.specs.Prelude.{All}
-use Rattle.std.proofs.lemmas.List.{length-map, get_or-map}
+use Rattle.std.proofs.lemmas.List.{drop_more, length-map, get_or-map}
 use Rattle.std.proofs.lemmas.List.Elements.{All-get_or}
 use Rattle.std.proofs.lemmas.List.Sums.{sum_by-cons, get_or-le-sum_by}
 use Rattle.syntax.specs.declared.tree.Item.{Item}
@@ -38,3 +38,9 @@ module _ (items : List Item) (i : ℕ) (item : Item) (is : item ≡ get_or items
   item_written fits word all =
       subst (IsWrittenItem fits word IsInteger) same
       (All-get_or (IsWrittenItem fits word IsInteger) (map item_tree items) i (item_tree item) inside all)
+
+  -- the nodes of the next item, and of those behind it
+  pub next_nodes : sum_by item_nodes (map item_tree (drop i items)) ≡ item_nodes (item_tree item) + sum_by item_nodes (map item_tree (drop (i + 1) items))
+  next_nodes =
+      ap (λ list. sum_by item_nodes (map item_tree list)) (drop_more items i item within ∙ ap (λ one. one ∷ drop (i + 1) items) (sym is))
+      ∙ sum_by-cons item_nodes (item_tree item) (map item_tree (drop (i + 1) items))

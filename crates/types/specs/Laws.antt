@@ -1,6 +1,6 @@
 -- Laws of the programs that trees stand for.
 -- Source: our own.
-use Rattle.std.specs.Prelude.{◌≡◌, ℕ, List, ◌++◌, map, length, All, IsTrue, Some, slice_get, codes, IsUtf8}
+use Rattle.std.specs.Prelude.{◌≡◌, ℕ, List, ◌++◌, map, All, IsTrue, Some, slice_get, codes, IsUtf8}
 use Rattle.common.specs.Exceptions.{built_in_names}
 use Rattle.principals.specs.ActsFor.{PrincipalHierarchy, IsHierarchy, AllDifferent}
 use Rattle.labels.specs.Canonical.{IsCanonicalLabel}

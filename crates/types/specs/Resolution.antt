@@ -1,7 +1,7 @@
 -- The resolved program that a syntax tree stands for under a hierarchy, or the first fault: first the names of the items, then the
 -- items, each from left to right with its body, then `main` (304), and last the cells of the globals and of each procedure (704).
 -- Source: our own; what is left out of the labels of a procedure as in JFlow (Myers 1999).
-use Rattle.std.specs.Prelude.{ℕ, ◌+◌, List, [], ◌∷◌, ◌++◌, map, length, sum_by, Bool, false, not, ◌==◌, ◌&&◌, nat_le, if◌then◌else◌, codes, is_none, Option, Some, None, unwrap_or, slice_get, pos, neg_ℤ}
+use Rattle.std.specs.Prelude.{ℕ, ◌+◌, List, [], ◌∷◌, ◌++◌, map, length, sum_by, Bool, not, ◌==◌, ◌&&◌, nat_le, if◌then◌else◌, codes, is_none, Option, Some, None, unwrap_or, slice_get, pos, neg_ℤ}
 use Rattle.common.specs.declared.exceptions.TheConstants.{ARITH, ARITH_NAME, BOUNDS, BOUNDS_NAME, END, END_NAME, BUILT_IN}
 use Rattle.std.specs.List.{list_any}
 use Rattle.principals.specs.ActsFor.{PrincipalHierarchy}

@@ -1,7 +1,7 @@
 -- Private: what the private functions work with, as the definitions see it, and what each of them gives: what is found, or the first
 -- fault.
 -- Source: our own.
-use Rattle.std.specs.Prelude.{◌≡◌, ℕ, ◌+◌, List, length, map, take, drop, bytes_eq, if◌then◌else◌, Option, Some, None, Result, Ok, String, Vec}
+use Rattle.std.specs.Prelude.{◌≡◌, ℕ, ◌+◌, List, [], length, map, sum_by, All, take, drop, bytes_eq, if◌then◌else◌, Option, Some, None, option_and_then, Result, Ok, String, Vec}
 use Rattle.std.specs.declared.alloc.Global.{Global}
 use Rattle.std.specs.BTreeMap.{BTreeMap, get, get_by_text}
 use Rattle.std.specs.Ordering.{nat_cmp}
@@ -10,18 +10,26 @@ use Rattle.std.specs.String.{string_bytes}
 use Rattle.resolved.specs.declared.expression.Expression.{Expression as CodeExpression}
 use Rattle.resolved.specs.declared.statement.Statement.{Statement as CodeStatement}
 use Rattle.resolved.specs.declared.statement.Handler.{Handler as CodeHandler}
+use Rattle.resolved.specs.declared.tables.Channel.{Channel}
+use Rattle.resolved.specs.declared.tables.Procedure.{Procedure}
+use Rattle.resolved.specs.declared.tables.Slot.{Slot}
 use Rattle.resolved.specs.declared.tables.Thrown.{Thrown}
+use Rattle.resolved.specs.WellFormed.{cell_count}
 use Rattle.resolved.specs.declared.expression.Value.{Value}
 use Rattle.resolved.specs.Tree.{Expression, Block, Handlers}
-use Rattle.resolved.specs.Program.{ThrownEntry}
-use Rattle.resolved.specs.ProgramOf.{channel_entry, global_entry, slot_entry, thrown_entry, procedure_entry}
+use Rattle.labels.specs.Label.{Label}
+use Rattle.labels.specs.LabelTable.{Extends}
+use Rattle.resolved.specs.Program.{SlotEntry, ThrownEntry}
+use Rattle.resolved.specs.ProgramOf.{channel_entry, slot_entry, thrown_entry, procedure_entry}
 use Rattle.resolved.specs.TreeOf.{expression_of, block_of, handlers_of}
 use Rattle.types.specs.declared.body.Body.{Body}
 use Rattle.types.specs.declared.expression.TypedExpression.{TypedExpression}
 use Rattle.common.specs.Answers.{Answers}
 use Rattle.common.specs.declared.fault.OrNoMemory.{OrNoMemory}
 use Rattle.types.specs.declared.fault.TypeRefusal.{TypeRefusal}
+use Rattle.types.specs.declared.label.ItemPlace.{ItemPlace}
 use Rattle.types.specs.declared.label.LabelPlace.{LabelPlace}
+use Rattle.types.specs.declared.variables.NewSlot.{NewSlot}
 use Rattle.types.specs.declared.program.ItemTables.{ItemTables}
 use Rattle.types.specs.declared.scope.Meaning.{Meaning}
 use Rattle.types.specs.declared.scope.Names.{Names}
@@ -36,7 +44,8 @@ use Rattle.types.specs.Environment.{Environment, ScalarUse, ArrayUse}
 use Rattle.types.specs.Labels.{LabelScope}
 use Rattle.types.specs.Expressions.{Typed}
 use Rattle.types.specs.Statements.{Signature, Setting, Point, CallUse}
-use Rattle.types.specs.Resolution.{TopLevel, Tables, FirstValue}
+use Rattle.types.specs.Resolution.{TopLevel, Tables, FirstValue, heads}
+use Rattle.types.specs.VariableEntries.{VariableEntries, IsInside, IsProcedureInside, optional_label_with}
 
 -- what a function gave is what is found: a value or a refusal, unless memory ran out
 abbrev pub Resolves : {X A : Type 0} → (X → A) → Result X (OrNoMemory TypeRefusal) → Finding A → Type 0
@@ -74,19 +83,42 @@ scalar_use scalar = record { variable = scalar.variable; base = scalar.base }
 abbrev pub array_use : FoundArray → ArrayUse
 array_use array = record { variable = array.variable; base = array.base; size = array.size }
 
+abbrev pub signature_view : CodeSignature → Signature
+signature_view signature = record { parameters = signature.parameters.items; result = signature.result }
+
+abbrev pub top_view : TopNames → TopLevel
+top_view top = record {
+  names = found_in top.names;
+  channels = top.channels;
+  exceptions = top.exceptions;
+  globals = top.globals;
+  signatures = map signature_view top.signatures.items;
+}
+
 -- the locals that a label may name, and else the items
 abbrev pub label_scope_of : LabelPlace → LabelScope
 label_scope_of place = record {
   hierarchy = place.hierarchy.now;
-  names = λ name. or_else (found_in place.locals.now name) (found_in place.top.now name);
-  globals = map global_entry place.globals.now;
-  slots = map slot_entry place.slots.now;
+  names = λ name. or_else (option_and_then (λ locals. found_in locals.now name) place.locals) (found_in place.top.now name);
+  globals = place.variables.now.globals;
+  slots = map (slot_entry place.variables.now.labels) place.slots.now;
 }
+
+-- what the labels of an item may name, where these variables are declared before it
+abbrev pub item_scope : ItemPlace → VariableEntries → LabelScope
+item_scope place variables = heads place.hierarchy.now (top_view place.top.now) variables.globals
 
 -- ---- bodies
 
-abbrev pub signature_view : CodeSignature → Signature
-signature_view signature = record { parameters = signature.parameters.items; result = signature.result }
+-- a parameter or local that is to be declared, where these are the labels
+abbrev pub new_slot_entry : List Label → NewSlot → SlotEntry
+new_slot_entry labels slot = record {
+  base = slot.base;
+  size = slot.size;
+  written = optional_label_with labels slot.label;
+  at = slot.at;
+  name = string_bytes slot.name;
+}
 
 abbrev pub names_of : Body → Environment
 names_of body name = or_else (found_in body.locals name) (found_in body.top.now.names name)
@@ -97,20 +129,25 @@ signatures_of body = map signature_view body.top.now.signatures.items
 abbrev pub setting_of : Body → Setting
 setting_of body = record {
   hierarchy = body.hierarchy.now;
-  globals = map global_entry body.globals.now;
+  globals = body.variables.globals;
   signatures = signatures_of body;
   result = body.result;
 }
 
 abbrev pub point_of : Body → Point
-point_of body = record { names = names_of body; slots = map slot_entry body.slots.items; loops = body.loops }
+point_of body = record { names = names_of body; slots = body.variables.slots; loops = body.loops }
 
--- a later point of the same body: what was declared there is declared still and stands first, and the table of locals says what it
--- said there, but for the names that were declared since
+-- what the labels of the procedure before its body may name
+abbrev pub item_scope_of : Body → LabelScope
+item_scope_of body = heads body.hierarchy.now (top_view body.top.now) body.variables.globals
+
+-- a later point of the same body: what was declared there is declared still and stands first, the table of locals says what it said
+-- there, but for the names that were declared since, and labels keep their numbers
 pub record IsLater (before after : Body) : Type 0 where
   pub hierarchy : after.hierarchy.now ≡ before.hierarchy.now
   pub top : after.top.now ≡ before.top.now
-  pub globals : after.globals.now ≡ before.globals.now
+  pub globals : after.variables.globals ≡ before.variables.globals
+  pub labels : Extends before.variables.labels after.variables.labels
   pub result : after.result ≡ before.result
   pub declared : take (length before.declared.items) after.declared.items ≡ before.declared.items
   pub locals : (name : List ℕ) → found_in before.locals name ≡ without (texts_of (drop (length before.declared.items) after.declared.items)) (found_in after.locals) name
@@ -134,31 +171,32 @@ block_view statements = block_of statements.items
 abbrev pub handlers_view : Vec CodeHandler Global → Handlers
 handlers_view handlers = handlers_of handlers.items
 
-abbrev pub throws_view : Vec Thrown Global → List ThrownEntry
-throws_view throws = map thrown_entry throws.items
+abbrev pub throws_view : List Label → Vec Thrown Global → List ThrownEntry
+throws_view labels throws = map (thrown_entry labels) throws.items
 
 -- ---- programs
 
-abbrev pub top_view : TopNames → TopLevel
-top_view top = record {
-  names = found_in top.names;
-  channels = top.channels;
-  exceptions = top.exceptions;
-  globals = top.globals;
-  signatures = map signature_view top.signatures.items;
-}
-
 abbrev pub tables_view : ItemTables → Tables
 tables_view tables = record {
-  channels = map channel_entry tables.channels.items;
+  channels = map (channel_entry tables.variables.labels) tables.channels.items;
   exceptions = map string_bytes tables.exceptions.items;
-  globals = map global_entry tables.globals.items;
-  procedures = map procedure_entry tables.procedures.items;
+  globals = tables.variables.globals;
+  procedures = map (procedure_entry tables.variables.labels) tables.procedures.items;
 }
 
--- how many slots have been taken and loops begun: never more than there are nodes, so that their numbers have 32 bits
+-- how many labels and slots there are and loops have begun: never more than there are nodes, so that their numbers have 32 bits
 abbrev pub taken : Body → ℕ
-taken body = length body.slots.items + body.loops
+taken body = length body.variables.labels + (length body.variables.slots + body.loops)
+
+-- the cells of these slots
+abbrev pub cells_of_slots : List Slot → ℕ
+cells_of_slots slots = sum_by (λ (slot : Slot). cell_count slot.size) slots
+
+-- each channel and procedure of the tables names labels that there are, and no slot is left
+pub record AreTablesInside (tables : ItemTables) : Type 0 where
+  pub of_channels : All (λ (channel : Channel). IsInside tables.variables.labels channel.label) tables.channels.items
+  pub of_procedures : All (λ (procedure : Procedure). IsProcedureInside tables.variables.labels procedure) tables.procedures.items
+  pub no_slots : tables.variables.slots ≡ []
 
 abbrev pub first_view : Option ℕ × Value → FirstValue
 first_view found = record { size = found.0; first = found.1 }

@@ -2,66 +2,60 @@
 
 ghost use Rattle.types.specs.Finding.{give};
 ghost use Rattle.types.specs.Statements.{label_scope, with_local};
-ghost use Rattle.types.specs.Views.{Resolves, IsLater, found_in, label_scope_of, names_of, point_of, setting_of, signature_view, taken};
-ghost use Rattle.resolved.specs.ProgramOf.{global_entry, slot_entry};
-ghost use Rattle.std.specs.Prelude.{[], None, OnOk, map, ◌+◌, ◌≡◌};
+ghost use Rattle.types.specs.Views.{Resolves, IsLater, found_in, item_scope, item_scope_of, label_scope_of, names_of, new_slot_entry, point_of, setting_of, signature_view, taken};
+ghost use Rattle.std.specs.Prelude.{None, OnOk, length, map, ◌+◌, ◌<◌, ◌≡◌, ◌≤◌};
+ghost use Rattle.syntax.specs.Limits.{most_nodes};
 ghost use Rattle.syntax.specs.Tree.{name_tree};
 
 use crate::fault::TypeFault;
-use crate::label::LabelPlace;
+use crate::label::{ItemPlace, LabelPlace};
 use crate::scope::{Meaning, Names, find, insert};
 use crate::top::TopNames;
+use crate::variables::{DeclaredVariables, NewSlot};
 use principals::Hierarchy;
 use resolved::expression::Base;
-use resolved::tables::{GlobalVariable, Slot};
 use std::alloc::Global;
 use syntax::Name;
 
-/// A point of a body: the names of the top level, the globals that are declared before the procedure, the parameters and locals in
-/// scope, in a table and again in the order in which they were declared, the slots that they and those of blocks that have ended have
-/// taken, and how many loops have begun.
+/// A point of a body: the names of the top level, the globals that are declared before the procedure and the slots that parameters
+/// and locals have taken, also those of blocks that have ended, the parameters and locals in scope, in a table and again in the
+/// order in which they were declared, and how many loops have begun.
 #[derive(Drop)]
 pub struct Body<'a> {
     pub alloc: Global,
     pub hierarchy: &'a Hierarchy,
     pub top: &'a TopNames,
-    pub globals: &'a [GlobalVariable],
+    pub variables: DeclaredVariables,
     pub result: Option<Base>,
     pub locals: Names,
     pub declared: Vec<String>,
-    pub slots: Vec<Slot>,
     pub loops: u32,
 }
 
 impl<'a> Body<'a> {
     /// The point before the first parameter.
-    pub fn new(
-        alloc: Global,
-        hierarchy: &'a Hierarchy,
-        top: &'a TopNames,
-        globals: &'a [GlobalVariable],
-        value: Option<Base>,
-    ) -> Body<'a>
+    pub fn new(place: &ItemPlace<'a>, variables: DeclaredVariables, value: Option<Base>) -> Body<'a>
         ensures setting { setting_of result ≡
             record {
-              hierarchy = hierarchy.now;
-              globals = map global_entry globals.now;
-              signatures = map signature_view top.now.signatures.items;
+              hierarchy = place.now.hierarchy.now;
+              globals = variables.globals;
+              signatures = map signature_view place.now.top.now.signatures.items;
               result = value;
             } }
         ensures point { point_of result ≡
-            record { names = found_in top.now.names; slots = []; loops = 0 } }
-        ensures none { taken result ≡ 0 }
+            record { names = found_in place.now.top.now.names; slots = variables.slots; loops = 0 } }
+        ensures scope { item_scope_of result ≡ item_scope place.now variables }
+        ensures variables { result.variables ≡ variables }
+        ensures taken { taken result ≡ length variables.labels + length variables.slots }
     {
         Body {
-            alloc,
-            hierarchy,
-            top,
-            globals,
+            alloc: place.alloc,
+            hierarchy: place.hierarchy,
+            top: place.top,
+            variables,
             result: value,
-            locals: Names::new(alloc),
-            declared: Vec::new(alloc),
-            slots: Vec::new(alloc),
+            locals: Names::new(place.alloc),
+            declared: Vec::new(place.alloc),
             loops: 0,
         }
     }
@@ -76,30 +70,48 @@ impl<'a> Body<'a> {
 
     /// What the label of a local may name here.
     pub fn label_place(&self) -> LabelPlace<'_>
-        ensures { label_scope_of result ≡ label_scope (setting_of self.now) (point_of self.now) }
+        ensures scope { label_scope_of result ≡
+            label_scope (setting_of self.now) (point_of self.now) }
+        ensures variables { result.variables.now ≡ self.now.variables }
     {
         LabelPlace {
             alloc: self.alloc,
             hierarchy: self.hierarchy,
             top: &self.top.names,
-            globals: self.globals,
-            locals: &self.locals,
-            slots: self.slots.as_slice(),
+            variables: &self.variables,
+            locals: Some(&self.locals),
+            slots: self.variables.slots(),
         }
     }
 
-    /// Declares a parameter or local, which takes the next slot.
-    pub fn declare(&mut self, slot: Slot, meaning: Meaning) -> Result<(), TypeFault>
-        requires fresh { names_of self.old (slot_entry slot).name ≡ None }
+    /// What the label of a parameter may name.
+    pub fn item_label_place(&self) -> LabelPlace<'_>
+        ensures scope { label_scope_of result ≡ item_scope_of self.now }
+        ensures variables { result.variables.now ≡ self.now.variables }
+    {
+        let place = ItemPlace {
+            alloc: self.alloc,
+            hierarchy: self.hierarchy,
+            top: self.top,
+        };
+        place.label_place(&self.variables)
+    }
+
+    /// Declares a parameter or local, which takes the next slot. Precondition: there are fewer labels than a program may have nodes.
+    pub fn declare(&mut self, slot: NewSlot, meaning: Meaning) -> Result<(), TypeFault>
+        requires fresh { names_of self.old (new_slot_entry self.old.variables.labels slot).name ≡
+            None }
+        requires room { length self.old.variables.labels < most_nodes }
         ensures made { Resolves (λ _. point_of self.new) result
-            (give (with_local (point_of self.old) (slot_entry slot) meaning)) }
+            (give (with_local (point_of self.old) (new_slot_entry self.old.variables.labels slot)
+            meaning)) }
         ensures later { OnOk result (IsLater self.old self.new) }
-        ensures grows { OnOk result (taken self.new ≡ taken self.old + 1) }
+        ensures grows { OnOk result (taken self.new ≤ taken self.old + 2) }
     {
         insert(self.alloc, &mut self.locals, slot.name.as_str(), meaning)?;
         let name = String::from_str(self.alloc, slot.name.as_str())?;
         self.declared.push(name)?;
-        self.slots.push(slot)?;
+        self.variables.declare(slot)?;
         Ok(())
     }
 }

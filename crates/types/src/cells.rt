@@ -2,17 +2,17 @@
 
 ghost use Rattle.common.specs.declared.limits.TheConstants.{MAX_CELLS};
 ghost use Rattle.types.specs.Finding.{require};
-ghost use Rattle.types.specs.Resolution.{frame_cells, frames_finding, global_cells, global_cells_finding, next_global_cells};
-ghost use Rattle.types.specs.Views.{Resolves, itself};
-ghost use Rattle.resolved.specs.ProgramOf.{procedure_entry, slot_entry};
+ghost use Rattle.types.specs.Resolution.{frames_finding, global_cells, global_cells_finding, next_global_cells};
+ghost use Rattle.types.specs.Views.{Resolves, cells_of_slots, itself, tables_view};
 ghost use Rattle.resolved.specs.WellFormed.{cell_count};
 ghost use Rattle.std.specs.Prelude.{IfOk, map, nat_le, ◌≡◌, ◌≤◌};
 ghost use Rattle.syntax.specs.Tree.{global_value_tree, item_tree};
 
 use crate::fault::{TypeDefect, TypeFault, TypeRefusal};
+use crate::program::ItemTables;
 use common::OrNoMemory;
 use common::limits::MAX_CELLS;
-use resolved::tables::{Procedure, Slot};
+use resolved::tables::Slot;
 use syntax::{GlobalValue, Item};
 
 fn cells_of_global(value: &GlobalValue) -> u32
@@ -69,7 +69,7 @@ fn cells_of_slot(size: Option<u32>) -> u32
 
 /// Whether a frame of these slots has few enough cells.
 fn fits(slots: &[Slot]) -> bool
-    ensures { result ≡ nat_le (frame_cells (map slot_entry slots.now)) MAX_CELLS }
+    ensures { result ≡ nat_le (cells_of_slots slots.now) MAX_CELLS }
 {
     let mut cells = 0;
     for slot in slots {
@@ -84,10 +84,10 @@ fn fits(slots: &[Slot]) -> bool
 
 /// Refuses the first procedure whose frame has too many cells.
 #[tactic(auto, unfolding(crate::specs::Resolution::frames_finding))]
-pub fn limit_frames(procedures: &[Procedure]) -> Result<(), TypeFault>
-    ensures { Resolves (λ _. tt) result (frames_finding (map procedure_entry procedures.now)) }
+pub fn limit_frames(tables: &ItemTables) -> Result<(), TypeFault>
+    ensures { Resolves (λ _. tt) result (frames_finding (tables_view tables.now).procedures) }
 {
-    for procedure in procedures {
+    for procedure in tables.procedures.as_slice() {
         if !fits(procedure.slots.as_slice()) {
             return Err(OrNoMemory::Refused(TypeRefusal {
                 defect: TypeDefect::TooManyCells,

@@ -2,37 +2,44 @@
 
 ghost use Rattle.types.specs.Resolution as spec;
 ghost use Rattle.types.specs.Resolution.{channel_finding, first_finding, global_finding};
-ghost use Rattle.types.specs.Views.{Resolves, first_view, label_scope_of};
+ghost use Rattle.types.specs.VariableEntries.{HasMoreLabels, IsInside};
+ghost use Rattle.types.specs.Views.{Resolves, first_view, item_scope};
 ghost use Rattle.resolved.specs.ProgramOf.{channel_entry, global_entry};
 ghost use Rattle.resolved.specs.Value.{zero_value};
-ghost use Rattle.std.specs.Prelude.{◌≡◌};
+ghost use Rattle.std.specs.Prelude.{IfOk, OnOk, length, ◌<◌, ◌≡◌};
+ghost use Rattle.syntax.specs.Limits.{most_nodes};
 ghost use Rattle.syntax.specs.Tree.{channel_tree, constant_tree, global_tree, global_value_tree};
 ghost use Rattle.syntax.specs.Written.{Anywhere, IsInteger, IsNameWithin, IsWrittenConstant, IsWrittenGlobalValue};
 ghost use Rattle.common.specs.declared.limits.TheConstants.{MAX_TEXT};
 
 use crate::fault::{TypeDefect, TypeFault, TypeRefusal};
-use crate::label::LabelPlace;
+use crate::label::ItemPlace;
 use crate::operator::{base_of, is_same};
 use crate::statement::resolve_size;
+use crate::variables::DeclaredVariables;
 use common::OrNoMemory;
 use resolved::expression::{Base, Value};
 use resolved::tables::{Channel, GlobalVariable};
 use syntax::{Constant, GlobalValue};
 
-/// Resolves the declaration of a channel.
+/// Resolves the declaration of a channel. Precondition: there are fewer labels than a program may have nodes.
 ///
 /// # Errors
 ///
 /// 301, 303, 305 and 403 in its label; or out of memory.
 #[tactic(auto, unfolding(crate::specs::Resolution::channel_finding))]
 pub fn resolve_channel(
-    place: &LabelPlace<'_>,
+    place: &ItemPlace<'_>,
+    variables: &mut DeclaredVariables,
     written: &syntax::Channel,
 ) -> Result<Channel, TypeFault>
-    ensures { Resolves channel_entry result
-        (channel_finding (label_scope_of place.now) (channel_tree written.now)) }
+    requires room { length variables.old.labels < most_nodes }
+    ensures made { Resolves (λ channel. channel_entry variables.new.labels channel) result
+        (channel_finding (item_scope place.now variables.old) (channel_tree written.now)) }
+    ensures inside { IfOk result (λ channel. IsInside variables.new.labels channel.label) }
+    ensures more { OnOk result (HasMoreLabels 1 variables.old variables.new) }
 {
-    let label = place.resolve(&written.label)?;
+    let label = place.add_label(variables, &written.label)?;
     Ok(Channel {
         direction: written.direction,
         name: String::from_str(place.alloc, written.name.text.as_str())?,
@@ -104,7 +111,8 @@ fn resolve_first_value(base: Base, value: &GlobalValue) -> Result<(Option<u32>, 
     }
 }
 
-/// Resolves the declaration of a global. Precondition: its integers are at most 2147483647.
+/// Resolves the declaration of a global. Preconditions: its integers are at most 2147483647, and there are fewer labels than a
+/// program may have nodes.
 ///
 /// # Errors
 ///
@@ -112,15 +120,19 @@ fn resolve_first_value(base: Base, value: &GlobalValue) -> Result<(Option<u32>, 
 /// 703 where it is an array of another length than 1 to 65,536; or out of memory.
 #[tactic(auto, unfolding(crate::specs::Resolution::global_finding))]
 pub fn resolve_global(
-    place: &LabelPlace<'_>,
+    place: &ItemPlace<'_>,
+    variables: &mut DeclaredVariables,
     written: &syntax::GlobalVariable,
 ) -> Result<GlobalVariable, TypeFault>
     requires small { IsWrittenGlobalValue Anywhere (IsNameWithin MAX_TEXT) IsInteger
         (global_value_tree written.now.value) }
-    ensures { Resolves global_entry result
-        (global_finding (label_scope_of place.now) (global_tree written.now)) }
+    requires room { length variables.old.labels < most_nodes }
+    ensures made { Resolves (λ global. global_entry variables.new.labels global) result
+        (global_finding (item_scope place.now variables.old) (global_tree written.now)) }
+    ensures inside { IfOk result (λ global. IsInside variables.new.labels global.label) }
+    ensures more { OnOk result (HasMoreLabels 1 variables.old variables.new) }
 {
-    let label = place.resolve(&written.label)?;
+    let label = place.add_label(variables, &written.label)?;
     let base = base_of(written.base);
     let (size, first) = resolve_first_value(base, &written.value)?;
     Ok(GlobalVariable {

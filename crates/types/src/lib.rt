@@ -16,6 +16,7 @@ mod program;
 mod scope;
 mod statement;
 mod top;
+mod variables;
 
 pub use fault::{TypeDefect, TypeFault, TypeRefusal};
 pub use program::resolve;

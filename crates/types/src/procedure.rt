@@ -1,38 +1,44 @@
 //! Procedures.
 
 ghost use Rattle.indexmap.specs.IndexSet.{contains};
+ghost use Rattle.labels.specs.LabelTable.{label_at};
 ghost use Rattle.types.specs.Finding.{along};
-ghost use Rattle.types.specs.Resolution.{begin_label_of, end_label_of, heads, is_thrown, joined_all, next_parameter, next_thrown, procedure_entry_finding, result_finding, throws_finding};
-ghost use Rattle.types.specs.Views.{Resolves, IsLater, label_scope_of, point_of, taken, throws_view, top_view};
-ghost use Rattle.resolved.specs.ProgramOf.{global_entry, procedure_entry, result_entry, thrown_entry};
-ghost use Rattle.std.specs.Prelude.{IfOk, OnOk, length, map, nat_eq, ◌+◌, ◌<◌, ◌≡◌, ℕ};
+ghost use Rattle.types.specs.Resolution.{begin_label_of, end_label_of, is_thrown, joined_all, next_parameter, next_thrown, procedure_entry_finding, result_finding, throws_finding};
+ghost use Rattle.types.specs.VariableEntries.{AreThrownInside, HasMoreLabels, IsInside, IsOptionInside, IsProcedureInside, IsResultInside};
+ghost use Rattle.types.specs.Views.{Resolves, IsLater, item_scope, item_scope_of, point_of, taken, throws_view, top_view};
+ghost use Rattle.resolved.specs.ProgramOf.{procedure_entry, result_entry, thrown_entry, written_at};
+ghost use Rattle.std.specs.Prelude.{[], IfOk, OnOk, length, map, nat_eq, ◌+◌, ◌*◌, ◌<◌, ◌≡◌, ◌≤◌, ℕ};
 ghost use Rattle.syntax.specs.Limits.{most_nodes};
-ghost use Rattle.syntax.specs.Nodes.{procedure_nodes};
+ghost use Rattle.syntax.specs.Nodes.{optional_label_nodes, procedure_nodes, written_result_nodes};
 ghost use Rattle.syntax.specs.Tree.{written_result_tree, parameter_tree, procedure_tree, thrown_tree};
 
 use crate::body::Body;
 use crate::fault::{TypeDefect, TypeFault, TypeRefusal};
-use crate::label::{LabelPlace, add_policies};
+use crate::label::ItemPlace;
 use crate::operator::base_of;
-use crate::scope::{Meaning, Names, require_exception, require_fresh};
-use crate::top::{TopNames, result_of};
+use crate::scope::{Meaning, find, require_exception, require_fresh};
+use crate::top::result_of;
+use crate::variables::{DeclaredVariables, LabelParts};
 use common::OrNoMemory;
 use indexmap::IndexSet;
-use labels::Label;
-use principals::Hierarchy;
 use resolved::expression::Variable;
-use resolved::tables::{GlobalVariable, Procedure, ResultType, Thrown};
+use resolved::tables::{Procedure, ResultType, Thrown};
 use std::alloc::{AllocError, Global};
 use syntax::{Parameter, WrittenResult};
 
-/// The value of a procedure, if it gives one, with its label.
+/// The value of a procedure, if it gives one, with the number of its label.
 #[tactic(auto, unfolding(crate::specs::Resolution::result_finding))]
 fn resolve_result(
-    place: &LabelPlace<'_>,
+    place: &ItemPlace<'_>,
+    variables: &mut DeclaredVariables,
     written: &WrittenResult,
 ) -> Result<Option<ResultType>, TypeFault>
-    ensures { Resolves result_entry result
-        (result_finding (label_scope_of place.now) (written_result_tree written.now)) }
+    requires room { length variables.old.labels < most_nodes }
+    ensures made { Resolves (λ value. result_entry variables.new.labels value) result
+        (result_finding (item_scope place.now variables.old) (written_result_tree written.now)) }
+    ensures more { OnOk result (HasMoreLabels
+        (written_result_nodes (written_result_tree written.now)) variables.old variables.new) }
+    ensures inside { IfOk result (λ value. IsResultInside variables.new.labels value) }
 {
     match written {
         WrittenResult::Nothing => Ok(None),
@@ -40,7 +46,7 @@ fn resolve_result(
             base,
             label: written,
         } => {
-            let label = place.resolve(written)?;
+            let label = place.add_label(variables, written)?;
             Ok(Some(ResultType {
                 base: base_of(*base),
                 label,
@@ -51,42 +57,34 @@ fn resolve_result(
 
 impl<'a> Body<'a> {
     /// Declares the next parameter.
-    fn declare_parameter(
-        &mut self,
-        place: &LabelPlace<'_>,
-        written: &Parameter,
-    ) -> Result<(), TypeFault>
+    fn declare_parameter(&mut self, written: &Parameter) -> Result<(), TypeFault>
         requires room { taken self.old < most_nodes }
         ensures made { Resolves (λ _. point_of self.new) result
-            (next_parameter (label_scope_of place.now) (point_of self.old)
+            (next_parameter (item_scope_of self.old) (point_of self.old)
             (parameter_tree written.now)) }
         ensures later { OnOk result (IsLater self.old self.new) }
-        ensures grows { OnOk result (taken self.new ≡ taken self.old + 1) }
+        ensures grows { OnOk result (taken self.new ≤ taken self.old + 2) }
     {
-        let label = place.resolve(&written.label)?;
+        let label = self.item_label_place().resolve(&written.label)?;
         require_fresh(self.look_up(&written.name), written.name.at)?;
         let base = base_of(written.base);
-        let variable = Variable::Local(self.slots.len() as u32);
+        let variable = Variable::Local(self.variables.slots().len() as u32);
         let slot = self.make_slot(written.at, base, None, Some(label), &written.name)?;
         self.declare(slot, Meaning::Scalar(variable, base))?;
         Ok(())
     }
 
     /// Declares parameters.
-    fn declare_parameters(
-        &mut self,
-        place: &LabelPlace<'_>,
-        written: &[Parameter],
-    ) -> Result<(), TypeFault>
-        requires room { taken self.old + length written.now < most_nodes }
+    fn declare_parameters(&mut self, written: &[Parameter]) -> Result<(), TypeFault>
+        requires room { taken self.old + 2 * length written.now < most_nodes }
         ensures made { Resolves (λ _. point_of self.new) result
-            (along (next_parameter (label_scope_of place.now)) (point_of self.old)
+            (along (next_parameter (item_scope_of self.old)) (point_of self.old)
             (map parameter_tree written.now)) }
         ensures later { OnOk result (IsLater self.old self.new) }
-        ensures grows { OnOk result (taken self.new ≡ taken self.old + length written.now) }
+        ensures grows { OnOk result (taken self.new ≤ taken self.old + 2 * length written.now) }
     {
         for one in written {
-            self.declare_parameter(place, one)?;
+            self.declare_parameter(one)?;
         }
         Ok(())
     }
@@ -94,28 +92,34 @@ impl<'a> Body<'a> {
 
 /// Puts an exception that a procedure declares behind those that are named before it, which are the ones of the set.
 fn add_thrown(
-    place: &LabelPlace<'_>,
+    place: &ItemPlace<'_>,
+    variables: &mut DeclaredVariables,
     seen: &mut IndexSet<u32>,
     throws: &mut Vec<Thrown>,
     written: &syntax::Thrown,
 ) -> Result<(), TypeFault>
+    requires room { length variables.old.labels < most_nodes }
     requires same { (number : ℕ) → contains nat_eq seen.old number ≡
-        is_thrown (throws_view throws.old) number }
-    ensures made { Resolves (λ _. throws_view throws.new) result
-        (next_thrown (label_scope_of place.now) (throws_view throws.old)
-        (thrown_tree written.now)) }
+        is_thrown (throws_view variables.old.labels throws.old) number }
+    requires inside { AreThrownInside variables.old.labels throws.old.items }
+    ensures made { Resolves (λ _. throws_view variables.new.labels throws.new) result
+        (next_thrown (item_scope place.now variables.old)
+        (throws_view variables.old.labels throws.old) (thrown_tree written.now)) }
     ensures same { OnOk result ((number : ℕ) → contains nat_eq seen.new number ≡
-        is_thrown (throws_view throws.new) number) }
+        is_thrown (throws_view variables.new.labels throws.new) number) }
+    ensures inside { OnOk result (AreThrownInside variables.new.labels throws.new.items) }
+    ensures more { OnOk result (HasMoreLabels 1 variables.old variables.new) }
 {
     let name = &written.name;
-    let number = require_exception(place.look_up(name), name.at)?;
+    let found = find(&place.top.names, name.text.as_str());
+    let number = require_exception(found, name.at)?;
     if !seen.insert(number)? {
         return Err(OrNoMemory::Refused(TypeRefusal {
             defect: TypeDefect::DeclaredTwice,
             at: name.at,
         }));
     }
-    let label = place.resolve(&written.label)?;
+    let label = place.add_label(variables, &written.label)?;
     throws.push(Thrown {
         exception: number,
         label,
@@ -126,61 +130,92 @@ fn add_thrown(
 /// The exceptions that a procedure declares in `throws`.
 #[tactic(auto, unfolding(crate::specs::Resolution::throws_finding))]
 fn resolve_throws(
-    place: &LabelPlace<'_>,
+    place: &ItemPlace<'_>,
+    variables: &mut DeclaredVariables,
     written: &[syntax::Thrown],
 ) -> Result<Vec<Thrown>, TypeFault>
-    ensures { Resolves throws_view result
-        (throws_finding (label_scope_of place.now) (map thrown_tree written.now)) }
+    requires room { length variables.old.labels + length written.now < most_nodes }
+    ensures made { Resolves (λ throws. throws_view variables.new.labels throws) result
+        (throws_finding (item_scope place.now variables.old) (map thrown_tree written.now)) }
+    ensures inside { IfOk result (λ throws.
+        AreThrownInside variables.new.labels throws.items) }
+    ensures more { OnOk result (HasMoreLabels (length written.now) variables.old variables.new) }
 {
     let mut seen = IndexSet::new(place.alloc);
     let mut throws = Vec::new(place.alloc);
     for one in written {
-        add_thrown(place, &mut seen, &mut throws, one)?;
+        add_thrown(place, variables, &mut seen, &mut throws, one)?;
     }
     Ok(throws)
 }
 
 /// The begin label of a procedure.
-fn make_begin_label(alloc: Global, written: Option<Label>) -> Label
-    ensures { result ≡ begin_label_of written }
+fn make_begin_label(variables: &DeclaredVariables, written: Option<u32>) -> u32
+    requires inside { IsOptionInside variables.now.labels written }
+    ensures label { label_at variables.now.labels result ≡
+        begin_label_of (written_at variables.now.labels written) }
+    ensures inside { IsInside variables.now.labels result }
 {
     match written {
         Some(label) => label,
-        None => Label::least(alloc),
+        None => variables.least_label(),
     }
 }
 
-/// A label joined by those of exceptions. The policies of all are put in order once, so that many exceptions take no longer than
-/// their labels are long.
-fn join_all(alloc: Global, first: &Label, throws: &[Thrown]) -> Result<Label, AllocError>
-    ensures { IfOk result (λ label. label ≡ joined_all first.now (map thrown_entry throws.now)) }
+/// A label joined by those of exceptions. It is held by the numbers of all these labels, so that many exceptions take no longer than
+/// there are.
+fn join_all(
+    alloc: Global,
+    variables: &mut DeclaredVariables,
+    first: u32,
+    throws: &[Thrown],
+) -> Result<u32, AllocError>
+    requires room { length variables.old.labels < most_nodes }
+    requires inside { IsInside variables.old.labels first }
+    ensures label { IfOk result (λ number. label_at variables.new.labels number ≡
+        joined_all (label_at variables.old.labels first)
+        (map (thrown_entry variables.old.labels) throws.now)) }
+    ensures inside { IfOk result (λ number. IsInside variables.new.labels number) }
+    ensures more { OnOk result (HasMoreLabels 1 variables.old variables.new) }
 {
-    let mut policies = Vec::new(alloc);
-    add_policies(&mut policies, first)?;
-    for thrown in throws {
-        add_policies(&mut policies, &thrown.label)?;
+    if throws.is_empty() {
+        return Ok(first);
     }
-    Ok(Label::written(policies))
+    let mut named = Vec::new(alloc);
+    named.push(first)?;
+    for thrown in throws {
+        named.push(thrown.label)?;
+    }
+    Ok(variables.add_label(LabelParts::of(Vec::new(alloc), named))?)
 }
 
 /// The end label of a procedure.
 fn make_end_label(
     alloc: Global,
-    written: Option<Label>,
-    begin: &Label,
+    variables: &mut DeclaredVariables,
+    written: Option<u32>,
+    begin: u32,
     throws: &[Thrown],
-) -> Result<Label, AllocError>
-    ensures { IfOk result (λ label. label ≡
-        end_label_of written begin.now (map thrown_entry throws.now)) }
+) -> Result<u32, AllocError>
+    requires room { length variables.old.labels < most_nodes }
+    requires written { IsOptionInside variables.old.labels written }
+    requires begin { IsInside variables.old.labels begin }
+    ensures label { IfOk result (λ number. label_at variables.new.labels number ≡
+        end_label_of (written_at variables.old.labels written)
+        (label_at variables.old.labels begin)
+        (map (thrown_entry variables.old.labels) throws.now)) }
+    ensures inside { IfOk result (λ number. IsInside variables.new.labels number) }
+    ensures more { OnOk result (HasMoreLabels 1 variables.old variables.new) }
 {
     match written {
         Some(label) => Ok(label),
-        None => join_all(alloc, begin, throws),
+        None => join_all(alloc, variables, begin, throws),
     }
 }
 
-/// Resolves a procedure with its body. A begin label that is left out is the least one; an end label that is left out is the join
-/// of the begin label and of the labels of the declared exceptions. Precondition: it has fewer nodes than a program may have.
+/// Resolves a procedure with its body, behind the variables that are declared before it. A begin label that is left out is the least
+/// one; an end label that is left out is the join of the begin label and of the labels of the declared exceptions. Precondition: it
+/// has fewer nodes than a program may have beside the labels that there are.
 ///
 /// # Errors
 ///
@@ -188,39 +223,48 @@ fn make_end_label(
 /// exceptions and the statements of its body: 301 to 303, 305, 401 to 403 or 703; or out of memory. The cells of its frame are not
 /// counted here.
 #[tactic(auto, unfolding(crate::specs::Resolution::procedure_entry_finding))]
-pub fn resolve_procedure<'a>(
-    alloc: Global,
-    hierarchy: &'a Hierarchy,
-    top: &'a TopNames,
-    globals: &'a [GlobalVariable],
+pub fn resolve_procedure(
+    place: &ItemPlace<'_>,
+    variables: DeclaredVariables,
     written: &syntax::Procedure,
-) -> Result<Procedure, TypeFault>
-    requires room { procedure_nodes (procedure_tree written.now) < most_nodes }
-    ensures { Resolves procedure_entry result (procedure_entry_finding
-        (heads hierarchy.now (top_view top.now) (map global_entry globals.now))
-        (top_view top.now).signatures (procedure_tree written.now)) }
+) -> Result<(DeclaredVariables, Procedure), TypeFault>
+    requires none { variables.slots ≡ [] }
+    requires room { length variables.labels + procedure_nodes (procedure_tree written.now) ≤
+        most_nodes }
+    ensures made { Resolves (λ found. procedure_entry found.0.labels found.1) result
+        (procedure_entry_finding (item_scope place.now variables)
+        (top_view place.now.top.now).signatures (procedure_tree written.now)) }
+    ensures inside { IfOk result (λ found. IsProcedureInside found.0.labels found.1) }
+    ensures more { IfOk result (λ found.
+        HasMoreLabels (procedure_nodes (procedure_tree written.now)) variables found.0) }
 {
-    let no_locals = Names::new(alloc);
-    let place = LabelPlace::of_item(alloc, hierarchy, top, globals, &no_locals);
-    let value = resolve_result(&place, &written.result)?;
-    let begin = place.resolve_optional(&written.begin)?;
-    let mut body = Body::new(alloc, hierarchy, top, globals, result_of(&written.result));
-    body.declare_parameters(&place, &written.parameters)?;
-    let end = place.resolve_optional(&written.end)?;
-    let throws = resolve_throws(&place, &written.throws)?;
+    let mut variables = variables;
+    let value = resolve_result(place, &mut variables, &written.result)?;
+    let begin = place.add_optional_label(&mut variables, &written.begin)?;
+    let begin_label = make_begin_label(&variables, begin);
+    let mut body = Body::new(place, variables, result_of(&written.result));
+    body.declare_parameters(&written.parameters)?;
+    let end = place.add_optional_label(&mut body.variables, &written.end)?;
+    let throws = resolve_throws(place, &mut body.variables, &written.throws)?;
+    let end_label = make_end_label(place.alloc, &mut body.variables, end, begin_label, &throws)?;
     let statements = body.resolve_block(&written.body)?;
-    let begin_label = make_begin_label(alloc, begin);
-    let end_label = make_end_label(alloc, end, &begin_label, &throws)?;
-    Ok(Procedure {
+    let Body {
+        mut variables,
+        loops,
+        ..
+    } = body;
+    let slots = variables.take_slots(place.alloc);
+    let procedure = Procedure {
         at: written.name.at,
-        name: String::from_str(alloc, written.name.text.as_str())?,
+        name: String::from_str(place.alloc, written.name.text.as_str())?,
         result: value,
         begin_label,
         end_label,
         throws,
         parameters: written.parameters.len() as u32,
-        slots: body.slots,
-        loops: body.loops,
+        slots,
+        loops,
         body: statements,
-    })
+    };
+    Ok((variables, procedure))
 }

@@ -3,10 +3,9 @@
 ghost use Rattle.common.specs.Answers.{IfRefused};
 ghost use Rattle.types.specs.Finding.{IsRefusalOf, give};
 ghost use Rattle.types.specs.Resolution.{items_finding, main_finding, next_item, no_tables, program_with, resolution};
-ghost use Rattle.types.specs.Views.{Resolves, itself, tables_view, top_view};
+ghost use Rattle.types.specs.Views.{Resolves, AreTablesInside, itself, tables_view, top_view};
 ghost use Rattle.resolved.specs.CoreOf.{program_of};
-ghost use Rattle.resolved.specs.ProgramOf.{procedure_entry};
-ghost use Rattle.std.specs.Prelude.{All, IfErr, IfOk, map, sum_by, ◌<◌, ◌≡◌};
+ghost use Rattle.std.specs.Prelude.{All, IfErr, IfOk, length, map, sum_by, ◌+◌, ◌<◌, ◌≡◌, ◌≤◌};
 ghost use Rattle.syntax.specs.Limits.{IsOfText, most_nodes};
 ghost use Rattle.syntax.specs.Nodes.{item_nodes};
 ghost use Rattle.syntax.specs.Tree.{item_tree, program_tree};
@@ -16,93 +15,99 @@ ghost use Rattle.common.specs.declared.limits.TheConstants.{MAX_TEXT};
 use crate::cells::{count_global_cells, limit_frames};
 use crate::fault::{TypeDefect, TypeFault, TypeRefusal};
 use crate::item::{resolve_channel, resolve_global};
-use crate::label::LabelPlace;
+use crate::label::ItemPlace;
 use crate::procedure::resolve_procedure;
-use crate::scope::{Meaning, Names, find};
+use crate::scope::{Meaning, find};
 use crate::top::TopNames;
+use crate::variables::DeclaredVariables;
 use common::OrNoMemory;
 use common::limits::MAX_PRINCIPALS;
 use principals::Hierarchy;
 use resolved::program::Core;
-use resolved::tables::{Channel, GlobalVariable, Procedure};
-use std::alloc::Global;
+use resolved::tables::{Channel, Procedure};
+use std::alloc::{AllocError, Global};
 use syntax::{Item, Program};
 
 /// The tables of a program.
 #[derive(Drop)]
 pub struct ItemTables {
+    pub variables: DeclaredVariables,
     pub channels: Vec<Channel>,
     pub exceptions: Vec<String>,
-    pub globals: Vec<GlobalVariable>,
     pub procedures: Vec<Procedure>,
 }
 
 impl ItemTables {
-    fn empty(alloc: Global) -> ItemTables
-        ensures { tables_view result ≡ no_tables }
+    fn empty(alloc: Global) -> Result<ItemTables, AllocError>
+        ensures none { IfOk result (λ tables. tables_view tables ≡ no_tables) }
+        ensures inside { IfOk result AreTablesInside }
+        ensures few { IfOk result (λ tables. length tables.variables.labels ≡ 1) }
     {
-        ItemTables {
+        Ok(ItemTables {
+            variables: DeclaredVariables::new(alloc)?,
             channels: Vec::new(alloc),
             exceptions: Vec::new(alloc),
-            globals: Vec::new(alloc),
             procedures: Vec::new(alloc),
-        }
+        })
     }
 
     /// Puts the entry of the next item behind the others of its kind.
     #[tactic(auto, unfolding(crate::specs::Resolution::next_item))]
-    fn add(
-        &mut self,
-        alloc: Global,
-        hierarchy: &Hierarchy,
-        top: &TopNames,
-        item: &Item,
-    ) -> Result<(), TypeFault>
+    fn with_item(self, place: &ItemPlace<'_>, item: &Item) -> Result<ItemTables, TypeFault>
         requires written { IsWrittenItem Anywhere (IsNameWithin MAX_TEXT) IsInteger
             (item_tree item.now) }
-        requires room { item_nodes (item_tree item.now) < most_nodes }
-        ensures { Resolves (λ _. tables_view self.new) result
-            (next_item hierarchy.now (top_view top.now) (tables_view self.old)
+        requires inside { AreTablesInside self }
+        requires room { length self.variables.labels + item_nodes (item_tree item.now) ≤
+            most_nodes }
+        ensures made { Resolves tables_view result
+            (next_item place.now.hierarchy.now (top_view place.now.top.now) (tables_view self)
             (item_tree item.now)) }
+        ensures inside { IfOk result AreTablesInside }
+        ensures few { IfOk result (λ tables. length tables.variables.labels ≤
+            length self.variables.labels + item_nodes (item_tree item.now)) }
     {
-        let no_locals = Names::new(alloc);
-        let globals = self.globals.as_slice();
-        let place = LabelPlace::of_item(alloc, hierarchy, top, globals, &no_locals);
+        let ItemTables {
+            mut variables,
+            mut channels,
+            mut exceptions,
+            mut procedures,
+        } = self;
         match item {
-            Item::Channel(one) => self.channels.push(resolve_channel(&place, one)?)?,
+            Item::Channel(one) => channels.push(resolve_channel(place, &mut variables, one)?)?,
             Item::Exception { name, .. } => {
-                self.exceptions
-                    .push(String::from_str(alloc, name.text.as_str())?)?
+                exceptions.push(String::from_str(place.alloc, name.text.as_str())?)?
             }
             Item::Global(one) => {
-                let global = resolve_global(&place, one)?;
-                self.globals.push(global)?;
+                let global = resolve_global(place, &mut variables, one)?;
+                variables.push_global(global)?;
             }
             Item::Procedure(one) => {
-                self.procedures
-                    .push(resolve_procedure(alloc, hierarchy, top, globals, one)?)?
+                let (after, procedure) = resolve_procedure(place, variables, one)?;
+                variables = after;
+                procedures.push(procedure)?;
             }
         }
-        Ok(())
+        Ok(ItemTables {
+            variables,
+            channels,
+            exceptions,
+            procedures,
+        })
     }
 
     /// The tables of these items, each kind in the order of the text.
     #[tactic(auto, unfolding(crate::specs::Resolution::items_finding))]
-    pub fn of(
-        alloc: Global,
-        hierarchy: &Hierarchy,
-        top: &TopNames,
-        items: &[Item],
-    ) -> Result<ItemTables, TypeFault>
+    pub fn of(place: &ItemPlace<'_>, items: &[Item]) -> Result<ItemTables, TypeFault>
         requires written { All (IsWrittenItem Anywhere (IsNameWithin MAX_TEXT) IsInteger)
             (map item_tree items.now) }
         requires room { sum_by item_nodes (map item_tree items.now) < most_nodes }
         ensures { Resolves tables_view result
-            (items_finding hierarchy.now (top_view top.now) (map item_tree items.now)) }
+            (items_finding place.now.hierarchy.now (top_view place.now.top.now)
+            (map item_tree items.now)) }
     {
-        let mut tables = ItemTables::empty(alloc);
+        let mut tables = ItemTables::empty(place.alloc)?;
         for item in items {
-            tables.add(alloc, hierarchy, top, item)?;
+            tables = tables.with_item(place, item)?;
         }
         Ok(tables)
     }
@@ -110,8 +115,8 @@ impl ItemTables {
 
 /// The number of the procedure at which a run begins.
 #[tactic(auto, unfolding(crate::specs::Resolution::main_finding))]
-pub fn find_main(found: Option<Meaning>, procedures: &[Procedure]) -> Result<u32, TypeFault>
-    ensures { Resolves itself result (main_finding found (map procedure_entry procedures.now)) }
+pub fn find_main(found: Option<Meaning>, tables: &ItemTables) -> Result<u32, TypeFault>
+    ensures { Resolves itself result (main_finding found (tables_view tables.now).procedures) }
 {
     let Some(Meaning::Procedure(number)) = found else {
         return Err(OrNoMemory::Refused(TypeRefusal {
@@ -119,7 +124,7 @@ pub fn find_main(found: Option<Meaning>, procedures: &[Procedure]) -> Result<u32
             at: 0,
         }));
     };
-    let Some(procedure) = procedures.get(number as usize) else {
+    let Some(procedure) = tables.procedures.get(number as usize) else {
         return Err(OrNoMemory::Refused(TypeRefusal {
             defect: TypeDefect::NoProperMain,
             at: 0,
@@ -149,10 +154,15 @@ fn resolve_tables(
         (resolution hierarchy.now (program_tree items.now)) }
 {
     let top = TopNames::of(alloc, items)?;
-    let tables = ItemTables::of(alloc, hierarchy, &top, items)?;
-    let main = find_main(find(&top.names, "main"), tables.procedures.as_slice())?;
+    let place = ItemPlace {
+        alloc,
+        hierarchy,
+        top: &top,
+    };
+    let tables = ItemTables::of(&place, items)?;
+    let main = find_main(find(&top.names, "main"), &tables)?;
     count_global_cells(items)?;
-    limit_frames(tables.procedures.as_slice())?;
+    limit_frames(&tables)?;
     Ok((tables, main))
 }
 
@@ -179,12 +189,20 @@ pub fn resolve(alloc: Global, program: Program, hierarchy: &Hierarchy) -> Result
 {
     prove!(hierarchy.count() <= MAX_PRINCIPALS);
     let (tables, main) = resolve_tables(alloc, hierarchy, program.items())?;
+    let ItemTables {
+        variables,
+        channels,
+        exceptions,
+        procedures,
+    } = tables;
+    let (labels, globals) = variables.into_tables();
     Ok(Core {
         hierarchy: hierarchy.clone()?,
-        channels: tables.channels,
-        exceptions: tables.exceptions,
-        globals: tables.globals,
-        procedures: tables.procedures,
+        labels,
+        channels,
+        exceptions,
+        globals,
+        procedures,
         main,
     })
 }

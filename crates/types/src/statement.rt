@@ -2,10 +2,10 @@
 
 ghost use Rattle.types.specs.Statements as spec;
 ghost use Rattle.types.specs.Statements.{arguments_finding, assign_finding, assigned_finding, call_finding, call_statement_finding, declare_array_finding, declare_finding, receive_finding, return_finding, send_finding, size_finding, store_finding, throw_finding};
-ghost use Rattle.types.specs.Views.{Resolves, IsLater, at_point, call_use, expressions_of, itself, names_of, point_of, setting_of, signatures_of, taken};
-ghost use Rattle.resolved.specs.ProgramOf.{slot_entry};
+ghost use Rattle.types.specs.VariableEntries.{optional_label_with};
+ghost use Rattle.types.specs.Views.{Resolves, IsLater, at_point, call_use, expressions_of, itself, names_of, new_slot_entry, point_of, setting_of, signatures_of, taken};
 ghost use Rattle.resolved.specs.TreeOf.{statement_of};
-ghost use Rattle.std.specs.Prelude.{IfOk, OnOk, map, ◌+◌, ◌<◌, ◌≡◌};
+ghost use Rattle.std.specs.Prelude.{IfOk, OnOk, map, ◌+◌, ◌<◌, ◌≡◌, ◌≤◌};
 ghost use Rattle.syntax.specs.Limits.{most_nodes};
 ghost use Rattle.syntax.specs.Tree.{call_tree, expression_tree, name_tree, optional_expression_tree, optional_label_tree, right_tree, size_tree};
 
@@ -16,12 +16,11 @@ use crate::scope::{
     Meaning, require_array, require_exception, require_fresh, require_input, require_output,
     require_procedure, require_scalar,
 };
+use crate::variables::{LabelParts, NewSlot};
 use common::OrNoMemory;
 use common::limits::MAX_ELEMENTS;
-use labels::Label;
 use resolved::expression::{Base, Expression, Variable};
 use resolved::statement::{Exit, Statement};
-use resolved::tables::Slot;
 use std::alloc::AllocError;
 use syntax::{Call, Name, RightSide, Size, WrittenLabel};
 
@@ -153,29 +152,29 @@ impl<'a> Body<'a> {
         at: usize,
         base: Base,
         size: Option<u32>,
-        written: Option<Label>,
+        label: Option<LabelParts>,
         name: &Name,
-    ) -> Result<Slot, AllocError>
-        ensures { IfOk result (λ slot. slot_entry slot ≡
+    ) -> Result<NewSlot, AllocError>
+        ensures { IfOk result (λ slot. new_slot_entry self.now.variables.labels slot ≡
             record {
               base = base;
               size = size;
-              written = written;
+              written = optional_label_with self.now.variables.labels label;
               at = at;
               name = (name_tree name.now).text;
             }) }
     {
-        Ok(Slot {
+        Ok(NewSlot {
             base,
             size,
-            written,
+            label,
             at,
             name: String::from_str(self.alloc, name.text.as_str())?,
         })
     }
 
     /// Resolves the declaration of a local with its first value. The local takes the next slot, and is not yet in scope in that
-    /// value. Precondition: fewer slots and loops are taken than a program may have nodes.
+    /// value. Precondition: there are fewer labels, slots and loops than a program may have nodes.
     ///
     /// # Errors
     ///
@@ -195,11 +194,11 @@ impl<'a> Body<'a> {
             (declare_finding (setting_of self.old) (point_of self.old) at base
             (optional_label_tree label.now) (name_tree name.now) (right_tree value.now)) }
         ensures later { OnOk result (IsLater self.old self.new) }
-        ensures grows { OnOk result (taken self.new ≡ taken self.old + 1) }
+        ensures grows { OnOk result (taken self.new ≤ taken self.old + 2) }
     {
         let written = self.label_place().resolve_optional(label)?;
         require_fresh(self.look_up(name), name.at)?;
-        let variable = Variable::Local(self.slots.len() as u32);
+        let variable = Variable::Local(self.variables.slots().len() as u32);
         let statement = self.resolve_right_side(at, variable, base, value)?;
         let slot = self.make_slot(at, base, None, written, name)?;
         self.declare(slot, Meaning::Scalar(variable, base))?;
@@ -207,7 +206,7 @@ impl<'a> Body<'a> {
     }
 
     /// Resolves the declaration of a local that is an array. The local takes the next slot.
-    /// Precondition: fewer slots and loops are taken than a program may have nodes.
+    /// Precondition: there are fewer labels, slots and loops than a program may have nodes.
     ///
     /// # Errors
     ///
@@ -227,12 +226,12 @@ impl<'a> Body<'a> {
             (declare_array_finding (setting_of self.old) (point_of self.old) at base
             (optional_label_tree written.now) (name_tree name.now) (size_tree size)) }
         ensures later { OnOk result (IsLater self.old self.new) }
-        ensures grows { OnOk result (taken self.new ≡ taken self.old + 1) }
+        ensures grows { OnOk result (taken self.new ≤ taken self.old + 2) }
     {
         let label = self.label_place().resolve_optional(written)?;
         require_fresh(self.look_up(name), name.at)?;
         let length = resolve_size(size)?;
-        let number = self.slots.len() as u32;
+        let number = self.variables.slots().len() as u32;
         let slot = self.make_slot(at, base, Some(length), label, name)?;
         self.declare(slot, Meaning::Array(Variable::Local(number), base, length))?;
         Ok(Statement::Clear(at, number))

@@ -1,12 +1,8 @@
-use Rattle.std.proofs.Common.{◌+◌, ◌≤◌, length, map, take}
-use Rattle.constraints.specs.Rows.{TableGrows, Mean}
+use Rattle.std.proofs.Common.{◌≡◌, map, take}
 use Rattle.resolved.specs.ProgramOf.{slot_entry}
+use Rattle.constraints.specs.LeftSides.{left_parts}
 use Rattle.constraints.specs.Rows.{slot_parts}
 use Rattle.constraints.proofs.building.slot_parts.Given as goal
 
 abbrev pub invariant-loop-i : goal.invariant-loop-i
-invariant-loop-i l = record {
-  grown : TableGrows l.fn.written.list.items l.written.list.items;
-  few : length l.written.list.items ≤ length l.fn.written.list.items + l.i;
-  meaning : Mean l.written.list.items l.atoms.items (slot_parts l.first (map slot_entry (take l.i l.slots)));
-}
+invariant-loop-i l = left_parts l.labels l.atoms.items ≡ slot_parts l.first (map (slot_entry l.labels) (take l.i l.slots))

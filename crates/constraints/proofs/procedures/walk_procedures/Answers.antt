@@ -10,7 +10,7 @@ use Rattle.constraints.proofs.procedures.walk_procedures.Goals as goal
 
 pub loop-i-init : goal.loop-i-init
 loop-i-init c =
-    passed-none c.args.table.now.core.now c.args.table.now.written.items (entries_of c.args.ends.now) _ _ (alike-exits c.args.ends.now (program_paths (program_of c.args.table.now.core.now)) (paths-found (program_of c.args.table.now.core.now) c.args.ends.now c.requires.mapped)) refl c.args.table.now.count c.new.ensures.items
+    passed-none c.args.table.now.core.now c.args.table.now.core.now.labels (entries_of c.args.ends.now) _ _ (alike-exits c.args.ends.now (program_paths (program_of c.args.table.now.core.now)) (paths-found (program_of c.args.table.now.core.now) c.args.ends.now c.requires.mapped)) refl c.args.table.now.count c.new.ensures.items
     (c.in_ok-vec.ensures.items_if_clones_equal (λ y e. e))
     (omega (arith, c.len.ensures, c.args.table.now.core.now.exceptions.ok.0))
     c.in_ok-new.ensures.calls c.in_ok-new.ensures.moments c.in_ok-new.ensures.count
@@ -18,7 +18,7 @@ loop-i-init c =
 pub loop-i-preserved : goal.loop-i-preserved
 loop-i-preserved c =
     let core = c.args.table.now.core.now in
-    let table = c.args.table.now.written.items in
+    let table = c.args.table.now.core.now.labels in
     let entries = (entries_of c.args.ends.now) in
     let i = c.loop-i.i in
     let procedure : Procedure = c.procedure-item.result in
@@ -29,12 +29,12 @@ loop-i-preserved c =
 
 pub returns-clause-added : goal.returns-clause-added
 returns-clause-added c =
-    passed-added c.args.table.now.core.now c.args.table.now.written.items (entries_of c.args.ends.now) c.loop-i.i c.loop-i.progress
+    passed-added c.args.table.now.core.now c.args.table.now.core.now.labels (entries_of c.args.ends.now) c.loop-i.i c.loop-i.progress
     (subst (λ list. length list ≤ c.loop-i.i) c.deref-procedure-items.ensures.value c.loop-i-test.false) c.loop-i.invariant
 
 pub returns-clause-number : goal.returns-clause-number
 returns-clause-number c =
-    passed-number c.args.table.now.core.now c.args.table.now.written.items (entries_of c.args.ends.now) c.loop-i.i c.loop-i.progress
+    passed-number c.args.table.now.core.now c.args.table.now.core.now.labels (entries_of c.args.ends.now) c.loop-i.i c.loop-i.progress
     (subst (λ list. length list ≤ c.loop-i.i) c.deref-procedure-items.ensures.value c.loop-i-test.false) c.loop-i.invariant
 
 pub add_procedure-requires : goal.add_procedure-requires
@@ -43,7 +43,7 @@ add_procedure-requires c =
     let entries = (entries_of c.args.ends.now) in
     let i = c.loop-i.i in
     let procedure : Procedure = c.procedure-item.result in
-    next-ready core c.args.table.now.written.items entries i procedure c.loop-i.progress
+    next-ready core c.args.table.now.core.now.labels entries i procedure c.loop-i.progress
     (subst (λ list. i < length list) c.deref-procedure-items.ensures.value c.loop-i-test.true)
     (subst (λ list. procedure ≡ get_or list i procedure) c.deref-procedure-items.ensures.value c.procedure-item.is)
     c.loop-i.invariant

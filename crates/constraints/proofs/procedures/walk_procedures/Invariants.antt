@@ -4,4 +4,4 @@ use Rattle.constraints.proofs.procedures.walk_procedures.Given as goal
 
 abbrev pub invariant-loop-i : goal.invariant-loop-i
 invariant-loop-i l =
-    ArePassed l.table.core.now l.table.written.items (entries_of l.ends) l.i l.progress
+    ArePassed l.table.core.now l.table.core.now.labels (entries_of l.ends) l.i l.progress

@@ -1,38 +1,58 @@
-use Rattle.std.proofs.Common.{ap, arith, length, refl, subst, sym, ◌∙◌, ◌+◌, ◌<◌, []}
-use Rattle.constraints.specs.Spreading.{AreRowsOf}
+use Rattle.std.proofs.Common.{ap, arith, length, refl, subst, sym, ◌∙◌, ◌+◌, ◌<◌, [], take}
+use Rattle.constraints.specs.Merging.{AreSpreadSoFar}
+use Rattle.constraints.specs.Spreading.{AreRowsOf, all_calls}
+use Rattle.constraints.specs.declared.spreading.Made.{Made}
 use Rattle.constraints.proofs.Bodies.{procedures-numbered}
 use Rattle.constraints.proofs.CallRows.{calls-more, calls-upto}
-use Rattle.constraints.proofs.SpreadRows.{calls-all, calls-next, row-none}
+use Rattle.constraints.proofs.PartRows.{merged-all, so-far-next, taken-none}
+use Rattle.constraints.proofs.Spread.{whole-none}
+use Rattle.constraints.proofs.SpreadRows.{calls-all, calls-next}
+use Rattle.constraints.specs.Spreading.{Declares}
 use Rattle.constraints.proofs.spreading.spread_calls.Goals as goal
 
 pub loop-i-init : goal.loop-i-init
 loop-i-init c = record {
-  spread = row-none c.args.table.now.core.now c.args.table.now.written.items c.args.journal.now [] c.args.made.now refl;
+  spread = record {
+    spread = [];
+    are_spread = whole-none c.args.table.now.core.now c.args.table.now.core.now.labels c.args.journal.now (Declares c.args.table.now.core.now) [] c.args.made.now.number refl;
+    are_taken = taken-none c.in_ok-kept.kept.items c.args.made.now.constraints.items;
+  };
+  count = c.in_ok-kept.ensures.count;
   few = omega arith;
 }
 
 pub loop-i-preserved : goal.loop-i-preserved
-loop-i-preserved c = record {
-  spread =
-      calls-next c.args.table.now.core.now c.args.table.now.written.items c.args.journal.now c.deref-row-items.result.now c.len.result c.loop-i.i c.row-item.result
-      c.deref-in-loop-i.result.now c.deref.result.now c.args.made.now c.loop-i.made c.spread_row.new.made
-      c.loop-i-test.true c.row-item.is c.deref-in-loop-i.ensures.value (subst (AreRowsOf c.len.result c.deref.result.now) (sym c.deref-row-items.ensures.value) c.in_ok-rows.ensures)
-      c.loop-i.invariant.spread c.in_ok-spread_row.ensures.spread;
-  few =
-      let more = calls-more c.deref-row-items.result.now c.loop-i.i c.row-item.result c.deref-in-loop-i.result.now c.loop-i-test.true c.row-item.is c.deref-in-loop-i.ensures.value in
-      omega (arith, c.loop-i.invariant.few, c.in_ok-spread_row.ensures.few, more);
-}
+loop-i-preserved c =
+    let core = c.args.table.now.core.now in
+    let table = c.args.table.now.core.now.labels in
+    let journal = c.args.journal.now in
+    let rows = c.deref-row-items.result.now in
+    let i = c.loop-i.i in
+    let begun : Made = record { number = c.loop-i.made.number; constraints = c.new.result } in
+    let own : Made = c.spread_row.new.made in
+    let made : Made = record { number = own.number; constraints = c.take_all.new.rest } in
+    let so_far = c.loop-i.invariant.spread in
+    record {
+      spread =
+          so-far-next core table journal (all_calls (take i rows)) (all_calls (take (i + 1) rows)) c.in_ok-kept.kept.items c.loop-i.kept.items c.take_all.new.rows.items own.constraints.items
+          c.args.made.now c.loop-i.made made so_far
+          (calls-next core table journal rows c.len.result i c.row-item.result c.deref-in-loop-i.result.now c.deref.result.now c.args.made.now.number so_far.spread begun own
+          c.loop-i-test.true c.row-item.is c.deref-in-loop-i.ensures.value (subst (AreRowsOf c.len.result c.deref.result.now) (sym c.deref-row-items.ensures.value) c.in_ok-rows.ensures)
+          so_far.are_spread c.in_ok-spread_row.ensures.spread c.new.ensures.items)
+          c.in_ok-take_all.ensures.taken;
+      count = c.in_ok-take_all.ensures.count ∙ c.loop-i.invariant.count;
+      few =
+          let more = calls-more rows i c.row-item.result c.deref-in-loop-i.result.now c.loop-i-test.true c.row-item.is c.deref-in-loop-i.ensures.value in
+          omega (arith, c.loop-i.invariant.few, c.in_ok-spread_row.ensures.few, more);
+    }
 
-pub spread_row-requires : goal.spread_row-requires
-spread_row-requires c =
+pub spread_row-requires-clause-room : goal.spread_row-requires-clause-room
+spread_row-requires-clause-room c =
     let are = subst (AreRowsOf c.len.result c.deref.result.now) (sym c.deref-row-items.ensures.value) c.in_ok-rows.ensures in
     let more = calls-more c.deref-row-items.result.now c.loop-i.i c.row-item.result c.deref-in-loop-i.result.now c.loop-i-test.true c.row-item.is c.deref-in-loop-i.ensures.value in
     let upto = calls-upto c.deref-row-items.result.now (c.loop-i.i + 1) in
     let whole = ap length c.deref.ensures.value in
-    record {
-      ordered = c.requires.ordered;
-      room = omega (arith, c.loop-i.invariant.few, more, upto, are.no_more, whole, c.requires.room);
-    }
+    omega (arith, c.loop-i.invariant.few, more, upto, are.no_more, whole, c.requires.room)
 
 pub overflow_cast-i : goal.overflow_cast-i
 overflow_cast-i c =
@@ -43,7 +63,18 @@ overflow_cast-i c =
 
 pub returns : goal.returns
 returns c =
+    let core = c.args.table.now.core.now in
+    let table = c.args.table.now.core.now.labels in
+    let journal = c.args.journal.now in
     let are = subst (AreRowsOf c.len.result c.deref.result.now) (sym c.deref-row-items.ensures.value) c.in_ok-rows.ensures in
-    calls-all c.args.table.now.core.now c.args.table.now.written.items c.args.journal.now c.deref-row-items.result.now c.len.result c.loop-i.i c.args.journal.now.calls.items
-    c.args.made.now c.loop-i.made c.loop-i-test.false (c.len.ensures ∙ c.args.table.now.core.now.procedures.ok.0)
-    (subst (λ list. AreRowsOf c.len.result list c.deref-row-items.result.now) c.deref.ensures.value are) c.loop-i.invariant.spread
+    let so_far = c.loop-i.invariant.spread in
+    let made : Made = record { number = c.loop-i.made.number; constraints = c.lay_out.new.constraints } in
+    let whole : AreSpreadSoFar core table journal journal.calls.items c.in_ok-kept.kept.items c.loop-i.kept.items c.args.made.now c.loop-i.made = record {
+      spread = so_far.spread;
+      are_spread = calls-all core table journal c.deref-row-items.result.now c.len.result c.loop-i.i journal.calls.items c.args.made.now.number c.loop-i.made.number so_far.spread
+          c.loop-i-test.false (c.len.ensures ∙ core.procedures.ok.0)
+          (subst (λ list. AreRowsOf c.len.result list c.deref-row-items.result.now) c.deref.ensures.value are) so_far.are_spread;
+      are_taken = so_far.are_taken;
+    } in
+    merged-all core table journal journal.calls.items c.in_ok-kept.kept.items c.loop-i.kept.items c.deref-2.result.now c.args.made.now c.loop-i.made made
+    c.in_ok-kept.ensures.nothing refl c.deref-2.ensures.value whole c.in_ok-lay_out.ensures

@@ -33,7 +33,7 @@ decreases-walk_handlers l = 5 * handlers_nodes (handlers_of l.handlers.now) + 5
 
 abbrev pub invariant-walk_statements-loop-statement : goal.invariant-walk_statements-loop-statement
 invariant-walk_statements-loop-statement l = record {
-  along : Along l.walk.table.now.core.now l.walk.table.now.written.items (entries_of l.walk.map.now) l.walk.procedure l.fn.pc l.takers
+  along : Along l.walk.table.now.core.now l.walk.table.now.core.now.labels (entries_of l.walk.map.now) l.walk.procedure l.fn.pc l.takers
       (block_of l.block) l.fn.progress (block_of (drop l.statement-index l.block)) l.reached l.onward l.progress;
   ready : AreStatementsReady l.walk.table.now.core.now (entries_of l.walk.map.now) l.walk.procedure l.takers
       (block_of (drop l.statement-index l.block)) l.progress;
@@ -42,7 +42,7 @@ invariant-walk_statements-loop-statement l = record {
 abbrev pub invariant-walk_handlers-loop-i : goal.invariant-walk_handlers-loop-i
 invariant-walk_handlers-loop-i l = record {
   handling : (number : ℕ → ℕ) → l.numbers ≡ map (λ (handler : Handler). number handler.exception) l.handlers →
-      Handling l.walk.table.now.core.now l.walk.table.now.written.items (entries_of l.walk.map.now) l.walk.procedure number l.takers
+      Handling l.walk.table.now.core.now l.walk.table.now.core.now.labels (entries_of l.walk.map.now) l.walk.procedure number l.takers
       (handlers_of l.handlers) l.fn.progress (handlers_of (drop l.i l.handlers)) l.progress;
   ready : AreHandlersReady l.walk.table.now.core.now (entries_of l.walk.map.now) l.walk.procedure l.takers
       (handlers_of (drop l.i l.handlers)) l.progress;

@@ -6,8 +6,6 @@ use Rattle.explaining.specs.Locals.{unlabelled_locals}
 use Rattle.explaining.proofs.Lists.{part_of_none, writes_none, writes_procedure, writes_procedures, writes_some_procedures}
 use Rattle.gathering.proofs.Before.{before-here, before-next}
 use Rattle.gathering.proofs.Few.{core-few}
-use Rattle.resolved.specs.ProgramOf.{slot_entry}
-use Rattle.std.proofs.lemmas.List.{length-map}
 use Rattle.explaining.proofs.labels_of_locals.write_labels.Goals as goal
 use Rattle.channels.proofs.Views.{on_err}
 
@@ -43,12 +41,12 @@ loop-number-preserved g c =
       written =
           writes_procedure c.args.source.now c.args.checked.now procedures number here c.as_slice-slots.result.now _ _ _ within is c.as_slice-slots.ensures.value
           c.loop-number.invariant.written _ c.in_ok-marked.ensures c.in_ok-write_locals.ensures.accepted;
-      counted = before-next procedures number c.loop-number.first c.loop-number.invariant.counted here c.first_after-first.result within is c.first_after-first.ensures;
+      counted = before-next c.args.checked.now.core.labels procedures number c.loop-number.first c.loop-number.invariant.counted here c.first_after-first.result within is c.first_after-first.ensures;
     }
 
 pub write_locals-requires-clause-first : goal.write_locals-requires-clause-first
 write_locals-requires-clause-first g c =
-    before-here c.args.checked.now.core.procedures.items c.loop-number.number c.loop-number.first c.loop-number.invariant.counted
+    before-here c.args.checked.now.core.labels c.args.checked.now.core.procedures.items c.loop-number.number c.loop-number.first c.loop-number.invariant.counted
 
 pub write_locals-requires-clause-few : goal.write_locals-requires-clause-few
 write_locals-requires-clause-few g c =
@@ -59,7 +57,7 @@ write_locals-requires-clause-few g c =
     let within : number < length procedures = subst (λ (list : List Procedure). number < length list) same c.loop-number-test.true in
     let is : here ≡ get_or procedures number here = c.procedure-item.is ∙ ap (λ list. get_or list number here) same in
     let few = core-few c.args.checked.now.core number c.loop-number.first here c.loop-number.invariant.counted within is in
-    omega (arith, few, ap length c.as_slice-slots.ensures.value, length-map here.slots.items slot_entry)
+    omega (arith, few, ap length c.as_slice-slots.ensures.value)
 
 pub first_after-first-requires : goal.first_after-first-requires
 first_after-first-requires g c =

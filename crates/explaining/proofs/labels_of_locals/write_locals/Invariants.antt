@@ -7,5 +7,5 @@ use Rattle.explaining.proofs.labels_of_locals.write_locals.Given as goal
 -- the lines of the slots so far are written
 abbrev pub invariant-loop-number : goal.invariant-loop-number
 invariant-loop-number g l =
-    Writes (AreLines l.marked.text.now l.checked (locals_in l.procedure 0 (map slot_entry (take l.number l.slots))))
+    Writes (AreLines l.marked.text.now l.checked (locals_in l.procedure 0 (map (slot_entry l.checked.core.labels) (take l.number l.slots))))
     (g.O.Sink.taken l.fn.out) (g.O.Sink.taken l.out)

@@ -2,15 +2,15 @@ use Rattle.std.proofs.Common.{arith}
 use Rattle.labels.proofs.WordBits.{none-step}
 use Rattle.labels.proofs.words.first_new.Goals as goal
 
-pub loop-i-preserved-then-not-one_grows : goal.loop-i-preserved-then-not-one_grows
-loop-i-preserved-then-not-one_grows c = record {
+pub loop-i-preserved-then-not-has_more : goal.loop-i-preserved-then-not-has_more
+loop-i-preserved-then-not-has_more c = record {
   from_on = omega (arith, c.loop-i.invariant.from_on);
-  none = none-step c.args.words.now c.args.others.now c.args.from c.loop-i.i c.min-i.result c.one_grows.result c.loop-i.invariant.none c.one_grows.ensures
-      c.if-not-one_grows.true c.if-i-eq0.true (omega arith);
+  none = none-step c.args.words.now c.args.others.now c.args.from c.loop-i.i c.min-i.result c.has_more.result c.loop-i.invariant.none c.has_more.ensures
+      c.if-not-has_more.true c.if-i-eq0.true (omega arith);
 }
 
-pub returns-then-not-has_bit : goal.returns-then-not-has_bit
-returns-then-not-has_bit c = record {
+pub returns-then-not-has_any_bit : goal.returns-then-not-has_any_bit
+returns-then-not-has_any_bit c = record {
   from_on = c.loop-i.invariant.from_on;
   inside = omega arith;
   there = cc;

@@ -10,7 +10,7 @@ use Rattle.lowering.proofs.procedures.procedures_of.Goals as goal
 
 pub procedure_of-requires : goal.procedure_of-requires
 procedure_of-requires c =
-    mapped_holds procedure_entry (λ (p : ProcedureEntry). block_size (program_of c.args.core.now) p.body + 1 < 2 ^ 32) c.deref-procedure-items.result.now
+    mapped_holds (procedure_entry c.args.core.now.labels) (λ (p : ProcedureEntry). block_size (program_of c.args.core.now) p.body + 1 < 2 ^ 32) c.deref-procedure-items.result.now
     c.loop-procedure.procedure-index c.procedure-item.result c.loop-procedure-test.true c.procedure-item.is
-    (subst (λ (ps : List Procedure). All (λ (p : ProcedureEntry). block_size (program_of c.args.core.now) p.body + 1 < 2 ^ 32) (map procedure_entry ps))
+    (subst (λ (ps : List Procedure). All (λ (p : ProcedureEntry). block_size (program_of c.args.core.now) p.body + 1 < 2 ^ 32) (map (procedure_entry c.args.core.now.labels) ps))
     (sym c.deref-procedure-items.ensures.value) (bodies-short (program_of c.args.core.now) c.args.core.now.well_formed))

@@ -19,13 +19,13 @@ new-requires c =
     c.module_version.ensures
     c.in_ok-hierarchy.ensures
     (c.in_ok-exceptions.ensures ∙ ap (map (λ name. string_bytes name)) c.deref.ensures.value)
-    (c.in_ok-channels.ensures ∙ ap (λ l. map channel_contents (map channel_entry l)) c.deref-2.ensures.value)
-    (c.in_ok-globals.ensures.exact ∙ ap (λ l. map global_contents (map global_entry l)) c.deref-3.ensures.value)
+    (c.in_ok-channels.ensures ∙ ap (λ l. map channel_contents (map (channel_entry c.args.core.now.labels) l)) c.deref-2.ensures.value)
+    (c.in_ok-globals.ensures.exact c.args.core.now.labels ∙ ap (λ l. map global_contents (map (global_entry c.args.core.now.labels) l)) c.deref-3.ensures.value)
     c.in_ok-procedures.ensures))
     (record {
       positions = graphs-positioned (program_of c.args.core.now) c.args.core.now.well_formed c.requires.ends;
       limits = graphs-fit (program_of c.args.core.now) c.args.core.now.well_formed c.requires.ends c.requires.names
-          (subst (λ l. All (λ (entry : GlobalEntry). IsShortValue entry.first) (map global_entry l)) c.deref-3.ensures.value c.in_ok-globals.ensures.short);
+          (subst (λ l. All (λ (entry : GlobalEntry). IsShortValue entry.first) (map (global_entry c.args.core.now.labels) l)) c.deref-3.ensures.value (c.in_ok-globals.ensures.short c.args.core.now.labels));
     })
 
 pub returns : goal.returns
@@ -35,6 +35,6 @@ returns c =
     c.module_version.ensures
     c.in_ok-hierarchy.ensures
     (c.in_ok-exceptions.ensures ∙ ap (map (λ name. string_bytes name)) c.deref.ensures.value)
-    (c.in_ok-channels.ensures ∙ ap (λ l. map channel_contents (map channel_entry l)) c.deref-2.ensures.value)
-    (c.in_ok-globals.ensures.exact ∙ ap (λ l. map global_contents (map global_entry l)) c.deref-3.ensures.value)
+    (c.in_ok-channels.ensures ∙ ap (λ l. map channel_contents (map (channel_entry c.args.core.now.labels) l)) c.deref-2.ensures.value)
+    (c.in_ok-globals.ensures.exact c.args.core.now.labels ∙ ap (λ l. map global_contents (map (global_entry c.args.core.now.labels) l)) c.deref-3.ensures.value)
     c.in_ok-procedures.ensures

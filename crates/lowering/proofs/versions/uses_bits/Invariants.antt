@@ -8,5 +8,5 @@ use Rattle.lowering.proofs.versions.uses_bits.Given as goal
 
 abbrev pub invariant-loop-procedure : goal.invariant-loop-procedure
 invariant-loop-procedure l =
-    list_any (λ (procedure : ProcedureEntry). block_uses_bits procedure.body) (map procedure_entry (drop l.procedure-index l.core.procedures.items))
+    list_any (λ (procedure : ProcedureEntry). block_uses_bits procedure.body) (map (procedure_entry l.core.labels) (drop l.procedure-index l.core.procedures.items))
     ≡ uses_bits (program_of l.core)

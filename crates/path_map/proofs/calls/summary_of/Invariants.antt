@@ -1,8 +1,7 @@
-use Rattle.std.proofs.Common.{◌≡◌, map, take}
-use Rattle.resolved.specs.Ends.{declared_by}
-use Rattle.resolved.specs.ProgramOf.{thrown_entry}
+use Rattle.std.proofs.Common.{◌≡◌, take}
+use Rattle.path_map.specs.Exceptions.{exceptions_of}
 use Rattle.path_map.specs.Exits.{raised_by}
 use Rattle.path_map.proofs.calls.summary_of.Given as goal
 
 abbrev pub invariant-loop-thrown : goal.invariant-loop-thrown
-invariant-loop-thrown l = l.summary ≡ raised_by (declared_by (map thrown_entry (take l.thrown-index l.throws)))
+invariant-loop-thrown l = l.summary ≡ raised_by (exceptions_of (take l.thrown-index l.throws))

@@ -6,4 +6,4 @@ use Rattle.path_map.proofs.map.ends.Given as goal
 
 abbrev pub invariant-loop-procedure : goal.invariant-loop-procedure
 invariant-loop-procedure l =
-    Beside (program_of l.core) (map procedure_entry l.core.procedures.items) (map procedure_entry (drop l.procedure-index l.procedure-items)) l.table
+    Beside (program_of l.core) (map (procedure_entry l.core.labels) l.core.procedures.items) (map (procedure_entry l.core.labels) (drop l.procedure-index l.procedure-items)) l.table

@@ -8,9 +8,9 @@ use Rattle.solver.proofs.breaker.compare.Given as goal
 abbrev pub invariant-loop-n : goal.invariant-loop-n
 invariant-loop-n g l = record {
   count : length l.known ≡ length l.fn.known;
-  known : IsKnown (is_below (g.L.Lattice.order l.lattice) l.written) l.known l.to;
+  known : IsKnown (is_below (g.W.WrittenElements.order l.written) (g.W.WrittenElements.elements l.written)) l.known l.to;
   from : l.from ≤ length l.left;
-  below : (m : ℕ) → m < l.from → IsTrue (has l.left m) → is_below (g.L.Lattice.order l.lattice) l.written m l.to ≡ true;
+  below : (m : ℕ) → m < l.from → IsTrue (has l.left m) → is_below (g.W.WrittenElements.order l.written) (g.W.WrittenElements.elements l.written) m l.to ≡ true;
 }
 
 abbrev pub decreases-loop-n : goal.decreases-loop-n

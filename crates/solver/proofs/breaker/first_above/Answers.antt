@@ -1,4 +1,4 @@
-use Rattle.std.proofs.Common.{◌∙◌, sym, subst, length, Option, List, Bool}
+use Rattle.std.proofs.Common.{◌∙◌}
 use Rattle.solver.specs.Breaker.{IsKnownRow, some}
 use Rattle.solver.specs.Broken.{is_below}
 use Rattle.solver.proofs.Comparing.{kept-count, kept-known}
@@ -6,19 +6,20 @@ use Rattle.solver.proofs.breaker.first_above.Goals as goal
 
 pub compare-above-requires-clause-count : goal.compare-above-requires-clause-count
 compare-above-requires-clause-count g c =
-    kept-count (is_below (g.L.Lattice.order c.args.lattice.now) c.args.written.now) (length c.args.written.now) c.args.to c.in_ok-below.below
-    (c.in_ok-below.ensures (is_below (g.L.Lattice.order c.args.lattice.now) c.args.written.now) c.args.to
-    (subst (λ (o : Option (List Bool)). IsKnownRow (is_below (g.L.Lattice.order c.args.lattice.now) c.args.written.now) (length c.args.written.now) c.args.to o) (sym c.take.ensures.value) c.requires.known))
+    let below = is_below (g.W.WrittenElements.order c.args.written.now) (g.W.WrittenElements.elements c.args.written.now) in
+    let known : IsKnownRow below c.len.result c.args.to c.take.result = rw (c.len.ensures, c.take.ensures.value) c.requires.known in
+    kept-count below c.len.result c.args.to c.in_ok-below.below (c.in_ok-below.ensures below c.args.to known) ∙ c.len.ensures
 
 pub compare-above-requires-clause-known : goal.compare-above-requires-clause-known
 compare-above-requires-clause-known g c =
-    kept-known (is_below (g.L.Lattice.order c.args.lattice.now) c.args.written.now) (length c.args.written.now) c.args.to c.in_ok-below.below
-    (c.in_ok-below.ensures (is_below (g.L.Lattice.order c.args.lattice.now) c.args.written.now) c.args.to
-    (subst (λ (o : Option (List Bool)). IsKnownRow (is_below (g.L.Lattice.order c.args.lattice.now) c.args.written.now) (length c.args.written.now) c.args.to o) (sym c.take.ensures.value) c.requires.known))
+    let below = is_below (g.W.WrittenElements.order c.args.written.now) (g.W.WrittenElements.elements c.args.written.now) in
+    let known : IsKnownRow below c.len.result c.args.to c.take.result = rw (c.len.ensures, c.take.ensures.value) c.requires.known in
+    kept-known below c.len.result c.args.to c.in_ok-below.below (c.in_ok-below.ensures below c.args.to known)
 
 pub returns-clause-known : goal.returns-clause-known
 returns-clause-known g c =
-    some c.compare-above.new.known (c.compare-above.ensures.count
-    ∙ kept-count (is_below (g.L.Lattice.order c.args.lattice.now) c.args.written.now) (length c.args.written.now) c.args.to c.in_ok-below.below (c.in_ok-below.ensures (is_below (g.L.Lattice.order c.args.lattice.now) c.args.written.now) c.args.to
-    (subst (λ (o : Option (List Bool)). IsKnownRow (is_below (g.L.Lattice.order c.args.lattice.now) c.args.written.now) (length c.args.written.now) c.args.to o) (sym c.take.ensures.value) c.requires.known)))
+    let below = is_below (g.W.WrittenElements.order c.args.written.now) (g.W.WrittenElements.elements c.args.written.now) in
+    let known : IsKnownRow below c.len.result c.args.to c.take.result = rw (c.len.ensures, c.take.ensures.value) c.requires.known in
+    some c.compare-above.new.known
+    (c.compare-above.ensures.count ∙ (kept-count below c.len.result c.args.to c.in_ok-below.below (c.in_ok-below.ensures below c.args.to known) ∙ c.len.ensures))
     c.compare-above.ensures.known

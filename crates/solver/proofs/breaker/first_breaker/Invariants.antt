@@ -5,7 +5,7 @@ use Rattle.solver.proofs.breaker.first_breaker.Given as goal
 
 abbrev pub invariant-loop-constraint : goal.invariant-loop-constraint
 invariant-loop-constraint g l = record {
-  all : length l.known.items ≡ length l.written;
-  kept : AreKnownRows (is_below (g.L.Lattice.order l.lattice) l.written) (length l.written) l.known.items;
-  none : NoneBreaks (is_below (g.L.Lattice.order l.lattice) l.written) (length l.written) l.rows l.constraints l.constraint-index;
+  all : length l.known.items ≡ length (g.W.WrittenElements.elements l.written);
+  kept : AreKnownRows (is_below (g.W.WrittenElements.order l.written) (g.W.WrittenElements.elements l.written)) (length (g.W.WrittenElements.elements l.written)) l.known.items;
+  none : NoneBreaks (is_below (g.W.WrittenElements.order l.written) (g.W.WrittenElements.elements l.written)) (length (g.W.WrittenElements.elements l.written)) l.rows l.constraints l.constraint-index;
 }

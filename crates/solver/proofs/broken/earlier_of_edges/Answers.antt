@@ -10,9 +10,9 @@ first_edge = record { by = 0; to = Written 0 }
 
 pub earlier_of_edge-best-requires-clause-inside : goal.earlier_of_edge-best-requires-clause-inside
 earlier_of_edge-best-requires-clause-inside g c =
-    one-right_inside c.args.edges.now c.loop-edge.edge-index first_edge (length c.args.written.now) c.loop-edge-test.true c.requires.inside
+    one-right_inside c.args.edges.now c.loop-edge.edge-index first_edge (length (g.W.WrittenElements.elements c.args.written.now)) c.loop-edge-test.true c.requires.inside
 
 pub loop-edge-preserved : goal.loop-edge-preserved
 loop-edge-preserved g c =
-    edges_step (is_below (g.L.Lattice.order c.args.lattice.now) c.args.written.now) c.args.value c.args.parent c.args.edges.now c.loop-edge.edge-index first_edge
+    edges_step (is_below (g.W.WrittenElements.order c.args.written.now) (g.W.WrittenElements.elements c.args.written.now)) c.args.value c.args.parent c.args.edges.now c.loop-edge.edge-index first_edge
     c.args.best c.loop-edge.best c.earlier_of_edge-best.result c.loop-edge-test.true c.loop-edge.invariant c.earlier_of_edge-best.ensures

@@ -14,7 +14,7 @@ earlier_of_edges-best-requires-clause-inside g c = λ by n h.
 
 pub loop-k-init : goal.loop-k-init
 loop-k-init g c =
-    let below = is_below (g.L.Lattice.order c.args.lattice.now) c.args.written.now in
+    let below = is_below (g.W.WrittenElements.order c.args.written.now) (g.W.WrittenElements.elements c.args.written.now) in
     let row = row_at-slice c.args.edges.now.written.items c.args.value c.index.result.now c.as_slice-row.result.now c.requires.row c.index.ensures c.as_slice-row.ensures.value in
     c.earlier_of_edges-best.ensures
     ∙ ap (earliest c.args.best)
@@ -30,7 +30,7 @@ earlier_of_edges-best-requires-in-loop-k-clause-inside g c = λ by n h.
 
 pub loop-k-preserved : goal.loop-k-preserved
 loop-k-preserved g c =
-    let below = is_below (g.L.Lattice.order c.args.lattice.now) c.args.written.now in
+    let below = is_below (g.W.WrittenElements.order c.args.written.now) (g.W.WrittenElements.elements c.args.written.now) in
     let u = (get_or c.args.found.now c.loop-k.k nothing_found).unknown in
     let row = row_at-slice c.args.edges.now.unknown.items u c.index-in-loop-k.result.now c.as_slice-row-in-loop-k.result.now
     (c.requires.found c.loop-k.k c.loop-k-test.true) c.index-in-loop-k.ensures c.as_slice-row-in-loop-k.ensures.value in

@@ -1,19 +1,19 @@
-use Rattle.std.proofs.Common.{◌∙◌, ap, sym, map}
-use Rattle.resolved.specs.ProgramOf.{thrown_entry}
-use Rattle.types.specs.Resolution.{joined_all}
-use Rattle.types.proofs.JoinAll.{first_written, next_written}
+use Rattle.std.proofs.Common.{◌≡◌, ◌<◌, ◌∷◌, ◌++◌, ◌∙◌, ap, sym, length, arith, rules}
+use Rattle.std.proofs.lemmas.List.{take_all}
+use Rattle.labels.specs.Canonical.{written_label}
+use Rattle.labels.specs.LabelTable.{labels_of}
+use Rattle.types.specs.VariableEntries.{label_with}
+use Rattle.types.proofs.JoinAll.{joined_by_numbers, thrown_labels}
 use Rattle.types.proofs.procedure.join_all.Goals as goal
 
-pub loop-thrown-init : goal.loop-thrown-init
-loop-thrown-init c = record {
-  whole = ap (λ label. joined_all label (map thrown_entry c.args.throws.now))
-      (first_written c.new-policies.result.items c.add_policies.new.policies.items c.args.first.now c.new-policies.ensures.items c.in_ok-add_policies.ensures.added c.in_ok-add_policies.ensures.label);
-  canonical = c.in_ok-add_policies.ensures.canonical;
-}
-
-pub loop-thrown-preserved : goal.loop-thrown-preserved
-loop-thrown-preserved c = record {
-  whole = sym (next_written c.args.throws.now c.loop-thrown.thrown-index c.thrown-item.result c.loop-thrown.policies.items c.add_policies-in-loop-thrown.new.policies.items c.thrown-item.is c.loop-thrown-test.true
-      c.in_ok-add_policies-2.ensures.added) ∙ c.loop-thrown.invariant.whole;
-  canonical = c.in_ok-add_policies-2.ensures.canonical;
-}
+pub returns-clause-label : goal.returns-clause-label
+returns-clause-label c =
+    let labels = c.args.variables.now.labels in
+    let throws = c.args.throws.now in
+    let numbers = c.loop-thrown.named.items in
+    let all : numbers ≡ c.args.first ∷ thrown_labels throws = c.loop-thrown.invariant ∙ ap (λ list. c.args.first ∷ thrown_labels list) (take_all c.loop-thrown.thrown-index throws (omega arith)) in
+    let some : 0 < length throws = search rules in
+    c.in_ok-add_label.ensures.label ∙ ap (label_with labels) c.of.ensures
+    ∙ ap (λ own. written_label (own ++ labels_of labels numbers)) c.new.ensures.items
+    ∙ ap (λ list. written_label (labels_of labels list)) all
+    ∙ sym (joined_by_numbers labels c.args.first throws some)

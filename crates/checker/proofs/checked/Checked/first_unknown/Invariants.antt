@@ -7,5 +7,5 @@ use Rattle.checker.proofs.checked.Checked.first_unknown.Given as goal
 abbrev pub invariant-loop-number : goal.invariant-loop-number
 invariant-loop-number l = record {
   before : l.number ≤ l.procedure;
-  count : l.first ≡ sum_by own_unknowns (map procedure_entry (take l.number l.entry-items));
+  count : l.first ≡ sum_by own_unknowns (map (procedure_entry l.self.core.labels) (take l.number l.entry-items));
 }

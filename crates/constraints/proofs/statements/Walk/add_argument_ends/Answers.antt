@@ -6,7 +6,7 @@ use Rattle.constraints.proofs.statements.Walk.add_argument_ends.Goals as goal
 pub returns : goal.returns
 returns c = λ k exceptions stands are.
     let core = c.args.self.now.table.now.core.now in
-    let table = c.args.self.now.table.now.written.items in
+    let table = c.args.self.now.table.now.core.now.labels in
     let procedure = c.args.self.now.procedure in
     called-raised core table c.args.callee k (takers_of c.args.takers c.args.thrown.now) c.args.found exceptions _ _ _ are
     (c.in_ok-add_thrown_if.ensures (inner_atom k) stands) (c.in_ok-add_thrown_if-2.ensures (inner_atom k) stands)

@@ -10,7 +10,7 @@ use Rattle.constraints.proofs.statements.Walk.add_arguments.Goals as goal
 pub loop-parameter-preserved : goal.loop-parameter-preserved
 loop-parameter-preserved c = λ k stands.
     let core = c.args.self.now.table.now.core.now in
-    let table = c.args.self.now.table.now.written.items in
+    let table = c.args.self.now.table.now.core.now.labels in
     let procedure = c.args.self.now.procedure in
     let scope = scope_of core procedure in
     argument-next core table procedure c.args.at k c.args.callee c.loop-parameter.parameter c.args.arguments.now c.loop-parameter.parameter c.index-arguments-parameter.result _ _ _

@@ -8,7 +8,7 @@ use Rattle.constraints.proofs.statements.Walk.add_arguments.Given as goal
 
 abbrev pub invariant-loop-parameter : goal.invariant-loop-parameter
 invariant-loop-parameter l =
-    (k : ℕ) → IsPart l.self.table.now.core.now l.self.table.now.written.items (inner_atom k) l.own →
-    AreAdded l.self.table.now.core.now l.self.table.now.written.items
+    (k : ℕ) → IsPart l.self.table.now.core.now l.self.table.now.core.now.labels (inner_atom k) l.own →
+    AreAdded l.self.table.now.core.now l.self.table.now.core.now.labels
     (argument_constraints (scope_of l.self.table.now.core.now l.self.procedure) l.at k l.callee 0 (map expression_of (take l.parameter l.arguments)))
     l.fn.constraints.items l.constraints.items

@@ -16,7 +16,7 @@ use Rattle.constraints.proofs.statements.Walk.add_call.Goals as goal
 pub returns : goal.returns
 returns c = λ named stands.
     let core = c.args.self.now.table.now.core.now in
-    let table = c.args.self.now.table.now.written.items in
+    let table = c.args.self.now.table.now.core.now.labels in
     let procedure = c.args.self.now.procedure in
     let program = program_of core in
     let scope = scope_of core procedure in

@@ -12,7 +12,7 @@ use Rattle.constraints.proofs.statements.Walk.add_call_ends.Goals as goal
 pub returns : goal.returns
 returns c = λ k stands.
     let core = c.args.self.now.table.now.core.now in
-    let table = c.args.self.now.table.now.written.items in
+    let table = c.args.self.now.table.now.core.now.labels in
     let procedure = c.args.self.now.procedure in
     let program = program_of core in
     let takers = takers_of c.args.takers c.args.thrown.now in

@@ -10,7 +10,7 @@ use Rattle.constraints.proofs.statements.Walk.add_condition.Goals as goal
 pub returns : goal.returns
 returns c = λ named stands.
     let core = c.args.self.now.table.now.core.now in
-    let table = c.args.self.now.table.now.written.items in
+    let table = c.args.self.now.table.now.core.now.labels in
     let procedure = c.args.self.now.procedure in
     let e = expression_of c.args.condition.now in
     let q : List NamedAtom = named ∷ named_atoms (raise_atoms (scope_of core procedure) e) in

@@ -10,6 +10,6 @@ use Rattle.constraints.proofs.statements.Walk.add_declared_demands.Given as goal
 abbrev pub invariant-loop-declared : goal.invariant-loop-declared
 invariant-loop-declared l =
     l.at ≡ (here (scope_of l.self.table.now.core.now l.self.procedure)).at →
-    AreAdded l.self.table.now.core.now l.self.table.now.written.items
-    (thrown_constraints (scope_of l.self.table.now.core.now l.self.procedure) (number_in l.thrown) (map thrown_entry (take l.declared-index l.throws)))
+    AreAdded l.self.table.now.core.now l.self.table.now.core.now.labels
+    (thrown_constraints (scope_of l.self.table.now.core.now l.self.procedure) (number_in l.thrown) (map (thrown_entry l.self.table.now.core.now.labels) (take l.declared-index l.throws)))
     l.fn.constraints.items l.constraints.items

@@ -17,7 +17,7 @@ use Rattle.constraints.proofs.statements.Walk.add_loop_head.Goals as goal
 pub returns : goal.returns
 returns c = λ named stands.
     let core = c.args.self.now.table.now.core.now in
-    let table = c.args.self.now.table.now.written.items in
+    let table = c.args.self.now.table.now.core.now.labels in
     let procedure = c.args.self.now.procedure in
     let scope = scope_of core procedure in
     let e = expression_of c.args.condition.now in

@@ -13,7 +13,7 @@ use Rattle.constraints.proofs.statements.Walk.add_receive.Goals as goal
 pub returns : goal.returns
 returns c = λ n named stands.
     let core = c.args.self.now.table.now.core.now in
-    let table = c.args.self.now.table.now.written.items in
+    let table = c.args.self.now.table.now.core.now.labels in
     let procedure = c.args.self.now.procedure in
     let scope = scope_of core procedure in
     let takers = takers_of c.args.takers c.args.thrown.now in

@@ -10,7 +10,7 @@ use Rattle.constraints.proofs.statements.Walk.add_single.Goals as goal
 pub returns-in-None : goal.returns-in-None
 returns-in-None c = λ ends are named stands.
     let core = c.args.self.now.table.now.core.now in
-    let table = c.args.self.now.table.now.written.items in
+    let table = c.args.self.now.table.now.core.now.labels in
     let procedure = c.args.self.now.procedure in
     let takers = takers_of c.args.takers c.args.thrown.now in
     added-same core table (single (one_end ends) named takers ends) [] _ _
@@ -19,7 +19,7 @@ returns-in-None c = λ ends are named stands.
 pub returns-in_ok-add_flow-in-Some : goal.returns-in_ok-add_flow-in-Some
 returns-in_ok-add_flow-in-Some c = λ ends are named stands.
     let core = c.args.self.now.table.now.core.now in
-    let table = c.args.self.now.table.now.written.items in
+    let table = c.args.self.now.table.now.core.now.labels in
     let procedure = c.args.self.now.procedure in
     let takers = takers_of c.args.takers c.args.thrown.now in
     let q : List NamedAtom = named ∷ [] in

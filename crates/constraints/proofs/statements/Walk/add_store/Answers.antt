@@ -14,7 +14,7 @@ use Rattle.constraints.proofs.statements.Walk.add_store.Goals as goal
 pub returns : goal.returns
 returns c = λ n named stands.
     let core = c.args.self.now.table.now.core.now in
-    let table = c.args.self.now.table.now.written.items in
+    let table = c.args.self.now.table.now.core.now.labels in
     let procedure = c.args.self.now.procedure in
     let scope = scope_of core procedure in
     let index = expression_of c.args.index.now in

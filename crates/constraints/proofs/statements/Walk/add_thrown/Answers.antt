@@ -11,7 +11,7 @@ use Rattle.constraints.proofs.statements.Walk.add_thrown.Goals as goal
 pub returns-in_ok-add_inner-in-Some : goal.returns-in_ok-add_inner-in-Some
 returns-in_ok-add_inner-in-Some c = λ named stands.
     let core = c.args.self.now.table.now.core.now in
-    let table = c.args.self.now.table.now.written.items in
+    let table = c.args.self.now.table.now.core.now.labels in
     let procedure = c.args.self.now.procedure in
     let q : List NamedAtom = named ∷ named_atoms (call_atoms (program_of core) c.args.callee (Throw c.args.exception)) in
     flow-added core table q (Some c.in-Some.number) (takers_of c.args.takers c.args.thrown.now (Throw c.args.exception)) _ _

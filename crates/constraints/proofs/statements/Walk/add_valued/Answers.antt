@@ -12,7 +12,7 @@ use Rattle.constraints.proofs.statements.Walk.add_valued.Goals as goal
 pub returns : goal.returns
 returns c = λ named stands.
     let core = c.args.self.now.table.now.core.now in
-    let table = c.args.self.now.table.now.written.items in
+    let table = c.args.self.now.table.now.core.now.labels in
     let procedure = c.args.self.now.procedure in
     let scope = scope_of core procedure in
     let value = expression_of c.args.value.now in

@@ -9,6 +9,6 @@ returns-clause-exits c = λ first left before. same_heads c.next_exits-exits.res
 
 pub returns-clause-added : goal.returns-clause-added
 returns-clause-added c = λ ends.
-    begun c.args.self.now.table.now.core.now c.args.self.now.table.now.written.items (entries_of c.args.self.now.map.now)
+    begun c.args.self.now.table.now.core.now c.args.self.now.table.now.core.now.labels (entries_of c.args.self.now.map.now)
     c.args.pc c.args.takers c.next_exits-exits.result c.deref.result.now ends c.args.progress.now c.next_exits-exits.new.progress _
     c.next_exits-exits.ensures.found c.next_exits-exits.ensures.others c.deref.ensures.value refl refl refl refl (λ kept. c.in_ok-add_single.ensures ends kept)

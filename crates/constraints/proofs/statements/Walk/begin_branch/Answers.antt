@@ -15,12 +15,12 @@ use Rattle.constraints.proofs.statements.Walk.begin_branch.Goals as goal
 pub returns-clause-added : goal.returns-clause-added
 returns-clause-added c =
     let core = c.args.self.now.table.now.core.now in
-    let table = c.args.self.now.table.now.written.items in
+    let table = c.args.self.now.table.now.core.now.labels in
     let scope = scope_of core c.args.self.now.procedure in
     let e = expression_of c.args.condition.now in
     let number = c.make-number.result in
     let thrown = c.deref.result.now in
-    made-walked c.args.self.now.table.now.core.now c.args.self.now.table.now.written.items (entries_of c.args.self.now.map.now)
+    made-walked c.args.self.now.table.now.core.now c.args.self.now.table.now.core.now.labels (entries_of c.args.self.now.map.now)
     c.args.pc c.args.takers thrown 1 number (λ t n named. branch_constraints scope named (takers_of c.args.takers t) n e) c.args.progress.now c.make-number.new.self _
     c.make-number.ensures.made c.make-number.ensures.first c.deref.ensures.value refl refl refl refl
     (λ named stands. added-then core table (inner_constraint (named ∷ named_atoms (value_label scope e)) number)

@@ -14,6 +14,6 @@ pub returns-clause-added : goal.returns-clause-added
 returns-clause-added c =
     let scope = scope_of c.args.self.now.table.now.core.now c.args.self.now.procedure in
     let e = expression_of c.args.condition.now in
-    made-walked c.args.self.now.table.now.core.now c.args.self.now.table.now.written.items (entries_of c.args.self.now.map.now)
+    made-walked c.args.self.now.table.now.core.now c.args.self.now.table.now.core.now.labels (entries_of c.args.self.now.map.now)
     c.args.pc c.args.takers c.deref.result.now 2 c.make-inner.result (λ t n named. loop_head_constraints scope named (takers_of c.args.takers t) n c.args.at c.args.number e) c.args.progress.now c.make-inner.new.self _
     c.make-inner.ensures.made c.make-inner.ensures.first c.deref.ensures.value refl refl refl refl c.in_ok-add_loop_head.ensures

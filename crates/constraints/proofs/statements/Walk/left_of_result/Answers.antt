@@ -9,7 +9,7 @@ use Rattle.constraints.proofs.statements.Walk.left_of_result.Goals as goal
 pub returns : goal.returns
 returns c = λ named stands.
     let core = c.args.self.now.table.now.core.now in
-    let table = c.args.self.now.table.now.written.items in
+    let table = c.args.self.now.table.now.core.now.labels in
     let procedure = c.args.self.now.procedure in
     left-then core table c.args.own (call_atoms (program_of core) c.args.callee Normal) (one (label_of (program_of core) (ToValue c.args.callee))) _ _
     c.in_ok-left.ensures c.in_ok-add_label.ensures named stands

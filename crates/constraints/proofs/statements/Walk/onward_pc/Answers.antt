@@ -6,10 +6,10 @@ use Rattle.constraints.proofs.statements.Walk.onward_pc.Goals as goal
 
 pub returns-then-is_single : goal.returns-then-is_single
 returns-then-is_single c = λ ends named kept stands.
-    subst (λ b. IsPart c.args.self.now.table.now.core.now c.args.self.now.table.now.written.items (onward_pc b named c.args.number) c.args.pc)
+    subst (λ b. IsPart c.args.self.now.table.now.core.now c.args.self.now.table.now.core.now.labels (onward_pc b named c.args.number) c.args.pc)
     (sym c.if-is_single.true ∙ c.is_single.ensures ends kept) stands
 
 pub returns : goal.returns
 returns c = λ ends named kept stands.
-    subst (λ b. IsPart c.args.self.now.table.now.core.now c.args.self.now.table.now.written.items (onward_pc b named c.args.number) (stored.Unknown c.args.number))
+    subst (λ b. IsPart c.args.self.now.table.now.core.now c.args.self.now.table.now.core.now.labels (onward_pc b named c.args.number) (stored.Unknown c.args.number))
     (sym c.if-is_single.false ∙ c.is_single.ensures ends kept) refl

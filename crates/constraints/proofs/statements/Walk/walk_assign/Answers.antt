@@ -9,7 +9,7 @@ use Rattle.constraints.proofs.statements.Walk.walk_assign.Goals as goal
 pub returns : goal.returns
 returns c =
     on_ok_weaker c.add_assign.result
-    (λ simple. simple-walked c.args.self.now.table.now.core.now c.args.self.now.table.now.written.items (entries_of c.args.self.now.map.now) c.args.self.now.procedure
+    (λ simple. simple-walked c.args.self.now.table.now.core.now c.args.self.now.table.now.core.now.labels (entries_of c.args.self.now.map.now) c.args.self.now.procedure
     (T.Assign c.args.at c.args.variable (expression_of c.args.value.now)) c.args.pc c.args.takers c.deref.result.now c.args.progress.now _
     refl refl c.deref.ensures.value refl refl refl refl simple)
     c.add_assign.ensures

@@ -13,10 +13,10 @@ pub returns : goal.returns
 returns c =
     let scope = scope_of c.args.self.now.table.now.core.now c.args.self.now.procedure in
     let new : Progress = record c.make-number.new.self { constraints = c.add_call.new.constraints; journal = c.add_call-2.new.self } in
-    made-thinned c.args.self.now.table.now.core.now c.args.self.now.table.now.written.items (entries_of c.args.self.now.map.now)
+    made-thinned c.args.self.now.table.now.core.now c.args.self.now.table.now.core.now.labels (entries_of c.args.self.now.map.now)
     c.args.pc c.args.takers c.deref.result.now 1 c.make-number.result
     (λ t n named. call_constraints scope named (takers_of c.args.takers t) n c.args.at c.args.callee (map expression_of c.args.arguments.now) c.args.target) c.args.progress.now c.make-number.new.self new
     c.make-number.ensures.made c.make-number.ensures.first c.deref.ensures.value refl refl refl
-    (λ named stands. call-walked c.args.self.now.table.now.core.now c.args.self.now.table.now.written.items c.args.self.now.procedure named c.args.takers c.deref.result.now
+    (λ named stands. call-walked c.args.self.now.table.now.core.now c.args.self.now.table.now.core.now.labels c.args.self.now.procedure named c.args.takers c.deref.result.now
     c.make-number.result c.args.at c.args.callee (map expression_of c.args.arguments.now) c.args.target c.make-number.new.self new c.deref.ensures.value refl
     (c.in_ok-add_call.ensures named stands) c.in_ok-add_call-2.ensures.calls c.in_ok-add_call-2.ensures.moments)

@@ -8,7 +8,7 @@ use Rattle.constraints.proofs.statements.Walk.walk_leave.Goals as goal
 pub returns : goal.returns
 returns c =
     on_ok_weaker c.add_leave.result
-    (λ simple. simple-walked c.args.self.now.table.now.core.now c.args.self.now.table.now.written.items (entries_of c.args.self.now.map.now) c.args.self.now.procedure
+    (λ simple. simple-walked c.args.self.now.table.now.core.now c.args.self.now.table.now.core.now.labels (entries_of c.args.self.now.map.now) c.args.self.now.procedure
     (T.Leave c.args.at c.args.exit) c.args.pc c.args.takers c.deref.result.now c.args.progress.now _
     refl refl c.deref.ensures.value refl refl refl refl simple)
     c.add_leave.ensures

@@ -12,7 +12,7 @@ use Rattle.constraints.proofs.table.Table.+add_raise.Goals as goal
 pub returns-then-can_divide_by_zero-clause-joined : goal.returns-then-can_divide_by_zero-clause-joined
 returns-then-can_divide_by_zero-clause-joined t c =
     let core = c.args.self.now.core.now in
-    let table = c.args.self.now.written.items in
+    let table = c.args.self.now.core.now.labels in
     let scope = scope_of core c.args.procedure in
     let value : E.Expression → Join = λ e. value_label scope (expression_of e) in
     let atoms : E.Expression → Join = λ e. raise_atoms scope (expression_of e) in
@@ -34,7 +34,7 @@ returns-then-can_divide_by_zero-clause-raises t c =
 pub returns-in_ok-again-in-Binary-clause-joined : goal.returns-in_ok-again-in-Binary-clause-joined
 returns-in_ok-again-in-Binary-clause-joined t c =
     let core = c.args.self.now.core.now in
-    let table = c.args.self.now.written.items in
+    let table = c.args.self.now.core.now.labels in
     let scope = scope_of core c.args.procedure in
     let value : E.Expression → Join = λ e. value_label scope (expression_of e) in
     let atoms : E.Expression → Join = λ e. raise_atoms scope (expression_of e) in
@@ -59,7 +59,7 @@ returns-in_ok-again-in-Binary-clause-raises t c =
 pub returns-then-right-clause-joined : goal.returns-then-right-clause-joined
 returns-then-right-clause-joined t c =
     let core = c.args.self.now.core.now in
-    let table = c.args.self.now.written.items in
+    let table = c.args.self.now.core.now.labels in
     let scope = scope_of core c.args.procedure in
     let value : E.Expression → Join = λ e. value_label scope (expression_of e) in
     let atoms : E.Expression → Join = λ e. raise_atoms scope (expression_of e) in
@@ -79,7 +79,7 @@ returns-then-right-clause-raises t c =
 pub returns-else-right-clause-joined : goal.returns-else-right-clause-joined
 returns-else-right-clause-joined t c =
     let core = c.args.self.now.core.now in
-    let table = c.args.self.now.written.items in
+    let table = c.args.self.now.core.now.labels in
     let scope = scope_of core c.args.procedure in
     let value : E.Expression → Join = λ e. value_label scope (expression_of e) in
     let atoms : E.Expression → Join = λ e. raise_atoms scope (expression_of e) in

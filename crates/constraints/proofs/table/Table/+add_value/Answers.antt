@@ -10,7 +10,7 @@ use Rattle.constraints.proofs.table.Table.+add_value.Goals as goal
 pub returns-in_ok-add_value-in-Binary : goal.returns-in_ok-add_value-in-Binary
 returns-in_ok-add_value-in-Binary t c =
     let core = c.args.self.now.core.now in
-    let table = c.args.self.now.written.items in
+    let table = c.args.self.now.core.now.labels in
     let value : E.Expression → Join = λ e. value_label (scope_of core c.args.procedure) (expression_of e) in
     on_ok_weaker c.add_value-in-Binary-2.result
     (λ second. both core table (value c.args.expression.now) (value c.in-Binary.first.value) (value c.in-Binary.second.value)
@@ -21,7 +21,7 @@ returns-in_ok-add_value-in-Binary t c =
 pub returns-in_ok-add_value-in-Short : goal.returns-in_ok-add_value-in-Short
 returns-in_ok-add_value-in-Short t c =
     let core = c.args.self.now.core.now in
-    let table = c.args.self.now.written.items in
+    let table = c.args.self.now.core.now.labels in
     let value : E.Expression → Join = λ e. value_label (scope_of core c.args.procedure) (expression_of e) in
     on_ok_weaker c.add_value-in-Short-2.result
     (λ second. both core table (value c.args.expression.now) (value c.in-Short.first.value) (value c.in-Short.second.value)

@@ -6,7 +6,7 @@ use Rattle.constraints.proofs.table.Table.add_ends.Goals as goal
 pub returns : goal.returns
 returns c = λ atoms exceptions left are.
     let core = c.args.self.now.core.now in
-    let table = c.args.self.now.written.items in
+    let table = c.args.self.now.core.now.labels in
     let takers = takers_of c.args.takers c.args.thrown.now in
     added-then core table (flow atoms (takers c.args.exit)) (raised_flows atoms takers exceptions) _ _ _
     (flow-added core table atoms c.at.result (takers c.args.exit) _ _ c.at.ensures (c.in_ok-add_flow.ensures atoms left))

@@ -6,5 +6,5 @@ use Rattle.constraints.proofs.table.Table.add_raise_all.Given as goal
 
 abbrev pub invariant-loop-expression : goal.invariant-loop-expression
 invariant-loop-expression l =
-    IsJoined l.self.core.now l.self.written.items (raise_atoms_all (scope_of l.self.core.now l.procedure) (map expression_of (take l.expression-index l.expressions)))
+    IsJoined l.self.core.now l.self.core.now.labels (raise_atoms_all (scope_of l.self.core.now l.procedure) (map expression_of (take l.expression-index l.expressions)))
     l.fn.left.items l.left.items

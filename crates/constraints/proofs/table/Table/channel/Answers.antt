@@ -1,14 +1,20 @@
-use Rattle.std.proofs.Common.{ap, ◌∙◌, get_or}
-use Rattle.resolved.specs.CoreOf.{program_of}
+use Rattle.std.proofs.Common.{◌<◌, ◌≤◌, length, get_or, refl, subst, ◌∙◌, ap}
 use Rattle.resolved.specs.Program.{ChannelEntry}
-use Rattle.constraints.specs.LeftSides.{Written, part}
-use Rattle.constraints.proofs.Tables.{looked-up}
+use Rattle.resolved.specs.ProgramOf.{channel_entry}
+use Rattle.constraints.proofs.Tables.{label-past, label-there}
 use Rattle.constraints.proofs.table.Table.channel.Goals as goal
 
-pub returns : goal.returns
-returns c =
-    let table = c.args.self.now in
-    let program = program_of table.core.now in
-    ap (part table.written.items) (c.at.ensures ∙ ap (λ atoms. get_or atoms c.args.channel table.nothing) c.deref.ensures.value)
-    ∙ looked-up (part table.written.items) (λ (entry : ChannelEntry). Written entry.label) table.channels.items program.channels c.args.channel table.nothing _
-    table.are.channels_are table.are.nothing_is
+pub returns-in-None : goal.returns-in-None
+returns-in-None c =
+    let core = c.args.self.now.core.now in
+    label-past core.labels (channel_entry core.labels) (λ (entry : ChannelEntry). entry.label) core.channels.items c.args.channel _ c.args.self.now.nothing
+    (subst (λ list. length list ≤ c.args.channel) c.deref.ensures.value c.in-None.ensures.lookup.3) refl c.args.self.now.are.nothing_is
+
+pub returns-in-Some : goal.returns-in-Some
+returns-in-Some c =
+    let core = c.args.self.now.core.now in
+    let entry = c.in-Some.entry.now in
+    label-there core.labels (channel_entry core.labels) (λ (entry : ChannelEntry). entry.label) core.channels.items c.args.channel entry _ _
+    (subst (λ list. c.args.channel < length list) c.deref.ensures.value c.in-Some.ensures.lookup.3.0)
+    (c.in-Some.ensures.lookup.1 ∙ ap (λ list. get_or list c.args.channel entry) c.deref.ensures.value)
+    c.label_part.ensures

@@ -1,14 +1,20 @@
-use Rattle.std.proofs.Common.{ap, ◌∙◌, get_or}
-use Rattle.resolved.specs.CoreOf.{program_of}
+use Rattle.std.proofs.Common.{◌<◌, ◌≤◌, length, get_or, refl, subst, ◌∙◌, ap}
 use Rattle.resolved.specs.Program.{GlobalEntry}
-use Rattle.constraints.specs.LeftSides.{Written, part}
-use Rattle.constraints.proofs.Tables.{looked-up}
+use Rattle.resolved.specs.ProgramOf.{global_entry}
+use Rattle.constraints.proofs.Tables.{label-past, label-there}
 use Rattle.constraints.proofs.table.Table.global.Goals as goal
 
-pub returns : goal.returns
-returns c =
-    let table = c.args.self.now in
-    let program = program_of table.core.now in
-    ap (part table.written.items) (c.at.ensures ∙ ap (λ atoms. get_or atoms c.args.variable table.nothing) c.deref.ensures.value)
-    ∙ looked-up (part table.written.items) (λ (entry : GlobalEntry). Written entry.label) table.globals.items program.globals c.args.variable table.nothing _
-    table.are.globals_are table.are.nothing_is
+pub returns-in-None : goal.returns-in-None
+returns-in-None c =
+    let core = c.args.self.now.core.now in
+    label-past core.labels (global_entry core.labels) (λ (entry : GlobalEntry). entry.label) core.globals.items c.args.variable _ c.args.self.now.nothing
+    (subst (λ list. length list ≤ c.args.variable) c.deref.ensures.value c.in-None.ensures.lookup.3) refl c.args.self.now.are.nothing_is
+
+pub returns-in-Some : goal.returns-in-Some
+returns-in-Some c =
+    let core = c.args.self.now.core.now in
+    let entry = c.in-Some.entry.now in
+    label-there core.labels (global_entry core.labels) (λ (entry : GlobalEntry). entry.label) core.globals.items c.args.variable entry _ _
+    (subst (λ list. c.args.variable < length list) c.deref.ensures.value c.in-Some.ensures.lookup.3.0)
+    (c.in-Some.ensures.lookup.1 ∙ ap (λ list. get_or list c.args.variable entry) c.deref.ensures.value)
+    c.label_part.ensures

@@ -8,7 +8,7 @@ use Rattle.constraints.proofs.table.Table.left_of_store.Goals as goal
 pub returns : goal.returns
 returns c =
     let core = c.args.self.now.core.now in
-    let table = c.args.self.now.written.items in
+    let table = c.args.self.now.core.now.labels in
     let scope = scope_of core c.args.procedure in
     let first = index_atoms scope c.args.length (expression_of c.args.index.now) in
     let second = raise_atoms scope (expression_of c.args.value.now) in

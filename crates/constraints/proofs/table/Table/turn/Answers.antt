@@ -13,10 +13,10 @@ overflow_add-result c =
 pub returns-then-number-row : goal.returns-then-number-row
 returns-then-number-row c =
     let table = c.args.self.now in
-    loop-named (program_of table.core.now) table.written.items c.args.procedure c.args.number c.row-row.result.now c.row-row.ensures c.if-number-row.true
+    loop-named (program_of table.core.now) table.core.now.labels c.args.procedure c.args.number c.row-row.result.now c.row-row.ensures c.if-number-row.true
 
 pub returns : goal.returns
 returns c =
     let table = c.args.self.now in
-    loop-missing (program_of table.core.now) table.written.items c.args.procedure c.args.number c.row-row.result.now table.nothing
+    loop-missing (program_of table.core.now) table.core.now.labels c.args.procedure c.args.number c.row-row.result.now table.nothing
     c.row-row.ensures table.are.nothing_is c.if-number-row.false

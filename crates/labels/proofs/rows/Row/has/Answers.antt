@@ -7,10 +7,10 @@ use Rattle.labels.proofs.rows.Row.has.Goals as goal
 pub has_bit-requires : goal.has_bit-requires
 has_bit-requires c =
     let h : c.args.i < c.self.inside.n = below-bound c.self.inside.words.items c.self.inside.n c.args.i c.args.self.now c.self.view_is c.requires in
-    omega (arith, h, c.self.invariant.enough, c.as_slice.ensures.len, ap length c.as_slice.ensures.value)
+    omega (arith, h, c.self.invariant.enough, ap length c.as_slice.ensures)
 
 pub returns : goal.returns
 returns c =
     let h : c.args.i < c.self.inside.n = below-bound c.self.inside.words.items c.self.inside.n c.args.i c.args.self.now c.self.view_is c.requires in
-    c.has_bit.ensures ∙ (ap (λ words. has_bit words c.args.i) c.as_slice.ensures.value
+    c.has_bit.ensures ∙ (ap (λ words. has_bit words c.args.i) c.as_slice.ensures
     ∙ (sym (bits-at c.self.inside.words.items c.self.inside.n c.args.i h) ∙ ap (λ xs. has xs c.args.i) c.self.view_is))

@@ -1,14 +1,21 @@
-use Rattle.std.proofs.Common.{ap, ◌∙◌, arith, ◌<◌, ◌≡◌, ◌/◌, length, false, set, refl}
-use Rattle.std.proofs.lemmas.List.{get_or_read, length-set}
+use Rattle.std.proofs.Common.{ap, ◌∙◌, arith, ◌<◌, ◌≡◌, ◌/◌, length, bit_and, ◌*◌, ◌%◌, ◌^◌, ℕ, false, set, refl}
+use Rattle.std.proofs.lemmas.List.{length-set}
+use Rattle.smallvec.proofs.SmallVecLemmas.{items-with_items}
+use Rattle.std.specs.Int.{w64, bit_not}
 use Rattle.labels.specs.Words.{word}
 use Rattle.labels.proofs.RowBits.{below-bound, bits-cleared}
 use Rattle.labels.proofs.WordBits.{clear-bit}
 use Rattle.labels.proofs.rows.Row.remove.Goals as goal
 
-pub index_mut-requires : goal.index_mut-requires
-index_mut-requires c =
+pub bounds-deref_mut-i : goal.bounds-deref_mut-i
+bounds-deref_mut-i c =
     let h : c.args.i < c.self.inside.n = below-bound c.self.inside.words.items c.self.inside.n c.args.i c.args.self.now c.self.view_is c.requires in
-    omega (arith, h, c.self.invariant.enough)
+    omega (arith, h, c.self.invariant.enough, ap length c.deref_mut.ensures.value)
+
+pub bounds-deref_mut-i-2 : goal.bounds-deref_mut-i-2
+bounds-deref_mut-i-2 c =
+    let h : c.args.i < c.self.inside.n = below-bound c.self.inside.words.items c.self.inside.n c.args.i c.args.self.now c.self.view_is c.requires in
+    omega (arith, h, c.self.invariant.enough, ap length c.deref_mut.ensures.value)
 
 pub invariant_of-self : goal.invariant_of-self
 invariant_of-self c =
@@ -17,12 +24,12 @@ invariant_of-self c =
     let i = c.args.i in
     let h : i < n = below-bound words n i c.args.self.now c.self.view_is c.requires in
     let inside : i / 64 < length words = omega (arith, h, c.self.invariant.enough) in
-    let is : c.index_mut.result.now ≡ word words (i / 64) = get_or_read words (i / 64) c.index_mut.result.now inside c.index_mut.ensures.value 0 in
-    record {
+    let new : ℕ = bit_and (word words (i / 64)) (bit_not w64 (1 * 2 ^ (i % 64) % 2 ^ 64)) in
+    rw (c.deref_mut.ensures.value, items-with_items c.self.inside.words (set words (i / 64) new) (length-set words (i / 64) new)) (record {
       enough = length-set words (i / 64) _ ∙ c.self.invariant.enough;
       clear = λ k ge.
-          clear-bit words i c.index_mut.result.now k inside is ∙ rw (c.self.invariant.clear k ge) refl;
-    }
+          clear-bit words i (word words (i / 64)) k inside refl ∙ rw (c.self.invariant.clear k ge) refl;
+    })
 
 pub returns : goal.returns
 returns c =
@@ -31,5 +38,5 @@ returns c =
     let i = c.args.i in
     let h : i < n = below-bound words n i c.args.self.now c.self.view_is c.requires in
     let inside : i / 64 < length words = omega (arith, h, c.self.invariant.enough) in
-    let is : c.index_mut.result.now ≡ word words (i / 64) = get_or_read words (i / 64) c.index_mut.result.now inside c.index_mut.ensures.value 0 in
-    bits-cleared words _ n i h (λ k. clear-bit words i c.index_mut.result.now k inside is) ∙ ap (λ xs. set xs i false) c.self.view_is
+    let new : ℕ = bit_and (word words (i / 64)) (bit_not w64 (1 * 2 ^ (i % 64) % 2 ^ 64)) in
+    rw (c.deref_mut.ensures.value, items-with_items c.self.inside.words (set words (i / 64) new) (length-set words (i / 64) new)) (bits-cleared words _ n i h (λ k. clear-bit words i (word words (i / 64)) k inside refl) ∙ ap (λ xs. set xs i false) c.self.view_is)

@@ -1,15 +1,21 @@
-use Rattle.std.proofs.Common.{ap, ◌∙◌, arith, ◌<◌, ◌≡◌, ◌/◌, length, true, false, nat_eq, set, refl}
-use Rattle.std.proofs.lemmas.List.{get_or_read, length-set}
+use Rattle.std.proofs.Common.{ap, ◌∙◌, arith, ◌<◌, ◌≡◌, ◌/◌, length, bit_or, ◌*◌, ◌%◌, ◌^◌, ℕ, true, false, nat_eq, set, refl}
+use Rattle.std.proofs.lemmas.List.{length-set}
 use Rattle.std.proofs.lemmas.Bool.{ne_eqb}
+use Rattle.smallvec.proofs.SmallVecLemmas.{items-with_items}
 use Rattle.labels.specs.Words.{word}
 use Rattle.labels.proofs.RowBits.{below-bound, bits-set}
 use Rattle.labels.proofs.WordBits.{set-bit}
 use Rattle.labels.proofs.rows.Row.set.Goals as goal
 
-pub index_mut-requires : goal.index_mut-requires
-index_mut-requires c =
+pub bounds-deref_mut-i : goal.bounds-deref_mut-i
+bounds-deref_mut-i c =
     let h : c.args.i < c.self.inside.n = below-bound c.self.inside.words.items c.self.inside.n c.args.i c.args.self.now c.self.view_is c.requires in
-    omega (arith, h, c.self.invariant.enough)
+    omega (arith, h, c.self.invariant.enough, ap length c.deref_mut.ensures.value)
+
+pub bounds-deref_mut-i-2 : goal.bounds-deref_mut-i-2
+bounds-deref_mut-i-2 c =
+    let h : c.args.i < c.self.inside.n = below-bound c.self.inside.words.items c.self.inside.n c.args.i c.args.self.now c.self.view_is c.requires in
+    omega (arith, h, c.self.invariant.enough, ap length c.deref_mut.ensures.value)
 
 pub invariant_of-self : goal.invariant_of-self
 invariant_of-self c =
@@ -18,13 +24,13 @@ invariant_of-self c =
     let i = c.args.i in
     let h : i < n = below-bound words n i c.args.self.now c.self.view_is c.requires in
     let inside : i / 64 < length words = omega (arith, h, c.self.invariant.enough) in
-    let is : c.index_mut.result.now ≡ word words (i / 64) = get_or_read words (i / 64) c.index_mut.result.now inside c.index_mut.ensures.value 0 in
-    record {
+    let new : ℕ = bit_or (word words (i / 64)) (1 * 2 ^ (i % 64) % 2 ^ 64) in
+    rw (c.deref_mut.ensures.value, items-with_items c.self.inside.words (set words (i / 64) new) (length-set words (i / 64) new)) (record {
       enough = length-set words (i / 64) _ ∙ c.self.invariant.enough;
       clear = λ k ge.
           let apart : nat_eq k i ≡ false = ne_eqb k i (λ e. omega (arith, e, h, ge)) in
-          set-bit words i c.index_mut.result.now k inside is ∙ rw (apart, c.self.invariant.clear k ge) refl;
-    }
+          set-bit words i (word words (i / 64)) k inside refl ∙ rw (apart, c.self.invariant.clear k ge) refl;
+    })
 
 pub returns : goal.returns
 returns c =
@@ -33,5 +39,5 @@ returns c =
     let i = c.args.i in
     let h : i < n = below-bound words n i c.args.self.now c.self.view_is c.requires in
     let inside : i / 64 < length words = omega (arith, h, c.self.invariant.enough) in
-    let is : c.index_mut.result.now ≡ word words (i / 64) = get_or_read words (i / 64) c.index_mut.result.now inside c.index_mut.ensures.value 0 in
-    bits-set words _ n i h (λ k. set-bit words i c.index_mut.result.now k inside is) ∙ ap (λ xs. set xs i true) c.self.view_is
+    let new : ℕ = bit_or (word words (i / 64)) (1 * 2 ^ (i % 64) % 2 ^ 64) in
+    rw (c.deref_mut.ensures.value, items-with_items c.self.inside.words (set words (i / 64) new) (length-set words (i / 64) new)) (bits-set words _ n i h (λ k. set-bit words i (word words (i / 64)) k inside refl) ∙ ap (λ xs. set xs i true) c.self.view_is)

@@ -1,16 +1,16 @@
-use Rattle.std.proofs.Common.{◌≡◌, ap, sym, ◌∙◌, subst, get_or, length, map, ◌<◌}
+use Rattle.std.proofs.Common.{◌≡◌, ap, sym, ◌∙◌, subst, get_or, length, ◌<◌}
 use Rattle.std.specs.Prelude.{Some}
 use Rattle.std.proofs.lemmas.Bool.{ltb-true}
 use Rattle.std.proofs.lemmas.List.{get_or_read}
 use Rattle.resolved.specs.CoreOf.{program_of}
 use Rattle.resolved.specs.Ends.{declared_by}
 use Rattle.resolved.specs.Program.{procedure_at}
-use Rattle.resolved.specs.ProgramOf.{thrown_entry}
-use Rattle.path_map.specs.Exceptions.{is_one_of}
+use Rattle.path_map.specs.Exits.{raised_by}
+use Rattle.path_map.specs.Exceptions.{exceptions_of, is_one_of}
 use Rattle.path_map.specs.Rows.{no_row, says}
 use Rattle.path_map.specs.Sets.{IsSum, members}
 use Rattle.path_map.specs.Walks.{AreThrownInside}
-use Rattle.path_map.proofs.Declared.{procedure-there}
+use Rattle.path_map.proofs.Declared.{declared-there}
 use Rattle.path_map.proofs.Fitting.{thrown-inside}
 use Rattle.path_map.proofs.Walking.{sum-same}
 use Rattle.path_map.proofs.calls.Walk.add_declared.Goals as goal
@@ -45,7 +45,7 @@ returns-after-get-2-clause-added c =
     let core = c.args.self.now.core.now in
     let procedure = c.in-Some.procedure.now in
     let inside : callee < length procedures = ltb-true callee (length procedures) (sym c.in-Some.ensures.lookup.0) in
-    let entry = procedure-there core callee procedure (subst (λ list. callee < length list) c.deref.ensures.value inside)
+    let same = declared-there core callee procedure (subst (λ list. callee < length list) c.deref.ensures.value inside)
     (subst (λ list. procedure ≡ get_or list callee procedure) c.deref.ensures.value (get_or_read procedures callee procedure inside c.in-Some.ensures.lookup.1 procedure)) in
     let declared = declared_by (procedure_at (program_of core) callee).throws in
     let had = members c.args.set.now in
@@ -63,6 +63,17 @@ returns-after-get-2-clause-added c =
           (λ e. sym (subst (λ r. says r declared e ≡ is_one_of declared e) there (c.args.self.now.same callee e))))
       | in_default+in_ok-insert_all-in_default w ↦
           subst (λ s. IsSum had (is_one_of declared) (members s)) (sym w.set-is)
-          (subst (λ list. IsSum had (is_one_of (declared_by list)) (members w.insert_all.new.set))
-          (ap (map thrown_entry) w.deref-in_default.ensures.value ∙ sym (ap (λ p. p.throws) entry)) w.in_ok-insert_all-in_default.ensures.added)
+          (subst (λ list. IsSum had (is_one_of list) (members w.insert_all.new.set))
+          (ap exceptions_of w.deref-in_default.ensures.value ∙ sym same) w.in_ok-insert_all-in_default.ensures.added)
     ]
+
+pub returns-after-get-2-clause-summary : goal.returns-after-get-2-clause-summary
+returns-after-get-2-clause-summary c =
+    let procedures = c.deref.result.now in
+    let callee = c.args.callee in
+    let core = c.args.self.now.core.now in
+    let procedure = c.in-Some.procedure.now in
+    let inside : callee < length procedures = ltb-true callee (length procedures) (sym c.in-Some.ensures.lookup.0) in
+    let same = declared-there core callee procedure (subst (λ list. callee < length list) c.deref.ensures.value inside)
+    (subst (λ list. procedure ≡ get_or list callee procedure) c.deref.ensures.value (get_or_read procedures callee procedure inside c.in-Some.ensures.lookup.1 procedure)) in
+    c.summary_of.ensures ∙ (ap (λ list. raised_by (exceptions_of list)) c.deref-in-Some-2.ensures.value ∙ ap raised_by (sym same))

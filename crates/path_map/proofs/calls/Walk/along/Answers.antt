@@ -2,8 +2,7 @@ use Rattle.std.proofs.Common.{◌≡◌, ap, refl, sym, subst, [], ◌∷◌, �
 use Rattle.path_map.specs.Walks.{AreThrownInside, exception_count}
 use Rattle.path_map.proofs.Fitting.{counted, thrown-inside}
 use Rattle.std.proofs.lemmas.List.{length-append}
-use Rattle.resolved.specs.ProgramOf.{thrown_entry}
-use Rattle.std.specs.Prelude.{map}
+use Rattle.path_map.specs.Exceptions.{exceptions_of}
 use Rattle.path_map.proofs.Declared.{bounds-grow, rows-grow}
 use Rattle.path_map.proofs.calls.Walk.along.Goals as goal
 
@@ -15,7 +14,7 @@ loop-procedure-preserved c =
       count = rw c.in_ok-push.ensures.items (omega (arith, length-append rows (row ∷ []), c.loop-procedure.invariant.count));
       rows = rw c.in_ok-push.ensures.items (rows-grow c.args.core.now rows row c.loop-procedure.procedure-index c.procedure-item.result _ c.loop-procedure.invariant.count
           (rw (← c.deref-procedure-items.ensures.value) c.loop-procedure-test.true) (rw (← c.deref-procedure-items.ensures.value) c.procedure-item.is)
-          (ap (map thrown_entry) (rw c.deref.ensures.value refl)) c.in_ok-row_of.ensures.declared c.loop-procedure.invariant.rows);
+          (ap exceptions_of (rw c.deref.ensures.value refl)) c.in_ok-row_of.ensures.declared c.loop-procedure.invariant.rows);
       bounded = rw c.in_ok-push.ensures.items (bounds-grow _ rows row c.loop-procedure.invariant.bounded c.in_ok-row_of.ensures.bound);
     }
 

@@ -41,7 +41,7 @@ add_all-requires g c = λ i u h.
     let count = c.requires.work.count in
     omega (arith, lt, count)
 
-looked : (g : Over) (c : goal.After-drop-left-inside-2 g) → IsLooked c.args.constraints.now c.args.edges.now c.args.self.now.rows.items c.args.queue.now.order.items
+looked : (g : Over) (c : goal.Joined-left-2 g) → IsLooked c.args.constraints.now c.args.edges.now c.args.self.now.rows.items c.args.queue.now.order.items
     (set c.args.self.now.rows.items c.in-Unknown.unknown c.join_from.new.self) c.if-join_from.queue.waits.items c.if-join_from.queue.order.items
 looked g c =
     let at = (goal.at.returns-clause-work g c).After-index_mut in

@@ -1,22 +1,18 @@
-use Rattle.std.proofs.Common.{◌≡◌, [], ◌∷◌, ◌++◌, None, length, map, take, Ok, ap, sym, ◌∙◌, refl}
+use Rattle.std.proofs.Common.{◌≡◌, [], ◌∷◌, None, length, take, Ok, ap, sym, ◌∙◌, refl, arith, length-append}
 use Rattle.std.specs.Prelude.{string_bytes}
 use Rattle.std.proofs.Math.Seq.{take-append_seam}
-use Rattle.std.proofs.lemmas.List.{map_push}
-use Rattle.resolved.specs.ProgramOf.{slot_entry}
 use Rattle.types.specs.Environment.{declaring}
-use Rattle.types.specs.Views.{found_in, names_of, or_else}
+use Rattle.types.specs.Views.{found_in, names_of, new_slot_entry, or_else}
 use Rattle.types.proofs.Tables.{inner_named, inner_none, without_last}
 use Rattle.types.proofs.body.Body.declare.Goals as goal
 
 pub returns-clause-made : goal.returns-clause-made
 returns-clause-made c =
     let before = c.args.self.now in
-    let slots = before.slots.items in
     let named : declaring (string_bytes c.args.slot.name) c.args.meaning (names_of before) ≡ (λ other. or_else (found_in c.insert.new.table other) (found_in before.top.now.names other)) =
     ap (λ name. declaring name c.args.meaning (names_of before)) (sym c.as_str.ensures.value)
     ∙ inner_named (λ other. found_in before.locals other) (λ other. found_in before.top.now.names other) _ _ _ c.in_ok-insert.ensures in
-    let pushed : map slot_entry c.push-2.new.self.items ≡ map slot_entry slots ++ slot_entry c.args.slot ∷ [] = rw c.in_ok-push-2.ensures.items (map_push slot_entry slots c.args.slot) in
-    let all = sym pushed in
+    let all = sym c.in_ok-declare.ensures.slots in
     λ i. Ok (record { names = named i; slots = all i; loops = before.loops })
 
 pub returns-clause-later : goal.returns-clause-later
@@ -28,8 +24,15 @@ returns-clause-later c =
     record {
       hierarchy = refl;
       top = refl;
-      globals = refl;
+      globals = c.in_ok-declare.ensures.globals;
+      labels = c.in_ok-declare.ensures.extended;
       result = refl;
       declared = ap (take (length declared)) c.in_ok-push.ensures.items ∙ take-append_seam declared _;
       locals = without_last declared _ _ _ c.args.meaning (found_in before.locals) (found_in c.insert.new.table) c.in_ok-push.ensures.items same fresh c.in_ok-insert.ensures;
     }
+
+pub returns-clause-grows : goal.returns-clause-grows
+returns-clause-grows c =
+    let variables = c.args.self.now.variables in
+    let one_more = length-append variables.slots (new_slot_entry variables.labels c.args.slot ∷ []) in
+    omega (arith, c.in_ok-declare.ensures.few, ap length c.in_ok-declare.ensures.slots, one_more)

@@ -1,0 +1,121 @@
+//! The written elements of constraints, by their numbers.
+ghost use Rattle.labels.specs.Canonical.{written_label};
+ghost use Rattle.labels.specs.Constraints.{LatticeLaws, Lattice as LatticeOf, label_lattice};
+ghost use Rattle.solver.specs.Broken.{is_below};
+ghost use Rattle.solver.specs.Constraints.{AreAlike, values_of};
+ghost use Rattle.std.specs.Prelude.{IfOk, List, length, ◌<◌, ◌≡◌};
+
+use crate::solution::Solution;
+use labels::{Label, LabelLattice, LabelTable, Lattice};
+use principals::Hierarchy;
+use std::alloc::{AllocError, Global};
+
+/// Elements of a lattice by their numbers, from 0 on, as the solver compares them: how they are held is their own affair.
+pub trait WrittenElements {
+    /// What an element is, as a contract sees it.
+    type Elem;
+
+    /// The order of the lattice that the elements are of.
+    ghost order: { Self → LatticeOf Self.Elem };
+
+    /// The elements, in the order of their numbers.
+    ghost elements: { Self → List Self.Elem };
+
+    /// How many elements there are.
+    fn len(&self) -> usize
+        ensures { result ≡ length (elements self.now) };
+
+    /// Whether the element with a number lies below the one with another number. It takes no memory. Precondition: both are
+    /// there.
+    fn leq(&self, number: usize, to: usize) -> bool
+        requires number { number < length (elements self.now) }
+        requires to { to < length (elements self.now) }
+        ensures { result ≡ is_below (order self.now) (elements self.now) number to };
+
+    /// The laws of a lattice hold of the order. It does nothing when it runs.
+    fn keep_laws(&self)
+        ensures { LatticeLaws (order self.now) };
+}
+
+/// A table of elements of a lattice.
+#[derive(Drop)]
+pub struct ElementsOf<'a, L: Lattice> {
+    pub lattice: &'a L,
+    pub written: &'a [L::Elem],
+}
+
+impl<L: Lattice> WrittenElements for ElementsOf<'_, L> {
+    type Elem = L::Elem;
+
+    ghost order = { λ table. L.order table.lattice.now };
+
+    ghost elements = { λ table. table.written.now };
+
+    fn len(&self) -> usize {
+        self.written.len()
+    }
+
+    fn leq(&self, number: usize, to: usize) -> bool {
+        self.lattice.leq(&self.written[number], &self.written[to])
+    }
+
+    fn keep_laws(&self) {
+        self.lattice.keep_laws();
+    }
+}
+
+/// The labels of a table under a hierarchy of principals, ordered by flow (Myers and Liskov 2000).
+#[derive(Debug, Clone, Copy, Drop)]
+pub struct LabelsUnder<'a> {
+    pub hierarchy: &'a Hierarchy,
+    pub labels: &'a LabelTable,
+}
+
+impl WrittenElements for LabelsUnder<'_> {
+    type Elem = Label;
+
+    ghost order = { λ under. label_lattice under.hierarchy.now };
+
+    ghost elements = { λ under. under.labels.now };
+
+    fn len(&self) -> usize {
+        self.labels.len()
+    }
+
+    fn leq(&self, number: usize, to: usize) -> bool {
+        // Numbers of labels have 32 bits.
+        prove!(number < self.labels.len() && to < self.labels.len());
+        self.labels.flows(self.hierarchy, number as u32, to as u32)
+    }
+
+    fn keep_laws(&self) {
+        let lattice = LabelLattice {
+            hierarchy: self.hierarchy,
+        };
+        lattice.keep_laws();
+    }
+}
+
+impl LabelsUnder<'_> {
+    /// The value of an unknown: the label with the policies of all labels that reach it.
+    ///
+    /// # Errors
+    ///
+    /// Memory ran out.
+    pub fn value(
+        &self,
+        alloc: Global,
+        solution: &Solution,
+        unknown: u32,
+    ) -> Result<Label, AllocError>
+        ensures exact { IfOk result (λ label. label ≡ written_label (values_of
+            (label_lattice self.now.hierarchy.now) self.now.labels.now
+            solution.now.reached unknown)) }
+        ensures alike { IfOk result (AreAlike (label_lattice self.now.hierarchy.now) (values_of
+            (label_lattice self.now.hierarchy.now) self.now.labels.now
+            solution.now.reached unknown)) }
+    {
+        let numbers = solution.reaching(alloc, unknown)?;
+        self.labels.join(alloc, &numbers)
+    }
+}
