@@ -226,6 +226,25 @@ def half_of_a_long_label_flows(size):
     return flat(256), head + joined(found) + "}\n"
 
 
+def halves_of_two_long_labels_flow(size):
+    """Two long labels and one with half of the policies of each, which flows again and again to a label that names both and has a
+    policy beside them."""
+    one, other = policies(size // 4), policies(size // 4, 1 << 20)
+    half = ";".join(one[1:-1].split(";")[::2] + other[1:-1].split(";")[::2])
+    head = f"global int{one} g = 1;\nglobal int{other} k = 1;\nglobal int{{{half}}} h = 1;\nvoid main() {{\n"
+    found = pieces(size - len(head) - 2, lambda n: (f"int{{g; k; {one_policy(n)}}} a{n} = h;\n",))
+    return flat(256), head + joined(found) + "}\n"
+
+
+def many_labels_to_many_places(size):
+    """Many locals, each with a label of its own, that are copied to one, which is copied to many others with labels of their own."""
+    found = pieces(
+        size - 40,
+        lambda n: (f"int{{P{n % 255}: P{n // 255}}} x{n} = 0; u = x{n};\n", f"int{{P255:; {one_policy(n)}}} z{n} = u;\n"),
+    )
+    return chain(256), "void main() {\nint u = 0;\n" + joined(found) + joined(found, 1) + "}\n"
+
+
 def flows_along_names(size):
     """A chain of locals, each with the label of the one before and one policy more, that are copied along it."""
     head = f"void main() {{\nint{policies(size // 3)} a0 = 1;\n"
@@ -283,17 +302,31 @@ def exceptions_handed_on(size):
     return flat(2), first + joined(rest) + "void main() { }\n"
 
 
-def exceptions_of_many_callees(size):
-    """As many procedures as exceptions, each of which declares all of them, all called in tries that each catch half of them."""
+def callees_in_tries(size, declares):
+    """As many procedures as exceptions, which declare those by a test, all called in tries that each catch half of the exceptions."""
     count = int((size / 12) ** 0.5)
     names = [f"e{n}" for n in range(count)]
-    thrown = ", ".join(f"{name}{{}}" for name in names)
+
+    def thrown(number):
+        return ", ".join(f"{name}{{}}" for n, name in enumerate(names) if declares(number, n))
+
     head = "".join(f"exception {name};\n" for name in names)
-    head += "".join(f"void f{n}() throws ({thrown}) {{ }}\n" for n in range(count))
+    head += "".join(f"void f{n}() throws ({thrown(n)}) {{ }}\n" for n in range(count))
     calls = " ".join(f"f{n}();" for n in range(count))
     caught = " ".join(f"catch ({name}) {{ }}" for name in names[::2])
     tries = f"try {{ {calls} }} {caught}\n" * (count // 4)
-    return flat(2), head + f"void main() throws ({thrown}) {{\n{tries}}}\n"
+    everything = ", ".join(f"{name}{{}}" for name in names)
+    return flat(2), head + f"void main() throws ({everything}) {{\n{tries}}}\n"
+
+
+def exceptions_of_many_callees(size):
+    """As many procedures as exceptions, each of which declares all of them, all called in tries that each catch half of them."""
+    return callees_in_tries(size, lambda procedure, exception: True)
+
+
+def exceptions_of_uneven_callees(size):
+    """The same where each procedure leaves out one exception, so that no two exceptions come from the same procedures."""
+    return callees_in_tries(size, lambda procedure, exception: procedure != exception)
 
 
 # Each shape, with the most that it may take of the benign source's time at 1 MiB, and the most bytes of memory that it may take for
@@ -318,6 +351,8 @@ SHAPES = [
     (one_policy_more_each, 20, 400),
     (long_label_named_everywhere, 20, 40),
     (half_of_a_long_label_flows, 20, 40),
+    (halves_of_two_long_labels_flow, 20, 40),
+    (many_labels_to_many_places, 20, 400),
     (flows_along_names, 20, 400),
     (all_names_flow_to_the_last, 20, 400),
     (exceptions_of_calls, 20, 400),
@@ -325,6 +360,7 @@ SHAPES = [
     (exceptions_of_calls_in_tries, 20, 400),
     (exceptions_handed_on, 20, 400),
     (exceptions_of_many_callees, 20, 400),
+    (exceptions_of_uneven_callees, 20, 400),
 ]
 
 

@@ -1,5 +1,5 @@
 -- The first demand that no labelling meets is one: under any two least labellings the same demands hold.
-use Rattle.std.proofs.Common.{◌≡◌, refl, sym, ap, ◌∙◌, Bool, true, false, not, List, [], ◌∷◌, ◌&&◌, inl}
+use Rattle.std.proofs.Common.{◌≡◌, refl, sym, ap, ◌∙◌, Bool, not, List, [], ◌∷◌, ◌&&◌, inl}
 use Rattle.std.specs.Prelude.{IsTrue, Contains, Some, find, if◌then◌else◌}
 use Rattle.labels.specs.Label.{ReaderPolicy, Label}
 use Rattle.labels.specs.Constraints.{Atom, Written, Unknown, is_written, holds, value, join_of, label_lattice}

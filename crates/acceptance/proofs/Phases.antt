@@ -16,7 +16,6 @@ use Rattle.parser.specs.declared.fault.ParseRefusal.{ParseRefusal}
 use Rattle.parser.proofs.Programs.{one_tree}
 use Rattle.parser.proofs.Refusals.{spelled_or_refused, spelled_not_refused, one_refusal}
 use Rattle.principals.specs.ActsFor.{PrincipalHierarchy}
-use Rattle.principals.specs.HierarchyText.{IsRefusedText}
 use Rattle.principals.specs.declared.fault.HierarchyRefusal.{HierarchyRefusal}
 use Rattle.principals.specs.Laws.{HasOneHierarchy, IsReadOrRefused, IsNotReadAndRefused, HasOneRefusal}
 use Rattle.syntax.specs.Grammar.{SpellsProgram}

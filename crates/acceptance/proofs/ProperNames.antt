@@ -1,8 +1,6 @@
 -- A program that a source is resolved to has proper names.
-use Rattle.std.proofs.Common.{◌≡◌, ◌≢◌, ℕ, List, ◌++◌, length, sym, ◌∙◌, subst, append_assoc, arith}
+use Rattle.std.proofs.Common.{◌≡◌, ◌≢◌, ℕ, List, ◌++◌, sym, subst, append_assoc}
 use Rattle.std.specs.Prelude.{All, IsUtf8}
-use Rattle.std.proofs.lemmas.List.{length-append, get_or_append_left}
-use Rattle.std.proofs.lemmas.List.Elements.{All-weaker}
 use Rattle.std.proofs.lemmas.Str.{IsUtf8-from_is_utf8}
 use Rattle.principals.specs.ActsFor.{PrincipalHierarchy, IsHierarchy, AllDifferent}
 use Rattle.principals.specs.Named.{IsKeptName}

@@ -4,9 +4,8 @@ use Rattle.std.specs.Global.{Global}
 use Rattle.std.specs.Prelude.{◌≡◌, ℕ, List, String, map, Result, Ok, Err, string_bytes}
 use Rattle.common.specs.Answers.{Answers}
 use Rattle.common.specs.declared.fault.OrNoMemory.{OrNoMemory}
-use Rattle.modules.specs.Contents.{ModuleContents}
 use Rattle.modules.specs.Format.{FieldsOfVersion}
-use Rattle.bytecode.specs.declared.decoding.Fields.{Fields}
+use Rattle.modules.specs.declared.contents.Contents.{Contents}
 use Rattle.modules.specs.declared.fault.ReadRefusal.{ReadRefusal}
 
 -- what a function returned, seen by the view, is what reading gives, unless memory ran out
@@ -17,23 +16,12 @@ Decodes view result read = Answers (λ x. read ≡ Ok (view x)) (λ stop. read �
 abbrev pub texts : List (String Global) → List (List ℕ)
 texts names = map (λ name. string_bytes name) names
 
--- the fields behind the version of a module that was read, and all of them as its contents
-abbrev pub fields_of : Fields → FieldsOfVersion
-fields_of fields = (
-  fields.hierarchy,
+-- the fields behind the version of a module that was read
+abbrev pub fields_of : Contents → FieldsOfVersion
+fields_of contents = (
+  contents.hierarchy,
   (
-    (texts fields.exceptions.items, fields.channels.items),
-    (fields.program.globals.items, (fields.program.procedures.items, fields.program.main)),
+    (texts contents.exceptions.items, contents.channels.items),
+    (contents.globals.items, (contents.procedures.items, contents.main)),
   ),
 )
-
-abbrev pub contents_of : Fields → ModuleContents
-contents_of fields = record {
-  version = fields.version;
-  hierarchy = fields.hierarchy;
-  exceptions = texts fields.exceptions.items;
-  channels = fields.channels.items;
-  globals = fields.program.globals.items;
-  procedures = fields.program.procedures.items;
-  main = fields.program.main;
-}

@@ -1,11 +1,12 @@
 //! Reading of modules.
 
 ghost use Rattle.modules.specs.Contents.{ModuleContents};
+ghost use Rattle.modules.specs.ContentsOf.{contents_of};
 ghost use Rattle.common.specs.Answers.{Answers, IfRefused};
 ghost use Rattle.bytecode.specs.Decoded.{first_refusal};
-ghost use Rattle.modules.specs.Form.{Fits, read, read_all, Spells};
+ghost use Rattle.modules.specs.Form.{read, read_all, Spells};
 ghost use Rattle.modules.specs.Format.{contents, main, module_file, program, version};
-ghost use Rattle.bytecode.specs.Reading.{contents_of, Decodes, fields_of};
+ghost use Rattle.bytecode.specs.Reading.{Decodes, fields_of};
 ghost use Rattle.std.specs.Prelude.{IfErr, IfOk, Some, ◌≡◌};
 
 use crate::channels::read_declared;
@@ -15,30 +16,19 @@ use crate::hierarchy::read_hierarchy;
 use crate::procedures::read_procedures;
 use crate::reading::{ReadFault, read_number, refuse};
 use common::OrNoMemory;
-use modules::channel::Channel;
+use modules::contents::Contents;
 use modules::declaration::Global as Variable;
 use modules::module::Module;
 use modules::procedure::Procedure;
 use modules::{FormatDefect, Version};
-use principals::Hierarchy;
 use std::alloc::Global;
 
 /// The first four bytes of a module, `FLOB`, as a number.
 pub(crate) const MAGIC: u32 = 0x464c_4f42;
 
-/// The fields of a module that was read.
-#[derive(Drop)]
-pub(crate) struct Fields {
-    version: Version,
-    hierarchy: Hierarchy,
-    exceptions: Vec<String>,
-    channels: Vec<Channel>,
-    program: Program,
-}
-
 /// What runs of a module that was read.
 #[derive(Drop)]
-pub(crate) struct Program {
+struct Program {
     globals: Vec<Variable>,
     procedures: Vec<Procedure>,
     main: u32,
@@ -79,13 +69,13 @@ fn read_program(
     Ok((program, rest))
 }
 
-/// The fields of a module of the version, behind magic and version.
+/// The contents of a module of the version, behind magic and version.
 #[tactic(auto, unfolding(modules::specs::Format::contents))]
 fn read_contents(
     alloc: Global,
     version: Version,
     bytes: &[u8],
-) -> Result<(Fields, &[u8]), ReadFault>
+) -> Result<(Contents, &[u8]), ReadFault>
     ensures reads { Decodes (λ x. (fields_of x.0, x.1.now)) result
         (read (contents version) bytes.now) }
     ensures version { IfOk result (λ x. x.0.version ≡ version) }
@@ -93,14 +83,16 @@ fn read_contents(
     let (hierarchy, rest) = read_hierarchy(alloc, bytes)?;
     let (exceptions, channels, rest) = read_declared(alloc, &hierarchy, rest)?;
     let (program, rest) = read_program(alloc, version, rest)?;
-    let fields = Fields {
+    let contents = Contents {
         version,
         hierarchy,
         exceptions,
         channels,
-        program,
+        globals: program.globals,
+        procedures: program.procedures,
+        main: program.main,
     };
-    Ok((fields, rest))
+    Ok((contents, rest))
 }
 
 /// The version of the file.
@@ -116,9 +108,9 @@ fn read_version(bytes: &[u8]) -> Result<(Version, &[u8]), ReadFault>
     }
 }
 
-/// The fields of a module behind magic and version, which are tested.
+/// The contents of a module behind magic and version, which are tested.
 #[tactic(auto, unfolding(modules::specs::Format::module_file))]
-fn read_file(alloc: Global, bytes: &[u8]) -> Result<(Fields, &[u8]), ReadFault>
+fn read_file(alloc: Global, bytes: &[u8]) -> Result<(Contents, &[u8]), ReadFault>
     ensures { Decodes (λ x. (contents_of x.0, x.1.now)) result (read module_file bytes.now) }
 {
     let (magic, rest) = read_number(bytes)?;
@@ -129,37 +121,15 @@ fn read_file(alloc: Global, bytes: &[u8]) -> Result<(Fields, &[u8]), ReadFault>
     read_contents(alloc, version, rest)
 }
 
-/// The fields of a module that all of the bytes are.
-fn read_all_of_file(alloc: Global, bytes: &[u8]) -> Result<Fields, ReadFault>
+/// The contents of a module that all of the bytes are.
+fn read_all_of_file(alloc: Global, bytes: &[u8]) -> Result<Contents, ReadFault>
     ensures { Decodes contents_of result (read_all module_file bytes.now) }
 {
-    let (fields, rest) = read_file(alloc, bytes)?;
+    let (contents, rest) = read_file(alloc, bytes)?;
     if !rest.is_empty() {
         return Err(refuse(FormatDefect::Trailing, rest));
     }
-    Ok(fields)
-}
-
-/// The module of fields that have a spelling.
-fn module_of(fields: Fields) -> Module
-    requires { Fits module_file (contents_of fields) }
-    ensures { result ≡ contents_of fields }
-{
-    let Fields {
-        version,
-        hierarchy,
-        exceptions,
-        channels,
-        program,
-    } = fields;
-    let Program {
-        globals,
-        procedures,
-        main,
-    } = program;
-    Module::new(
-        version, hierarchy, exceptions, channels, globals, procedures, main,
-    )
+    Ok(contents)
 }
 
 /// The module that the bytes spell.
@@ -178,7 +148,7 @@ pub fn decode(alloc: Global, bytes: &[u8]) -> Result<Module, FormatFault>
         (λ refusal. first_refusal bytes.now ≡ Some refusal)) }
 {
     match read_all_of_file(alloc, bytes) {
-        Ok(fields) => Ok(module_of(fields)),
+        Ok(contents) => Ok(Module::new(contents)),
         Err(OrNoMemory::NoMemory) => Err(OrNoMemory::NoMemory),
         Err(OrNoMemory::Refused(stop)) => {
             let offset = bytes.len() - stop.left;

@@ -1,6 +1,6 @@
 -- What a check gives of an accepted source: its program, and a label for each local and loop that is written without one.
 -- Source: our own; labels of locals may be left out, and are then inferred, as in JFlow (Myers 1999).
-use Rattle.std.specs.Prelude.{◌≡◌, ℕ, ◌<◌, ◌≤◌, [], length, Option, Some, None}
+use Rattle.std.specs.Prelude.{◌≡◌, ℕ, ◌<◌, [], length, Option, Some, None}
 use Rattle.labels.specs.Label.{Label}
 use Rattle.labels.specs.Constraints.{label_lattice}
 use Rattle.resolved.specs.CoreOf.{program_of}
@@ -28,13 +28,12 @@ abbrev pub least_label : CheckedProgram → Unwritten → Label
 least_label checked u = least_value checked (unwritten_number (program_of checked.core) u)
 
 -- what every checked program keeps: no fault of its ends, labels that make it labelled, the least ones, and the names that a module
--- file holds; each element of the solution is the number of a written label
+-- file holds
 pub record IsChecked (checked : CheckedProgram) : Type 0 where
   pub ended : end_faults (program_of checked.core) ≡ []
   pub labelled : Labelled (program_of checked.core)
   pub least : AreLeast (program_of checked.core) (least_label checked)
   pub names : HasNames (program_of checked.core)
-  pub rows : length checked.solution.reached ≤ length checked.core.labels
 
 -- ---- the label of a local
 

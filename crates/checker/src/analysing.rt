@@ -61,8 +61,8 @@ pub(crate) fn analyse(
     Ok(Analysed { core, ends })
 }
 
-// The tree that a source spells.
-fn read(alloc: Global, source: &str) -> Result<syntax::Program, OrNoMemory<Found>>
+// The tree that a source spells, whose names are slices of it.
+fn read(alloc: Global, source: &str) -> Result<syntax::Program<'_>, OrNoMemory<Found>>
     requires text { IsText source.now }
     ensures spelled { IfOk result (λ tree. IsTreeOf source.now (program_tree tree)) }
     ensures first_fault { (h : PrincipalHierarchy) → IfErr result (IfRefused

@@ -25,14 +25,16 @@ use Rattle.solver.specs.declared.constraints.Atom.{Atom}
 use Rattle.constraints.specs.Added.{IsPart}
 use Rattle.constraints.specs.Journals.{IsUpToDate, moments_at, noted_all}
 use Rattle.constraints.specs.LeftSides.{scope_of}
-use Rattle.constraints.specs.Takers.{AreLevelled, AreWithin, no_entry, takers_of, undone}
+use Rattle.constraints.specs.Takers.{AreLevelled, AreWithin, no_entry, takers_around, takers_of, undone}
 use Rattle.constraints.specs.Thinned.{AreNoted}
 use Rattle.constraints.specs.Walks.{IsSimple, loop_head_constraints}
 use Rattle.constraints.specs.Walked.{AreHandlersWalked, AreStatementsWalked, HasPassed, IsBlockWalked, IsFormWalked, IsStatementWalked, IsTried, IsWalked, branch_constraints, step_constraints}
+use Rattle.constraints.specs.declared.around.Around.{Around}
 use Rattle.constraints.specs.declared.pieces.Tried.{Tried}
 use Rattle.constraints.specs.declared.progress.Progress.{Progress}
 use Rattle.constraints.specs.declared.takers.Entry.{Entry}
 use Rattle.constraints.specs.declared.takers.Takers.{Takers}
+use Rattle.constraints.proofs.InContext.{gathered-around}
 use Rattle.constraints.proofs.Noted.{handled-ones, noted-journal}
 use Rattle.constraints.proofs.SavedEntries.{undone-length}
 use Rattle.constraints.proofs.Thinned.{walks-noted, walks-same, walks-then}
@@ -190,17 +192,19 @@ module _ (core : Core) (table : List Label) (entries : List Exits) (procedure : 
       (passed-then core table entries pc trying (λ named. handling) (count + made_by_block block) (made_by_handlers handlers) rest left old after new one two)
 
   -- a statement without inner unknowns, which takes no entry of the path map but its own
-  pub simple-walked : (tree : Statement) (pc : Atom) (takers : Takers) (thrown : List Entry) (old new : Progress)
+  pub simple-walked : (tree : Statement) (pc : Atom) (takers : Takers) (around : Around) (thrown : List Entry) (old new : Progress)
       → inner_paths (program_of core) tree ≡ [] → made_by_statement tree ≡ 0 → thrown ≡ old.thrown.items
       → new.index ≡ old.index → new.number ≡ old.number → new.thrown.items ≡ old.thrown.items → new.journal ≡ old.journal
-      → IsSimple core table procedure pc (takers_of takers thrown) tree old.constraints.items new.constraints.items
+      → around.pc ≡ pc → takers_around around ≡ takers_of takers thrown
+      → IsSimple core table procedure around.pc (takers_around around) tree old.constraints.items new.constraints.items
       → IsFormWalked core table entries procedure pc takers tree old new
-  simple-walked tree pc takers thrown old new none made_none same index number thrown_is journal simple = λ left before levelled.
+  simple-walked tree pc takers around thrown old new none made_none same index number thrown_is journal pc_is takers_are simple = λ left before levelled.
       passed-same core table entries pc (λ named. statement_constraints (scope_of core procedure) named (takers_of takers old.thrown.items) old.number tree)
       (λ named. statement_constraints (scope_of core procedure) named (takers_of takers thrown) old.number tree) (made_by_statement tree) 0 left old new
       (λ named. ap (λ t. statement_constraints (scope_of core procedure) named (takers_of takers t) old.number tree) (sym same)) made_none
       (alone-passed core table entries pc (λ named. statement_constraints (scope_of core procedure) named (takers_of takers thrown) old.number tree) 0 left old new
-      (before ∙ ap (λ (paths : List (List Exit)). map exits_of paths ++ left) none) index (omega (arith, number)) thrown_is journal (simple old.number))
+      (before ∙ ap (λ (paths : List (List Exit)). map exits_of paths ++ left) none) index (omega (arith, number)) thrown_is journal
+      (gathered-around core table (λ t named. statement_constraints (scope_of core procedure) named t old.number tree) around pc (takers_of takers thrown) _ _ pc_is takers_are (simple old.number)))
 
   pub form-at : (s : S.Statement) (tree : Statement) (pc : Atom) (takers : Takers) (old new : Progress) → statement_of s ≡ tree
       → IsFormWalked core table entries procedure pc takers tree old new → IsFormWalked core table entries procedure pc takers (statement_of s) old new

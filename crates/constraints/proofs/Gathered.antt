@@ -1,6 +1,7 @@
--- Stored constraints that stand for what is gathered: they are just that, and their numbers are in range.
-use Rattle.std.proofs.Common.{◌≡◌, refl, sym, ap, ◌∙◌, subst, ℕ, ◌<◌, List, [], ◌∷◌, ◌++◌, map, length, ⊎_elim}
+-- Stored constraints that stand for what is gathered: they are just that, and their numbers are in range and few.
+use Rattle.std.proofs.Common.{◌≡◌, refl, sym, ap, ◌∙◌, subst, ℕ, ◌*◌, ◌<◌, ◌≤◌, arith, List, [], ◌∷◌, ◌++◌, map, length, ⊎_elim}
 use Rattle.std.specs.Prelude.{◌↔◌, Contains, Some, nat_le, slice_get}
+use Rattle.std.proofs.lemmas.Bool.{le-leb}
 use Rattle.std.proofs.lemmas.List.{map-append}
 use Rattle.std.proofs.lemmas.List.Elements.{All-cons, All-nil, Contains-append_cases, Contains-append_left, Contains-append_right}
 use Rattle.labels.proofs.Elements.{All-from_each, each_from_All}
@@ -13,6 +14,7 @@ use Rattle.resolved.specs.Flow.{Gathered}
 use Rattle.resolved.specs.declared.program.Core.{Core}
 use Rattle.resolved.specs.CoreOf.{program_of}
 use Rattle.resolved.specs.EndFaults.{end_faults}
+use Rattle.resolved.specs.WellFormed.{program_nodes}
 use Rattle.resolved.specs.Labelled.{FitsDemands, Labelling, program_demands}
 use Rattle.gathering.specs.Gathered.{AreConstraintsOf, FitsConstraints}
 use Rattle.gathering.specs.Names.{numbered, real_unknowns}
@@ -26,12 +28,12 @@ use Rattle.solver.specs.declared.constraints.Atom.{Atom}
 use Rattle.solver.specs.declared.constraints.Atom.TheVariants as stored
 use Rattle.constraints.specs.LeftSides.{part, left_parts}
 use Rattle.constraints.specs.Added.{AreAdded, Stored, stand_for, stands_for, wanted_constraint}
-use Rattle.constraints.specs.Merging.{AreSpreadMerged}
+use Rattle.constraints.specs.Merging.{AreSpreadShared}
 use Rattle.constraints.specs.Thinned.{ThinnedWhole}
 use Rattle.constraints.specs.declared.progress.Progress.{Progress}
 use Rattle.constraints.specs.declared.spreading.Made.{Made}
-use Rattle.constraints.proofs.Merged.{FitsIn, meant-rerouted, merged-in-range}
-use Rattle.constraints.proofs.SpreadCalls.{all-numbered, calls-rerouted, ranged-unknowns, spread-below}
+use Rattle.constraints.proofs.Merged.{FitsIn, fits-more, meant-rerouted, shared-in-range}
+use Rattle.constraints.proofs.SpreadCalls.{all-numbered, calls-rerouted, ranged-unknowns, spread-below, spread-few}
 use Rattle.constraints.proofs.Wanted.{constraints-numbered, wanted, wanted_of}
 
 module _ (l : Lattice Label) (table : List Label) where
@@ -106,14 +108,14 @@ module _ (table : List Label) (count : ℕ) where
   constraints-in-range [] (g ∷ gs) is below = absurd (cc)
   constraints-in-range (c ∷ cs) [] is below = absurd (cc)
 
--- what a walk kept, and the flows of the calls that it noted, put together by their right sides
+-- what a walk kept, and the flows of the calls that it noted, put together by their right sides and by further unknowns
 module _ (core : Core) (table : List Label) (walked : Progress) (old new : Made)
     (whole : ThinnedWhole core table (program_constraints (program_of core)) walked)
-    (made : AreSpreadMerged core table walked.journal walked.journal.calls.items old new)
+    (made : AreSpreadShared core table walked.journal walked.journal.calls.items old new)
     (first : old.number ≡ unknown_count (program_of core))
     (same : old.constraints.items ≡ walked.constraints.items) where
   numbered-all : map (wanted_constraint (program_of core)) (whole.now.kept ++ made.are_spread.added) ≡ map wanted_of (map (numbered (program_of core)) (whole.now.kept ++ made.are_spread.added))
-  numbered-all = all-numbered core table walked old.number new.number made.spread whole made.are_spread first
+  numbered-all = all-numbered core table walked old.number made.next made.spread whole made.are_spread first
 
   -- before they are put together
   stand-for-all : stand_for table (old.constraints.items ++ made.spread) ≡ map wanted_of (map (numbered (program_of core)) (whole.now.kept ++ made.are_spread.added))
@@ -122,6 +124,13 @@ module _ (core : Core) (table : List Label) (walked : Progress) (old new : Made)
       ∙ (ap (λ xs. xs ++ stand_for table made.spread) (subst (AreAdded core table whole.now.kept []) (sym same) whole.now.kept_added)
       ∙ (ap (λ xs. map (wanted_constraint (program_of core)) whole.now.kept ++ xs) made.are_spread.stored_are
       ∙ (sym (map-append (wanted_constraint (program_of core)) whole.now.kept made.are_spread.added) ∙ numbered-all)))
+
+  -- their numbers are below that of the next unknown
+  all-spread : (c : Stored) → Contains (old.constraints.items ++ made.spread) c → FitsIn (length table) made.next c
+  all-spread =
+      each_from_All (FitsIn (length table) made.next) (old.constraints.items ++ made.spread)
+      (constraints-in-range table made.next (old.constraints.items ++ made.spread) (map (numbered (program_of core)) (whole.now.kept ++ made.are_spread.added)) stand-for-all
+      (spread-below core table walked old.number made.next made.spread whole made.are_spread first))
 
   pub all-gathered : end_faults (program_of core) ≡ []
       → AreConstraintsOf (program_of core) (map (constraint_of (label_lattice (program_of core).hierarchy) table) new.constraints.items)
@@ -132,26 +141,27 @@ module _ (core : Core) (table : List Label) (walked : Progress) (old new : Made)
       let added : map (constraint_of l table) made.spread ≡ map (numbered (program_of core)) made.are_spread.added = added-are in
       let rerouted : IsRerouted (λ k. nat_le (real_unknowns (program_of core)) k) (λ k. nat_le (unknown_count (program_of core)) k)
       (gathered_constraints (program_of core)) base (map (constraint_of l table) made.spread) =
-      rw (kept, added) (calls-rerouted core table walked old.number new.number made.spread whole made.are_spread first) in
+      rw (kept, added) (calls-rerouted core table walked old.number made.next made.spread whole made.are_spread first) in
       subst (AreConstraintsOf (program_of core))
-      (sym (ap (map (constraint_of l table)) made.merged_is ∙ map-append (constraint_of l table) old.constraints.items made.merged))
-      (rerouted-constraints (program_of core) core.well_formed ended base (map (constraint_of l table) made.merged)
+      (sym (ap (map (constraint_of l table)) made.shared_is ∙ map-append (constraint_of l table) old.constraints.items made.shared))
+      (rerouted-constraints (program_of core) core.well_formed ended base (map (constraint_of l table) made.shared)
       (meant-rerouted l table (λ k. nat_le (real_unknowns (program_of core)) k) (λ k. nat_le (unknown_count (program_of core)) k) (gathered_constraints (program_of core)) base
-      made.spread made.merged made.are_merged rerouted))
+      made.spread made.shared made.next new.number made.are_shared (λ c h. all-spread c (Contains-append_right old.constraints.items made.spread c h))
+      (λ u past. le-leb (unknown_count (program_of core)) u (omega (arith, past, first, made.are_spread.number_is))) rerouted))
     where
       kept-are : map (constraint_of (label_lattice (program_of core).hierarchy) table) old.constraints.items ≡ map (numbered (program_of core)) whole.now.kept
       kept-are =
           constraints-are (label_lattice (program_of core).hierarchy) table old.constraints.items (map (numbered (program_of core)) whole.now.kept)
           (subst (AreAdded core table whole.now.kept []) (sym same) whole.now.kept_added
           ∙ constraints-numbered (program_of core) whole.now.kept
-          (λ c h. ranged-unknowns core table walked old.number new.number made.spread whole made.are_spread first c (Contains-append_left whole.now.kept made.are_spread.added c h)))
+          (λ c h. ranged-unknowns core table walked old.number made.next made.spread whole made.are_spread first c (Contains-append_left whole.now.kept made.are_spread.added c h)))
 
       added-are : map (constraint_of (label_lattice (program_of core).hierarchy) table) made.spread ≡ map (numbered (program_of core)) made.are_spread.added
       added-are =
           constraints-are (label_lattice (program_of core).hierarchy) table made.spread (map (numbered (program_of core)) made.are_spread.added)
           (made.are_spread.stored_are
           ∙ constraints-numbered (program_of core) made.are_spread.added
-          (λ c h. ranged-unknowns core table walked old.number new.number made.spread whole made.are_spread first c (Contains-append_right whole.now.kept made.are_spread.added c h)))
+          (λ c h. ranged-unknowns core table walked old.number made.next made.spread whole made.are_spread first c (Contains-append_right whole.now.kept made.are_spread.added c h)))
 
   pub all-fit : end_faults (program_of core) ≡ [] → (labelling : Labelling)
       → FitsDemands (program_of core).hierarchy labelling (program_demands (program_of core))
@@ -161,15 +171,16 @@ module _ (core : Core) (table : List Label) (walked : Progress) (old new : Made)
 
   pub all-in-range : InRange (length table) new.number new.constraints.items
   all-in-range =
-      let before : InRange (length table) new.number (old.constraints.items ++ made.spread) =
-      constraints-in-range table new.number (old.constraints.items ++ made.spread) (map (numbered (program_of core)) (whole.now.kept ++ made.are_spread.added)) stand-for-all
-      (spread-below core table walked old.number new.number made.spread whole made.are_spread first) in
-      let each : (c : Stored) → Contains (old.constraints.items ++ made.spread) c → FitsIn (length table) new.number c =
-      each_from_All (FitsIn (length table) new.number) (old.constraints.items ++ made.spread) before in
-      let merged : InRange (length table) new.number made.merged =
-      merged-in-range (length table) new.number made.spread made.merged made.are_merged
-      (All-from_each (FitsIn (length table) new.number) made.spread (λ c h. each c (Contains-append_right old.constraints.items made.spread c h))) in
-      subst (InRange (length table) new.number) (sym made.merged_is)
-      (All-from_each (FitsIn (length table) new.number) (old.constraints.items ++ made.merged)
-      (λ c h. ⊎_elim (λ k. each c (Contains-append_left old.constraints.items made.spread c k))
-      (λ k. each_from_All (FitsIn (length table) new.number) made.merged merged c k) (Contains-append_cases old.constraints.items made.merged c h)))
+      subst (InRange (length table) new.number) (sym made.shared_is)
+      (All-from_each (FitsIn (length table) new.number) (old.constraints.items ++ made.shared)
+      (λ c h. ⊎_elim
+      (λ k. fits-more (length table) made.next new.number c made.least (all-spread c (Contains-append_left old.constraints.items made.spread c k)))
+      (λ k. shared-in-range (length table) made.next new.number made.spread made.shared made.least made.are_shared
+      (λ d there. all-spread d (Contains-append_right old.constraints.items made.spread d there)) c k)
+      (Contains-append_cases old.constraints.items made.shared c h)))
+
+  -- and few
+  pub all-few : new.number ≤ 6 * program_nodes (program_of core)
+  all-few =
+      let few : made.next ≤ 4 * program_nodes (program_of core) = spread-few core table walked old.number made.next made.spread whole made.are_spread first in
+      omega (arith, few, made.few, made.are_spread.number_is)

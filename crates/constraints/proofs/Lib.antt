@@ -3,6 +3,7 @@ pub mod Wanted
 pub mod Tables
 pub mod Joined
 pub mod Added
+pub mod InContext
 pub mod Called
 pub mod Noted
 pub mod Thinned
@@ -22,7 +23,10 @@ pub mod Moments
 pub mod OneTaker
 pub mod FixedFlows
 pub mod Spread
+pub mod ListRows
 pub mod PartRows
+pub mod KeptRows
+pub mod LaidRows
 pub mod CallRows
 pub mod SpreadRows
 pub mod SpreadCalls

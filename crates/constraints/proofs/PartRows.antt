@@ -1,5 +1,5 @@
 -- Constraints whose parts are kept for their right sides, and then laid out.
-use Rattle.std.proofs.Common.{◌≡◌, ◌≢◌, refl, sym, ap, ◌∙◌, subst, ℕ, zero, suc, ◌+◌, ◌<◌, List, [], ◌∷◌, ◌++◌, length, get_or, set, arith, inl, inr, ⊎_elim}
+use Rattle.std.proofs.Common.{◌≡◌, ◌≢◌, refl, sym, ap, ◌∙◌, subst, ℕ, zero, suc, ◌<◌, List, [], ◌∷◌, ◌++◌, length, get_or, set, arith, inl, inr, ⊎_elim}
 use Rattle.std.specs.Prelude.{Contains, None, OnOk, Result, Ok, Err}
 use Rattle.std.proofs.lemmas.Bool.{cases_eq}
 use Rattle.std.proofs.lemmas.List.{append_assoc, append-nil}
@@ -10,29 +10,17 @@ use Rattle.resolved.specs.declared.program.Core.{Core}
 use Rattle.solver.specs.declared.constraints.Atom.{Atom}
 use Rattle.solver.specs.declared.constraints.Atom.TheVariants.{Unknown}
 use Rattle.constraints.specs.Added.{Stored}
-use Rattle.constraints.specs.Merging.{AreLaidOut, AreMerged, AreSpreadMerged, AreSpreadSoFar, AreTaken, Flows, HasMore, IsInnerWithPart, IsLaidOut, parts_at, parts_of}
+use Rattle.constraints.specs.Merging.{AreSpreadSoFar, AreTaken, Flows, HasMore, IsInnerWithPart, IsLaidOut, Row, parts_at, parts_of, unknowns_at}
 use Rattle.constraints.specs.Spreading.{Declares, IsSpreadWhole}
 use Rattle.constraints.specs.declared.journal.Called.{Called}
 use Rattle.constraints.specs.declared.journal.Journal.{Journal}
-use Rattle.constraints.specs.declared.merging.Parts.{Parts}
 use Rattle.constraints.specs.declared.spreading.Made.{Made}
 
 pub on-ok : {T E A B : Type 0} (result : Result T E) → (A → B) → OnOk result A → OnOk result B
 on-ok (Ok x) f h = f h
 on-ok (Err e) f h = tt
 
-pub on-both : {T E A B C : Type 0} (result : Result T E) → (A → B → C) → OnOk result A → OnOk result B → OnOk result C
-on-both (Ok x) f h k = f h k
-on-both (Err e) f h k = tt
-
-pub on-any : {T E A : Type 0} (result : Result T E) → A → OnOk result A
-on-any (Ok x) h = h
-on-any (Err e) h = tt
-
 -- ---- more parts
-pub more-none : (parts : List Atom) → HasMore [] parts parts
-more-none parts = record { stays = λ p h. h; goes = λ p h. absurd (none_in_nil p h); came = λ p h. inl h }
-
 pub more-both : (a b old middle new : List Atom) → HasMore a old middle → HasMore b middle new → HasMore (a ++ b) old new
 more-both a b old middle new first second = record {
   stays = λ p h. second.stays p (first.stays p h);
@@ -60,36 +48,35 @@ more-back more old new first has = record {
 }
 
 -- ---- rows of parts
-pub parts-here : (rows : List Parts) (k : ℕ) (parts none : Parts) → k < length rows → parts ≡ get_or rows k none → parts_at rows k ≡ parts_of parts
+pub parts-here : (rows : List Row) (k : ℕ) (parts none : Row) → k < length rows → parts ≡ get_or rows k none → parts_at rows k ≡ parts_of parts
 parts-here [] k parts none inside is = absurd (omega (arith, inside))
 parts-here (row ∷ rows) zero parts none inside is = ap parts_of (sym is)
 parts-here (row ∷ rows) (suc k) parts none inside is = parts-here rows k parts none (omega (arith, inside)) is
 
-pub parts-set : (rows : List Parts) (k : ℕ) (parts : Parts) → k < length rows → parts_at (set rows k parts) k ≡ parts_of parts
+pub unknowns-here : (rows : List Row) (k : ℕ) (parts none : Row) → k < length rows → parts ≡ get_or rows k none → unknowns_at rows k ≡ parts.unknowns
+unknowns-here [] k parts none inside is = absurd (omega (arith, inside))
+unknowns-here (row ∷ rows) zero parts none inside is = ap (λ (p : Row). p.unknowns) (sym is)
+unknowns-here (row ∷ rows) (suc k) parts none inside is = unknowns-here rows k parts none (omega (arith, inside)) is
+
+pub parts-set : (rows : List Row) (k : ℕ) (parts : Row) → k < length rows → parts_at (set rows k parts) k ≡ parts_of parts
 parts-set [] k parts inside = absurd (omega (arith, inside))
 parts-set (row ∷ rows) zero parts inside = refl
 parts-set (row ∷ rows) (suc k) parts inside = parts-set rows k parts (omega (arith, inside))
 
-pub parts-others : (rows : List Parts) (k : ℕ) (parts : Parts) (j : ℕ) → j ≢ k → parts_at (set rows k parts) j ≡ parts_at rows j
+pub parts-others : (rows : List Row) (k : ℕ) (parts : Row) (j : ℕ) → j ≢ k → parts_at (set rows k parts) j ≡ parts_at rows j
 parts-others [] k parts j differs = refl
 parts-others (row ∷ rows) zero parts zero differs = absurd (differs refl)
 parts-others (row ∷ rows) zero parts (suc j) differs = refl
 parts-others (row ∷ rows) (suc k) parts zero differs = refl
 parts-others (row ∷ rows) (suc k) parts (suc j) differs = parts-others rows k parts j (λ same. differs (ap suc same))
 
-pub more-at : (rows : List Parts) (k : ℕ) (left : List Atom) (old new : Parts) → k < length rows → old ≡ get_or rows k old → HasMore left (parts_of old) (parts_of new)
-    → HasMore left (parts_at rows k) (parts_at (set rows k new) k)
-more-at rows k left old new inside is has =
-    subst (λ list. HasMore left list (parts_at (set rows k new) k)) (sym (parts-here rows k old old inside is))
-    (subst (HasMore left (parts_of old)) (sym (parts-set rows k new inside)) has)
-
-pub parts-push : (rows : List Parts) (parts : Parts) → parts_of parts ≡ [] → ((k : ℕ) → parts_at rows k ≡ []) → (k : ℕ) → parts_at (rows ++ parts ∷ []) k ≡ []
+pub parts-push : (rows : List Row) (parts : Row) → parts_of parts ≡ [] → ((k : ℕ) → parts_at rows k ≡ []) → (k : ℕ) → parts_at (rows ++ parts ∷ []) k ≡ []
 parts-push [] parts none all zero = none
 parts-push [] parts none all (suc k) = refl
 parts-push (row ∷ rows) parts none all zero = all zero
 parts-push (row ∷ rows) parts none all (suc k) = parts-push rows parts none (λ j. all (suc j)) k
 
-pub parts-inside : (rows : List Parts) (k : ℕ) (part : Atom) → Contains (parts_at rows k) part → k < length rows
+pub parts-inside : (rows : List Row) (k : ℕ) (part : Atom) → Contains (parts_at rows k) part → k < length rows
 parts-inside [] k part h = absurd (none_in_nil part h)
 parts-inside (row ∷ rows) zero part h = omega arith
 parts-inside (row ∷ rows) (suc k) part h = let rest : k < length rows = parts-inside rows k part h in omega (arith, rest)
@@ -102,7 +89,7 @@ one-only : (c d : Stored) → Contains (c ∷ []) d → c ≡ d
 one-only c d h = ⊎_elim (λ same. same) (λ none. absurd (none_in_nil d none)) (Contains-cons_cases c [] d h)
 
 -- ---- constraints that are taken
-pub taken-none : (rows : List Parts) (rest : List Stored) → AreTaken [] rows rows rest rest
+pub taken-none : (rows : List Row) (rest : List Stored) → AreTaken [] rows rows rest rest
 taken-none rows rest = record {
   rest = [];
   rest_is = sym (append-nil rest);
@@ -112,7 +99,7 @@ taken-none rows rest = record {
   came = λ k p h. inl h;
 }
 
-pub taken-stays : (c : Stored) (rows : List Parts) (rest new : List Stored) → new ≡ rest ++ c ∷ [] → AreTaken (c ∷ []) rows rows rest new
+pub taken-stays : (c : Stored) (rows : List Row) (rest new : List Stored) → new ≡ rest ++ c ∷ [] → AreTaken (c ∷ []) rows rows rest new
 taken-stays c rows rest new is = record {
   rest = c ∷ [];
   rest_is = is;
@@ -122,7 +109,7 @@ taken-stays c rows rest new is = record {
   came = λ k p h. inl h;
 }
 
-pub taken-kept : (c : Stored) (k : ℕ) (old new : List Parts) (rest : List Stored) → c.right ≡ Unknown k
+pub taken-kept : (c : Stored) (k : ℕ) (old new : List Row) (rest : List Stored) → c.right ≡ Unknown k
     → HasMore c.left.items (parts_at old k) (parts_at new k) → ((j : ℕ) → j ≢ k → parts_at new j ≡ parts_at old j) → AreTaken (c ∷ []) old new rest rest
 taken-kept c k old new rest is has others = record {
   rest = [];
@@ -142,7 +129,7 @@ taken-kept c k old new rest is has others = record {
       (λ (differs : j ≢ k). inl (subst (λ list. Contains list p) (others j differs) h)) (cases_eq j k);
 }
 
-pub taken-both : (a b : List Stored) (old middle new : List Parts) (before between after : List Stored)
+pub taken-both : (a b : List Stored) (old middle new : List Row) (before between after : List Stored)
     → AreTaken a old middle before between → AreTaken b middle new between after → AreTaken (a ++ b) old new before after
 taken-both a b old middle new before between after first second = record {
   rest = first.rest ++ second.rest;
@@ -166,21 +153,18 @@ taken-both a b old middle new before between after first second = record {
 }
 
 -- ---- parts that are laid out
-pub laid-none : (k : ℕ) (parts : Parts) (old : List Stored) → length parts.unknowns.items ≡ 0 → length parts.written.items ≡ 0 → IsLaidOut k (parts_of parts) old old
-laid-none k parts old no_unknowns no_written = record {
+pub laid-none : (k : ℕ) (xs ys : List Atom) (old : List Stored) → length xs ≡ 0 → length ys ≡ 0 → IsLaidOut k (xs ++ ys) old old
+laid-none k [] [] old no_unknowns no_written = record {
   laid = [];
   laid_is = sym (append-nil old);
-  goes = λ p h. absurd (none-in (parts.unknowns.items) (parts.written.items) no_unknowns no_written p h);
+  goes = λ p h. absurd (none_in_nil p h);
   came = λ p to flow. absurd (none_in_nil flow.by flow.among);
   inner = λ c h. absurd (none_in_nil c h);
 }
-  where
-    none-in : (xs ys : List Atom) → length xs ≡ 0 → length ys ≡ 0 → (p : Atom) → Contains (xs ++ ys) p → ⊥
-    none-in [] [] a b p h = none_in_nil p h
-    none-in (x ∷ xs) ys a b p h = absurd (omega (arith, a))
-    none-in [] (y ∷ ys) a b p h = absurd (omega (arith, b))
+laid-none k [] (y ∷ ys) old no_unknowns no_written = absurd (omega (arith, no_written))
+laid-none k (x ∷ xs) ys old no_unknowns no_written = absurd (omega (arith, no_unknowns))
 
-first-part : (xs : List Atom) → 0 < length xs → (part : Atom) × Contains xs part
+pub first-part : (xs : List Atom) → 0 < length xs → (part : Atom) × Contains xs part
 first-part [] some = absurd (omega (arith, some))
 first-part (x ∷ xs) some = (x, Contains-first x xs)
 
@@ -197,78 +181,8 @@ laid-one k parts c old new is left right target some = record {
       (target, ((first-part parts some).0, subst (λ list. Contains list (first-part parts some).0) (sym left) (first-part parts some).1));
 }
 
-pub laid-nothing : (rows : List Parts) (old : List Stored) → AreLaidOut rows 0 old old
-laid-nothing rows old = record {
-  laid = [];
-  laid_is = sym (append-nil old);
-  goes = λ k below. absurd (omega (arith, below));
-  came = λ p to flow. absurd (none_in_nil flow.by flow.among);
-  inner = λ c h. absurd (none_in_nil c h);
-}
-
-pub laid-next : (rows : List Parts) (i : ℕ) (parts : List Atom) (old middle new : List Stored) → parts_at rows i ≡ parts
-    → AreLaidOut rows i old middle → IsLaidOut i parts middle new → AreLaidOut rows (i + 1) old new
-laid-next rows i parts old middle new is first second =
-    let both : List Stored = first.laid ++ second.laid in
-    record {
-      laid = both;
-      laid_is = second.laid_is ∙ (ap (λ xs. xs ++ second.laid) first.laid_is ∙ append_assoc old first.laid second.laid);
-      goes = λ k below p h. ⊎_elim
-          (λ (same : k ≡ i). subst (λ j. Flows both p (Unknown j)) (sym same)
-          (flows-more second.laid both p (Unknown i) (Contains-append_right first.laid second.laid)
-          (second.goes p (subst (λ list. Contains list p) (ap (parts_at rows) same ∙ is) h))))
-          (λ (differs : k ≢ i). flows-more first.laid both p (Unknown k) (Contains-append_left first.laid second.laid) (first.goes k (omega (arith, below, differs)) p h))
-          (cases_eq k i);
-      came = λ p to flow. ⊎_elim
-          (λ h. first.came p to (record { by = flow.by; among = h; starts = flow.starts; ends = flow.ends }))
-          (λ h.
-          let found = second.came p to (record { by = flow.by; among = h; starts = flow.starts; ends = flow.ends }) in
-          (i, found.0, subst (λ list. Contains list p) (sym is) found.1))
-          (Contains-append_cases first.laid second.laid flow.by flow.among);
-      inner = λ c h. ⊎_elim (first.inner c) (second.inner c) (Contains-append_cases first.laid second.laid c h);
-    }
-
--- ---- all of them are those that were taken
-all-merged : (spread between new : List Stored) (start rows : List Parts) (old : List Stored)
-    → ((k : ℕ) → parts_at start k ≡ []) → (taken : AreTaken spread start rows old between) → (are : AreLaidOut rows (length rows) between new)
-    → AreMerged spread (taken.rest ++ are.laid)
-all-merged spread between new start rows old none taken are =
-    let merged : List Stored = taken.rest ++ are.laid in
-    record {
-      goes = λ p to flow. ⊎_elim
-          (λ (stays : Flows taken.rest p to). flows-more taken.rest merged p to (Contains-append_left taken.rest are.laid) stays)
-          (λ kept. subst (Flows merged p) (sym kept.1)
-          (flows-more are.laid merged p (Unknown kept.0) (Contains-append_right taken.rest are.laid) (are.goes kept.0 (parts-inside rows kept.0 p kept.2) p kept.2)))
-          (taken.goes p to flow);
-      came = λ p to flow. ⊎_elim
-          (λ h. record { by = flow.by; among = taken.only flow.by h; starts = flow.starts; ends = flow.ends })
-          (λ h.
-          let found = are.came p to (record { by = flow.by; among = h; starts = flow.starts; ends = flow.ends }) in
-          ⊎_elim
-          (λ had. absurd (none_in_nil p (subst (λ list. Contains list p) (none found.0) had)))
-          (λ (came : Flows spread p (Unknown found.0)). subst (Flows spread p) (sym found.1) came)
-          (taken.came found.0 p found.2))
-          (Contains-append_cases taken.rest are.laid flow.by flow.among);
-      inner = λ c h. ⊎_elim (λ k. inl (taken.only c k)) (λ k. inr (are.inner c k)) (Contains-append_cases taken.rest are.laid c h);
-    }
-
-pub merged-all : (core : Core) (table : List Label) (journal : Journal) (calls : List Called) (start rows laid_rows : List Parts) (old between new : Made)
-    → ((k : ℕ) → parts_at start k ≡ []) → new.number ≡ between.number → laid_rows ≡ rows
-    → (so_far : AreSpreadSoFar core table journal calls start rows old between)
-    → AreLaidOut laid_rows (length laid_rows) between.constraints.items new.constraints.items
-    → AreSpreadMerged core table journal calls old new
-merged-all core table journal calls start rows laid_rows old between new none number same so_far laid' =
-    let laid : AreLaidOut rows (length rows) between.constraints.items new.constraints.items =
-    subst (λ list. AreLaidOut list (length list) between.constraints.items new.constraints.items) same laid' in
-    record {
-      spread = so_far.spread;
-      are_spread = subst (λ n. IsSpreadWhole core table journal (Declares core) calls old.number n so_far.spread) (sym number) so_far.are_spread;
-      merged = so_far.are_taken.rest ++ laid.laid;
-      merged_is = laid.laid_is ∙ (ap (λ xs. xs ++ laid.laid) so_far.are_taken.rest_is ∙ append_assoc old.constraints.items so_far.are_taken.rest laid.laid);
-      are_merged = all-merged so_far.spread between.constraints.items new.constraints.items start rows old.constraints.items none so_far.are_taken laid;
-    }
-
-pub so-far-next : (core : Core) (table : List Label) (journal : Journal) (calls more : List Called) (start middle rows : List Parts) (taken : List Stored) (old between new : Made)
+-- ---- so far
+pub so-far-next : (core : Core) (table : List Label) (journal : Journal) (calls more : List Called) (start middle rows : List Row) (taken : List Stored) (old between new : Made)
     → (so_far : AreSpreadSoFar core table journal calls start middle old between)
     → IsSpreadWhole core table journal (Declares core) more old.number new.number (so_far.spread ++ taken)
     → AreTaken taken middle rows between.constraints.items new.constraints.items → AreSpreadSoFar core table journal more start rows old new

@@ -1,14 +1,19 @@
--- Private: inner constraints with one right side, put together to one whose left side has all of their parts.
+-- Private: inner constraints with one right side, put together to one whose left side has all of their parts; and one further unknown for
+-- parts that flow to several.
 -- Source: our own.
-use Rattle.std.specs.Prelude.{◌≡◌, ◌⊎◌, ℕ, zero, suc, ◌<◌, List, [], ◌∷◌, ◌++◌, Contains, None}
+use Rattle.std.specs.Prelude.{◌≡◌, ◌≢◌, ◌⊎◌, ℕ, zero, suc, ◌+◌, ◌*◌, ◌<◌, ◌≤◌, List, [], ◌∷◌, ◌++◌, Contains, get_or, length, map, take, Option, None, Some}
+use Rattle.std.specs.declared.vec.Vec.{Vec}
+use Rattle.std.specs.Global.{Global}
 use Rattle.labels.specs.Label.{Label}
 use Rattle.resolved.specs.declared.program.Core.{Core}
 use Rattle.solver.specs.declared.constraints.Atom.{Atom}
 use Rattle.solver.specs.declared.constraints.Atom.TheVariants.{Unknown}
 use Rattle.constraints.specs.Added.{Stored}
+use Rattle.constraints.specs.Lists.{IsForked, IsInside, list_at}
 use Rattle.constraints.specs.Spreading.{Declares, IsSpreadWhole}
 use Rattle.constraints.specs.declared.journal.Called.{Called}
 use Rattle.constraints.specs.declared.journal.Journal.{Journal}
+use Rattle.constraints.specs.declared.merging.Kept.{Kept}
 use Rattle.constraints.specs.declared.merging.Parts.{Parts}
 use Rattle.constraints.specs.declared.spreading.Made.{Made}
 
@@ -19,14 +24,37 @@ pub record Flows (cs : List Stored) (part to : Atom) : Type 0 where
   pub starts : Contains by.left.items part
   pub ends : by.right ≡ to
 
--- the parts that are kept for an unknown
-abbrev pub parts_of : Parts → List Atom
-parts_of parts = parts.unknowns.items ++ parts.written.items
+-- ---- the parts that are kept for each unknown
+pub record Row : Type 0 where
+  pub unknowns : List Atom
+  pub written : List Atom
 
-abbrev pub parts_at : List Parts → (to : ℕ) → List Atom
+abbrev pub parts_of : Row → List Atom
+parts_of row = row.unknowns ++ row.written
+
+abbrev pub parts_at : List Row → (to : ℕ) → List Atom
 parts_at [] to = []
-parts_at (parts ∷ rows) zero = parts_of parts
-parts_at (parts ∷ rows) (suc to) = parts_at rows to
+parts_at (row ∷ rows) zero = parts_of row
+parts_at (row ∷ rows) (suc to) = parts_at rows to
+
+abbrev pub unknowns_at : List Row → (to : ℕ) → List Atom
+unknowns_at [] to = []
+unknowns_at (row ∷ rows) zero = row.unknowns
+unknowns_at (row ∷ rows) (suc to) = unknowns_at rows to
+
+-- the rows of which parts of lists are kept
+abbrev pub row_of : List (Vec Atom Global) → Parts → Row
+row_of lists parts = record { unknowns = take parts.count (list_at lists parts.list); written = parts.written.items }
+
+abbrev pub rows_of : Kept → List Row
+rows_of kept = map (row_of kept.lists.lists.items) kept.rows.items
+
+-- each row has so many parts of a list as there are
+abbrev pub AreInside : List (Vec Atom Global) → List Parts → Type 0
+AreInside lists rows = (k : ℕ) (parts : Parts) → k < length rows → parts ≡ get_or rows k parts → IsInside lists parts.list parts.count
+
+abbrev pub IsSound : Kept → Type 0
+IsSound kept = AreInside kept.lists.lists.items kept.rows.items × IsForked kept.lists
 
 -- parts with some more of them
 pub record HasMore (more old new : List Atom) : Type 0 where
@@ -34,8 +62,15 @@ pub record HasMore (more old new : List Atom) : Type 0 where
   pub goes : (part : Atom) → Contains more part → Contains new part
   pub came : (part : Atom) → Contains new part → Contains old part ⊎ Contains more part
 
+-- of one row, while the others stay
+pub record HasMoreAt (at : ℕ) (more : List Atom) (old new : Kept) : Type 0 where
+  pub row : HasMore more (parts_at (rows_of old) at) (parts_at (rows_of new) at)
+  pub others : (k : ℕ) → k ≢ at → parts_at (rows_of new) k ≡ parts_at (rows_of old) k
+  pub count : length new.rows.items ≡ length old.rows.items
+  pub sound : IsSound new
+
 -- constraints were taken: some stay as they are, and the parts of the others are kept for their right sides
-pub record AreTaken (taken : List Stored) (old_rows rows : List Parts) (old new : List Stored) : Type 0 where
+pub record AreTaken (taken : List Stored) (old_rows rows : List Row) (old new : List Stored) : Type 0 where
   pub rest : List Stored
   pub rest_is : new ≡ old ++ rest
   pub only : (c : Stored) → Contains rest c → Contains taken c
@@ -47,7 +82,7 @@ pub record AreTaken (taken : List Stored) (old_rows rows : List Parts) (old new 
 abbrev pub IsInnerWithPart : Stored → Type 0
 IsInnerWithPart c = (c.target ≡ None) × ((part : Atom) × Contains c.left.items part)
 
--- the parts that are kept for an unknown were laid out as a constraint, where there are some
+-- those that are kept for an unknown were laid out as a constraint, where there are some
 pub record IsLaidOut (k : ℕ) (parts : List Atom) (old new : List Stored) : Type 0 where
   pub laid : List Stored
   pub laid_is : new ≡ old ++ laid
@@ -55,30 +90,89 @@ pub record IsLaidOut (k : ℕ) (parts : List Atom) (old new : List Stored) : Typ
   pub came : (part to : Atom) → Flows laid part to → (to ≡ Unknown k) × Contains parts part
   pub inner : (c : Stored) → Contains laid c → IsInnerWithPart c
 
--- those that are kept for the unknowns below a number
-pub record AreLaidOut (rows : List Parts) (below : ℕ) (old new : List Stored) : Type 0 where
+-- ---- further unknowns, with numbers in a range, each of which stands for parts that flow to several unknowns
+-- a part flows straight to a right side, or by one unknown
+abbrev pub FlowsOn : List Stored → (part to : Atom) → Type 0
+FlowsOn cs part to = Flows cs part to ⊎ ((u : ℕ) × Flows cs part (Unknown u) × Flows cs (Unknown u) to)
+
+-- what a further unknown stands for flows to this
+pub record IsPassedOn (Goes : Atom → Atom → Type 0) (first next : ℕ) (stands : ℕ → List Atom) (part to : Atom) : Type 0 where
+  pub by : ℕ
+  pub is : part ≡ Unknown by
+  pub from_first : first ≤ by
+  pub below_next : by < next
+  pub some : (one : Atom) × Contains (stands by) one
+  pub each : (one : Atom) → Contains (stands by) one → Goes one to
+
+-- this is a further unknown, and stands for a part that flows somewhere
+pub record IsGathered (Goes : Atom → Atom → Type 0) (first next : ℕ) (stands : ℕ → List Atom) (part to : Atom) : Type 0 where
+  pub by : ℕ
+  pub is : to ≡ Unknown by
+  pub from_first : first ≤ by
+  pub below_next : by < next
+  pub stands_for : Contains (stands by) part
+  pub end : Atom
+  pub goes : Goes part end
+
+abbrev pub ComesOf : (Goes : Atom → Atom → Type 0) → (first next : ℕ) → (stands : ℕ → List Atom) → (part to : Atom) → Type 0
+ComesOf Goes first next stands part to =
+    Goes part to ⊎ (IsPassedOn Goes first next stands part to ⊎ IsGathered Goes first next stands part to)
+
+-- a part that is kept for an unknown
+abbrev pub IsKept : List Row → (part to : Atom) → Type 0
+IsKept rows part to = (k : ℕ) × (to ≡ Unknown k) × Contains (parts_at rows k) part
+
+-- the parts that are kept for the unknowns below a number were laid out
+pub record AreLaidOut (rows : List Row) (below first next : ℕ) (old new : List Stored) : Type 0 where
   pub laid : List Stored
   pub laid_is : new ≡ old ++ laid
-  pub goes : (k : ℕ) → k < below → (part : Atom) → Contains (parts_at rows k) part → Flows laid part (Unknown k)
-  pub came : (part to : Atom) → Flows laid part to → (k : ℕ) × (to ≡ Unknown k) × Contains (parts_at rows k) part
+  pub stands : ℕ → List Atom
+  pub least : first ≤ next
+  pub goes : (k : ℕ) → k < below → (part : Atom) → Contains (parts_at rows k) part → FlowsOn laid part (Unknown k)
+  pub came : (part to : Atom) → Flows laid part to → ComesOf (IsKept rows) first next stands part to
   pub inner : (c : Stored) → Contains laid c → IsInnerWithPart c
 
--- constraints by which the same flows as by others
-pub record AreMerged (others merged : List Stored) : Type 0 where
-  pub goes : (part to : Atom) → Flows others part to → Flows merged part to
-  pub came : (part to : Atom) → Flows merged part to → Flows others part to
-  pub inner : (c : Stored) → Contains merged c → Contains others c ⊎ IsInnerWithPart c
+-- the next row has the unknowns of this one, of which there are some
+abbrev pub IsRepeated : List Row → (k : ℕ) → Type 0
+IsRepeated rows k = (unknowns_at rows (suc k) ≡ unknowns_at rows k) × (0 < length (unknowns_at rows k))
+
+-- a further unknown stands for the unknowns of the next row
+pub record IsHeld (rows : List Row) (at first next : ℕ) (stands : ℕ → List Atom) (laid : List Stored) (u : ℕ) : Type 0 where
+  pub from_first : first ≤ u
+  pub below_next : u < next
+  pub stands_for : stands u ≡ unknowns_at rows at
+  pub some : (one : Atom) × Contains (stands u) one
+  pub goes : (part : Atom) → Contains (unknowns_at rows at) part → Flows laid part (Unknown u)
+
+-- and one may be held
+pub record AreLaidSoFar (rows : List Row) (below first next : ℕ) (held : Option ℕ) (old new : List Stored) : Type 0 where
+  pub are : AreLaidOut rows below first next old new
+  pub held_is : (u : ℕ) → held ≡ Some u → IsHeld rows below first next are.stands are.laid u
+
+abbrev pub held_count : Option ℕ → ℕ
+held_count None = 0
+held_count (Some u) = 1
+
+-- constraints by which the same flows as by others, straight or by further unknowns
+pub record AreShared (first next : ℕ) (others shared : List Stored) : Type 0 where
+  pub stands : ℕ → List Atom
+  pub goes : (part to : Atom) → Flows others part to → FlowsOn shared part to
+  pub came : (part to : Atom) → Flows shared part to → ComesOf (Flows others) first next stands part to
+  pub inner : (c : Stored) → Contains shared c → Contains others c ⊎ IsInnerWithPart c
 
 -- the flows of the exceptions of calls were spread and taken
-pub record AreSpreadSoFar (core : Core) (table : List Label) (journal : Journal) (calls : List Called) (start rows : List Parts) (old new : Made) : Type 0 where
+pub record AreSpreadSoFar (core : Core) (table : List Label) (journal : Journal) (calls : List Called) (start rows : List Row) (old new : Made) : Type 0 where
   pub spread : List Stored
   pub are_spread : IsSpreadWhole core table journal (Declares core) calls old.number new.number spread
   pub are_taken : AreTaken spread start rows old.constraints.items new.constraints.items
 
--- the flows of the exceptions of calls were added, put together by their right sides
-pub record AreSpreadMerged (core : Core) (table : List Label) (journal : Journal) (calls : List Called) (old new : Made) : Type 0 where
+-- the flows of the exceptions of calls were added, put together by their right sides, and those that go together by further unknowns
+pub record AreSpreadShared (core : Core) (table : List Label) (journal : Journal) (calls : List Called) (old new : Made) : Type 0 where
   pub spread : List Stored
-  pub are_spread : IsSpreadWhole core table journal (Declares core) calls old.number new.number spread
-  pub merged : List Stored
-  pub merged_is : new.constraints.items ≡ old.constraints.items ++ merged
-  pub are_merged : AreMerged spread merged
+  pub next : ℕ
+  pub least : next ≤ new.number
+  pub few : 2 * new.number ≤ 2 * next + old.number + 1
+  pub are_spread : IsSpreadWhole core table journal (Declares core) calls old.number next spread
+  pub shared : List Stored
+  pub shared_is : new.constraints.items ≡ old.constraints.items ++ shared
+  pub are_shared : AreShared next new.number spread shared

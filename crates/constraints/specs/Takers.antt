@@ -5,6 +5,7 @@ use Rattle.std.specs.Prelude.{ℕ, suc, ◌≤◌, ◌==◌, List, [], ◌∷◌
 use Rattle.resolved.specs.Tree.{Handlers, NoMore, Catch}
 use Rattle.path_map.specs.PathMaps.{value_at}
 use Rattle.gathering.specs.Walk as walk
+use Rattle.constraints.specs.declared.around.Around.{Around}
 use Rattle.constraints.specs.declared.takers.Entry.{Entry}
 use Rattle.constraints.specs.declared.takers.Saved.{Saved}
 use Rattle.constraints.specs.declared.takers.Takers.{Takers}
@@ -23,6 +24,9 @@ thrown_taker thrown barrier exception = taker_of barrier (slice_index_or thrown 
 -- the taker of each end
 abbrev pub takers_of : Takers → (thrown : List Entry) → walk.Takers
 takers_of takers thrown = value_at (thrown_taker thrown) takers.ends
+
+abbrev pub takers_around : Around → walk.Takers
+takers_around around = takers_of around.takers around.thrown.now
 
 -- no level is above this one
 abbrev pub AreWithin : (level : ℕ) → (thrown : List Entry) → Type 0

@@ -1,19 +1,19 @@
 //! How a constraint is added: one that stands for a demand, or an inner one.
 ghost use Rattle.constraints.specs.Added.{AreAdded, IsLeft, flow_if};
-ghost use Rattle.constraints.specs.Takers.{takers_of};
+ghost use Rattle.constraints.specs.Takers.{takers_around};
 ghost use Rattle.path_map.specs.Exceptions.{AreRaised};
 ghost use Rattle.constraints.specs.LeftSides.{scope_of};
 ghost use Rattle.gathering.specs.Names.{NamedAtom};
 ghost use Rattle.gathering.specs.Walk.{flow, inner_constraint, raised_flows, rule_constraint};
-ghost use Rattle.std.specs.Prelude.{List, OnOk, ℕ, ◌++◌};
+ghost use Rattle.std.specs.Prelude.{List, OnOk, ℕ};
 
+use crate::around::Around;
 use crate::table::Table;
-use crate::takers::{Entry, Takers};
 use common::exceptions::{ARITH, BOUNDS};
 use path_map::Raises;
 use resolved::statement::Exit;
 use resolved::target::Target;
-use solver::{Atom, Constraint};
+use solver::{Atom, Constraint, Left};
 use std::alloc::{AllocError, Global};
 
 impl<'a> Table<'a> {
@@ -22,7 +22,7 @@ impl<'a> Table<'a> {
         &self,
         at: usize,
         rule: u8,
-        left: Vec<Atom>,
+        left: Left,
         target: Target,
         constraints: &mut Vec<Constraint<Option<Target>>>,
     ) -> Result<(), AllocError>
@@ -46,7 +46,7 @@ impl<'a> Table<'a> {
     /// Adds the constraint whose right side is the inner unknown with this number.
     pub fn add_inner(
         &self,
-        left: Vec<Atom>,
+        left: Left,
         number: u32,
         constraints: &mut Vec<Constraint<Option<Target>>>,
     ) -> Result<(), AllocError>
@@ -81,7 +81,7 @@ impl<'a> Table<'a> {
     {
         match taker {
             None => Ok(()),
-            Some(number) => self.add_inner(left.to_vec(alloc)?, number, constraints),
+            Some(number) => self.add_inner(Left::from_slice(alloc, left)?, number, constraints),
         }
     }
 
@@ -110,8 +110,7 @@ impl<'a> Table<'a> {
         &self,
         alloc: Global,
         left: &[Atom],
-        takers: Takers,
-        thrown: &[Entry],
+        around: &Around,
         found: Raises,
         constraints: &mut Vec<Constraint<Option<Target>>>,
     ) -> Result<(), AllocError>
@@ -119,37 +118,13 @@ impl<'a> Table<'a> {
             IsLeft self.now.core.now self.now.core.now.labels atoms left.now →
             AreRaised found exceptions →
             AreAdded self.now.core.now self.now.core.now.labels
-            (raised_flows atoms (takers_of takers thrown.now) exceptions)
+            (raised_flows atoms (takers_around around.now) exceptions)
             constraints.old.items constraints.new.items) }
     {
-        let arith = takers.at(thrown, Exit::Throw(ARITH));
+        let arith = around.taker(Exit::Throw(ARITH));
         self.add_flow_if(alloc, found.arith, left, arith, constraints)?;
-        let bounds = takers.at(thrown, Exit::Throw(BOUNDS));
+        let bounds = around.taker(Exit::Throw(BOUNDS));
         self.add_flow_if(alloc, found.bounds, left, bounds, constraints)?;
-        Ok(())
-    }
-
-    /// Adds the flows of what goes on at an end or raises one of these exceptions.
-    pub fn add_ends(
-        &self,
-        alloc: Global,
-        left: &[Atom],
-        takers: Takers,
-        thrown: &[Entry],
-        exit: Exit,
-        found: Raises,
-        constraints: &mut Vec<Constraint<Option<Target>>>,
-    ) -> Result<(), AllocError>
-        ensures { OnOk result ((atoms : List NamedAtom) (exceptions : List ℕ) →
-            IsLeft self.now.core.now self.now.core.now.labels atoms left.now →
-            AreRaised found exceptions →
-            AreAdded self.now.core.now self.now.core.now.labels
-            (flow atoms (takers_of takers thrown.now exit)
-            ++ raised_flows atoms (takers_of takers thrown.now) exceptions)
-            constraints.old.items constraints.new.items) }
-    {
-        self.add_flow(alloc, left, takers.at(thrown, exit), constraints)?;
-        self.add_raised(alloc, left, takers, thrown, found, constraints)?;
         Ok(())
     }
 }

@@ -1,11 +1,11 @@
 //! The pieces of what is gathered of statements with blocks.
 ghost use Rattle.constraints.specs.Ready.{entries_of};
-ghost use Rattle.constraints.specs.Added.{AreAdded, IsGatheredAt};
+ghost use Rattle.constraints.specs.Added.{IsGatheredAt};
 ghost use Rattle.constraints.specs.LeftSides.{scope_of};
-ghost use Rattle.constraints.specs.Takers.{takers_of};
+ghost use Rattle.constraints.specs.Takers.{takers_around};
 ghost use Rattle.constraints.specs.Walks.{loop_head_constraints};
 ghost use Rattle.gathering.specs.Names.{NamedAtom, named_atoms};
-ghost use Rattle.gathering.specs.Walk.{inner_atom, inner_constraint, raise_atoms, raised_flows, rule_constraint, single};
+ghost use Rattle.gathering.specs.Walk.{inner_constraint, raise_atoms, raised_flows, rule_constraint, single};
 ghost use Rattle.path_map.specs.Exits.{exits_of};
 ghost use Rattle.path_map.specs.Exits.{Exits};
 ghost use Rattle.resolved.specs.Ends.{one_end, raises};
@@ -13,11 +13,12 @@ ghost use Rattle.resolved.specs.Labelled.{value_label};
 ghost use Rattle.resolved.specs.TreeOf.{expression_of};
 ghost use Rattle.resolved.specs.declared.statement.Exit.{Exit};
 ghost use Rattle.resolved.specs.declared.target.Target.TheVariants.{ToLoop};
-ghost use Rattle.std.specs.Prelude.{IfOk, List, OnOk, [], drop, ◌∷◌, ◌≡◌};
+ghost use Rattle.std.specs.Prelude.{List, OnOk, [], drop, ◌∷◌, ◌≡◌};
 
+use crate::around::Around;
+use crate::forms::LoopSite;
 use crate::lefts::left_of_pc;
 use crate::statements::Walk;
-use crate::takers::{Entry, Takers};
 use path_map::raises::raises_of;
 use path_map::{Exits, Raised};
 use resolved::expression::Expression;
@@ -42,22 +43,21 @@ impl<'a> Walk<'a> {
     pub fn add_single(
         &self,
         exits: Exits,
-        pc: Atom,
-        takers: Takers,
-        thrown: &[Entry],
+        around: &Around,
         constraints: &mut Vec<Constraint<Option<Target>>>,
     ) -> Result<(), AllocError>
         ensures { OnOk result ((ends : List Exit) → exits ≡ exits_of ends →
-            IsGatheredAt self.now.table.now.core.now self.now.table.now.core.now.labels pc
+            IsGatheredAt self.now.table.now.core.now self.now.table.now.core.now.labels
+            around.now.pc
             (λ (named : NamedAtom).
-            single (one_end ends) named (takers_of takers thrown.now) ends)
+            single (one_end ends) named (takers_around around.now) ends)
             constraints.old.items constraints.new.items) }
     {
         match exits.single() {
             None => Ok(()),
             Some(exit) => {
-                let left = left_of_pc(self.alloc, pc)?;
-                let taker = takers.at(thrown, exit);
+                let left = left_of_pc(self.alloc, around.pc)?;
+                let taker = around.taker(exit);
                 self.table.add_flow(self.alloc, &left, taker, constraints)?;
                 Ok(())
             }
@@ -90,25 +90,23 @@ impl<'a> Walk<'a> {
     pub fn add_condition(
         &self,
         condition: &Expression,
-        pc: Atom,
-        takers: Takers,
-        thrown: &[Entry],
+        around: &Around,
         constraints: &mut Vec<Constraint<Option<Target>>>,
     ) -> Result<(), AllocError>
         ensures { OnOk result (IsGatheredAt self.now.table.now.core.now
-            self.now.table.now.core.now.labels pc
+            self.now.table.now.core.now.labels around.now.pc
             (λ (named : NamedAtom). raised_flows (named ∷ named_atoms (raise_atoms
             (scope_of self.now.table.now.core.now self.now.procedure)
-            (expression_of condition.now))) (takers_of takers thrown.now)
+            (expression_of condition.now))) (takers_around around.now)
             (raises (expression_of condition.now)))
             constraints.old.items constraints.new.items) }
     {
         let left = self
             .table
-            .left_of_raise(self.alloc, pc, self.procedure, condition)?;
+            .left_of_raise(self.alloc, around.pc, self.procedure, condition)?;
         let found = raises_of(condition);
         self.table
-            .add_raised(self.alloc, &left, takers, thrown, found, constraints)?;
+            .add_raised(self.alloc, &left, around, found, constraints)?;
         Ok(())
     }
 
@@ -136,30 +134,31 @@ impl<'a> Walk<'a> {
     /// Adds what is gathered of a loop but for its body, which is reached at the inner unknown with this number.
     pub fn add_loop_head(
         &self,
-        at: usize,
-        number: u32,
+        site: LoopSite,
         condition: &Expression,
         inner: u32,
-        pc: Atom,
-        takers: Takers,
-        thrown: &[Entry],
+        around: &Around,
         constraints: &mut Vec<Constraint<Option<Target>>>,
     ) -> Result<(), AllocError>
         ensures { OnOk result (IsGatheredAt self.now.table.now.core.now
-            self.now.table.now.core.now.labels pc
+            self.now.table.now.core.now.labels around.now.pc
             (λ (named : NamedAtom). loop_head_constraints
             (scope_of self.now.table.now.core.now self.now.procedure) named
-            (takers_of takers thrown.now) inner at number (expression_of condition.now))
+            (takers_around around.now) inner site.at site.number (expression_of condition.now))
             constraints.old.items constraints.new.items) }
     {
-        self.add_turn(at, number, pc, constraints)?;
-        let turn = self.table.part(Target::ToLoop(self.procedure, number));
+        self.add_turn(site.at, site.number, around.pc, constraints)?;
+        let turn = self.table.part(Target::ToLoop(self.procedure, site.number));
         self.add_branch(condition, inner, turn, constraints)?;
         let body = Atom::Unknown(inner);
         let left = left_of_pc(self.alloc, body)?;
-        let taker = takers.at(thrown, Exit::Normal);
+        let taker = around.taker(Exit::Normal);
         self.table.add_flow(self.alloc, &left, taker, constraints)?;
-        self.add_condition(condition, turn, takers, thrown, constraints)?;
+        let tested = Around {
+            pc: turn,
+            ..*around
+        };
+        self.add_condition(condition, &tested, constraints)?;
         Ok(())
     }
 }

@@ -1,7 +1,7 @@
 //! The constraints of calls.
 ghost use Rattle.constraints.specs.Added.{AreAdded, IsGatheredAt, IsLeftFrom, IsPart, flow_if};
 ghost use Rattle.constraints.specs.LeftSides.{scope_of};
-ghost use Rattle.constraints.specs.Takers.{takers_of};
+ghost use Rattle.constraints.specs.Takers.{takers_around};
 ghost use Rattle.constraints.specs.Walks.{kept_call, kept_ends};
 ghost use Rattle.gathering.specs.Names.{NamedAtom, named_atoms};
 ghost use Rattle.gathering.specs.Walk.{argument_constraints, call_atoms, call_flows, flow, inner_atom, raised_once};
@@ -15,15 +15,16 @@ ghost use Rattle.resolved.specs.declared.statement.Exit.TheVariants.{Normal, Thr
 ghost use Rattle.resolved.specs.declared.target.Target.TheVariants.{ToValue};
 ghost use Rattle.std.specs.Prelude.{IfOk, List, OnOk, map, ℕ, ◌++◌, ◌∷◌, ◌≡◌};
 
+use crate::around::Around;
+use crate::forms::CallSite;
 use crate::lefts::left_of_pc;
 use crate::statements::Walk;
-use crate::takers::{Entry, Takers};
 use common::exceptions::{ARITH, BOUNDS};
 use path_map::raises::{Raises, raises_of_all};
-use resolved::expression::{Expression, Variable};
+use resolved::expression::Expression;
 use resolved::statement::Exit;
 use resolved::target::Target;
-use solver::{Atom, Constraint};
+use solver::{Atom, Constraint, Left};
 use std::alloc::AllocError;
 
 impl<'a> Walk<'a> {
@@ -36,7 +37,7 @@ impl<'a> Walk<'a> {
     }
 
     // The label of a call, and what its normal end has beside it.
-    fn left_of_end(&self, own: Atom, callee: u32) -> Result<Vec<Atom>, AllocError>
+    fn left_of_end(&self, own: Atom, callee: u32) -> Result<Left, AllocError>
         ensures { IfOk result (λ left. IsLeftFrom self.now.table.now.core.now
             self.now.table.now.core.now.labels own
             (call_atoms (program_of self.now.table.now.core.now) callee Normal) left.items) }
@@ -50,7 +51,7 @@ impl<'a> Walk<'a> {
     }
 
     // The label of the value of a call.
-    fn left_of_result(&self, own: Atom, callee: u32) -> Result<Vec<Atom>, AllocError>
+    fn left_of_result(&self, own: Atom, callee: u32) -> Result<Left, AllocError>
         ensures { IfOk result (λ left. IsLeftFrom self.now.table.now.core.now
             self.now.table.now.core.now.labels own
             (call_atoms (program_of self.now.table.now.core.now) callee Normal
@@ -72,7 +73,8 @@ impl<'a> Walk<'a> {
         constraints: &mut Vec<Constraint<Option<Target>>>,
     ) -> Result<(), AllocError>
         ensures { OnOk result ((k : ℕ) →
-            IsPart self.now.table.now.core.now self.now.table.now.core.now.labels (inner_atom k) own →
+            IsPart self.now.table.now.core.now self.now.table.now.core.now.labels
+            (inner_atom k) own →
             AreAdded self.now.table.now.core.now self.now.table.now.core.now.labels
             (argument_constraints (scope_of self.now.table.now.core.now self.now.procedure)
             at k callee 0 (map expression_of arguments.now))
@@ -91,25 +93,23 @@ impl<'a> Walk<'a> {
     // Adds the flow of an exception that a call raises.
     fn add_thrown(
         &self,
-        own: Atom,
         callee: u32,
         exception: u32,
-        takers: Takers,
-        thrown: &[Entry],
+        around: &Around,
         constraints: &mut Vec<Constraint<Option<Target>>>,
     ) -> Result<(), AllocError>
         ensures { OnOk result (IsGatheredAt self.now.table.now.core.now
-            self.now.table.now.core.now.labels own
+            self.now.table.now.core.now.labels around.now.pc
             (λ (named : NamedAtom). flow (named ∷ named_atoms (call_atoms
             (program_of self.now.table.now.core.now) callee (Throw exception)))
-            (takers_of takers thrown.now (Throw exception)))
+            (takers_around around.now (Throw exception)))
             constraints.old.items constraints.new.items) }
     {
-        match takers.at(thrown, Exit::Throw(exception)) {
+        match around.taker(Exit::Throw(exception)) {
             None => Ok(()),
             Some(number) => {
                 let target = Target::ToThrown(callee, exception);
-                let left = self.table.left_of_label(self.alloc, own, target)?;
+                let left = self.table.left_of_label(self.alloc, around.pc, target)?;
                 self.table.add_inner(left, number, constraints)?;
                 Ok(())
             }
@@ -120,22 +120,20 @@ impl<'a> Walk<'a> {
     fn add_thrown_if(
         &self,
         test: bool,
-        own: Atom,
         callee: u32,
         exception: u32,
-        takers: Takers,
-        thrown: &[Entry],
+        around: &Around,
         constraints: &mut Vec<Constraint<Option<Target>>>,
     ) -> Result<(), AllocError>
         ensures { OnOk result (IsGatheredAt self.now.table.now.core.now
-            self.now.table.now.core.now.labels own
+            self.now.table.now.core.now.labels around.now.pc
             (λ (named : NamedAtom). flow_if test (named ∷ named_atoms (call_atoms
             (program_of self.now.table.now.core.now) callee (Throw exception)))
-            (takers_of takers thrown.now (Throw exception)))
+            (takers_around around.now (Throw exception)))
             constraints.old.items constraints.new.items) }
     {
         if test {
-            return self.add_thrown(own, callee, exception, takers, thrown, constraints);
+            return self.add_thrown(callee, exception, around, constraints);
         }
         Ok(())
     }
@@ -143,51 +141,49 @@ impl<'a> Walk<'a> {
     // Adds the flows of the exceptions that the arguments of a call can raise.
     fn add_argument_ends(
         &self,
-        own: Atom,
         callee: u32,
         found: Raises,
-        takers: Takers,
-        thrown: &[Entry],
+        around: &Around,
         constraints: &mut Vec<Constraint<Option<Target>>>,
     ) -> Result<(), AllocError>
         ensures { OnOk result ((k : ℕ) (exceptions : List ℕ) →
-            IsPart self.now.table.now.core.now self.now.table.now.core.now.labels (inner_atom k) own →
+            IsPart self.now.table.now.core.now self.now.table.now.core.now.labels
+            (inner_atom k) around.now.pc →
             AreRaised found exceptions →
             AreAdded self.now.table.now.core.now self.now.table.now.core.now.labels
             (call_flows (program_of self.now.table.now.core.now) callee k
-            (takers_of takers thrown.now) (thrown_ends (raised_once exceptions)))
+            (takers_around around.now) (thrown_ends (raised_once exceptions)))
             constraints.old.items constraints.new.items) }
     {
         let arith = found.arith;
-        self.add_thrown_if(arith, own, callee, ARITH, takers, thrown, constraints)?;
+        self.add_thrown_if(arith, callee, ARITH, around, constraints)?;
         let bounds = found.bounds;
-        self.add_thrown_if(bounds, own, callee, BOUNDS, takers, thrown, constraints)?;
+        self.add_thrown_if(bounds, callee, BOUNDS, around, constraints)?;
         Ok(())
     }
 
     // Adds the flows of the ends of a call, but for the exceptions that its callee declares.
     fn add_call_ends(
         &self,
-        own: Atom,
         callee: u32,
         arguments: &[Expression],
-        takers: Takers,
-        thrown: &[Entry],
+        around: &Around,
         constraints: &mut Vec<Constraint<Option<Target>>>,
     ) -> Result<(), AllocError>
         ensures { OnOk result ((k : ℕ) →
-            IsPart self.now.table.now.core.now self.now.table.now.core.now.labels (inner_atom k) own →
+            IsPart self.now.table.now.core.now self.now.table.now.core.now.labels
+            (inner_atom k) around.now.pc →
             AreAdded self.now.table.now.core.now self.now.table.now.core.now.labels
             (call_flows (program_of self.now.table.now.core.now) callee k
-            (takers_of takers thrown.now)
+            (takers_around around.now)
             (kept_ends (map expression_of arguments.now)))
             constraints.old.items constraints.new.items) }
     {
-        let left = self.left_of_end(own, callee)?;
-        let normal = takers.at(thrown, Exit::Normal);
+        let left = self.left_of_end(around.pc, callee)?;
+        let normal = around.taker(Exit::Normal);
         self.table.add_flow(self.alloc, &left, normal, constraints)?;
         let found = raises_of_all(arguments);
-        self.add_argument_ends(own, callee, found, takers, thrown, constraints)?;
+        self.add_argument_ends(callee, found, around, constraints)?;
         Ok(())
     }
 
@@ -195,33 +191,32 @@ impl<'a> Walk<'a> {
     /// callee declares.
     pub fn add_call(
         &self,
-        at: usize,
-        callee: u32,
+        site: CallSite,
         arguments: &[Expression],
-        target: Option<Variable>,
         number: u32,
-        pc: Atom,
-        takers: Takers,
-        thrown: &[Entry],
+        around: &Around,
         constraints: &mut Vec<Constraint<Option<Target>>>,
     ) -> Result<(), AllocError>
         ensures { OnOk result (IsGatheredAt self.now.table.now.core.now
-            self.now.table.now.core.now.labels pc
+            self.now.table.now.core.now.labels around.now.pc
             (λ (named : NamedAtom). kept_call
             (scope_of self.now.table.now.core.now self.now.procedure) named
-            (takers_of takers thrown.now) number at callee (map expression_of arguments.now) target)
+            (takers_around around.now) number site.at site.callee
+            (map expression_of arguments.now) site.target)
             constraints.old.items constraints.new.items) }
     {
         let table = self.table;
-        let raised = table.left_of_arguments(self.alloc, pc, self.procedure, arguments)?;
+        let procedure = self.procedure;
+        let raised = table.left_of_arguments(self.alloc, around.pc, procedure, arguments)?;
         table.add_inner(raised, number, constraints)?;
         let own = Atom::Unknown(number);
         let begin = left_of_pc(self.alloc, own)?;
-        table.add_rule(at, 6, begin, Target::ToBegin(callee), constraints)?;
-        self.add_arguments(at, own, callee, arguments, constraints)?;
-        let received = self.left_of_result(own, callee)?;
-        self.add_target(at, 6, received, target, constraints)?;
-        self.add_call_ends(own, callee, arguments, takers, thrown, constraints)?;
+        table.add_rule(site.at, 6, begin, Target::ToBegin(site.callee), constraints)?;
+        self.add_arguments(site.at, own, site.callee, arguments, constraints)?;
+        let received = self.left_of_result(own, site.callee)?;
+        self.add_target(site.at, 6, received, site.target, constraints)?;
+        let ends = Around { pc: own, ..*around };
+        self.add_call_ends(site.callee, arguments, &ends, constraints)?;
         Ok(())
     }
 }

@@ -11,7 +11,7 @@ use crate::table::Table;
 use path_map::raises::{divisor_can_raise, index_can_raise, is_division};
 use resolved::expression::{Expression, Operator};
 use resolved::target::Target;
-use solver::Atom;
+use solver::Left;
 use std::alloc::AllocError;
 
 // A function of its own, so that a proof about its caller need not follow both ways of `||`.
@@ -31,7 +31,7 @@ fn can_divide_by_zero(operator: Operator, divisor: &Expression) -> bool
 
 impl<'a> Table<'a> {
     /// Adds the label of what a rule names.
-    pub fn add_label(&self, target: Target, left: &mut Vec<Atom>) -> Result<(), AllocError>
+    pub fn add_label(&self, target: Target, left: &mut Left) -> Result<(), AllocError>
         ensures { OnOk result (IsJoined self.now.core.now self.now.core.now.labels
             (one (label_of (program_of self.now.core.now) target))
             left.old.items left.new.items) }
@@ -45,7 +45,7 @@ impl<'a> Table<'a> {
         &self,
         procedure: u32,
         expression: &Expression,
-        left: &mut Vec<Atom>,
+        left: &mut Left,
     ) -> Result<(), AllocError>
         ensures { OnOk result (IsJoined self.now.core.now self.now.core.now.labels
             (value_label (scope_of self.now.core.now procedure) (expression_of expression.now))
@@ -78,7 +78,7 @@ impl<'a> Table<'a> {
         &self,
         procedure: u32,
         expression: &Expression,
-        left: &mut Vec<Atom>,
+        left: &mut Left,
     ) -> Result<bool, AllocError>
         ensures joined { OnOk result (IsJoined self.now.core.now self.now.core.now.labels
             (raise_atoms (scope_of self.now.core.now procedure) (expression_of expression.now))
@@ -121,7 +121,7 @@ impl<'a> Table<'a> {
         &self,
         procedure: u32,
         expressions: &[Expression],
-        left: &mut Vec<Atom>,
+        left: &mut Left,
     ) -> Result<(), AllocError>
         ensures { OnOk result (IsJoined self.now.core.now self.now.core.now.labels
             (raise_atoms_all (scope_of self.now.core.now procedure)

@@ -2,12 +2,15 @@
 #![tactic(auto)]
 
 mod adding;
+mod around;
 mod branches;
 mod building;
 mod calls;
 mod expressions;
+mod forms;
 mod journal;
 mod lefts;
+mod lists;
 mod merging;
 mod pieces;
 mod plain;
@@ -17,6 +20,7 @@ mod progress;
 mod rows;
 mod spreading;
 mod statements;
+mod stores;
 mod table;
 mod takers;
 mod walking;

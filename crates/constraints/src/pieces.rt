@@ -2,7 +2,7 @@
 ghost use Rattle.constraints.specs.Added.{IsPart};
 ghost use Rattle.constraints.specs.LeftSides.{scope_of};
 ghost use Rattle.constraints.specs.Ready.{entries_of, AreHandledInside, HasRoom};
-ghost use Rattle.constraints.specs.Takers.{AreLevelled, no_entry, takers_of, undone};
+ghost use Rattle.constraints.specs.Takers.{takers_of};
 ghost use Rattle.constraints.specs.Walked.{IsTried, IsWalked, branch_constraints};
 ghost use Rattle.constraints.specs.Walks.{loop_head_constraints};
 ghost use Rattle.gathering.specs.Names.{NamedAtom};
@@ -11,17 +11,19 @@ ghost use Rattle.path_map.specs.Exits.{exits_of};
 ghost use Rattle.path_map.specs.Exits.{Exits};
 ghost use Rattle.resolved.specs.Ends.{one_end};
 ghost use Rattle.resolved.specs.Tree.{Empty};
-ghost use Rattle.resolved.specs.TreeOf.{expression_of, handlers_of};
+ghost use Rattle.resolved.specs.TreeOf.{expression_of};
 ghost use Rattle.resolved.specs.declared.statement.Exit.{Exit};
 ghost use Rattle.resolved.specs.declared.target.Target.TheVariants.{ToLoop};
 ghost use Rattle.std.specs.Prelude.{IfOk, List, OnOk, [], drop, length, map, ℕ, ◌+◌, ◌<◌, ◌∷◌, ◌≡◌};
 
+use crate::around::Context;
+use crate::forms::{CallSite, LoopSite};
 use crate::lefts::left_of_pc;
 use crate::progress::Progress;
 use crate::statements::Walk;
 use crate::takers::{Saved, Takers, numbers_of, take_handled};
 use path_map::Exits;
-use resolved::expression::{Expression, Variable};
+use resolved::expression::Expression;
 use resolved::statement::{Exit, Handler};
 use solver::Atom;
 use std::alloc::AllocError;
@@ -52,8 +54,7 @@ impl<'a> Walk<'a> {
     // Comes to a block or statement: gives its possible ends, and adds the flow of the pc where there is one only.
     pub(crate) fn begin(
         &self,
-        pc: Atom,
-        takers: Takers,
+        context: Context,
         progress: &mut Progress,
     ) -> Result<Exits, AllocError>
         requires { progress.old.index < length (entries_of self.now.map.now) }
@@ -62,19 +63,14 @@ impl<'a> Walk<'a> {
             exits ≡ first) }
         ensures added { OnOk result ((ends : List Exit) →
             IsWalked self.now.table.now.core.now self.now.table.now.core.now.labels
-            (entries_of self.now.map.now) pc takers (ends ∷ [])
-            (λ (named : NamedAtom).
-            single (one_end ends) named (takers_of takers progress.old.thrown.items) ends) 0
+            (entries_of self.now.map.now) context.pc context.takers (ends ∷ [])
+            (λ (named : NamedAtom). single (one_end ends) named
+            (takers_of context.takers progress.old.thrown.items) ends) 0
             progress.old progress.new) }
     {
         let exits = self.next_exits(progress);
-        self.add_single(
-            exits,
-            pc,
-            takers,
-            &progress.thrown,
-            &mut progress.constraints,
-        )?;
+        let around = context.around(&progress.thrown);
+        self.add_single(exits, &around, &mut progress.constraints)?;
         Ok(exits)
     }
 
@@ -95,23 +91,22 @@ impl<'a> Walk<'a> {
     pub(crate) fn end_block(
         &self,
         reached: bool,
-        pc: Atom,
-        takers: Takers,
+        context: Context,
         progress: &mut Progress,
     ) -> Result<(), AllocError>
         ensures { OnOk result ((n : ℕ) →
             IsWalked self.now.table.now.core.now self.now.table.now.core.now.labels
-            (entries_of self.now.map.now) pc takers []
+            (entries_of self.now.map.now) context.pc context.takers []
             (λ (named : NamedAtom). block_constraints
             (scope_of self.now.table.now.core.now self.now.procedure) reached named
-            (takers_of takers progress.old.thrown.items) n Empty) 0
+            (takers_of context.takers progress.old.thrown.items) n Empty) 0
             progress.old progress.new) }
     {
         if !reached {
             return Ok(());
         }
-        let left = left_of_pc(self.alloc, pc)?;
-        let taker = takers.at(&progress.thrown, Exit::Normal);
+        let left = left_of_pc(self.alloc, context.pc)?;
+        let taker = context.takers.at(&progress.thrown, Exit::Normal);
         self.table
             .add_flow(self.alloc, &left, taker, &mut progress.constraints)?;
         Ok(())
@@ -121,29 +116,23 @@ impl<'a> Walk<'a> {
     pub(crate) fn begin_branch(
         &self,
         condition: &Expression,
-        pc: Atom,
-        takers: Takers,
+        context: Context,
         progress: &mut Progress,
     ) -> Result<u32, AllocError>
         requires { HasRoom 1 progress.old }
         ensures number { IfOk result (λ number. number ≡ progress.old.number) }
         ensures added { OnOk result (
             IsWalked self.now.table.now.core.now self.now.table.now.core.now.labels
-            (entries_of self.now.map.now) pc takers []
+            (entries_of self.now.map.now) context.pc context.takers []
             (λ (named : NamedAtom). branch_constraints
             (scope_of self.now.table.now.core.now self.now.procedure) named
-            (takers_of takers progress.old.thrown.items) progress.old.number
+            (takers_of context.takers progress.old.thrown.items) progress.old.number
             (expression_of condition.now)) 1 progress.old progress.new) }
     {
         let number = progress.make(1);
-        self.add_branch(condition, number, pc, &mut progress.constraints)?;
-        self.add_condition(
-            condition,
-            pc,
-            takers,
-            &progress.thrown,
-            &mut progress.constraints,
-        )?;
+        self.add_branch(condition, number, context.pc, &mut progress.constraints)?;
+        let around = context.around(&progress.thrown);
+        self.add_condition(condition, &around, &mut progress.constraints)?;
         Ok(number)
     }
 
@@ -151,11 +140,9 @@ impl<'a> Walk<'a> {
     // back.
     pub(crate) fn begin_loop(
         &self,
-        at: usize,
-        number: u32,
+        site: LoopSite,
         condition: &Expression,
-        pc: Atom,
-        takers: Takers,
+        context: Context,
         progress: &mut Progress,
     ) -> Result<(u32, u32), AllocError>
         requires { HasRoom 2 progress.old }
@@ -163,32 +150,23 @@ impl<'a> Walk<'a> {
         ensures back { IfOk result (λ pcs. pcs.1 ≡ progress.old.number + 1) }
         ensures added { OnOk result (
             IsWalked self.now.table.now.core.now self.now.table.now.core.now.labels
-            (entries_of self.now.map.now) pc takers []
+            (entries_of self.now.map.now) context.pc context.takers []
             (λ (named : NamedAtom). loop_head_constraints
             (scope_of self.now.table.now.core.now self.now.procedure) named
-            (takers_of takers progress.old.thrown.items) progress.old.number at number
-            (expression_of condition.now)) 2 progress.old progress.new) }
+            (takers_of context.takers progress.old.thrown.items) progress.old.number site.at
+            site.number (expression_of condition.now)) 2 progress.old progress.new) }
     {
         let inner = progress.make(2);
         let back = inner + 1;
-        self.add_loop_head(
-            at,
-            number,
-            condition,
-            inner,
-            pc,
-            takers,
-            &progress.thrown,
-            &mut progress.constraints,
-        )?;
+        let around = context.around(&progress.thrown);
+        self.add_loop_head(site, condition, inner, &around, &mut progress.constraints)?;
         Ok((inner, back))
     }
 
     // Adds the flow back to the label of a loop.
     pub(crate) fn end_loop(
         &self,
-        at: usize,
-        number: u32,
+        site: LoopSite,
         back: u32,
         progress: &mut Progress,
     ) -> Result<(), AllocError>
@@ -196,11 +174,12 @@ impl<'a> Walk<'a> {
             IsWalked self.now.table.now.core.now self.now.table.now.core.now.labels
             (entries_of self.now.map.now) pc takers []
             (λ (named : NamedAtom). rule_constraint
-            (scope_of self.now.table.now.core.now self.now.procedure) at 8
-            (inner_atom back ∷ []) (ToLoop self.now.procedure number)) 0
+            (scope_of self.now.table.now.core.now self.now.procedure) site.at 8
+            (inner_atom back ∷ []) (ToLoop self.now.procedure site.number)) 0
             progress.old progress.new) }
     {
-        self.add_turn(at, number, Atom::Unknown(back), &mut progress.constraints)?;
+        let back = Atom::Unknown(back);
+        self.add_turn(site.at, site.number, back, &mut progress.constraints)?;
         Ok(())
     }
 
@@ -239,37 +218,26 @@ impl<'a> Walk<'a> {
     // Walks past a call.
     pub(crate) fn walk_call(
         &self,
-        at: usize,
-        callee: u32,
+        site: CallSite,
         arguments: &[Expression],
-        target: Option<Variable>,
-        pc: Atom,
-        takers: Takers,
+        context: Context,
         progress: &mut Progress,
     ) -> Result<(), AllocError>
         requires { HasRoom 1 progress.old }
         ensures { OnOk result (
             IsWalked self.now.table.now.core.now self.now.table.now.core.now.labels
-            (entries_of self.now.map.now) pc takers []
+            (entries_of self.now.map.now) context.pc context.takers []
             (λ (named : NamedAtom). call_constraints
             (scope_of self.now.table.now.core.now self.now.procedure) named
-            (takers_of takers progress.old.thrown.items) progress.old.number at callee
-            (map expression_of arguments.now) target) 1 progress.old progress.new) }
+            (takers_of context.takers progress.old.thrown.items) progress.old.number site.at
+            site.callee (map expression_of arguments.now) site.target) 1
+            progress.old progress.new) }
     {
         let number = progress.make(1);
-        self.add_call(
-            at,
-            callee,
-            arguments,
-            target,
-            number,
-            pc,
-            takers,
-            &progress.thrown,
-            &mut progress.constraints,
-        )?;
-        let barrier = takers.ends.raised;
-        progress.journal.add_call(callee, barrier, number)?;
+        let around = context.around(&progress.thrown);
+        self.add_call(site, arguments, number, &around, &mut progress.constraints)?;
+        let barrier = context.takers.ends.raised;
+        progress.journal.add_call(site.callee, barrier, number)?;
         Ok(())
     }
 }

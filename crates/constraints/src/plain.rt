@@ -5,12 +5,12 @@ ghost use Rattle.resolved.specs.Tree.{Assign, Clear, Leave, Receive, ReturnWith,
 ghost use Rattle.resolved.specs.TreeOf.{expression_of, some_expression_of};
 ghost use Rattle.std.specs.Prelude.{OnOk};
 
+use crate::around::Context;
+use crate::forms::ArrayStore;
 use crate::progress::Progress;
 use crate::statements::Walk;
-use crate::takers::Takers;
 use resolved::expression::{Expression, Variable};
 use resolved::statement::Exit;
-use solver::Atom;
 use std::alloc::AllocError;
 
 impl<'a> Walk<'a> {
@@ -20,24 +20,16 @@ impl<'a> Walk<'a> {
         at: usize,
         variable: Variable,
         value: &Expression,
-        pc: Atom,
-        takers: Takers,
+        context: Context,
         progress: &mut Progress,
     ) -> Result<(), AllocError>
         ensures { OnOk result (IsFormWalked self.now.table.now.core.now
             self.now.table.now.core.now.labels (entries_of self.now.map.now) self.now.procedure
-            pc takers (Assign at variable (expression_of value.now))
+            context.pc context.takers (Assign at variable (expression_of value.now))
             progress.old progress.new) }
     {
-        self.add_assign(
-            at,
-            variable,
-            value,
-            pc,
-            takers,
-            &progress.thrown,
-            &mut progress.constraints,
-        )
+        let around = context.around(&progress.thrown);
+        self.add_assign(at, variable, value, &around, &mut progress.constraints)
     }
 
     // Walks past a declaration, which clears its slot.
@@ -45,53 +37,35 @@ impl<'a> Walk<'a> {
         &self,
         at: usize,
         slot: u32,
-        pc: Atom,
-        takers: Takers,
+        context: Context,
         progress: &mut Progress,
     ) -> Result<(), AllocError>
         ensures { OnOk result (IsFormWalked self.now.table.now.core.now
             self.now.table.now.core.now.labels (entries_of self.now.map.now) self.now.procedure
-            pc takers (Clear at slot)
+            context.pc context.takers (Clear at slot)
             progress.old progress.new) }
     {
-        self.add_clear(
-            at,
-            slot,
-            pc,
-            takers,
-            &progress.thrown,
-            &mut progress.constraints,
-        )
+        let around = context.around(&progress.thrown);
+        self.add_clear(at, slot, &around, &mut progress.constraints)
     }
 
     // Walks past a store to an array.
     pub(crate) fn walk_store(
         &self,
-        at: usize,
-        array: Variable,
-        length: u32,
+        store: ArrayStore,
         index: &Expression,
         value: &Expression,
-        pc: Atom,
-        takers: Takers,
+        context: Context,
         progress: &mut Progress,
     ) -> Result<(), AllocError>
         ensures { OnOk result (IsFormWalked self.now.table.now.core.now
             self.now.table.now.core.now.labels (entries_of self.now.map.now) self.now.procedure
-            pc takers (Store at array length (expression_of index.now) (expression_of value.now))
+            context.pc context.takers (Store store.at store.array store.length
+            (expression_of index.now) (expression_of value.now))
             progress.old progress.new) }
     {
-        self.add_store(
-            at,
-            array,
-            length,
-            index,
-            value,
-            pc,
-            takers,
-            &progress.thrown,
-            &mut progress.constraints,
-        )
+        let around = context.around(&progress.thrown);
+        self.add_store(store, index, value, &around, &mut progress.constraints)
     }
 
     // Walks past a receive.
@@ -100,24 +74,16 @@ impl<'a> Walk<'a> {
         at: usize,
         channel: u32,
         target: Option<Variable>,
-        pc: Atom,
-        takers: Takers,
+        context: Context,
         progress: &mut Progress,
     ) -> Result<(), AllocError>
         ensures { OnOk result (IsFormWalked self.now.table.now.core.now
             self.now.table.now.core.now.labels (entries_of self.now.map.now) self.now.procedure
-            pc takers (Receive at channel target)
+            context.pc context.takers (Receive at channel target)
             progress.old progress.new) }
     {
-        self.add_receive(
-            at,
-            channel,
-            target,
-            pc,
-            takers,
-            &progress.thrown,
-            &mut progress.constraints,
-        )
+        let around = context.around(&progress.thrown);
+        self.add_receive(at, channel, target, &around, &mut progress.constraints)
     }
 
     // Walks past a send.
@@ -126,24 +92,16 @@ impl<'a> Walk<'a> {
         at: usize,
         channel: u32,
         value: &Expression,
-        pc: Atom,
-        takers: Takers,
+        context: Context,
         progress: &mut Progress,
     ) -> Result<(), AllocError>
         ensures { OnOk result (IsFormWalked self.now.table.now.core.now
             self.now.table.now.core.now.labels (entries_of self.now.map.now) self.now.procedure
-            pc takers (Send at channel (expression_of value.now))
+            context.pc context.takers (Send at channel (expression_of value.now))
             progress.old progress.new) }
     {
-        self.add_send(
-            at,
-            channel,
-            value,
-            pc,
-            takers,
-            &progress.thrown,
-            &mut progress.constraints,
-        )
+        let around = context.around(&progress.thrown);
+        self.add_send(at, channel, value, &around, &mut progress.constraints)
     }
 
     // Walks past a `break`, `continue` or `throw`.
@@ -151,23 +109,16 @@ impl<'a> Walk<'a> {
         &self,
         at: usize,
         exit: Exit,
-        pc: Atom,
-        takers: Takers,
+        context: Context,
         progress: &mut Progress,
     ) -> Result<(), AllocError>
         ensures { OnOk result (IsFormWalked self.now.table.now.core.now
             self.now.table.now.core.now.labels (entries_of self.now.map.now) self.now.procedure
-            pc takers (Leave at exit)
+            context.pc context.takers (Leave at exit)
             progress.old progress.new) }
     {
-        self.add_leave(
-            at,
-            exit,
-            pc,
-            takers,
-            &progress.thrown,
-            &mut progress.constraints,
-        )
+        let around = context.around(&progress.thrown);
+        self.add_leave(at, exit, &around, &mut progress.constraints)
     }
 
     // Walks past a return.
@@ -175,22 +126,15 @@ impl<'a> Walk<'a> {
         &self,
         at: usize,
         value: &Option<Expression>,
-        pc: Atom,
-        takers: Takers,
+        context: Context,
         progress: &mut Progress,
     ) -> Result<(), AllocError>
         ensures { OnOk result (IsFormWalked self.now.table.now.core.now
             self.now.table.now.core.now.labels (entries_of self.now.map.now) self.now.procedure
-            pc takers (ReturnWith at (some_expression_of value.now))
+            context.pc context.takers (ReturnWith at (some_expression_of value.now))
             progress.old progress.new) }
     {
-        self.add_return(
-            at,
-            value,
-            pc,
-            takers,
-            &progress.thrown,
-            &mut progress.constraints,
-        )
+        let around = context.around(&progress.thrown);
+        self.add_return(at, value, &around, &mut progress.constraints)
     }
 }

@@ -14,6 +14,7 @@ ghost use Rattle.resolved.specs.Labelled.{here};
 ghost use Rattle.std.specs.Prelude.{IfOk, List, OnOk, length, map, suc, ℕ, ◌+◌, ◌<◌, ◌≡◌, ◌≤◌};
 ghost use Rattle.constraints.specs.declared.takers.Entry.{Entry};
 
+use crate::around::Context;
 use crate::journal::Journal;
 use crate::lefts::left_of_pc;
 use crate::progress::Progress;
@@ -147,7 +148,8 @@ impl<'a> Walk<'a> {
         let only = self.exits_at(progress.index).is_single_of_procedure();
         let takers = end_takers(number, barrier, level, only);
         let begin = self.table.part(Target::ToBegin(self.procedure));
-        walk_block(self, &procedure.body, begin, takers, progress)?;
+        let context = Context { pc: begin, takers };
+        walk_block(self, &procedure.body, context, progress)?;
         self.add_end_demands(procedure, number, only, progress)?;
         Ok(())
     }

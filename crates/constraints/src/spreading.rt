@@ -1,7 +1,7 @@
 //! The flows of the exceptions that calls raise: all calls at which an exception has one taker reach it by one inner unknown.
 ghost use Rattle.constraints.specs.Added.{AreAdded, IsLeft, IsPart};
 ghost use Rattle.constraints.specs.Journals.{AreInOrder, HasOneTaker};
-ghost use Rattle.constraints.specs.Merging.{AreSpreadMerged};
+ghost use Rattle.constraints.specs.Merging.{AreSpreadShared};
 ghost use Rattle.constraints.specs.Ready.{most_unknowns};
 ghost use Rattle.constraints.specs.Spreading.{AreCallsOf, AreLabelsOf, AreRowsOf, AreSpread, AreSpreadTo, Declares, fixed_flows};
 ghost use Rattle.constraints.specs.declared.journal.Called.{Called};
@@ -18,7 +18,7 @@ use crate::rows::ThrownLabel;
 use crate::table::Table;
 use crate::takers::taker_in;
 use resolved::target::Target;
-use solver::{Atom, Constraint};
+use solver::{Atom, Constraint, Left};
 use std::alloc::{AllocError, Global};
 
 /// The table of labels, and the entries of exceptions at each call.
@@ -206,7 +206,8 @@ impl<'a> Spreading<'a> {
     {
         let number = made.number;
         made.number = number + 1;
-        self.table.add_inner(parts, number, &mut made.constraints)?;
+        self.table
+            .add_inner(Left::from_vec(parts), number, &mut made.constraints)?;
         Ok(Atom::Unknown(number))
     }
 
@@ -352,7 +353,7 @@ pub(crate) fn spread_calls<'a>(
 ) -> Result<(), AllocError>
     requires ordered { AreInOrder journal.now }
     requires room { made.old.number + length journal.now.calls.items ≤ most_unknowns }
-    ensures { OnOk result (AreSpreadMerged table.now.core.now table.now.core.now.labels journal.now
+    ensures { OnOk result (AreSpreadShared table.now.core.now table.now.core.now.labels journal.now
         journal.now.calls.items made.old made.new) }
 {
     let spreading = Spreading {
@@ -371,6 +372,6 @@ pub(crate) fn spread_calls<'a>(
         made.number = own.number;
         take_all(own.constraints, &mut kept, &mut made.constraints)?;
     }
-    lay_out(alloc, &kept, &mut made.constraints)?;
+    lay_out(kept, made)?;
     Ok(())
 }

@@ -1,26 +1,27 @@
 //! The constraints of statements without blocks, but for calls.
 ghost use Rattle.constraints.specs.Added.{AreAdded, IsGatheredAt, IsLeft};
 ghost use Rattle.constraints.specs.LeftSides.{scope_of};
-ghost use Rattle.constraints.specs.Takers.{takers_of};
+ghost use Rattle.constraints.specs.Takers.{takers_around};
 ghost use Rattle.constraints.specs.Walks.{IsSimple, valued_constraints};
 ghost use Rattle.gathering.specs.Names.{NamedAtom};
-ghost use Rattle.gathering.specs.Walk.{target_constraint};
+ghost use Rattle.gathering.specs.Walk.{flow, raised_flows, target_constraint};
 ghost use Rattle.path_map.specs.Exceptions.{AreRaised};
-ghost use Rattle.resolved.specs.Ends.{index_raises, raises};
-ghost use Rattle.resolved.specs.Tree.{Assign, Clear, Leave, Receive, ReturnWith, Send, Store};
+ghost use Rattle.resolved.specs.Ends.{raises};
+ghost use Rattle.resolved.specs.Tree.{Assign, Clear, Leave, Receive, ReturnWith, Send};
 ghost use Rattle.resolved.specs.TreeOf.{expression_of, some_expression_of};
-ghost use Rattle.std.specs.Prelude.{List, OnOk, ◌++◌};
+ghost use Rattle.std.specs.Prelude.{List, OnOk, ℕ, ◌++◌};
 
+use crate::around::Around;
+use crate::forms::Demand;
 use crate::lefts::left_of_pc;
 use crate::table::Table;
-use crate::takers::{Entry, Takers};
 use common::exceptions::END;
 use path_map::Ends;
-use path_map::raises::{Raises, index_can_raise, raises_of};
+use path_map::raises::{Raises, raises_of};
 use resolved::expression::{Expression, Variable};
 use resolved::statement::Exit;
 use resolved::target::Target;
-use solver::{Atom, Constraint};
+use solver::{Atom, Constraint, Left};
 use std::alloc::{AllocError, Global};
 
 /// A procedure of a program whose constraints are gathered, with the labels of the program's tables and its possible ends.
@@ -33,34 +34,57 @@ pub struct Walk<'a> {
 }
 
 impl<'a> Walk<'a> {
+    // Adds the flows of what goes on at an end or raises one of these exceptions.
+    pub(crate) fn add_ends(
+        &self,
+        left: &[Atom],
+        around: &Around,
+        exit: Exit,
+        found: Raises,
+        constraints: &mut Vec<Constraint<Option<Target>>>,
+    ) -> Result<(), AllocError>
+        ensures { OnOk result ((atoms : List NamedAtom) (exceptions : List ℕ) →
+            IsLeft self.now.table.now.core.now self.now.table.now.core.now.labels atoms left.now →
+            AreRaised found exceptions →
+            AreAdded self.now.table.now.core.now self.now.table.now.core.now.labels
+            (flow atoms (takers_around around.now exit)
+            ++ raised_flows atoms (takers_around around.now) exceptions)
+            constraints.old.items constraints.new.items) }
+    {
+        let taker = around.taker(exit);
+        self.table.add_flow(self.alloc, left, taker, constraints)?;
+        self.table
+            .add_raised(self.alloc, left, around, found, constraints)?;
+        Ok(())
+    }
+
     // Adds what a value flows to, and the ends of a statement that goes on at an end once it has the value.
     fn add_valued(
         &self,
-        at: usize,
-        rule: u8,
+        demand: Demand,
         value: &Expression,
-        target: Target,
         exit: Exit,
-        pc: Atom,
-        takers: Takers,
-        thrown: &[Entry],
+        around: &Around,
         constraints: &mut Vec<Constraint<Option<Target>>>,
     ) -> Result<(), AllocError>
         ensures { OnOk result (IsGatheredAt self.now.table.now.core.now
-            self.now.table.now.core.now.labels pc (λ (named : NamedAtom). valued_constraints
+            self.now.table.now.core.now.labels around.now.pc
+            (λ (named : NamedAtom). valued_constraints
             (scope_of self.now.table.now.core.now self.now.procedure) named
-            (takers_of takers thrown.now) at rule (expression_of value.now) target exit)
+            (takers_around around.now) demand.at demand.rule (expression_of value.now)
+            demand.target exit)
             constraints.old.items constraints.new.items) }
     {
         let valued = self
             .table
-            .left_of_value(self.alloc, pc, self.procedure, value)?;
-        self.table.add_rule(at, rule, valued, target, constraints)?;
+            .left_of_value(self.alloc, around.pc, self.procedure, value)?;
+        self.table
+            .add_rule(demand.at, demand.rule, valued, demand.target, constraints)?;
         let left = self
             .table
-            .left_of_raise(self.alloc, pc, self.procedure, value)?;
+            .left_of_raise(self.alloc, around.pc, self.procedure, value)?;
         let found = raises_of(value);
-        self.table.add_ends(self.alloc, &left, takers, thrown, exit, found, constraints)?;
+        self.add_ends(&left, around, exit, found, constraints)?;
         Ok(())
     }
 
@@ -70,28 +94,21 @@ impl<'a> Walk<'a> {
         at: usize,
         variable: Variable,
         value: &Expression,
-        pc: Atom,
-        takers: Takers,
-        thrown: &[Entry],
+        around: &Around,
         constraints: &mut Vec<Constraint<Option<Target>>>,
     ) -> Result<(), AllocError>
-        ensures { OnOk result (IsSimple self.now.table.now.core.now self.now.table.now.core.now.labels
-            self.now.procedure pc (takers_of takers thrown.now)
+        ensures { OnOk result (IsSimple self.now.table.now.core.now
+            self.now.table.now.core.now.labels self.now.procedure
+            around.now.pc (takers_around around.now)
             (Assign at variable (expression_of value.now))
             constraints.old.items constraints.new.items) }
     {
-        let target = Target::ToVariable(self.procedure, variable);
-        self.add_valued(
+        let demand = Demand {
             at,
-            1,
-            value,
-            target,
-            Exit::Normal,
-            pc,
-            takers,
-            thrown,
-            constraints,
-        )?;
+            rule: 1,
+            target: Target::ToVariable(self.procedure, variable),
+        };
+        self.add_valued(demand, value, Exit::Normal, around, constraints)?;
         Ok(())
     }
 
@@ -101,28 +118,21 @@ impl<'a> Walk<'a> {
         at: usize,
         channel: u32,
         value: &Expression,
-        pc: Atom,
-        takers: Takers,
-        thrown: &[Entry],
+        around: &Around,
         constraints: &mut Vec<Constraint<Option<Target>>>,
     ) -> Result<(), AllocError>
-        ensures { OnOk result (IsSimple self.now.table.now.core.now self.now.table.now.core.now.labels
-            self.now.procedure pc (takers_of takers thrown.now)
+        ensures { OnOk result (IsSimple self.now.table.now.core.now
+            self.now.table.now.core.now.labels self.now.procedure
+            around.now.pc (takers_around around.now)
             (Send at channel (expression_of value.now))
             constraints.old.items constraints.new.items) }
     {
-        let target = Target::ToChannel(channel);
-        self.add_valued(
+        let demand = Demand {
             at,
-            5,
-            value,
-            target,
-            Exit::Normal,
-            pc,
-            takers,
-            thrown,
-            constraints,
-        )?;
+            rule: 5,
+            target: Target::ToChannel(channel),
+        };
+        self.add_valued(demand, value, Exit::Normal, around, constraints)?;
         Ok(())
     }
 
@@ -131,19 +141,18 @@ impl<'a> Walk<'a> {
         &self,
         at: usize,
         exit: Exit,
-        pc: Atom,
-        takers: Takers,
-        thrown: &[Entry],
+        around: &Around,
         constraints: &mut Vec<Constraint<Option<Target>>>,
     ) -> Result<(), AllocError>
-        ensures { OnOk result (IsSimple self.now.table.now.core.now self.now.table.now.core.now.labels
-            self.now.procedure pc (takers_of takers thrown.now)
+        ensures { OnOk result (IsSimple self.now.table.now.core.now
+            self.now.table.now.core.now.labels self.now.procedure
+            around.now.pc (takers_around around.now)
             (Leave at exit)
             constraints.old.items constraints.new.items) }
     {
-        let left = left_of_pc(self.alloc, pc)?;
+        let left = left_of_pc(self.alloc, around.pc)?;
         self.table
-            .add_flow(self.alloc, &left, takers.at(thrown, exit), constraints)?;
+            .add_flow(self.alloc, &left, around.taker(exit), constraints)?;
         Ok(())
     }
 
@@ -152,27 +161,29 @@ impl<'a> Walk<'a> {
         &self,
         at: usize,
         value: &Option<Expression>,
-        pc: Atom,
-        takers: Takers,
-        thrown: &[Entry],
+        around: &Around,
         constraints: &mut Vec<Constraint<Option<Target>>>,
     ) -> Result<(), AllocError>
-        ensures { OnOk result (IsSimple self.now.table.now.core.now self.now.table.now.core.now.labels
-            self.now.procedure pc (takers_of takers thrown.now)
+        ensures { OnOk result (IsSimple self.now.table.now.core.now
+            self.now.table.now.core.now.labels self.now.procedure
+            around.now.pc (takers_around around.now)
             (ReturnWith at (some_expression_of value.now))
             constraints.old.items constraints.new.items) }
     {
         match value {
             None => {
-                let left = left_of_pc(self.alloc, pc)?;
-                let taker = takers.at(thrown, Exit::Return);
+                let left = left_of_pc(self.alloc, around.pc)?;
+                let taker = around.taker(Exit::Return);
                 self.table.add_flow(self.alloc, &left, taker, constraints)?;
                 Ok(())
             }
             Some(value) => {
-                let target = Target::ToValue(self.procedure);
-                let exit = Exit::Return;
-                self.add_valued(at, 10, value, target, exit, pc, takers, thrown, constraints)?;
+                let demand = Demand {
+                    at,
+                    rule: 10,
+                    target: Target::ToValue(self.procedure),
+                };
+                self.add_valued(demand, value, Exit::Return, around, constraints)?;
                 Ok(())
             }
         }
@@ -183,55 +194,26 @@ impl<'a> Walk<'a> {
         &self,
         at: usize,
         slot: u32,
-        pc: Atom,
-        takers: Takers,
-        thrown: &[Entry],
+        around: &Around,
         constraints: &mut Vec<Constraint<Option<Target>>>,
     ) -> Result<(), AllocError>
-        ensures { OnOk result (IsSimple self.now.table.now.core.now self.now.table.now.core.now.labels
-            self.now.procedure pc (takers_of takers thrown.now)
+        ensures { OnOk result (IsSimple self.now.table.now.core.now
+            self.now.table.now.core.now.labels self.now.procedure
+            around.now.pc (takers_around around.now)
             (Clear at slot)
             constraints.old.items constraints.new.items) }
     {
         let target = Target::ToVariable(self.procedure, Variable::Local(slot));
-        self.table
-            .add_rule(at, 2, left_of_pc(self.alloc, pc)?, target, constraints)?;
-        let left = left_of_pc(self.alloc, pc)?;
-        let taker = takers.at(thrown, Exit::Normal);
+        self.table.add_rule(
+            at,
+            2,
+            left_of_pc(self.alloc, around.pc)?,
+            target,
+            constraints,
+        )?;
+        let left = left_of_pc(self.alloc, around.pc)?;
+        let taker = around.taker(Exit::Normal);
         self.table.add_flow(self.alloc, &left, taker, constraints)?;
-        Ok(())
-    }
-
-    /// Adds what is gathered of a store into an array of this length.
-    pub fn add_store(
-        &self,
-        at: usize,
-        array: Variable,
-        length: u32,
-        index: &Expression,
-        value: &Expression,
-        pc: Atom,
-        takers: Takers,
-        thrown: &[Entry],
-        constraints: &mut Vec<Constraint<Option<Target>>>,
-    ) -> Result<(), AllocError>
-        ensures { OnOk result (IsSimple self.now.table.now.core.now self.now.table.now.core.now.labels
-            self.now.procedure pc (takers_of takers thrown.now)
-            (Store at array length (expression_of index.now) (expression_of value.now))
-            constraints.old.items constraints.new.items) }
-    {
-        let procedure = self.procedure;
-        let target = Target::ToVariable(procedure, array);
-        let stored = self
-            .table
-            .left_of_stored(self.alloc, pc, procedure, index, value)?;
-        self.table.add_rule(at, 3, stored, target, constraints)?;
-        let left = self
-            .table
-            .left_of_store(self.alloc, pc, procedure, length, index, value)?;
-        let found = raises_of_store(length, index, value);
-        let exit = Exit::Normal;
-        self.table.add_ends(self.alloc, &left, takers, thrown, exit, found, constraints)?;
         Ok(())
     }
 
@@ -240,7 +222,7 @@ impl<'a> Walk<'a> {
         &self,
         at: usize,
         rule: u8,
-        left: Vec<Atom>,
+        left: Left,
         target: Option<Variable>,
         constraints: &mut Vec<Constraint<Option<Target>>>,
     ) -> Result<(), AllocError>
@@ -267,38 +249,30 @@ impl<'a> Walk<'a> {
         at: usize,
         channel: u32,
         target: Option<Variable>,
-        pc: Atom,
-        takers: Takers,
-        thrown: &[Entry],
+        around: &Around,
         constraints: &mut Vec<Constraint<Option<Target>>>,
     ) -> Result<(), AllocError>
-        ensures { OnOk result (IsSimple self.now.table.now.core.now self.now.table.now.core.now.labels
-            self.now.procedure pc (takers_of takers thrown.now)
+        ensures { OnOk result (IsSimple self.now.table.now.core.now
+            self.now.table.now.core.now.labels self.now.procedure
+            around.now.pc (takers_around around.now)
             (Receive at channel target)
             constraints.old.items constraints.new.items) }
     {
         let source = Target::ToChannel(channel);
-        self.table
-            .add_rule(at, 4, left_of_pc(self.alloc, pc)?, source, constraints)?;
-        let left = self.table.left_of_label(self.alloc, pc, source)?;
-        let received = self.table.left_of_label(self.alloc, pc, source)?;
+        self.table.add_rule(
+            at,
+            4,
+            left_of_pc(self.alloc, around.pc)?,
+            source,
+            constraints,
+        )?;
+        let left = self.table.left_of_label(self.alloc, around.pc, source)?;
+        let received = self.table.left_of_label(self.alloc, around.pc, source)?;
         self.add_target(at, 4, received, target, constraints)?;
-        let normal = takers.at(thrown, Exit::Normal);
+        let normal = around.taker(Exit::Normal);
         self.table.add_flow(self.alloc, &left, normal, constraints)?;
-        let ended = takers.at(thrown, Exit::Throw(END));
+        let ended = around.taker(Exit::Throw(END));
         self.table.add_flow(self.alloc, &left, ended, constraints)?;
         Ok(())
     }
-}
-
-// The exceptions that a store into an array of this length can raise.
-fn raises_of_store(length: u32, index: &Expression, value: &Expression) -> Raises
-    ensures { AreRaised result (raises (expression_of index.now) ++ raises (expression_of value.now)
-        ++ index_raises (expression_of index.now) length) }
-{
-    let access = Raises {
-        arith: false,
-        bounds: index_can_raise(index, length),
-    };
-    raises_of(index).or(raises_of(value)).or(access)
 }

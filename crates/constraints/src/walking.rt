@@ -7,6 +7,8 @@ ghost use Rattle.resolved.specs.TreeOf.{block_of, expression_of, handlers_of, st
 ghost use Rattle.resolved.specs.declared.statement.Handler.{Handler};
 ghost use Rattle.std.specs.Prelude.{IfOk, List, OnOk, drop, length, map, ℕ, ◌∷◌, ◌≡◌};
 
+use crate::around::Context;
+use crate::forms::{ArrayStore, CallSite, LoopSite};
 use crate::progress::Progress;
 use crate::statements::Walk;
 use crate::takers::{Takers, put_back};
@@ -23,19 +25,19 @@ use std::alloc::AllocError;
 pub(crate) fn walk_block(
     walk: &Walk,
     block: &[Statement],
-    pc: Atom,
-    takers: Takers,
+    context: Context,
     progress: &mut Progress,
 ) -> Result<(), AllocError>
     requires { IsBlockReady walk.now.table.now.core.now (entries_of walk.now.map.now)
-        walk.now.procedure takers (block_of block.now) progress.old }
+        walk.now.procedure context.takers (block_of block.now) progress.old }
     ensures { OnOk result (IsBlockWalked walk.now.table.now.core.now
         walk.now.table.now.core.now.labels (entries_of walk.now.map.now) walk.now.procedure
-        pc takers (block_of block.now) progress.old progress.new) }
+        context.pc context.takers (block_of block.now) progress.old progress.new) }
 {
-    let exits = walk.begin(pc, takers, progress)?;
-    let inner = takers.within_single(exits.is_single());
-    walk_statements(walk, block, pc, inner, progress)?;
+    let exits = walk.begin(context, progress)?;
+    let takers = context.takers.within_single(exits.is_single());
+    let inner = Context { takers, ..context };
+    walk_statements(walk, block, inner, progress)?;
     Ok(())
 }
 
@@ -44,25 +46,32 @@ pub(crate) fn walk_block(
 fn walk_statements(
     walk: &Walk,
     block: &[Statement],
-    pc: Atom,
-    takers: Takers,
+    context: Context,
     progress: &mut Progress,
 ) -> Result<(), AllocError>
     requires { AreStatementsReady walk.now.table.now.core.now (entries_of walk.now.map.now)
-        walk.now.procedure takers (block_of block.now) progress.old }
+        walk.now.procedure context.takers (block_of block.now) progress.old }
     ensures { OnOk result (AreStatementsWalked walk.now.table.now.core.now
         walk.now.table.now.core.now.labels (entries_of walk.now.map.now) walk.now.procedure
-        pc takers (block_of block.now) progress.old progress.new) }
+        context.pc context.takers (block_of block.now) progress.old progress.new) }
 {
     let mut reached = true;
-    let mut onward = pc;
+    let mut onward = context.pc;
     for statement in block {
         let number = progress.make(1);
-        let exits = walk_statement(walk, statement, number, onward, takers, progress)?;
+        let here = Context {
+            pc: onward,
+            ..context
+        };
+        let exits = walk_statement(walk, statement, number, here, progress)?;
         reached = exits.normal;
         onward = walk.onward_pc(exits, onward, number);
     }
-    walk.end_block(reached, onward, takers, progress)?;
+    let end = Context {
+        pc: onward,
+        ..context
+    };
+    walk.end_block(reached, end, progress)?;
     Ok(())
 }
 
@@ -72,24 +81,25 @@ fn walk_statement(
     walk: &Walk,
     statement: &Statement,
     number: u32,
-    pc: Atom,
-    takers: Takers,
+    context: Context,
     progress: &mut Progress,
 ) -> Result<Exits, AllocError>
     requires { IsStatementReady walk.now.table.now.core.now (entries_of walk.now.map.now)
-        walk.now.procedure takers (statement_of statement.now) progress.old }
+        walk.now.procedure context.takers (statement_of statement.now) progress.old }
     ensures exits { IfOk result (λ exits. (first : Exits) (left : List Exits) →
         drop progress.old.index (entries_of walk.now.map.now) ≡ first ∷ left → exits ≡ first) }
     ensures added { OnOk result (IsStatementWalked walk.now.table.now.core.now
         walk.now.table.now.core.now.labels (entries_of walk.now.map.now) walk.now.procedure
-        pc takers number (statement_of statement.now)
+        context.pc context.takers number (statement_of statement.now)
         progress.old progress.new) }
 {
-    let exits = walk.begin(pc, takers.with_normal(None), progress)?;
-    let inner = takers
+    let takers = context.takers.with_normal(None);
+    let exits = walk.begin(Context { takers, ..context }, progress)?;
+    let takers = context
+        .takers
         .with_normal(Some(number))
         .within_single(exits.is_single());
-    walk_form(walk, statement, pc, inner, progress)?;
+    walk_form(walk, statement, Context { takers, ..context }, progress)?;
     Ok(exits)
 }
 
@@ -98,45 +108,45 @@ fn walk_statement(
 fn walk_form(
     walk: &Walk,
     statement: &Statement,
-    pc: Atom,
-    takers: Takers,
+    context: Context,
     progress: &mut Progress,
 ) -> Result<(), AllocError>
     requires { IsFormReady walk.now.table.now.core.now (entries_of walk.now.map.now)
-        walk.now.procedure takers (statement_of statement.now) progress.old }
+        walk.now.procedure context.takers (statement_of statement.now) progress.old }
     ensures { OnOk result (IsFormWalked walk.now.table.now.core.now
         walk.now.table.now.core.now.labels (entries_of walk.now.map.now) walk.now.procedure
-        pc takers (statement_of statement.now) progress.old progress.new) }
+        context.pc context.takers (statement_of statement.now) progress.old progress.new) }
 {
     match statement {
         Statement::Assign(at, variable, value) => {
-            walk.walk_assign(*at, *variable, value, pc, takers, progress)
+            walk.walk_assign(*at, *variable, value, context, progress)
         }
-        Statement::Clear(at, slot) => walk.walk_clear(*at, *slot, pc, takers, progress),
+        Statement::Clear(at, slot) => walk.walk_clear(*at, *slot, context, progress),
         Statement::Store(at, array, length, index, value) => {
-            walk.walk_store(*at, *array, *length, index, value, pc, takers, progress)
+            let store = ArrayStore::new(*at, *array, *length);
+            walk.walk_store(store, index, value, context, progress)
         }
         Statement::Receive(at, channel, target) => {
-            walk.walk_receive(*at, *channel, *target, pc, takers, progress)
+            walk.walk_receive(*at, *channel, *target, context, progress)
         }
         Statement::Send(at, channel, value) => {
-            walk.walk_send(*at, *channel, value, pc, takers, progress)
+            walk.walk_send(*at, *channel, value, context, progress)
         }
         Statement::Call(at, callee, arguments, target) => {
-            walk.walk_call(*at, *callee, arguments, *target, pc, takers, progress)
+            let site = CallSite::new(*at, *callee, *target);
+            walk.walk_call(site, arguments, context, progress)
         }
         Statement::If(_, condition, yes_block, no_block) => {
-            walk_if(walk, condition, yes_block, no_block, pc, takers, progress)
+            walk_if(walk, condition, yes_block, no_block, context, progress)
         }
         Statement::While(at, number, condition, body) => {
-            walk_while(walk, *at, *number, condition, body, pc, takers, progress)
+            let site = LoopSite::new(*at, *number);
+            walk_while(walk, site, condition, body, context, progress)
         }
-        Statement::Leave(at, exit) => walk.walk_leave(*at, *exit, pc, takers, progress),
-        Statement::Return(at, value) => walk.walk_return(*at, value, pc, takers, progress),
-        Statement::Try(_, block, handlers) => {
-            walk_try(walk, block, handlers, pc, takers, progress)
-        }
-        Statement::Nested(_, block) => walk_block(walk, block, pc, takers, progress),
+        Statement::Leave(at, exit) => walk.walk_leave(*at, *exit, context, progress),
+        Statement::Return(at, value) => walk.walk_return(*at, value, context, progress),
+        Statement::Try(_, block, handlers) => walk_try(walk, block, handlers, context, progress),
+        Statement::Nested(_, block) => walk_block(walk, block, context, progress),
     }
 }
 
@@ -147,25 +157,25 @@ fn walk_if(
     condition: &Expression,
     yes_block: &[Statement],
     no_block: &[Statement],
-    pc: Atom,
-    takers: Takers,
+    context: Context,
     progress: &mut Progress,
 ) -> Result<(), AllocError>
     requires { IsFormReady walk.now.table.now.core.now (entries_of walk.now.map.now)
-        walk.now.procedure takers
+        walk.now.procedure context.takers
         (If 0 (expression_of condition.now) (block_of yes_block.now) (block_of no_block.now))
         progress.old }
     ensures { OnOk result ((at : ℕ) →
         IsFormWalked walk.now.table.now.core.now
         walk.now.table.now.core.now.labels (entries_of walk.now.map.now) walk.now.procedure
-        pc takers
+        context.pc context.takers
         (If at (expression_of condition.now) (block_of yes_block.now) (block_of no_block.now))
         progress.old progress.new) }
 {
-    let number = walk.begin_branch(condition, pc, takers, progress)?;
-    let inner = Atom::Unknown(number);
-    walk_block(walk, yes_block, inner, takers, progress)?;
-    walk_block(walk, no_block, inner, takers, progress)?;
+    let number = walk.begin_branch(condition, context, progress)?;
+    let pc = Atom::Unknown(number);
+    let inner = Context { pc, ..context };
+    walk_block(walk, yes_block, inner, progress)?;
+    walk_block(walk, no_block, inner, progress)?;
     Ok(())
 }
 
@@ -173,26 +183,28 @@ fn walk_if(
 #[cycle(walk)]
 fn walk_while(
     walk: &Walk,
-    at: usize,
-    number: u32,
+    site: LoopSite,
     condition: &Expression,
     body: &[Statement],
-    pc: Atom,
-    takers: Takers,
+    context: Context,
     progress: &mut Progress,
 ) -> Result<(), AllocError>
     requires { IsFormReady walk.now.table.now.core.now (entries_of walk.now.map.now)
-        walk.now.procedure takers
-        (While at number (expression_of condition.now) (block_of body.now)) progress.old }
+        walk.now.procedure context.takers
+        (While site.at site.number (expression_of condition.now) (block_of body.now)) progress.old }
     ensures { OnOk result (IsFormWalked walk.now.table.now.core.now
         walk.now.table.now.core.now.labels (entries_of walk.now.map.now) walk.now.procedure
-        pc takers (While at number (expression_of condition.now) (block_of body.now))
+        context.pc context.takers
+        (While site.at site.number (expression_of condition.now) (block_of body.now))
         progress.old progress.new) }
 {
-    let (inner, back) = walk.begin_loop(at, number, condition, pc, takers, progress)?;
-    let inside = Atom::Unknown(inner);
-    walk_block(walk, body, inside, takers.in_loop(back), progress)?;
-    walk.end_loop(at, number, back, progress)?;
+    let (inner, back) = walk.begin_loop(site, condition, context, progress)?;
+    let inside = Context {
+        pc: Atom::Unknown(inner),
+        takers: context.takers.in_loop(back),
+    };
+    walk_block(walk, body, inside, progress)?;
+    walk.end_loop(site, back, progress)?;
     Ok(())
 }
 
@@ -202,24 +214,27 @@ fn walk_try(
     walk: &Walk,
     block: &[Statement],
     handlers: &[Handler],
-    pc: Atom,
-    takers: Takers,
+    context: Context,
     progress: &mut Progress,
 ) -> Result<(), AllocError>
     requires { IsFormReady walk.now.table.now.core.now (entries_of walk.now.map.now)
-        walk.now.procedure takers (Try 0 (block_of block.now) (handlers_of handlers.now))
+        walk.now.procedure context.takers (Try 0 (block_of block.now) (handlers_of handlers.now))
         progress.old }
     ensures { OnOk result ((at : ℕ) →
         IsFormWalked walk.now.table.now.core.now
         walk.now.table.now.core.now.labels (entries_of walk.now.map.now) walk.now.procedure
-        pc takers (Try at (block_of block.now) (handlers_of handlers.now))
+        context.pc context.takers (Try at (block_of block.now) (handlers_of handlers.now))
         progress.old progress.new) }
 {
-    let tried = walk.begin_try(handlers, takers, progress)?;
-    walk_block(walk, block, pc, tried.takers, progress)?;
+    let tried = walk.begin_try(handlers, context.takers, progress)?;
+    let inside = Context {
+        takers: tried.takers,
+        ..context
+    };
+    walk_block(walk, block, inside, progress)?;
     put_back(tried.saved, &mut progress.thrown);
     progress.journal.note_handled(handlers, &progress.thrown)?;
-    walk_handlers(walk, handlers, &tried.numbers, takers, progress)?;
+    walk_handlers(walk, handlers, &tried.numbers, context.takers, progress)?;
     Ok(())
 }
 
@@ -243,7 +258,7 @@ fn walk_handlers(
 {
     for (i, handler) in handlers.iter().enumerate() {
         let pc = Atom::Unknown(numbers[i]);
-        walk_block(walk, &handler.body, pc, takers, progress)?;
+        walk_block(walk, &handler.body, Context { pc, takers }, progress)?;
     }
     Ok(())
 }

@@ -41,94 +41,102 @@ pub fn write_labels<O: Sink>(
     let mut first = 0;
     for (number, procedure) in core.procedures.iter().enumerate() {
         let slots = procedure.slots.as_slice();
-        write_locals(alloc, checked, &marked, number, first, slots, out)?;
+        let locals = Locals {
+            checked,
+            marked: &marked,
+            procedure: number,
+            first,
+        };
+        locals.write_all(alloc, slots, out)?;
         first = first_after(first, procedure);
     }
     Ok(())
 }
 
-// Writes a line for each local of a procedure that is written without a label. The number of the procedure's first unknown is
-// counted from procedure to procedure, so that no label needs a walk along all of them.
-fn write_locals<O: Sink>(
-    alloc: Global,
-    checked: &Checked,
-    marked: &MarkedText,
+// The locals of a procedure, by its number and that of its first unknown. These are counted from procedure to procedure, so that no
+// label needs a walk along all of them.
+#[derive(Drop)]
+struct Locals<'a> {
+    checked: &'a Checked,
+    marked: &'a MarkedText<'a>,
     procedure: usize,
     first: u32,
-    slots: &[Slot],
-    out: &mut O,
-) -> Result<(), ViewFault>
-    requires first { first ≡ unknowns_before (program_of checked.now.core) procedure }
-    requires few { first + length slots.now < 2 ^ 32 }
-    ensures accepted { let labels = checked.now.core.labels in
-        OnOk result (Writes (AreLines marked.now.text.now checked.now
-        (locals_in procedure 0 (map (slot_entry labels) slots.now)))
-        (O.taken out.old) (O.taken out.new)) }
-    ensures prefix { let labels = checked.now.core.labels in
-        OnErr result (WritesPrefix (AreLines marked.now.text.now checked.now
-        (locals_in procedure 0 (map (slot_entry labels) slots.now)))
-        (O.taken out.old) (O.taken out.new)) }
-    ensures rejected { IfErr result (IfRefused (λ _. IsTrue (O.has_failed out.new))) }
-{
-    for (number, slot) in slots.iter().enumerate() {
-        write_local(alloc, checked, marked, procedure, first, number, slot, out)?;
-    }
-    Ok(())
 }
 
-// Writes the line of a local, if it is written without a label.
-fn write_local<O: Sink>(
-    alloc: Global,
-    checked: &Checked,
-    marked: &MarkedText,
-    procedure: usize,
-    first: u32,
-    number: usize,
-    slot: &Slot,
-    out: &mut O,
-) -> Result<(), ViewFault>
-    requires first { first ≡ unknowns_before (program_of checked.now.core) procedure }
-    requires few { first + number < 2 ^ 32 }
-    ensures accepted { let entry = slot_entry checked.now.core.labels slot.now in
-        OnOk result (Writes (AreLines marked.now.text.now checked.now
-        (if_unlabelled (local_of procedure number entry) entry.written))
-        (O.taken out.old) (O.taken out.new)) }
-    ensures prefix { let entry = slot_entry checked.now.core.labels slot.now in
-        OnErr result (WritesPrefix (AreLines marked.now.text.now checked.now
-        (if_unlabelled (local_of procedure number entry) entry.written))
-        (O.taken out.old) (O.taken out.new)) }
-    ensures rejected { IfErr result (IfRefused (λ _. IsTrue (O.has_failed out.new))) }
-{
-    if slot.written.is_some() {
-        return Ok(());
+impl Locals<'_> {
+    // Writes a line for each local that is written without a label.
+    fn write_all<O: Sink>(
+        &self,
+        alloc: Global,
+        slots: &[Slot],
+        out: &mut O,
+    ) -> Result<(), ViewFault>
+        requires first { self.now.first
+            ≡ unknowns_before (program_of self.now.checked.now.core) self.now.procedure }
+        requires few { self.now.first + length slots.now < 2 ^ 32 }
+        ensures accepted { let labels = self.now.checked.now.core.labels in
+            OnOk result (Writes (AreLines self.now.marked.now.text.now self.now.checked.now
+            (locals_in self.now.procedure 0 (map (slot_entry labels) slots.now)))
+            (O.taken out.old) (O.taken out.new)) }
+        ensures prefix { let labels = self.now.checked.now.core.labels in
+            OnErr result (WritesPrefix (AreLines self.now.marked.now.text.now self.now.checked.now
+            (locals_in self.now.procedure 0 (map (slot_entry labels) slots.now)))
+            (O.taken out.old) (O.taken out.new)) }
+        ensures rejected { IfErr result (IfRefused (λ _. IsTrue (O.has_failed out.new))) }
+    {
+        for (number, slot) in slots.iter().enumerate() {
+            self.write(alloc, number, slot, out)?;
+        }
+        Ok(())
     }
-    let line = line_of_local(alloc, checked, marked, procedure, first, number, slot)?;
-    write_all(out, line.as_bytes())?;
-    Ok(())
-}
 
-// The line of a local: the place of its declaration, its name, and its least label.
-fn line_of_local(
-    alloc: Global,
-    checked: &Checked,
-    marked: &MarkedText,
-    procedure: usize,
-    first: u32,
-    number: usize,
-    slot: &Slot,
-) -> Result<String, AllocError>
-    requires first { first ≡ unknowns_before (program_of checked.now.core) procedure }
-    requires few { first + number < 2 ^ 32 }
-    ensures { IfOk result (λ line. IsLocalLine marked.now.text.now checked.now
-        (local_of procedure number (slot_entry checked.now.core.labels slot.now))
-        (string_bytes line)) }
-{
-    let label = checked.label_of_unknown(alloc, first + number as u32)?;
-    let Place { line, column } = marked.place_of(slot.at);
-    let name = slot.name.as_str();
-    let printed = PrintedLabel {
-        hierarchy: &checked.core().hierarchy,
-        label: &label,
-    };
-    format!(in alloc; "{line}:{column} {name} {printed}\n")
+    // Writes the line of a local, if it is written without a label.
+    fn write<O: Sink>(
+        &self,
+        alloc: Global,
+        number: usize,
+        slot: &Slot,
+        out: &mut O,
+    ) -> Result<(), ViewFault>
+        requires first { self.now.first
+            ≡ unknowns_before (program_of self.now.checked.now.core) self.now.procedure }
+        requires few { self.now.first + number < 2 ^ 32 }
+        ensures accepted { let entry = slot_entry self.now.checked.now.core.labels slot.now in
+            OnOk result (Writes (AreLines self.now.marked.now.text.now self.now.checked.now
+            (if_unlabelled (local_of self.now.procedure number entry) entry.written))
+            (O.taken out.old) (O.taken out.new)) }
+        ensures prefix { let entry = slot_entry self.now.checked.now.core.labels slot.now in
+            OnErr result (WritesPrefix (AreLines self.now.marked.now.text.now self.now.checked.now
+            (if_unlabelled (local_of self.now.procedure number entry) entry.written))
+            (O.taken out.old) (O.taken out.new)) }
+        ensures rejected { IfErr result (IfRefused (λ _. IsTrue (O.has_failed out.new))) }
+    {
+        if slot.written.is_some() {
+            return Ok(());
+        }
+        let line = self.line(alloc, number, slot)?;
+        write_all(out, line.as_bytes())?;
+        Ok(())
+    }
+
+    // The line of a local: the place of its declaration, its name, and its least label.
+    fn line(&self, alloc: Global, number: usize, slot: &Slot) -> Result<String, AllocError>
+        requires first { self.now.first
+            ≡ unknowns_before (program_of self.now.checked.now.core) self.now.procedure }
+        requires few { self.now.first + number < 2 ^ 32 }
+        ensures { IfOk result (λ line. IsLocalLine self.now.marked.now.text.now self.now.checked.now
+            (local_of self.now.procedure number
+            (slot_entry self.now.checked.now.core.labels slot.now)) (string_bytes line)) }
+    {
+        let label = self
+            .checked
+            .label_of_unknown(alloc, self.first + number as u32)?;
+        let Place { line, column } = self.marked.place_of(slot.at);
+        let name = slot.name.as_str();
+        let printed = PrintedLabel {
+            hierarchy: &self.checked.core().hierarchy,
+            label: &label,
+        };
+        format!(in alloc; "{line}:{column} {name} {printed}\n")
+    }
 }

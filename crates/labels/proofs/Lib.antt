@@ -1,5 +1,6 @@
 pub mod Ascending
 pub mod Carried
+pub mod Compared
 pub mod Elements
 pub mod Flow
 pub mod Held

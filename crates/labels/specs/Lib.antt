@@ -1,5 +1,6 @@
 pub mod Canonical
 pub mod Carried
+pub mod Comparing
 pub mod Constraints
 pub mod Entries
 pub mod Inside
@@ -11,5 +12,6 @@ pub mod Printed
 pub mod Row
 pub mod Sent
 pub mod Sets
+pub mod Under
 pub mod Words
 pub use Rattle.principals.specs.ActsFor

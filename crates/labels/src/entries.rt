@@ -1,5 +1,5 @@
 //! Labels as their texts say: each with its own policies and the numbers of earlier labels that it names.
-ghost use Rattle.labels.specs.Entries.{AreEntries, AreGathered, labels_in, made_of, numbers_in, own_at, row_at, some_made_of};
+ghost use Rattle.labels.specs.Entries.{AreEntries, AreGathered, IsTable, labels_in, made_of, numbers_in, own_at, row_at, some_made_of};
 ghost use Rattle.labels.specs.Label.{Covers, FlowsTo, covers};
 ghost use Rattle.labels.specs.LabelTable.{label_at};
 ghost use Rattle.labels.specs.Row.{FirstBeyond, has};
@@ -13,6 +13,9 @@ use crate::rows::Row;
 use principals::Hierarchy;
 use std::alloc::{AllocError, Global};
 use std::sync::ArcSlice;
+
+// So many own policies are held against a policy before it is looked up.
+const FEW: usize = 8;
 
 /// What the text of a label says: the labels that it names, by their numbers, and its own policies, both in ascending order and each
 /// once.
@@ -31,7 +34,7 @@ pub(crate) struct Entry {
 }
 
 // The own policies of the entry with a number.
-fn own_at(entries: &[Entry], number: usize) -> &[Policy]
+pub(crate) fn own_at(entries: &[Entry], number: usize) -> &[Policy]
     requires { number < length entries.now }
     ensures { result.now ≡ own_at entries.now number }
 {
@@ -39,7 +42,7 @@ fn own_at(entries: &[Entry], number: usize) -> &[Policy]
 }
 
 // The row of the entry with a number, if it has one.
-fn row_at(entries: &[Entry], number: usize) -> Option<&Row>
+pub(crate) fn row_at(entries: &[Entry], number: usize) -> Option<&Row>
     requires { number < length entries.now }
     ensures { numbers_in (option_copied result) ≡ row_at entries.now number }
 {
@@ -146,27 +149,27 @@ fn is_among(policies: &[Policy], policy: &Policy) -> bool
     policies.binary_search(policy).is_ok()
 }
 
-// Whether a policy is one of a label: of its own, or of one that it is made of.
-fn is_in(entries: &[Entry], label: usize, policy: &Policy) -> bool
+// An entry that a label is made of, with a policy among its own ones: each is looked up by their order.
+fn part_with(entries: &[Entry], label: usize, policy: &Policy) -> Option<usize>
     requires entries { AreEntries entries.now }
     requires inside { label < length entries.now }
-    ensures { IsTrue result → (part : ℕ) × IsTrue (made_of entries.now label part)
-        × Contains (own_at entries.now part) policy.now }
+    ensures { IfSome result (λ part. IsTrue (made_of entries.now label part)
+        × Contains (own_at entries.now part) policy.now) }
 {
     if is_among(own_at(entries, label), policy) {
-        return true;
+        return Some(label);
     }
     let Some(row) = row_at(entries, label) else {
-        return false;
+        return None;
     };
     let mut from = 0;
     while let Some(part) = row.first_from(from) {
         if is_among(own_at(entries, part), policy) {
-            return true;
+            return Some(part);
         }
         from = part + 1;
     }
-    false
+    None
 }
 
 // Whether a policy flows to one of these policies.
@@ -178,37 +181,78 @@ fn flows_to_some(hierarchy: &Hierarchy, policies: &[Policy], policy: &Policy) ->
         .any(|other| policy.flows_to(hierarchy, other))
 }
 
-// Whether a policy flows to one of a label, each tried after the other.
-fn flows_to_part(hierarchy: &Hierarchy, entries: &[Entry], label: usize, policy: &Policy) -> bool
+// An entry that a label is made of, whose own policies cover a policy: each is tried after the other.
+fn part_above(
+    hierarchy: &Hierarchy,
+    entries: &[Entry],
+    label: usize,
+    policy: &Policy,
+) -> Option<usize>
     requires entries { AreEntries entries.now }
     requires inside { label < length entries.now }
-    ensures { IsTrue result ↔ ((part : ℕ) × IsTrue (made_of entries.now label part)
+    ensures some { IfSome result (λ part. IsTrue (made_of entries.now label part)
         × Covers hierarchy.now (own_at entries.now part) policy.now) }
+    ensures none { result ≡ None → (part : ℕ) → IsTrue (made_of entries.now label part)
+        → ¬ Covers hierarchy.now (own_at entries.now part) policy.now }
 {
     if flows_to_some(hierarchy, own_at(entries, label), policy) {
-        return true;
+        return Some(label);
     }
     let Some(row) = row_at(entries, label) else {
-        return false;
+        return None;
     };
     let mut from = 0;
     while let Some(part) = row.first_from(from) {
         if flows_to_some(hierarchy, own_at(entries, part), policy) {
-            return true;
+            return Some(part);
         }
         from = part + 1;
     }
-    false
+    None
 }
 
-// Whether a label covers a policy: itself if it is there, which takes a few steps for each entry that the label is made of.
+// Whether there are few own policies and a policy flows to one of them.
+fn flows_to_few(hierarchy: &Hierarchy, policies: &[Policy], policy: &Policy) -> bool
+    ensures { IsTrue result → Covers hierarchy.now policies.now policy.now }
+{
+    policies.len() <= FEW && flows_to_some(hierarchy, policies, policy)
+}
+
+/// An entry that a label is made of, whose own policies cover a policy, if there is one: a policy is covered where it stands, and is
+/// looked up by the order of policies before it is held against all others.
+pub(crate) fn covering_part(
+    hierarchy: &Hierarchy,
+    entries: &[Entry],
+    label: usize,
+    policy: &Policy,
+) -> Option<usize>
+    requires entries { AreEntries entries.now }
+    requires inside { label < length entries.now }
+    ensures some { IfSome result (λ part. IsTrue (made_of entries.now label part)
+        × Covers hierarchy.now (own_at entries.now part) policy.now) }
+    ensures none { result ≡ None
+        → ¬ Covers hierarchy.now (label_at (labels_in entries.now) label) policy.now }
+{
+    if flows_to_few(hierarchy, own_at(entries, label), policy) {
+        return Some(label);
+    }
+    match part_with(entries, label, policy) {
+        Some(part) => Some(part),
+        None => part_above(hierarchy, entries, label, policy),
+    }
+}
+
+// Whether a label covers a policy.
 fn covers(hierarchy: &Hierarchy, entries: &[Entry], label: usize, policy: &Policy) -> bool
     requires entries { AreEntries entries.now }
     requires inside { label < length entries.now }
     ensures { IsTrue result ↔ Covers hierarchy.now
         (label_at (labels_in entries.now) label) policy.now }
 {
-    is_in(entries, label, policy) || flows_to_part(hierarchy, entries, label, policy)
+    match covering_part(hierarchy, entries, label, policy) {
+        Some(_) => true,
+        None => false,
+    }
 }
 
 // The first of some policies that a label does not cover.
@@ -235,7 +279,7 @@ fn first_uncovered<'a>(
 }
 
 // Whether a label is made of this one.
-fn is_made_of(entries: &[Entry], label: usize, part: usize) -> bool
+pub(crate) fn is_made_of(entries: &[Entry], label: usize, part: usize) -> bool
     requires { label < length entries.now }
     ensures { result ≡ made_of entries.now label part }
 {
@@ -271,7 +315,7 @@ fn uncovered_own<'a>(
 }
 
 // The least number, from one on, that is in a row and not in another one.
-fn next_beyond(row: &Row, other: Option<&Row>, from: usize) -> Option<usize>
+pub(crate) fn next_beyond(row: &Row, other: Option<&Row>, from: usize) -> Option<usize>
     ensures { FirstBeyond row.now (numbers_in (option_copied other.entry)) from result }
 {
     match other {
@@ -311,4 +355,14 @@ pub(crate) fn find_uncovered<'a>(
         at = part + 1;
     }
     None
+}
+
+/// A number where there is a label: that of the least one where there is none.
+pub(crate) fn number_inside(entries: &[Entry], number: usize) -> usize
+    requires { IsTable entries.now }
+    ensures inside { result < length entries.now }
+    ensures same { label_at (labels_in entries.now) result
+        ≡ label_at (labels_in entries.now) number }
+{
+    if number < entries.len() { number } else { 0 }
 }

@@ -6,7 +6,8 @@ ghost use Rattle.labels.specs.LabelTable.{Extends, label_at, labels_of};
 ghost use Rattle.std.specs.Arc.{arc_slice_items};
 ghost use Rattle.std.specs.Prelude.{All, Contains, IfOk, IfSome, IsTrue, None, OnErr, OnOk, [], length, nat_lt, ℕ, ◌&&◌, ◌++◌, ◌+◌, ◌<◌, ◌^◌, ◌↔◌, ◌∷◌, ◌≡◌, ◌≤◌, ◌⊎◌};
 
-use crate::entries::{Entry, Key, find_uncovered, joined_row, policies_of, row_of};
+use crate::comparing::Comparisons;
+use crate::entries::{Entry, Key, find_uncovered, joined_row, number_inside, policies_of, row_of};
 use crate::label_sets::{Label, each_once};
 use crate::policies::Policy;
 use crate::rows::Row;
@@ -116,16 +117,6 @@ fn joined(alloc: Global, entries: &[Entry], numbers: &[usize]) -> Result<Label, 
     let row = joined_row(alloc, entries, numbers)?;
     let policies = policies_of(alloc, entries, &row)?;
     Ok(Label::written(policies))
-}
-
-// A number where there is a label: that of the least one where there is none.
-fn number_inside(entries: &[Entry], number: usize) -> usize
-    requires { IsTable entries.now }
-    ensures inside { result < length entries.now }
-    ensures same { label_at (labels_in entries.now) result
-        ≡ label_at (labels_in entries.now) number }
-{
-    if number < entries.len() { number } else { 0 }
 }
 
 impl LabelTable {
@@ -248,5 +239,21 @@ impl LabelTable {
             ≡ flows hierarchy.now (label_at self.now from) (label_at self.now to) }
     {
         self.find_uncovered(hierarchy, from, to).is_none()
+    }
+
+    /// Comparisons of the labels under a hierarchy, which remember what they find: see `flows`.
+    ///
+    /// # Errors
+    ///
+    /// Memory ran out.
+    pub fn comparisons<'a>(
+        &'a self,
+        alloc: Global,
+        hierarchy: &'a Hierarchy,
+    ) -> Result<Comparisons<'a>, AllocError>
+        ensures hierarchy { IfOk result (λ c. c.hierarchy ≡ hierarchy.now) }
+        ensures labels { IfOk result (λ c. c.labels ≡ self.now) }
+    {
+        Comparisons::of(alloc, hierarchy, self.entries.as_slice())
     }
 }

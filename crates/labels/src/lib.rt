@@ -1,6 +1,7 @@
 //! Labels of the decentralized label model: who may read what, and what may flow where.
 #![tactic(auto)]
 
+pub mod comparing;
 pub mod constraint_laws;
 mod entries;
 pub mod joins;
@@ -16,6 +17,7 @@ pub mod rules;
 pub mod sent;
 mod words;
 
+pub use comparing::Comparisons;
 pub use joins::join;
 pub use label_sets::Label;
 pub use label_tables::LabelTable;

@@ -40,6 +40,13 @@ impl Row {
         Ok(Row { n, words })
     }
 
+    /// The bound that all numbers of the set are below.
+    pub fn bound(&self) -> usize
+        ensures { result ≡ length self.now }
+    {
+        self.n
+    }
+
     /// Whether a number is in the set. Precondition: it is below the bound.
     pub fn has(&self, i: usize) -> bool
         requires { i < length self.now }

@@ -1,11 +1,9 @@
 //! Programs whose targets are positions.
-ghost use Rattle.modules.specs.Contents.{ModuleContents};
+ghost use Rattle.modules.specs.ContentsOf.{contents_of};
 ghost use Rattle.layout.specs.Graph.{IsGraph};
-ghost use Rattle.std.specs.Prelude.{map, ◌≡◌};
-ghost use Rattle.std.specs.String.{string_bytes};
+ghost use Rattle.std.specs.Prelude.{◌≡◌};
 
-use modules::{Channel, Global, Procedure, Version};
-use principals::Hierarchy;
+use modules::Contents;
 use std::marker::Model;
 
 /// A program of the virtual machine before it is laid out. It contains what a module does, except that
@@ -17,137 +15,38 @@ use std::marker::Model;
 /// instruction.
 #[derive(Debug, Drop)]
 pub struct Graph {
-    version: Version,
-    hierarchy: Hierarchy,
-    exceptions: Vec<String>,
-    channels: Vec<Channel>,
-    globals: Vec<Global>,
-    procedures: Vec<Procedure>,
-    main: u32,
+    contents: Contents,
 }
 
 impl Model for Graph {
     ghost use Rattle.modules.specs.Contents.{ModuleContents};
+    ghost use Rattle.modules.specs.ContentsOf.{contents_of};
     ghost use Rattle.layout.specs.Graph.{IsGraph};
-    ghost use Rattle.std.specs.Prelude.{map};
-    ghost use Rattle.std.specs.String.{string_bytes};
 
     ghost Value = { ModuleContents };
 
-    ghost view = { λ g. record {
-      version = g.version;
-      hierarchy = g.hierarchy;
-      exceptions = map (λ name. string_bytes name) g.exceptions.items;
-      channels = g.channels.items;
-      globals = g.globals.items;
-      procedures = g.procedures.items;
-      main = g.main;
-    } };
+    ghost view = { λ graph. contents_of graph.contents };
 
-    ghost invariant = { λ g. IsGraph (record {
-      version = g.version;
-      hierarchy = g.hierarchy;
-      exceptions = map (λ name. string_bytes name) g.exceptions.items;
-      channels = g.channels.items;
-      globals = g.globals.items;
-      procedures = g.procedures.items;
-      main = g.main;
-    }) };
+    ghost invariant = { λ graph. IsGraph (contents_of graph.contents) };
 }
 
 impl Graph {
-    /// The graph of the given fields: the version of the module file, the hierarchy, the names of the
-    /// declared exceptions, which are numbered from 3, the channels, the globals, the procedures, and
-    /// the number of the procedure where a run starts.
+    /// The graph of these contents.
     ///
     /// Precondition: the targets are positions, everything is within the limits of the module file, and
     /// its version has each instruction.
-    pub fn new(
-        version: Version,
-        hierarchy: Hierarchy,
-        exceptions: Vec<String>,
-        channels: Vec<Channel>,
-        globals: Vec<Global>,
-        procedures: Vec<Procedure>,
-        main: u32,
-    ) -> Graph
-        requires { IsGraph (record {
-          version = version;
-          hierarchy = hierarchy;
-          exceptions = map (λ name. string_bytes name) exceptions.items;
-          channels = channels.items;
-          globals = globals.items;
-          procedures = procedures.items;
-          main = main;
-        }) }
-        ensures { result ≡ record {
-          version = version;
-          hierarchy = hierarchy;
-          exceptions = map (λ name. string_bytes name) exceptions.items;
-          channels = channels.items;
-          globals = globals.items;
-          procedures = procedures.items;
-          main = main;
-        } }
+    pub fn new(contents: Contents) -> Graph
+        requires { IsGraph (contents_of contents) }
+        ensures { result ≡ contents_of contents }
     {
-        Graph {
-            version,
-            hierarchy,
-            exceptions,
-            channels,
-            globals,
-            procedures,
-            main,
-        }
+        Graph { contents }
     }
 
-    /// The version of the module file.
-    pub fn version(&self) -> Version
-        ensures { result ≡ self.now.version }
-    {
-        self.version
-    }
-
-    /// The principals, and who acts for whom.
-    pub fn hierarchy(&self) -> &Hierarchy
-        ensures { result.now ≡ self.now.hierarchy }
-    {
-        &self.hierarchy
-    }
-
-    /// The names of the declared exceptions, which are numbered from 3.
-    pub fn exceptions(&self) -> &[String]
-        ensures { map (λ name. string_bytes name) result.now ≡ self.now.exceptions }
-    {
-        &self.exceptions
-    }
-
-    /// The channels, in the order of their numbers.
-    pub fn channels(&self) -> &[Channel]
-        ensures { result.now ≡ self.now.channels }
-    {
-        &self.channels
-    }
-
-    /// The globals, in the order of their numbers.
-    pub fn globals(&self) -> &[Global]
-        ensures { result.now ≡ self.now.globals }
-    {
-        &self.globals
-    }
-
-    /// The procedures, in the order of their numbers.
-    pub fn procedures(&self) -> &[Procedure]
-        ensures procedures { result.now ≡ self.now.procedures }
+    /// What the graph contains.
+    pub fn contents(&self) -> &Contents
+        ensures contents { contents_of result.now ≡ self.now }
         ensures graph { IsGraph self.now }
     {
-        &self.procedures
-    }
-
-    /// The number of the procedure where a run starts.
-    pub fn main(&self) -> u32
-        ensures { result ≡ self.now.main }
-    {
-        self.main
+        &self.contents
     }
 }

@@ -11,7 +11,7 @@ ghost use Rattle.std.specs.String.{string_bytes};
 
 use crate::code::lay_out_procedure;
 use crate::graph::Graph;
-use modules::{Channel, Module, Procedure};
+use modules::{Channel, Contents, Module, Procedure};
 use std::alloc::{AllocError, Global};
 
 /// The same names, in their order.
@@ -71,18 +71,14 @@ pub fn emit(alloc: Global, graph: &Graph) -> Result<Module, AllocError>
     ensures spelled { IfOk result (λ m. Fits module_file m) }
     ensures starts { IfOk result (λ m. All HasStarts m.procedures) }
 {
-    let hierarchy = graph.hierarchy().clone()?;
-    let exceptions = copy_names(alloc, graph.exceptions())?;
-    let channels = copy_channels(alloc, graph.channels())?;
-    let globals = Vec::from_slice(alloc, graph.globals())?;
-    let procedures = lay_out_procedures(alloc, graph.procedures())?;
-    Ok(Module::new(
-        graph.version(),
-        hierarchy,
-        exceptions,
-        channels,
-        globals,
-        procedures,
-        graph.main(),
-    ))
+    let contents = graph.contents();
+    Ok(Module::new(Contents {
+        version: contents.version,
+        hierarchy: contents.hierarchy.clone()?,
+        exceptions: copy_names(alloc, &contents.exceptions)?,
+        channels: copy_channels(alloc, &contents.channels)?,
+        globals: Vec::from_slice(alloc, &contents.globals)?,
+        procedures: lay_out_procedures(alloc, &contents.procedures)?,
+        main: contents.main,
+    }))
 }

@@ -17,6 +17,7 @@ use crate::procedures::procedures_of;
 use crate::versions::module_version;
 use checker::Checked;
 use layout::{Graph, copy_names};
+use modules::Contents;
 use resolved::program::Core;
 use std::alloc::{AllocError, Global};
 
@@ -38,7 +39,7 @@ pub fn lower(alloc: Global, checked: &Checked) -> Result<Graph, AllocError>
 {
     let graph = make_graph(alloc, checked.core())?;
     // It brings that the graph fits the module file, so that no run of the module is stuck.
-    let _procedures = graph.procedures();
+    let _contents = graph.contents();
     Ok(graph)
 }
 
@@ -48,18 +49,13 @@ fn make_graph(alloc: Global, core: &Core) -> Result<Graph, AllocError>
     requires names { HasNames (program_of core.now) }
     ensures { IfOk result (λ graph. graph ≡ graph_of (program_of core.now)) }
 {
-    let hierarchy = hierarchy_of(alloc, &core.hierarchy)?;
-    let exceptions = copy_names(alloc, &core.exceptions)?;
-    let channels = channels_of(alloc, &core.labels, &core.channels)?;
-    let globals = globals_of(alloc, &core.globals)?;
-    let procedures = procedures_of(alloc, core)?;
-    Ok(Graph::new(
-        module_version(core),
-        hierarchy,
-        exceptions,
-        channels,
-        globals,
-        procedures,
-        core.main,
-    ))
+    Ok(Graph::new(Contents {
+        version: module_version(core),
+        hierarchy: hierarchy_of(alloc, &core.hierarchy)?,
+        exceptions: copy_names(alloc, &core.exceptions)?,
+        channels: channels_of(alloc, &core.labels, &core.channels)?,
+        globals: globals_of(alloc, &core.globals)?,
+        procedures: procedures_of(alloc, core)?,
+        main: core.main,
+    }))
 }

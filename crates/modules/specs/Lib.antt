@@ -3,6 +3,7 @@ pub use Rattle.labels.specs.Canonical
 pub use Rattle.labels.specs.Label
 pub use Rattle.lexer.specs.Words
 pub mod Contents
+pub mod ContentsOf
 pub mod Defects
 pub mod Form
 pub mod Values

@@ -4,6 +4,7 @@
 
 pub mod channel;
 pub mod code;
+pub mod contents;
 pub mod declaration;
 pub mod fault;
 pub mod instruction;
@@ -16,6 +17,7 @@ pub mod version;
 
 pub use channel::Channel;
 pub use code::code_length;
+pub use contents::Contents;
 pub use declaration::{Global, Handler, Slot};
 pub use fault::FormatDefect;
 pub use instruction::{Arithmetic, Comparison, Instruction};

@@ -16,7 +16,7 @@ use syntax::{
     WrittenLabel, WrittenResult,
 };
 
-impl<'a> Parser<'a> {
+impl<'t, 'a> Parser<'t, 'a> {
     #[tactic(auto, unfolding(syntax::specs::Grammar::negative_constant, crate::specs::Reading::read))]
     fn parse_negative_constant(&mut self) -> Result<Constant, ParseFault>
         ensures { (room : ℕ) → IsRead constant_tree result self.new.rest.now
@@ -91,7 +91,7 @@ impl<'a> Parser<'a> {
     }
 
     #[tactic(auto, unfolding(syntax::specs::Grammar::global, crate::specs::Reading::read))]
-    fn parse_global(&mut self) -> Result<Item, ParseFault>
+    fn parse_global(&mut self) -> Result<Item<'a>, ParseFault>
         ensures { (room : ℕ) → IsRead item_tree result self.new.rest.now
             (read room global (terminals_of self.old.rest.now)) }
     {
@@ -111,7 +111,7 @@ impl<'a> Parser<'a> {
     }
 
     #[tactic(auto, unfolding(syntax::specs::Grammar::exception, crate::specs::Reading::read))]
-    fn parse_exception(&mut self) -> Result<Item, ParseFault>
+    fn parse_exception(&mut self) -> Result<Item<'a>, ParseFault>
         ensures { (room : ℕ) → IsRead item_tree result self.new.rest.now
             (read room exception (terminals_of self.old.rest.now)) }
     {
@@ -143,7 +143,7 @@ impl<'a> Parser<'a> {
     }
 
     #[tactic(auto, unfolding(syntax::specs::Grammar::channel, crate::specs::Reading::read))]
-    fn parse_channel(&mut self) -> Result<Item, ParseFault>
+    fn parse_channel(&mut self) -> Result<Item<'a>, ParseFault>
         ensures { (room : ℕ) → IsRead item_tree result self.new.rest.now
             (read room channel (terminals_of self.old.rest.now)) }
     {
@@ -160,7 +160,7 @@ impl<'a> Parser<'a> {
     }
 
     #[tactic(auto, unfolding(syntax::specs::Grammar::valued, crate::specs::Reading::read))]
-    fn parse_valued_result(&mut self) -> Result<(usize, WrittenResult), ParseFault>
+    fn parse_valued_result(&mut self) -> Result<(usize, WrittenResult<'a>), ParseFault>
         ensures { (room : ℕ) → IsRead (λ found. (found.0, written_result_tree found.1)) result
             self.new.rest.now (read room valued (terminals_of self.old.rest.now)) }
     {
@@ -170,7 +170,7 @@ impl<'a> Parser<'a> {
     }
 
     #[tactic(auto, using(crate::proofs::Items::written_result_reads))]
-    fn parse_result(&mut self) -> Result<(usize, WrittenResult), ParseFault>
+    fn parse_result(&mut self) -> Result<(usize, WrittenResult<'a>), ParseFault>
         ensures { (room : ℕ) → IsRead (λ found. (found.0, written_result_tree found.1)) result
             self.new.rest.now (read room written_result (terminals_of self.old.rest.now)) }
     {
@@ -184,7 +184,7 @@ impl<'a> Parser<'a> {
     }
 
     #[tactic(auto, unfolding(syntax::specs::Grammar::parameter, crate::specs::Reading::read))]
-    fn parse_parameter(&mut self) -> Result<Parameter, ParseFault>
+    fn parse_parameter(&mut self) -> Result<Parameter<'a>, ParseFault>
         ensures { (room : ℕ) → IsRead parameter_tree result self.new.rest.now
             (read room parameter (terminals_of self.old.rest.now)) }
     {
@@ -200,7 +200,7 @@ impl<'a> Parser<'a> {
     }
 
     #[tactic(auto, unfolding(crate::specs::Reading::read))]
-    fn parse_another_parameter(&mut self) -> Result<Parameter, ParseFault>
+    fn parse_another_parameter(&mut self) -> Result<Parameter<'a>, ParseFault>
         ensures { (room : ℕ) → IsRead parameter_tree result self.new.rest.now
             (read room (Comma ▸ parameter) (terminals_of self.old.rest.now)) }
     {
@@ -208,7 +208,7 @@ impl<'a> Parser<'a> {
         self.parse_parameter()
     }
 
-    fn parse_some_parameters(&mut self) -> Result<Vec<Parameter>, ParseFault>
+    fn parse_some_parameters(&mut self) -> Result<Vec<Parameter<'a>>, ParseFault>
         ensures { (room : ℕ) → IsRead (λ parameters. map parameter_tree parameters.items) result
             self.new.rest.now (read room (separated Comma parameter)
             (terminals_of self.old.rest.now)) }
@@ -224,7 +224,7 @@ impl<'a> Parser<'a> {
     }
 
     #[tactic(auto, using(crate::proofs::Items::parameters_reads))]
-    fn parse_parameters(&mut self) -> Result<Vec<Parameter>, ParseFault>
+    fn parse_parameters(&mut self) -> Result<Vec<Parameter<'a>>, ParseFault>
         ensures { (room : ℕ) → IsRead (λ parameters. map parameter_tree parameters.items) result
             self.new.rest.now (read room parameters (terminals_of self.old.rest.now)) }
     {
@@ -235,7 +235,7 @@ impl<'a> Parser<'a> {
     }
 
     #[tactic(auto, unfolding(crate::specs::Reading::read))]
-    fn parse_label_behind_colon(&mut self) -> Result<WrittenLabel, ParseFault>
+    fn parse_label_behind_colon(&mut self) -> Result<WrittenLabel<'a>, ParseFault>
         ensures { (room : ℕ) → IsRead label_tree result self.new.rest.now (read room (Colon ▸ label)
             (terminals_of self.old.rest.now)) }
     {
@@ -244,7 +244,7 @@ impl<'a> Parser<'a> {
     }
 
     #[tactic(auto, using(crate::proofs::Items::end_label_reads))]
-    fn parse_end_label(&mut self) -> Result<Option<WrittenLabel>, ParseFault>
+    fn parse_end_label(&mut self) -> Result<Option<WrittenLabel<'a>>, ParseFault>
         ensures { (room : ℕ) → IsRead optional_label_tree result self.new.rest.now
             (read room end_label (terminals_of self.old.rest.now)) }
     {
@@ -256,7 +256,7 @@ impl<'a> Parser<'a> {
     }
 
     #[tactic(auto, unfolding(syntax::specs::Grammar::thrown, crate::specs::Reading::read))]
-    fn parse_thrown(&mut self) -> Result<Thrown, ParseFault>
+    fn parse_thrown(&mut self) -> Result<Thrown<'a>, ParseFault>
         ensures { (room : ℕ) → IsRead thrown_tree result self.new.rest.now
             (read room thrown (terminals_of self.old.rest.now)) }
     {
@@ -266,7 +266,7 @@ impl<'a> Parser<'a> {
     }
 
     #[tactic(auto, unfolding(crate::specs::Reading::read))]
-    fn parse_another_thrown(&mut self) -> Result<Thrown, ParseFault>
+    fn parse_another_thrown(&mut self) -> Result<Thrown<'a>, ParseFault>
         ensures { (room : ℕ) → IsRead thrown_tree result self.new.rest.now
             (read room (Comma ▸ thrown) (terminals_of self.old.rest.now)) }
     {
@@ -274,7 +274,7 @@ impl<'a> Parser<'a> {
         self.parse_thrown()
     }
 
-    fn parse_thrown_list(&mut self) -> Result<Vec<Thrown>, ParseFault>
+    fn parse_thrown_list(&mut self) -> Result<Vec<Thrown<'a>>, ParseFault>
         ensures { (room : ℕ) → IsRead (λ list. map thrown_tree list.items) result self.new.rest.now
             (read room thrown_list (terminals_of self.old.rest.now)) }
     {
@@ -289,7 +289,7 @@ impl<'a> Parser<'a> {
     }
 
     #[tactic(auto, unfolding(syntax::specs::Grammar::some_throws, crate::specs::Reading::read))]
-    fn parse_some_throws(&mut self) -> Result<Vec<Thrown>, ParseFault>
+    fn parse_some_throws(&mut self) -> Result<Vec<Thrown<'a>>, ParseFault>
         ensures { (room : ℕ) → IsRead (λ list. map thrown_tree list.items) result self.new.rest.now
             (read room some_throws (terminals_of self.old.rest.now)) }
     {
@@ -301,7 +301,7 @@ impl<'a> Parser<'a> {
     }
 
     #[tactic(auto, using(crate::proofs::Items::throws_reads))]
-    fn parse_throws(&mut self) -> Result<Vec<Thrown>, ParseFault>
+    fn parse_throws(&mut self) -> Result<Vec<Thrown<'a>>, ParseFault>
         ensures { (room : ℕ) → IsRead (λ list. map thrown_tree list.items) result self.new.rest.now
             (read room throws (terminals_of self.old.rest.now)) }
     {
@@ -312,7 +312,7 @@ impl<'a> Parser<'a> {
     }
 
     #[tactic(auto, unfolding(syntax::specs::Grammar::procedure, crate::specs::Reading::read))]
-    fn parse_procedure(&mut self) -> Result<Item, ParseFault>
+    fn parse_procedure(&mut self) -> Result<Item<'a>, ParseFault>
         ensures { IsRead item_tree result self.new.rest.now (read MAX_LEVELS procedure
             (terminals_of self.old.rest.now)) }
     {
@@ -338,7 +338,7 @@ impl<'a> Parser<'a> {
     }
 
     #[tactic(auto, using(crate::proofs::Items::item_reads))]
-    fn parse_item(&mut self) -> Result<Item, ParseFault>
+    fn parse_item(&mut self) -> Result<Item<'a>, ParseFault>
         ensures { IsRead item_tree result self.new.rest.now
             (read MAX_LEVELS item (terminals_of self.old.rest.now)) }
     {
@@ -366,7 +366,7 @@ impl<'a> Parser<'a> {
     }
 
     /// The items up to the first token that begins none.
-    pub fn parse_items(&mut self) -> Result<Vec<Item>, ParseFault>
+    pub fn parse_items(&mut self) -> Result<Vec<Item<'a>>, ParseFault>
         ensures { IsRead (λ list. map item_tree list.items) result self.new.rest.now
             (read MAX_LEVELS (many item) (terminals_of self.old.rest.now)) }
     {

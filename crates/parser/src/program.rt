@@ -16,10 +16,10 @@ use lexer::{Kind, Token};
 use std::alloc::Global;
 use syntax::{Item, Program};
 
-impl<'a> Parser<'a> {
+impl<'t, 'a> Parser<'t, 'a> {
     /// The items of a program, up to the end marker.
     #[tactic(auto, unfolding(syntax::specs::Grammar::program, crate::specs::Reading::read))]
-    fn parse_program(&mut self) -> Result<Vec<Item>, ParseFault>
+    fn parse_program(&mut self) -> Result<Vec<Item<'a>>, ParseFault>
         ensures { IsRead (λ list. program_tree list.items) result self.new.rest.now
             (read MAX_LEVELS program (terminals_of self.old.rest.now)) }
     {
@@ -29,7 +29,7 @@ impl<'a> Parser<'a> {
     }
 }
 
-/// The program that tokens spell.
+/// The program that tokens spell, whose names are slices of the source, as the texts of the tokens are.
 ///
 /// Precondition: the last token, and no other, is the end marker.
 ///
@@ -37,7 +37,7 @@ impl<'a> Parser<'a> {
 ///
 /// The first fault in the order of the tokens: one that is unexpected, or one that opens a level where 64 are open. At one token
 /// the first comes before the second. Or out of memory.
-pub fn parse(alloc: Global, tokens: &[Token<'_>]) -> Result<Program, ParseFault>
+pub fn parse<'a>(alloc: Global, tokens: &[Token<'a>]) -> Result<Program<'a>, ParseFault>
     requires ended { IsTerminated (terminals_of tokens.now) }
 
     // All the tokens together spell the answer, which has at most as many nodes.

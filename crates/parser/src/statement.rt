@@ -13,25 +13,25 @@ use syntax::{Block, Call, Catch, Expression, Name, RightSide, Size, Statement};
 
 /// What stands behind the name of a local.
 #[derive(Drop)]
-pub enum First {
-    Value(RightSide),
+pub enum First<'a> {
+    Value(RightSide<'a>),
     Array(Size),
 }
 
 /// What stands behind the name that a statement begins with.
 #[derive(Drop)]
-pub enum Behind {
-    Assigned(RightSide),
+pub enum Behind<'a> {
+    Assigned(RightSide<'a>),
     Element {
-        index: Expression,
-        value: Expression,
+        index: Expression<'a>,
+        value: Expression<'a>,
     },
-    Arguments(Vec<Expression>),
+    Arguments(Vec<Expression<'a>>),
 }
 
-impl<'a> Parser<'a> {
+impl<'t, 'a> Parser<'t, 'a> {
     #[tactic(auto, unfolding(crate::specs::Reading::read))]
-    fn parse_another_expression(&mut self, room: u32) -> Result<Expression, ParseFault>
+    fn parse_another_expression(&mut self, room: u32) -> Result<Expression<'a>, ParseFault>
         ensures { IsRead expression_tree result self.new.rest.now (read room (Comma ▸ expression)
             (terminals_of self.old.rest.now)) }
     {
@@ -40,7 +40,7 @@ impl<'a> Parser<'a> {
     }
 
     /// One expression or more, with commas between them.
-    fn parse_some_expressions(&mut self, room: u32) -> Result<Vec<Expression>, ParseFault>
+    fn parse_some_expressions(&mut self, room: u32) -> Result<Vec<Expression<'a>>, ParseFault>
         ensures { IsRead (λ list. map expression_tree list.items) result self.new.rest.now
             (read room (separated Comma expression) (terminals_of self.old.rest.now)) }
     {
@@ -55,7 +55,7 @@ impl<'a> Parser<'a> {
     }
 
     #[tactic(auto, unfolding(syntax::specs::Grammar::condition, crate::specs::Reading::read))]
-    fn parse_condition(&mut self, room: u32) -> Result<Expression, ParseFault>
+    fn parse_condition(&mut self, room: u32) -> Result<Expression<'a>, ParseFault>
         ensures { IsRead expression_tree result self.new.rest.now
             (read room condition (terminals_of self.old.rest.now)) }
     {
@@ -66,7 +66,7 @@ impl<'a> Parser<'a> {
     }
 
     #[tactic(auto, unfolding(syntax::specs::Grammar::receive, crate::specs::Reading::read))]
-    fn parse_receive(&mut self) -> Result<Statement, ParseFault>
+    fn parse_receive(&mut self) -> Result<Statement<'a>, ParseFault>
         ensures { (room : ℕ) → IsRead statement_tree result self.new.rest.now
             (read room receive (terminals_of self.old.rest.now)) }
     {
@@ -80,7 +80,7 @@ impl<'a> Parser<'a> {
     }
 
     #[tactic(auto, unfolding(syntax::specs::Grammar::send, crate::specs::Reading::read))]
-    fn parse_send(&mut self, room: u32) -> Result<Statement, ParseFault>
+    fn parse_send(&mut self, room: u32) -> Result<Statement<'a>, ParseFault>
         ensures { IsRead statement_tree result self.new.rest.now
             (read room send (terminals_of self.old.rest.now)) }
     {
@@ -97,7 +97,7 @@ impl<'a> Parser<'a> {
     }
 
     #[tactic(auto, unfolding(syntax::specs::Grammar::break_statement, crate::specs::Reading::read))]
-    fn parse_break(&mut self) -> Result<Statement, ParseFault>
+    fn parse_break(&mut self) -> Result<Statement<'a>, ParseFault>
         ensures { (room : ℕ) → IsRead statement_tree result self.new.rest.now
             (read room break_statement (terminals_of self.old.rest.now)) }
     {
@@ -109,7 +109,7 @@ impl<'a> Parser<'a> {
     }
 
     #[tactic(auto, unfolding(syntax::specs::Grammar::throw_statement, crate::specs::Reading::read))]
-    fn parse_throw(&mut self) -> Result<Statement, ParseFault>
+    fn parse_throw(&mut self) -> Result<Statement<'a>, ParseFault>
         ensures { (room : ℕ) → IsRead statement_tree result self.new.rest.now
             (read room throw_statement (terminals_of self.old.rest.now)) }
     {
@@ -123,7 +123,7 @@ impl<'a> Parser<'a> {
     }
 
     #[tactic(auto, unfolding(syntax::specs::Grammar::continue_statement, crate::specs::Reading::read))]
-    fn parse_continue(&mut self) -> Result<Statement, ParseFault>
+    fn parse_continue(&mut self) -> Result<Statement<'a>, ParseFault>
         ensures { (room : ℕ) → IsRead statement_tree result self.new.rest.now
             (read room continue_statement (terminals_of self.old.rest.now)) }
     {
@@ -150,7 +150,7 @@ impl<'a> Parser<'a> {
     }
 
     #[tactic(auto, using(crate::proofs::Blocks::returned_reads))]
-    fn parse_returned(&mut self, room: u32) -> Result<Option<Expression>, ParseFault>
+    fn parse_returned(&mut self, room: u32) -> Result<Option<Expression<'a>>, ParseFault>
         ensures { IsRead optional_expression_tree result self.new.rest.now
             (read room returned (terminals_of self.old.rest.now)) }
     {
@@ -162,7 +162,7 @@ impl<'a> Parser<'a> {
     }
 
     #[tactic(auto, unfolding(syntax::specs::Grammar::return_statement, crate::specs::Reading::read))]
-    fn parse_return(&mut self, room: u32) -> Result<Statement, ParseFault>
+    fn parse_return(&mut self, room: u32) -> Result<Statement<'a>, ParseFault>
         ensures { IsRead statement_tree result self.new.rest.now (read room return_statement
             (terminals_of self.old.rest.now)) }
     {
@@ -198,7 +198,7 @@ impl<'a> Parser<'a> {
 
     #[cycle(statement)]
     #[tactic(auto, using(crate::proofs::Blocks::block_reads))]
-    pub fn parse_block(&mut self, room: u32) -> Result<Block, ParseFault>
+    pub fn parse_block(&mut self, room: u32) -> Result<Block<'a>, ParseFault>
         ensures { IsRead block_tree result self.new.rest.now
             (read room block (terminals_of self.old.rest.now)) }
     {
@@ -213,7 +213,7 @@ impl<'a> Parser<'a> {
 
     /// Statements up to the first token that begins none.
     #[cycle(statement)]
-    fn parse_statements(&mut self, room: u32) -> Result<Vec<Statement>, ParseFault>
+    fn parse_statements(&mut self, room: u32) -> Result<Vec<Statement<'a>>, ParseFault>
         ensures { IsRead (λ list. map statement_tree list.items) result self.new.rest.now
             (read room (many statement_read) (terminals_of self.old.rest.now)) }
     {
@@ -227,7 +227,7 @@ impl<'a> Parser<'a> {
 
     #[cycle(statement)]
     #[tactic(auto, unfolding(crate::specs::Reading::read))]
-    fn parse_else_block(&mut self, room: u32) -> Result<Block, ParseFault>
+    fn parse_else_block(&mut self, room: u32) -> Result<Block<'a>, ParseFault>
         ensures { IsRead block_tree result self.new.rest.now (read room (Else ▸ block)
             (terminals_of self.old.rest.now)) }
     {
@@ -237,7 +237,7 @@ impl<'a> Parser<'a> {
 
     #[cycle(statement)]
     #[tactic(auto, using(crate::proofs::Blocks::otherwise_reads))]
-    fn parse_otherwise(&mut self, room: u32) -> Result<Option<Block>, ParseFault>
+    fn parse_otherwise(&mut self, room: u32) -> Result<Option<Block<'a>>, ParseFault>
         ensures { IsRead optional_block_tree result self.new.rest.now
             (read room otherwise (terminals_of self.old.rest.now)) }
     {
@@ -250,7 +250,7 @@ impl<'a> Parser<'a> {
 
     #[cycle(statement)]
     #[tactic(auto, unfolding(syntax::specs::Grammar::conditional, crate::specs::Reading::read))]
-    fn parse_if(&mut self, room: u32) -> Result<Statement, ParseFault>
+    fn parse_if(&mut self, room: u32) -> Result<Statement<'a>, ParseFault>
         ensures { IsRead statement_tree result self.new.rest.now (read room conditional
             (terminals_of self.old.rest.now)) }
     {
@@ -263,7 +263,7 @@ impl<'a> Parser<'a> {
 
     #[cycle(statement)]
     #[tactic(auto, unfolding(syntax::specs::Grammar::while_statement, crate::specs::Reading::read))]
-    fn parse_while(&mut self, room: u32) -> Result<Statement, ParseFault>
+    fn parse_while(&mut self, room: u32) -> Result<Statement<'a>, ParseFault>
         ensures { IsRead statement_tree result self.new.rest.now (read room while_statement
             (terminals_of self.old.rest.now)) }
     {
@@ -275,7 +275,7 @@ impl<'a> Parser<'a> {
 
     #[cycle(statement)]
     #[tactic(auto, unfolding(syntax::specs::Grammar::catch, crate::specs::Reading::read))]
-    fn parse_catch(&mut self, room: u32) -> Result<Catch, ParseFault>
+    fn parse_catch(&mut self, room: u32) -> Result<Catch<'a>, ParseFault>
         ensures { IsRead catch_tree result self.new.rest.now
             (read room catch (terminals_of self.old.rest.now)) }
     {
@@ -293,7 +293,7 @@ impl<'a> Parser<'a> {
 
     /// Handlers, one at least.
     #[cycle(statement)]
-    fn parse_catches(&mut self, room: u32) -> Result<Vec<Catch>, ParseFault>
+    fn parse_catches(&mut self, room: u32) -> Result<Vec<Catch<'a>>, ParseFault>
         ensures { IsRead (λ list. map catch_tree list.items) result self.new.rest.now
             (read room catches (terminals_of self.old.rest.now)) }
     {
@@ -309,7 +309,7 @@ impl<'a> Parser<'a> {
 
     #[cycle(statement)]
     #[tactic(auto, unfolding(syntax::specs::Grammar::attempt, crate::specs::Reading::read))]
-    fn parse_try(&mut self, room: u32) -> Result<Statement, ParseFault>
+    fn parse_try(&mut self, room: u32) -> Result<Statement<'a>, ParseFault>
         ensures { IsRead statement_tree result self.new.rest.now
             (read room attempt (terminals_of self.old.rest.now)) }
     {
@@ -321,7 +321,7 @@ impl<'a> Parser<'a> {
 
     #[cycle(statement)]
     #[tactic(auto, unfolding(syntax::specs::Grammar::nested, crate::specs::Reading::read))]
-    fn parse_nested(&mut self, room: u32) -> Result<Statement, ParseFault>
+    fn parse_nested(&mut self, room: u32) -> Result<Statement<'a>, ParseFault>
         ensures { IsRead statement_tree result self.new.rest.now
             (read room nested (terminals_of self.old.rest.now)) }
     {
@@ -331,7 +331,7 @@ impl<'a> Parser<'a> {
 
     #[cycle(statement)]
     #[tactic(auto, using(crate::proofs::Blocks::statement_reads))]
-    fn parse_statement(&mut self, room: u32) -> Result<Statement, ParseFault>
+    fn parse_statement(&mut self, room: u32) -> Result<Statement<'a>, ParseFault>
         ensures { IsRead statement_tree result self.new.rest.now (read room statement_read
             (terminals_of self.old.rest.now)) }
     {
@@ -377,7 +377,7 @@ impl<'a> Parser<'a> {
     }
 
     #[tactic(auto, using(crate::proofs::Blocks::expressions_reads))]
-    fn parse_expressions(&mut self, room: u32) -> Result<Vec<Expression>, ParseFault>
+    fn parse_expressions(&mut self, room: u32) -> Result<Vec<Expression<'a>>, ParseFault>
         ensures { IsRead (λ list. map expression_tree list.items) result self.new.rest.now
             (read room expressions (terminals_of self.old.rest.now)) }
     {
@@ -389,7 +389,7 @@ impl<'a> Parser<'a> {
 
     /// The arguments of a call, in parentheses.
     #[tactic(auto, using(crate::proofs::Blocks::arguments_reads))]
-    fn parse_arguments(&mut self, room: u32) -> Result<Vec<Expression>, ParseFault>
+    fn parse_arguments(&mut self, room: u32) -> Result<Vec<Expression<'a>>, ParseFault>
         ensures { IsRead (λ list. map expression_tree list.items) result self.new.rest.now
             (read room arguments (terminals_of self.old.rest.now)) }
     {
@@ -401,9 +401,13 @@ impl<'a> Parser<'a> {
 
     /// A right side behind the name that it begins with: a call, or an expression.
     #[tactic(auto)]
-    fn parse_right_by_name(&mut self, name: Name, room: u32) -> Result<RightSide, ParseFault>
-        ensures { IsRead right_tree result self.new.rest.now (right_behind room (name_tree name)
-            (is_at OpenParenthesis (terminals_of self.old.rest.now))
+    fn parse_right_by_name(
+        &mut self,
+        name: Name<'a>,
+        room: u32,
+    ) -> Result<RightSide<'a>, ParseFault>
+        ensures { IsRead right_tree result self.new.rest.now (right_behind room
+            (name_tree name.entry) (is_at OpenParenthesis (terminals_of self.old.rest.now))
             (terminals_of self.old.rest.now)) }
     {
         if self.is_at(Kind::OpenParenthesis) {
@@ -419,7 +423,7 @@ impl<'a> Parser<'a> {
     }
 
     #[tactic(auto, using(crate::proofs::Rights::right_reads))]
-    fn parse_right(&mut self, room: u32) -> Result<RightSide, ParseFault>
+    fn parse_right(&mut self, room: u32) -> Result<RightSide<'a>, ParseFault>
         ensures { IsRead right_tree result self.new.rest.now
             (read room right_read (terminals_of self.old.rest.now)) }
     {
@@ -444,7 +448,7 @@ impl<'a> Parser<'a> {
     }
 
     #[tactic(auto, unfolding(crate::specs::Reading::read))]
-    fn parse_assigned(&mut self, room: u32) -> Result<RightSide, ParseFault>
+    fn parse_assigned(&mut self, room: u32) -> Result<RightSide<'a>, ParseFault>
         ensures { IsRead right_tree result self.new.rest.now (read room (Assign ▸ right_read)
             (terminals_of self.old.rest.now)) }
     {
@@ -454,7 +458,7 @@ impl<'a> Parser<'a> {
 
     /// What stands behind the name of a local.
     #[tactic(auto, using(crate::proofs::Rights::first_reads))]
-    fn parse_first_value(&mut self, room: u32) -> Result<First, ParseFault>
+    fn parse_first_value(&mut self, room: u32) -> Result<First<'a>, ParseFault>
         ensures { IsRead first_tree result self.new.rest.now
             (read room first_read (terminals_of self.old.rest.now)) }
     {
@@ -471,7 +475,7 @@ impl<'a> Parser<'a> {
     }
 
     #[tactic(auto, unfolding(crate::specs::Reading::read, crate::specs::Reading::declare_read, crate::specs::Reading::first_read))]
-    fn parse_declaration(&mut self, room: u32) -> Result<Statement, ParseFault>
+    fn parse_declaration(&mut self, room: u32) -> Result<Statement<'a>, ParseFault>
         ensures { IsRead statement_tree result self.new.rest.now (read room declare_read
             (terminals_of self.old.rest.now)) }
     {
@@ -499,7 +503,7 @@ impl<'a> Parser<'a> {
     }
 
     #[tactic(auto, unfolding(crate::specs::Reading::read))]
-    fn parse_element(&mut self, room: u32) -> Result<(Expression, Expression), ParseFault>
+    fn parse_element(&mut self, room: u32) -> Result<(Expression<'a>, Expression<'a>), ParseFault>
         ensures { IsRead (λ pair. AtIndexTree (expression_tree pair.0) (expression_tree pair.1))
             result self.new.rest.now (read room (index ◂ Assign · expression gives λ pair.
             AtIndexTree pair.0 pair.1) (terminals_of self.old.rest.now)) }
@@ -512,7 +516,7 @@ impl<'a> Parser<'a> {
 
     /// What stands behind the name that a statement begins with.
     #[tactic(auto, using(crate::proofs::Rights::behind_reads))]
-    fn parse_behind_name(&mut self, room: u32) -> Result<Behind, ParseFault>
+    fn parse_behind_name(&mut self, room: u32) -> Result<Behind<'a>, ParseFault>
         ensures { IsRead behind_tree result self.new.rest.now (read room behind_read
             (terminals_of self.old.rest.now)) }
     {
@@ -533,7 +537,7 @@ impl<'a> Parser<'a> {
     }
 
     #[tactic(auto, unfolding(crate::specs::Reading::read, crate::specs::Reading::named_read, crate::specs::Reading::behind_read))]
-    fn parse_named(&mut self, room: u32) -> Result<Statement, ParseFault>
+    fn parse_named(&mut self, room: u32) -> Result<Statement<'a>, ParseFault>
         ensures { IsRead statement_tree result self.new.rest.now
             (read room named_read (terminals_of self.old.rest.now)) }
     {

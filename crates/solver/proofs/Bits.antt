@@ -1,8 +1,9 @@
 -- Sets of numbers as truth values: after a number was added, of a union, and how many numbers they have.
 use Rattle.std.proofs.Common.{◌≡◌, refl, ap, ◌∙◌, subst, sym, ℕ, zero, suc, ◌<◌, ◌≤◌, ◌+◌, length, set, get_or, get_or-set_other, get_or-set_same, List, [], ◌∷◌, Bool, true, false, arith, nat_eq, ◌||◌, ◌⊎◌, inl, inr, ⊎_elim, replicate, add-zero}
-use Rattle.std.specs.Prelude.{IsTrue, ◌==◌}
-use Rattle.std.proofs.lemmas.Bool.{eqb-true, eqb-false}
-use Rattle.labels.specs.Row.{has, union}
+use Rattle.std.specs.Prelude.{IsTrue, ◌==◌, ◌↔◌, ◌≢◌}
+use Rattle.std.proofs.lemmas.Bool.{eqb-true, eqb-false, or_left, or_right}
+use Rattle.labels.specs.Row.{IncludedBetween, has, union}
+use Rattle.labels.proofs.Held.{has-inside}
 use Rattle.solver.specs.Looks.{count_of, one, stands_left, written_left}
 use Rattle.solver.specs.declared.constraints.Constraint.{Constraint}
 
@@ -69,3 +70,66 @@ pub set-same : (row : List Bool) (i : ℕ) → IsTrue (has row i) → set row i 
 set-same [] i h = refl
 set-same (b ∷ row) zero h = ap (λ (x : Bool). x ∷ row) (sym h)
 set-same (b ∷ row) (suc i) h = ap (λ (r : List Bool). b ∷ r) (set-same row i h)
+
+-- more written elements, more that stand in left sides
+pub written_left-more : {T : Type 0} (cs : List (Constraint T)) (k n m : ℕ) → n ≤ m → written_left cs k n ≤ written_left cs k m
+written_left-more cs k zero m h = omega arith
+written_left-more cs k (suc n) zero h = absurd (omega (arith, h))
+written_left-more cs k (suc n) (suc m) h = let rest = written_left-more cs (suc k) n m (omega (arith, h)) in omega (arith, rest)
+
+-- a set that has all numbers of another one, and one more
+one-le : (a b : Bool) → (IsTrue a → IsTrue b) → one a ≤ one b
+one-le false b h = omega arith
+one-le true b h = let e : b ≡ true = h refl in rw e (omega arith)
+
+one-none : (a : Bool) → (IsTrue a → IsTrue false) → one a ≡ 0
+one-none false h = refl
+one-none true h = let no : false ≡ true = h refl in absurd (cc)
+
+pub size-le : (a b : List Bool) → ((n : ℕ) → IsTrue (has a n) → IsTrue (has b n)) → size a ≤ size b
+size-le [] b h = omega arith
+size-le (x ∷ a) [] h = let rest = size-le a [] (λ n. h (suc n)) in let none = one-none x (h 0) in omega (arith, rest, none)
+size-le (x ∷ a) (y ∷ b) h = let rest = size-le a b (λ n. h (suc n)) in let first = one-le x y (h 0) in omega (arith, rest, first)
+
+pub size-less : (a b : List Bool) (i : ℕ) → ((n : ℕ) → IsTrue (has a n) → IsTrue (has b n)) → IsTrue (has b i) → has a i ≡ false → size a < size b
+size-less a [] i h there off = let no : false ≡ true = there in absurd (cc)
+size-less [] (y ∷ b) zero h there off = let e : one y ≡ 1 = ap one there in omega (arith, e)
+size-less [] (y ∷ b) (suc i) h there off = let rest = size-less [] b i (λ n held. let no : false ≡ true = held in absurd (cc)) there refl in omega (arith, rest)
+size-less (x ∷ a) (y ∷ b) zero h there off =
+    let rest = size-le a b (λ n. h (suc n)) in
+    let here : one y ≡ 1 = ap one there in
+    let none : one x ≡ 0 = ap one off in
+    omega (arith, rest, here, none)
+size-less (x ∷ a) (y ∷ b) (suc i) h there off = let rest = size-less a b i (λ n. h (suc n)) there off in let first = one-le x y (h 0) in omega (arith, rest, first)
+
+or-flip : (a b : Bool) → (a || b) ≡ (b || a)
+or-flip true true = refl
+or-flip true false = refl
+or-flip false true = refl
+or-flip false false = refl
+
+-- ---- the numbers of a left side are added to a row: by words, or as a longer row
+pub nothing-new : (row left : List Bool) → IncludedBetween left row 0 (length left) → (n : ℕ) → has row n ≡ (has row n || has left n)
+nothing-new row left among n = go (has left n) refl
+  where
+    go : (t : Bool) → has left n ≡ t → has row n ≡ (has row n || has left n)
+    go false e = rw e (or-flip false (has row n))
+    go true e = let held : has row n ≡ true = among n (omega arith) (has-inside left n e) e in rw held refl
+
+pub members-flip : (row left new : List Bool) → ((n : ℕ) → has new n ≡ (has left n || has row n)) → (n : ℕ) → has new n ≡ (has row n || has left n)
+members-flip row left new is n = is n ∙ or-flip (has left n) (has row n)
+
+pub some-new : (row left new : List Bool) (i : ℕ) → ((n : ℕ) → has new n ≡ (has left n || has row n)) → IsTrue (has left i) → has row i ≡ false → size row < size new
+some-new row left new i is there off =
+    size-less row new i (λ n held. is n ∙ or_right (has left n) (has row n) held) (is i ∙ or_left (has left i) (has row i) there) off
+
+pub joined-more : (row left new : List Bool) (grew : Bool) → length row ≡ length left → new ≡ union row left → IsTrue grew ↔ (new ≢ row) → IsTrue grew → size row < size new
+joined-more row left new grew count is test holds =
+    ⊎_elim (λ same. absurd (test.0 holds (is ∙ same))) (λ more. subst (λ (r : List Bool). size row < size r) (sym is) more) (union-grows row left count)
+
+pub joined-same : (row left new : List Bool) (grew : Bool) → length row ≡ length left → new ≡ union row left → IsTrue grew ↔ (new ≢ row) → grew ≡ false → new ≡ row
+joined-same row left new grew count is test off =
+    ⊎_elim (λ same. is ∙ same)
+    (λ more. let yes : grew ≡ true = test.1 (λ e. let same : size new ≡ size row = ap size e in let joined : size new ≡ size (union row left) = ap size is in absurd (omega (arith, more, same, joined))) in
+    absurd (cc))
+    (union-grows row left count)

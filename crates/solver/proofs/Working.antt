@@ -7,8 +7,7 @@ use Rattle.std.proofs.lemmas.List.Elements.{All-contains, All-set}
 use Rattle.std.proofs.lemmas.Option.{same_Some}
 use Rattle.std.specs.List.{list_any}
 use Rattle.principals.proofs.Closure.{none_in_nil, Contains-cons_cases, Contains-later}
-use Rattle.labels.specs.Row.{has, union}
-use Rattle.labels.proofs.RowBits.{length-union}
+use Rattle.labels.specs.Row.{has}
 use Rattle.solver.specs.Links.{AreBelow, InRange, IsBelow}
 use Rattle.solver.specs.Constraints.{Solved}
 use Rattle.solver.specs.Looks.{AreLooks, is_element, looked_at, stands_left, unknowns_left, written_left}
@@ -20,7 +19,7 @@ use Rattle.solver.specs.declared.edges.Edges.{Edges}
 use Rattle.solver.specs.declared.constraints.Atom.{Atom}
 use Rattle.solver.specs.declared.constraints.Atom.TheVariants.{Unknown, Written}
 use Rattle.solver.specs.declared.constraints.Constraint.{Constraint}
-use Rattle.solver.proofs.Bits.{has-union, size, size-at_most, union-grows}
+use Rattle.solver.proofs.Bits.{size, size-at_most, written_left-more}
 use Rattle.solver.proofs.Comparing.{slice_get-at, slice_get-inside}
 use Rattle.solver.proofs.Counting.{room-first, room-grows}
 use Rattle.solver.proofs.Filling.{has_at-other, has_at-read, has_at-same}
@@ -69,7 +68,7 @@ module _ {T : Type 0} (cs : List (Constraint T)) (edges : Edges) (are : AreEdges
   module _ (range : InRange (length edges.written.items) (length edges.unknown.items) cs) (rows : List (List Bool)) (waits : List Bool) (order : List ℕ) (i : ℕ)
       (work : IsWork cs edges rows waits order i) (c : Constraint T) (at : slice_get cs i ≡ Some c) (u : ℕ) (right : c.right ≡ Unknown u)
       (left : List Bool) (left_length : length left ≡ length edges.written.items) (left_is : (n : ℕ) → has left n ≡ left_has rows c.left.items n)
-      (d : List Bool) (row : List Bool) (row_is : row ≡ union (get_or rows u d) left) where
+      (d : List Bool) (row : List Bool) (row_short : length row ≤ length left) (row_has : (n : ℕ) → has row n ≡ (has (get_or rows u d) n || has left n)) where
     abbrev old : List Bool
     old = get_or rows u d
 
@@ -82,18 +81,13 @@ module _ {T : Type 0} (cs : List (Constraint T)) (edges : Edges) (are : AreEdges
         let e = work.all in
         omega (arith, h, e)
 
-    old_length : length old ≡ length edges.written.items
-    old_length = work.sized u d inside
-
-    same_length : length old ≡ length left
-    same_length = old_length ∙ sym left_length
+    row-length : length row ≤ length edges.written.items
+    row-length = omega (arith, row_short, left_length)
 
     has-row : (n : ℕ) → has_at rows' u n ≡ (has_at rows u n || left_has rows c.left.items n)
     has-row n =
         has_at-same rows u n row inside
-        ∙ (ap (λ (r : List Bool). has r n) row_is
-        ∙ (has-union old left same_length n
-        ∙ (ap (λ b. b || has left n) (has_at-read rows u n d inside) ∙ ap (λ b. has_at rows u n || b) (left_is n))))
+        ∙ (row_has n ∙ (ap (λ b. b || has left n) (has_at-read rows u n d inside) ∙ ap (λ b. has_at rows u n || b) (left_is n)))
 
     has-left : (n : ℕ) → IsTrue (left_has rows c.left.items n) → IsTrue (has_at rows' u n)
     has-left n t = has-row n ∙ or_right (has_at rows u n) (left_has rows c.left.items n) t
@@ -141,7 +135,7 @@ module _ {T : Type 0} (cs : List (Constraint T)) (edges : Edges) (are : AreEdges
         number (Unknown w) = w
 
     -- no row grew
-    work-kept : union old left ≡ old → IsWork cs edges rows' waits order (length cs)
+    work-kept : row ≡ old → IsWork cs edges rows' waits order (length cs)
     work-kept same = record {
       all = length-set rows u row ∙ work.all;
       sized = sized-kept;
@@ -154,7 +148,7 @@ module _ {T : Type 0} (cs : List (Constraint T)) (edges : Edges) (are : AreEdges
     }
       where
         rows_same : rows' ≡ rows
-        rows_same = ap (λ (r : List Bool). set rows u r) (row_is ∙ same) ∙ set-get_or rows u d
+        rows_same = ap (λ (r : List Bool). set rows u r) same ∙ set-get_or rows u d
 
         sized-kept : AreSized (length edges.written.items) rows'
         sized-kept = subst (λ (rs : List (List Bool)). AreSized (length edges.written.items) rs) (sym rows_same) work.sized
@@ -180,7 +174,7 @@ module _ {T : Type 0} (cs : List (Constraint T)) (edges : Edges) (are : AreEdges
       work-grown : IsWork cs edges rows' waits' order' (length cs)
       work-grown = record {
         all = length-set rows u row ∙ work.all;
-        sized = All-set (λ (r : List Bool). length r ≡ length edges.written.items) rows u row (ap length row_is ∙ (length-union old left same_length ∙ old_length)) work.sized;
+        sized = All-set (λ (r : List Bool). length r ≤ length edges.written.items) rows u row row-length work.sized;
         sound = sound;
         count = added.count ∙ work.count;
         listed = λ j t. ⊎_elim (λ before. added.waiting j (work.listed j before)) (λ now. now) (added.listed j t);
@@ -194,10 +188,9 @@ module _ {T : Type 0} (cs : List (Constraint T)) (edges : Edges) (are : AreEdges
     -- ---- the counts
     row-small : size row ≤ most
     row-small =
-        let len : length row ≡ length edges.written.items = ap length row_is ∙ (length-union old left same_length ∙ old_length) in
         let few = size-at_most cs 0 row (λ n t. subst (λ m. IsTrue (stands_left cs m)) (zero_plus n) (reached-stands n u (sound u n (has_at-same rows u n row inside ∙ t)))) in
-        let is : written_left cs 0 (length row) ≡ most = ap (written_left cs 0) len in
-        omega (arith, few, is)
+        let more = written_left-more cs 0 (length row) (length edges.written.items) row-length in
+        omega (arith, few, more)
       where
         zero_plus : (n : ℕ) → n ≡ 0 + n
         zero_plus n = omega arith
@@ -205,27 +198,18 @@ module _ {T : Type 0} (cs : List (Constraint T)) (edges : Edges) (are : AreEdges
     room-after : size old < size row → room most edges.unknown.items rows' + length (row_of edges (Unknown u)) ≤ room most edges.unknown.items rows
     room-after more = room-grows most edges.unknown.items rows u row d inside work.all more row-small
 
-    -- a row that is the same, or has more numbers
-    grew-or-not : (row ≡ old) ⊎ (size old < size row)
-    grew-or-not = ⊎_elim (λ same. inl (row_is ∙ same)) (λ more. inr (subst (λ (r : List Bool). size old < size r) (sym row_is) more)) (union-grows old left same_length)
-
-    pub looked-kept : ((row ≢ old) → ⊥) → IsLooked cs edges rows order rows' waits order
-    looked-kept never = ⊎_elim
-        (λ same. let room_is : room most edges.unknown.items rows' ≡ room most edges.unknown.items rows =
+    pub looked-kept : row ≡ old → IsLooked cs edges rows order rows' waits order
+    looked-kept same =
+        let room_is : room most edges.unknown.items rows' ≡ room most edges.unknown.items rows =
         ap (room most edges.unknown.items) (ap (λ (r : List Bool). set rows u r) same ∙ set-get_or rows u d) in
-        record { work = work-kept (sym row_is ∙ same); longer = omega arith; less = omega (arith, room_is) })
-        (λ more. absurd (never (λ e. let is : size row ≡ size old = ap size e in omega (arith, more, is))))
-        grew-or-not
+        record { work = work-kept same; longer = omega arith; less = omega (arith, room_is) }
 
-    pub looked-grown : (row ≢ old) → (waits' : List Bool) (order' : List ℕ) → Added (row_of edges (Unknown u)) waits order waits' order' → IsLooked cs edges rows order rows' waits' order'
-    looked-grown grew waits' order' added = ⊎_elim
-        (λ same. absurd (grew same))
-        (λ more.
+    pub looked-grown : size old < size row → (waits' : List Bool) (order' : List ℕ) → Added (row_of edges (Unknown u)) waits order waits' order' → IsLooked cs edges rows order rows' waits' order'
+    looked-grown more waits' order' added =
         let after = room-after more in
         let low = added.at_least in
         let high = added.at_most in
-        record { work = work-grown waits' order' added; longer = low; less = omega (arith, after, high) })
-        grew-or-not
+        record { work = work-grown waits' order' added; longer = low; less = omega (arith, after, high) }
 
   -- ---- the first and the last step
   pub work-first : (rows : List (List Bool)) (waits : List Bool) (order : List ℕ) → length rows ≡ length edges.unknown.items → AreSized (length edges.written.items) rows →

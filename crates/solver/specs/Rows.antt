@@ -1,6 +1,6 @@
 -- Rows of bits: for each unknown which written elements reach it, and which reach a left side.
 -- Source: our own.
-use Rattle.std.specs.Prelude.{◌≡◌, ℕ, zero, suc, List, [], ◌∷◌, length, Bool, false, ◌==◌, if◌then◌else◌, All, IsTrue}
+use Rattle.std.specs.Prelude.{◌≡◌, ◌≤◌, ℕ, zero, suc, List, [], ◌∷◌, length, Bool, false, ◌==◌, if◌then◌else◌, All, IsTrue}
 use Rattle.std.specs.List.{list_any}
 use Rattle.labels.specs.Row.{has}
 use Rattle.solver.specs.Reach.{ReachesBy}
@@ -14,9 +14,9 @@ has_at [] u n = false
 has_at (row ∷ rows) zero n = has row n
 has_at (row ∷ rows) (suc u) n = has_at rows u n
 
--- each row is of numbers below this
+-- each row is of numbers below this; one without numbers may be shorter
 abbrev pub AreSized : ℕ → List (List Bool) → Type 0
-AreSized count rows = All (λ (row : List Bool). length row ≡ count) rows
+AreSized count rows = All (λ (row : List Bool). length row ≤ count) rows
 
 -- for each unknown the written elements that reach it
 pub record AreRows (edges : Edges) (rows : List (List Bool)) : Type 0 where

@@ -1,5 +1,7 @@
 //! Constraints with unknowns, as they are stored.
 
+use smallvec::SmallVec;
+
 /// A part of a left side, or a right side: a written element of the lattice, by its number in the table of written elements, or an
 /// unknown, by its number.
 #[derive(Clone, Copy, Debug, PartialEq, Eq, Drop)]
@@ -8,6 +10,16 @@ pub enum Atom {
     Unknown(u32),
 }
 
+// What fills the places of a left side that are not used.
+impl Default for Atom {
+    fn default() -> Atom {
+        Atom::Written(0)
+    }
+}
+
+/// A left side. Up to three parts lie in the constraint itself: most left sides have no more.
+pub type Left = SmallVec<Atom, 3>;
+
 /// A constraint: the join of what is on the left lies below what is on the right.
 #[derive(Debug, Drop)]
 pub struct Constraint<T> {
@@ -15,7 +27,7 @@ pub struct Constraint<T> {
     pub at: usize,
     /// The number of the rule that asks for it.
     pub rule: u8,
-    pub left: Vec<Atom>,
+    pub left: Left,
     /// What the right side is, for messages.
     pub target: T,
     pub right: Atom,

@@ -6,7 +6,7 @@ ghost use Rattle.solver.specs.Constraints.{AreAlike, values_of};
 ghost use Rattle.std.specs.Prelude.{IfOk, List, length, ◌<◌, ◌≡◌};
 
 use crate::solution::Solution;
-use labels::{Label, LabelLattice, LabelTable, Lattice};
+use labels::{Comparisons, Label, LabelLattice, LabelTable, Lattice};
 use principals::Hierarchy;
 use std::alloc::{AllocError, Global};
 
@@ -15,8 +15,14 @@ pub trait WrittenElements {
     /// What an element is, as a contract sees it.
     type Elem;
 
+    /// Comparisons of the elements, which may remember what they found.
+    type Comparing: Drop;
+
     /// The order of the lattice that the elements are of.
     ghost order: { Self → LatticeOf Self.Elem };
+
+    /// That comparisons are those of the elements.
+    ghost compares: { Self → Self.Comparing → Type 0 };
 
     /// The elements, in the order of their numbers.
     ghost elements: { Self → List Self.Elem };
@@ -31,6 +37,25 @@ pub trait WrittenElements {
         requires number { number < length (elements self.now) }
         requires to { to < length (elements self.now) }
         ensures { result ≡ is_below (order self.now) (elements self.now) number to };
+
+    /// Comparisons of the elements, which remember nothing yet. It fails only where memory ran out.
+    fn comparing(&self, alloc: Global) -> Result<Self::Comparing, AllocError>
+        ensures { IfOk result (compares self.now) };
+
+    /// The same as `leq`, by comparisons that may remember what they find. It fails only where memory ran out, and the comparisons
+    /// can be used further then. Precondition: both elements are there.
+    fn compare(
+        &self,
+        comparing: &mut Self::Comparing,
+        number: usize,
+        to: usize,
+    ) -> Result<bool, AllocError>
+        requires number { number < length (elements self.now) }
+        requires to { to < length (elements self.now) }
+        requires comparing { compares self.now comparing.old }
+        ensures comparing { compares self.now comparing.new }
+        ensures test { IfOk result (λ below. below
+            ≡ is_below (order self.now) (elements self.now) number to) };
 
     /// The laws of a lattice hold of the order. It does nothing when it runs.
     fn keep_laws(&self)
@@ -47,7 +72,11 @@ pub struct ElementsOf<'a, L: Lattice> {
 impl<L: Lattice> WrittenElements for ElementsOf<'_, L> {
     type Elem = L::Elem;
 
+    type Comparing = ();
+
     ghost order = { λ table. L.order table.lattice.now };
+
+    ghost compares = { λ table comparing. Unit {0} };
 
     ghost elements = { λ table. table.written.now };
 
@@ -57,6 +86,14 @@ impl<L: Lattice> WrittenElements for ElementsOf<'_, L> {
 
     fn leq(&self, number: usize, to: usize) -> bool {
         self.lattice.leq(&self.written[number], &self.written[to])
+    }
+
+    fn comparing(&self, _alloc: Global) -> Result<(), AllocError> {
+        Ok(())
+    }
+
+    fn compare(&self, _comparing: &mut (), number: usize, to: usize) -> Result<bool, AllocError> {
+        Ok(self.leq(number, to))
     }
 
     fn keep_laws(&self) {
@@ -71,10 +108,15 @@ pub struct LabelsUnder<'a> {
     pub labels: &'a LabelTable,
 }
 
-impl WrittenElements for LabelsUnder<'_> {
+impl<'a> WrittenElements for LabelsUnder<'a> {
     type Elem = Label;
 
+    type Comparing = Comparisons<'a>;
+
     ghost order = { λ under. label_lattice under.hierarchy.now };
+
+    ghost compares = { λ under comparing. (comparing.hierarchy ≡ under.hierarchy.now)
+        × (comparing.labels ≡ under.labels.now) };
 
     ghost elements = { λ under. under.labels.now };
 
@@ -86,6 +128,20 @@ impl WrittenElements for LabelsUnder<'_> {
         // Numbers of labels have 32 bits.
         prove!(number < self.labels.len() && to < self.labels.len());
         self.labels.flows(self.hierarchy, number as u32, to as u32)
+    }
+
+    fn comparing(&self, alloc: Global) -> Result<Comparisons<'a>, AllocError> {
+        self.labels.comparisons(alloc, self.hierarchy)
+    }
+
+    fn compare(
+        &self,
+        comparing: &mut Comparisons<'a>,
+        number: usize,
+        to: usize,
+    ) -> Result<bool, AllocError> {
+        prove!(number < self.labels.len() && to < self.labels.len());
+        comparing.flows(number as u32, to as u32)
     }
 
     fn keep_laws(&self) {

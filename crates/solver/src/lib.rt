@@ -16,7 +16,7 @@ pub mod solution;
 pub mod solving;
 mod worklist;
 
-pub use constraints::{Atom, Constraint, Constraints};
+pub use constraints::{Atom, Constraint, Constraints, Left};
 pub use elements::{ElementsOf, LabelsUnder, WrittenElements};
 pub use fault::{SolveFault, SolveRefusal};
 pub use solution::Solution;

@@ -82,12 +82,10 @@ impl Solution {
 }
 
 // Whether a number is in the row of an unknown.
-fn reaches(rows: &[Row], count: usize, unknown: usize, number: usize) -> bool
-    requires sized { AreSized count rows.now }
-    requires inside { number < count }
+fn reaches(rows: &[Row], unknown: usize, number: usize) -> bool
     ensures { result ≡ has_at rows.now unknown number }
 {
-    unknown < rows.len() && rows[unknown].has(number)
+    unknown < rows.len() && rows[unknown].contains(number)
 }
 
 // The numbers of the written elements that reach an unknown, in order.
@@ -104,7 +102,7 @@ fn numbers_of(
 {
     let mut numbers = Vec::new(alloc);
     for number in 0..count {
-        if reaches(rows, count, unknown, number) {
+        if reaches(rows, unknown, number) {
             numbers.push(number)?;
         }
     }

@@ -1,11 +1,12 @@
 //! Which written elements reach each unknown: a work list of constraints.
 ghost use Rattle.solver.specs.Links.{InRange};
-ghost use Rattle.solver.specs.Looks.{written_left};
+ghost use Rattle.labels.specs.Row.{has};
+ghost use Rattle.solver.specs.Looks.{count_of, written_left};
 ghost use Rattle.solver.specs.Queue.{RightIsUnknown};
 ghost use Rattle.solver.specs.Reach.{AreEdges};
 ghost use Rattle.solver.specs.Rows.{AreRows, AreSized, has_at};
 ghost use Rattle.solver.specs.Work.{AreSoFar, IsWork, room};
-ghost use Rattle.std.specs.Prelude.{IfOk, OnOk, [], false, length, ℕ, ◌+◌, ◌∷◌, ◌≡◌, ◌≤◌};
+ghost use Rattle.std.specs.Prelude.{IfOk, IsTrue, OnOk, [], false, length, ℕ, ◌+◌, ◌<◌, ◌||◌, ◌∷◌, ◌≡◌, ◌≤◌};
 
 use crate::breaker::left_row;
 use crate::constraints::{Atom, Constraint};
@@ -35,10 +36,9 @@ pub fn rows_of<T>(
     ensures looks { IfOk result (λ reached. AreSoFar constraints.now edges.now
         reached.rows.items [] reached.looks) }
 {
-    let written = edges.written.len();
     let mut queue = all_queued(alloc, edges, constraints)?;
     let mut reached = Reached {
-        rows: empty_rows(alloc, edges.unknown.len(), written)?,
+        rows: empty_rows(alloc, edges.unknown.len())?,
         looks: 0,
     };
     while let Some(by) = queue.next() {
@@ -47,17 +47,38 @@ pub fn rows_of<T>(
     Ok(reached)
 }
 
-// So many empty rows.
-fn empty_rows(alloc: Global, count: usize, written: usize) -> Result<Vec<Row>, AllocError>
+// So many empty rows, which take words of bits only once numbers come into them.
+fn empty_rows(alloc: Global, count: usize) -> Result<Vec<Row>, AllocError>
     ensures all { IfOk result (λ rows. length rows.items ≡ count) }
-    ensures sized { IfOk result (λ rows. AreSized written rows.items) }
+    ensures sized { IfOk result (λ rows. (written : ℕ) → AreSized written rows.items) }
     ensures empty { IfOk result (λ rows. (u n : ℕ) → has_at rows.items u n ≡ false) }
 {
     let mut rows = Vec::with_capacity(alloc, count)?;
     for _u in 0..count {
-        rows.push(Row::new(alloc, written)?)?;
+        rows.push(Row::new(alloc, 0)?)?;
     }
     Ok(rows)
+}
+
+// Adds the numbers of a left side to a row. The answer is whether there are more then.
+fn grow(row: &mut Row, mut left: Row) -> bool
+    requires { length row.old ≤ length left }
+    ensures short { length row.new ≤ length left }
+    ensures members { (n : ℕ) → has row.new n ≡ (has row.old n || has left n) }
+    ensures more { IsTrue result → count_of (λ b. b) row.old < count_of (λ b. b) row.new }
+    ensures same { result ≡ false → row.new ≡ row.old }
+{
+    if row.bound() == left.bound() {
+        return row.join_from(&left);
+    }
+    match left.first_beyond(row, 0) {
+        None => false,
+        Some(_) => {
+            left.include(row);
+            *row = left;
+            true
+        }
+    }
 }
 
 impl Reached {
@@ -102,7 +123,7 @@ impl Reached {
             count,
         )?;
         self.looks = self.looks.saturating_add(1);
-        if self.rows[unknown].join_from(&left) {
+        if grow(&mut self.rows[unknown], left) {
             queue.add_all(edges.unknown[unknown].as_slice())?;
         }
         Ok(())

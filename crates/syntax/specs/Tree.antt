@@ -1,7 +1,7 @@
 -- Syntax trees as contracts see them: texts are lists of bytes, repetitions are lists, and a node lies nowhere in memory. Behind
 -- them the tree that each value of the code stands for.
 -- Source: the usual abstract syntax of a small imperative language with exceptions; that labels are written in it is of Myers 1999.
-use Rattle.std.specs.Prelude.{ℕ, Bool, List, [], ◌∷◌, map, Option, None, Some, string_bytes}
+use Rattle.std.specs.Prelude.{ℕ, Bool, List, [], ◌∷◌, map, Option, None, Some}
 use Rattle.syntax.specs.declared.tree.Name.{Name}
 use Rattle.syntax.specs.declared.tree.Component.{Component}
 use Rattle.syntax.specs.declared.tree.Component.TheVariants as components
@@ -230,7 +230,7 @@ item_at (ProcedureItem procedure) = procedure.at
 
 -- The trees of the code's values.
 abbrev pub name_tree : Name → NameTree
-name_tree name = record { at = name.at; text = string_bytes name.text }
+name_tree name = record { at = name.at; text = name.text.now }
 
 abbrev pub component_tree : Component → ComponentTree
 component_tree (components.Policy owner readers) = PolicyComponent (name_tree owner) (map name_tree readers.items)

@@ -1,32 +1,35 @@
 //! The nodes of a syntax tree. Each node has the byte of the text at which it begins (`at`); a node that begins with another one has
-//! that one's.
+//! that one's. Names are slices of the source, so a tree lives no longer than that.
 
 ghost use Rattle.std.specs.Prelude.{◌≡◌, map};
 ghost use Rattle.syntax.specs.Tree.{expression_tree, expression_at, statement_tree, statement_at, item_tree, item_at, block_tree, optional_block_tree, catch_tree, catches_of, if_tree, WhileTree, TryTree, NestedTree};
 
 use common::Direction;
 
-/// A name, and where it stands.
-#[derive(Debug, Drop)]
-pub struct Name {
+/// A name, which is a slice of the source, and where it stands.
+#[derive(Clone, Copy, Debug)]
+pub struct Name<'a> {
     pub at: usize,
-    pub text: String,
+    pub text: &'a str,
 }
 
 /// A component of a label.
 #[derive(Debug, Drop)]
-pub enum Component {
+pub enum Component<'a> {
     /// A policy: the owner, and the readers that the owner names.
-    Policy { owner: Name, readers: Vec<Name> },
+    Policy {
+        owner: Name<'a>,
+        readers: Vec<Name<'a>>,
+    },
     /// A variable, for the policies of its label.
-    Variable(Name),
+    Variable(Name<'a>),
 }
 
 /// A label as it is written: its components, in the order of the text.
 #[derive(Debug, Drop)]
-pub struct WrittenLabel {
+pub struct WrittenLabel<'a> {
     pub at: usize,
-    pub components: Vec<Component>,
+    pub components: Vec<Component<'a>>,
 }
 
 /// The type of a value without its label.
@@ -71,7 +74,7 @@ pub enum BinaryOperator {
 
 /// An expression. Parentheses leave no trace.
 #[derive(Debug, Drop)]
-pub enum Expression {
+pub enum Expression<'a> {
     Integer {
         at: usize,
         value: u32,
@@ -80,26 +83,26 @@ pub enum Expression {
         at: usize,
         value: bool,
     },
-    Variable(Name),
+    Variable(Name<'a>),
     Element {
-        array: Name,
-        index: Box<Expression>,
+        array: Name<'a>,
+        index: Box<Expression<'a>>,
     },
     Unary {
         at: usize,
         operator: UnaryOperator,
-        operand: Box<Expression>,
+        operand: Box<Expression<'a>>,
     },
     /// It begins where its left operand does.
     Binary {
         at: usize,
         operator: BinaryOperator,
-        left: Box<Expression>,
-        right: Box<Expression>,
+        left: Box<Expression<'a>>,
+        right: Box<Expression<'a>>,
     },
 }
 
-impl Expression {
+impl<'a> Expression<'a> {
     /// The byte at which the expression begins.
     pub fn at(&self) -> usize
         ensures { result ≡ expression_at (expression_tree self.now) }
@@ -116,17 +119,17 @@ impl Expression {
 
 /// A call of a procedure with its arguments.
 #[derive(Debug, Drop)]
-pub struct Call {
-    pub procedure: Name,
-    pub arguments: Vec<Expression>,
+pub struct Call<'a> {
+    pub procedure: Name<'a>,
+    pub arguments: Vec<Expression<'a>>,
 }
 
 /// What is assigned: a number that is received, the value of a call, or that of an expression.
 #[derive(Debug, Drop)]
-pub enum RightSide {
-    Receive { at: usize, channel: Name },
-    Call(Call),
-    Value(Expression),
+pub enum RightSide<'a> {
+    Receive { at: usize, channel: Name<'a> },
+    Call(Call<'a>),
+    Value(Expression<'a>),
 }
 
 /// The size of an array, and where it stands.
@@ -139,55 +142,55 @@ pub struct Size {
 /// A statement. What is caught by a `try` stands in the order of the text.
 #[derive(Debug, Drop)]
 #[cycle(statement)]
-pub enum Statement {
+pub enum Statement<'a> {
     /// The declaration of a variable with its first value.
     Declare {
         at: usize,
         base: BaseType,
-        label: Option<WrittenLabel>,
-        name: Name,
-        value: RightSide,
+        label: Option<WrittenLabel<'a>>,
+        name: Name<'a>,
+        value: RightSide<'a>,
     },
     /// The declaration of an array of a size.
     DeclareArray {
         at: usize,
         base: BaseType,
-        label: Option<WrittenLabel>,
-        name: Name,
+        label: Option<WrittenLabel<'a>>,
+        name: Name<'a>,
         size: Size,
     },
     Assign {
-        target: Name,
-        value: RightSide,
+        target: Name<'a>,
+        value: RightSide<'a>,
     },
     /// The assignment of a value to the element at an index.
     AssignElement {
-        array: Name,
-        index: Expression,
-        value: Expression,
+        array: Name<'a>,
+        index: Expression<'a>,
+        value: Expression<'a>,
     },
     /// A call whose value, if there is one, is dropped.
-    Call(Call),
+    Call(Call<'a>),
     /// The receipt of a number that is dropped.
     Receive {
         at: usize,
-        channel: Name,
+        channel: Name<'a>,
     },
     Send {
         at: usize,
-        channel: Name,
-        value: Expression,
+        channel: Name<'a>,
+        value: Expression<'a>,
     },
     If {
         at: usize,
-        condition: Expression,
-        accepted: Block,
-        otherwise: Option<Block>,
+        condition: Expression<'a>,
+        accepted: Block<'a>,
+        otherwise: Option<Block<'a>>,
     },
     While {
         at: usize,
-        condition: Expression,
-        body: Block,
+        condition: Expression<'a>,
+        body: Block<'a>,
     },
     Break {
         at: usize,
@@ -197,45 +200,45 @@ pub enum Statement {
     },
     Throw {
         at: usize,
-        exception: Name,
+        exception: Name<'a>,
     },
     Return {
         at: usize,
-        value: Option<Expression>,
+        value: Option<Expression<'a>>,
     },
     Try {
         at: usize,
-        body: Block,
-        catches: Vec<Catch>,
+        body: Block<'a>,
+        catches: Vec<Catch<'a>>,
     },
     /// A block among the statements of another one.
-    Nested(Block),
+    Nested(Block<'a>),
 }
 
 /// Statements in braces.
 #[derive(Debug, Drop)]
 #[cycle(statement)]
-pub struct Block {
+pub struct Block<'a> {
     pub at: usize,
-    pub statements: Vec<Statement>,
+    pub statements: Vec<Statement<'a>>,
 }
 
 /// The handler of an exception.
 #[derive(Debug, Drop)]
 #[cycle(statement)]
-pub struct Catch {
+pub struct Catch<'a> {
     pub at: usize,
-    pub exception: Name,
-    pub body: Block,
+    pub exception: Name<'a>,
+    pub body: Block<'a>,
 }
 
 /// The declaration of a channel.
 #[derive(Debug, Drop)]
-pub struct Channel {
+pub struct Channel<'a> {
     pub at: usize,
     pub direction: Direction,
-    pub label: WrittenLabel,
-    pub name: Name,
+    pub label: WrittenLabel<'a>,
+    pub name: Name<'a>,
 }
 
 /// A constant. An integer may have a minus sign before it, and then begins there.
@@ -261,60 +264,63 @@ pub enum GlobalValue {
 
 /// The declaration of a global.
 #[derive(Debug, Drop)]
-pub struct GlobalVariable {
+pub struct GlobalVariable<'a> {
     pub at: usize,
     pub base: BaseType,
-    pub label: WrittenLabel,
-    pub name: Name,
+    pub label: WrittenLabel<'a>,
+    pub name: Name<'a>,
     pub value: GlobalValue,
 }
 
 /// What a procedure answers: nothing, or a value of a type with a label.
 #[derive(Debug, Drop)]
-pub enum WrittenResult {
+pub enum WrittenResult<'a> {
     Nothing,
-    Value { base: BaseType, label: WrittenLabel },
+    Value {
+        base: BaseType,
+        label: WrittenLabel<'a>,
+    },
 }
 
 /// A parameter of a procedure.
 #[derive(Debug, Drop)]
-pub struct Parameter {
+pub struct Parameter<'a> {
     pub at: usize,
     pub base: BaseType,
-    pub label: WrittenLabel,
-    pub name: Name,
+    pub label: WrittenLabel<'a>,
+    pub name: Name<'a>,
 }
 
 /// An exception that a procedure may throw, and the label of that.
 #[derive(Debug, Drop)]
-pub struct Thrown {
-    pub name: Name,
-    pub label: WrittenLabel,
+pub struct Thrown<'a> {
+    pub name: Name<'a>,
+    pub label: WrittenLabel<'a>,
 }
 
 /// The declaration of a procedure, with its begin label and its end label where they are written.
 #[derive(Debug, Drop)]
-pub struct Procedure {
+pub struct Procedure<'a> {
     pub at: usize,
-    pub result: WrittenResult,
-    pub name: Name,
-    pub begin: Option<WrittenLabel>,
-    pub parameters: Vec<Parameter>,
-    pub end: Option<WrittenLabel>,
-    pub throws: Vec<Thrown>,
-    pub body: Block,
+    pub result: WrittenResult<'a>,
+    pub name: Name<'a>,
+    pub begin: Option<WrittenLabel<'a>>,
+    pub parameters: Vec<Parameter<'a>>,
+    pub end: Option<WrittenLabel<'a>>,
+    pub throws: Vec<Thrown<'a>>,
+    pub body: Block<'a>,
 }
 
 /// What stands at the top of a program.
 #[derive(Debug, Drop)]
-pub enum Item {
-    Channel(Channel),
-    Exception { at: usize, name: Name },
-    Global(GlobalVariable),
-    Procedure(Procedure),
+pub enum Item<'a> {
+    Channel(Channel<'a>),
+    Exception { at: usize, name: Name<'a> },
+    Global(GlobalVariable<'a>),
+    Procedure(Procedure<'a>),
 }
 
-impl Statement {
+impl<'a> Statement<'a> {
     /// The byte at which the statement begins.
     pub fn at(&self) -> usize
         ensures { result ≡ statement_at (statement_tree self.now) }
@@ -346,12 +352,12 @@ impl Statement {
     /// A condition with what is done under it, and what is done otherwise.
     pub fn make_if(
         at: usize,
-        condition: Expression,
-        accepted: Block,
-        otherwise: Option<Block>,
-    ) -> Statement
-        ensures { statement_tree result ≡ if_tree at (expression_tree condition)
-            (block_tree accepted) (optional_block_tree otherwise) }
+        condition: Expression<'a>,
+        accepted: Block<'a>,
+        otherwise: Option<Block<'a>>,
+    ) -> Statement<'a>
+        ensures { statement_tree result ≡ if_tree at (expression_tree condition.entry)
+            (block_tree accepted.entry) (optional_block_tree otherwise.entry) }
     {
         Statement::If {
             at,
@@ -362,9 +368,9 @@ impl Statement {
     }
 
     /// A loop under a condition.
-    pub fn make_while(at: usize, condition: Expression, body: Block) -> Statement
+    pub fn make_while(at: usize, condition: Expression<'a>, body: Block<'a>) -> Statement<'a>
         ensures { statement_tree result
-            ≡ WhileTree at (expression_tree condition) (block_tree body) }
+            ≡ WhileTree at (expression_tree condition.entry) (block_tree body.entry) }
     {
         Statement::While {
             at,
@@ -374,22 +380,23 @@ impl Statement {
     }
 
     /// A block, and the handlers of its exceptions.
-    pub fn make_try(at: usize, body: Block, catches: Vec<Catch>) -> Statement
+    pub fn make_try(at: usize, body: Block<'a>, catches: Vec<Catch<'a>>) -> Statement<'a>
         ensures { statement_tree result
-            ≡ TryTree at (block_tree body) (catches_of (map catch_tree catches.items)) }
+            ≡ TryTree at (block_tree body.entry)
+            (catches_of (map catch_tree catches.entry.items)) }
     {
         Statement::Try { at, body, catches }
     }
 
     /// A block among the statements of another one.
-    pub fn make_nested(body: Block) -> Statement
-        ensures { statement_tree result ≡ NestedTree (block_tree body) }
+    pub fn make_nested(body: Block<'a>) -> Statement<'a>
+        ensures { statement_tree result ≡ NestedTree (block_tree body.entry) }
     {
         Statement::Nested(body)
     }
 }
 
-impl Item {
+impl<'a> Item<'a> {
     /// The byte at which the item begins.
     pub fn at(&self) -> usize
         ensures { result ≡ item_at (item_tree self.now) }

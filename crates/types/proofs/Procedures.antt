@@ -1,7 +1,7 @@
 -- Procedures, by what their parts were found to be.
 use Rattle.std.proofs.Common.{◌≡◌, ℕ, ◌*◌, ◌≤◌, List, [], ◌∷◌, ◌++◌, Bool, true, false, cond, refl, map, length, Option, Some, Ok, sym, ◌∙◌, ap, subst, arith}
 use Rattle.std.specs.Prelude.{sum_by, not, ◌||◌, ◌==◌}
-use Rattle.std.proofs.lemmas.List.{map_push}
+use Rattle.std.proofs.lemmas.List.{length-map, map_push}
 use Rattle.std.proofs.lemmas.List.Folds.{list_any-append}
 use Rattle.std.proofs.lemmas.List.Sums.{sum_by-cons}
 use Rattle.labels.specs.Label.{Label}
@@ -66,6 +66,10 @@ pub parameters_few : (parameters : List ParameterTree) → 2 * length parameters
 parameters_few [] = omega arith
 parameters_few (parameter ∷ rest) = let few = parameters_few rest in omega (arith, few, sum_by-cons parameter_nodes parameter rest)
 
+-- the same of a list that is lent
+pub parameters_need : {X : Type 0} (tree : X → ParameterTree) (lent all : List X) → lent ≡ all → 2 * length lent ≤ sum_by parameter_nodes (map tree all)
+parameters_need tree lent all are = let few = parameters_few (map tree all) in omega (arith, few, length-map all tree, ap length are)
+
 -- ---- exceptions
 
 -- the entries of exceptions with one more
@@ -111,6 +115,9 @@ optional_wrong_in_scope seen scope label fault same = subst (λ one. IfRefused (
 pub throws_few : (throws : List ThrownTree) → length throws ≤ sum_by thrown_nodes throws
 throws_few [] = omega arith
 throws_few (thrown ∷ rest) = let few = throws_few rest in omega (arith, few, sum_by-cons thrown_nodes thrown rest)
+
+pub throws_need : {X : Type 0} (tree : X → ThrownTree) (lent all : List X) → lent ≡ all → length lent ≤ sum_by thrown_nodes (map tree all)
+throws_need tree lent all are = let few = throws_few (map tree all) in omega (arith, few, length-map all tree, ap length are)
 
 pub begin_wrong : (scope : LabelScope) (signatures : List Signature) (procedure : ProcedureTree) (result : Option ResultEntry) → result_finding scope procedure.result ≡ Ok result
     → (fault : OrNoMemory TypeRefusal) → IfRefused (IsRefusalOf (optional_label_finding scope procedure.begin)) fault → IfRefused (IsRefusalOf (procedure_entry_finding scope signatures procedure)) fault

@@ -108,15 +108,14 @@ inner_named inner outer found name meaning e = λ i other. (at other ∙ ap (λ 
     at other = by (bytes_eq name other) (inner other) (outer other)
 
 -- the next item, whose name was put into the table of the top level
-pub named : (top : TopLevel) (item : ItemTree) (found : Environment) (name : NameTree) (text again : List ℕ) (looked : Option Meaning) (meaning : Meaning)
-    → name ≡ item_name item → text ≡ name.text → again ≡ name.text → looked ≡ top.names text → fresh_finding looked name.at ≡ Ok tt
-    → meaning ≡ item_meaning top item → give (declaring again meaning top.names) ≡ give found
+pub named : (top : TopLevel) (item : ItemTree) (found : Environment) (name : NameTree) (looked : Option Meaning) (meaning : Meaning)
+    → name ≡ item_name item → looked ≡ top.names name.text → fresh_finding looked name.at ≡ Ok tt
+    → meaning ≡ item_meaning top item → give (declaring name.text meaning top.names) ≡ give found
     → next_name top item ≡ Ok (record (counted top item) { names = found })
 unfolding next_name
-named top item found name text again looked meaning n t u f fresh m e =
+named top item found name looked meaning n f fresh m e =
     ap (λ (one : NameTree). and_then (fresh_finding (top.names one.text) one.at) (λ _. give (with_item top item))) (sym n)
-    ∙ ap (λ one. and_then one (λ _. give (with_item top item))) (sym (ap (λ one. fresh_finding one name.at) (f ∙ ap top.names t)) ∙ fresh)
+    ∙ ap (λ one. and_then one (λ _. give (with_item top item))) (sym (ap (λ one. fresh_finding one name.at) f) ∙ fresh)
     ∙ ap (λ (names : Environment). Ok (record (counted top item) { names = names }))
     (ap (λ (one : NameTree). declaring one.text (item_meaning top item) top.names) (sym n)
-    ∙ ap (λ one. declaring one (item_meaning top item) top.names) (sym u)
-    ∙ ap (λ one. declaring again one top.names) (sym m) ∙ ok_inside _ _ e)
+    ∙ ap (λ one. declaring name.text one top.names) (sym m) ∙ ok_inside _ _ e)

@@ -25,7 +25,7 @@ impl<'a> Body<'a> {
     /// The first fault of its statements: 301 to 303, 401 to 403 or 703; or out of memory.
     #[cycle(block)]
     #[tactic(auto, unfolding(crate::specs::Statements::block_finding))]
-    pub fn resolve_block(&mut self, written: &Block) -> Result<Vec<Statement>, TypeFault>
+    pub fn resolve_block(&mut self, written: &Block<'_>) -> Result<Vec<Statement>, TypeFault>
         requires room { taken self.old + block_nodes (block_tree written.now) < most_nodes }
         ensures made { Resolves (at_point self.new block_view) result
             (block_finding (setting_of self.old) (point_of self.old) (block_tree written.now)) }
@@ -44,7 +44,7 @@ impl<'a> Body<'a> {
     #[cycle(block)]
     fn resolve_statements(
         &mut self,
-        written: &[syntax::Statement],
+        written: &[syntax::Statement<'_>],
     ) -> Result<Vec<Statement>, TypeFault>
         requires room { taken self.old +
             statements_nodes (statements_of (map statement_tree written.now)) < most_nodes }
@@ -64,7 +64,7 @@ impl<'a> Body<'a> {
 
     /// The handlers of a `try`.
     #[cycle(block)]
-    fn resolve_catches(&mut self, written: &[Catch]) -> Result<Vec<Handler>, TypeFault>
+    fn resolve_catches(&mut self, written: &[Catch<'_>]) -> Result<Vec<Handler>, TypeFault>
         requires room { taken self.old + catches_nodes (catches_of (map catch_tree written.now)) <
             most_nodes }
         ensures made { Resolves (at_point self.new handlers_view) result
@@ -91,7 +91,7 @@ impl<'a> Body<'a> {
     /// A statement. The function is longer than others, since it is one match over all statements.
     #[cycle(block)]
     #[tactic(auto, unfolding(crate::specs::Statements::statement_finding))]
-    fn resolve_statement(&mut self, written: &syntax::Statement) -> Result<Statement, TypeFault>
+    fn resolve_statement(&mut self, written: &syntax::Statement<'_>) -> Result<Statement, TypeFault>
         requires room { taken self.old + statement_nodes (statement_tree written.now) < most_nodes }
         ensures made { Resolves (at_point self.new statement_of) result
             (statement_finding (setting_of self.old) (point_of self.old)
@@ -151,9 +151,9 @@ impl<'a> Body<'a> {
     fn resolve_if(
         &mut self,
         at: usize,
-        condition: &syntax::Expression,
-        accepted: &Block,
-        otherwise: &Option<Block>,
+        condition: &syntax::Expression<'_>,
+        accepted: &Block<'_>,
+        otherwise: &Option<Block<'_>>,
     ) -> Result<Statement, TypeFault>
         requires room { taken self.old + statement_nodes (if_tree at
             (expression_tree condition.now) (block_tree accepted.now)
@@ -184,8 +184,8 @@ impl<'a> Body<'a> {
     fn resolve_while(
         &mut self,
         at: usize,
-        condition: &syntax::Expression,
-        body: &Block,
+        condition: &syntax::Expression<'_>,
+        body: &Block<'_>,
     ) -> Result<Statement, TypeFault>
         requires room { taken self.old + statement_nodes (WhileTree at
             (expression_tree condition.now) (block_tree body.now)) < most_nodes }
@@ -209,8 +209,8 @@ impl<'a> Body<'a> {
     fn resolve_try(
         &mut self,
         at: usize,
-        body: &Block,
-        catches: &[Catch],
+        body: &Block<'_>,
+        catches: &[Catch<'_>],
     ) -> Result<Statement, TypeFault>
         requires room { taken self.old + statement_nodes (TryTree at (block_tree body.now)
             (catches_of (map catch_tree catches.now))) < most_nodes }
@@ -229,7 +229,7 @@ impl<'a> Body<'a> {
 
     /// A block among statements.
     #[cycle(block)]
-    fn resolve_nested(&mut self, block: &Block) -> Result<Statement, TypeFault>
+    fn resolve_nested(&mut self, block: &Block<'_>) -> Result<Statement, TypeFault>
         requires room { taken self.old + statement_nodes (NestedTree (block_tree block.now)) <
             most_nodes }
         ensures made { Resolves (at_point self.new statement_of) result

@@ -61,10 +61,10 @@ impl<'a> Body<'a> {
     }
 
     /// What a name stands for.
-    pub fn look_up(&self, name: &Name) -> Option<Meaning>
+    pub fn look_up(&self, name: &Name<'_>) -> Option<Meaning>
         ensures { result ≡ names_of self.now (name_tree name.now).text }
     {
-        let text = name.text.as_str();
+        let text = name.text;
         find(&self.locals, text).or_else(|| find(&self.top.names, text))
     }
 

@@ -25,7 +25,7 @@ fn cells_of_global(value: &GlobalValue) -> u32
 }
 
 /// The cells of the globals so far, with those of the next item.
-fn add_global(cells: u32, item: &Item) -> Result<u32, TypeFault>
+fn add_global(cells: u32, item: &Item<'_>) -> Result<u32, TypeFault>
     requires { cells ≤ MAX_CELLS }
     ensures made { Resolves itself result (next_global_cells cells (item_tree item.now)) }
     ensures few { IfOk result (λ all. all ≤ MAX_CELLS) }
@@ -48,7 +48,7 @@ fn add_global(cells: u32, item: &Item) -> Result<u32, TypeFault>
 
 /// How many cells the globals of these items have, which are refused where they are too many.
 #[tactic(auto, unfolding(crate::specs::Resolution::global_cells_finding))]
-pub fn count_global_cells(items: &[Item]) -> Result<u32, TypeFault>
+pub fn count_global_cells(items: &[Item<'_>]) -> Result<u32, TypeFault>
     ensures { Resolves itself result (global_cells_finding (map item_tree items.now)) }
 {
     let mut cells = 0;

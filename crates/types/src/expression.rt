@@ -62,7 +62,7 @@ impl<'a> Body<'a> {
     #[tactic(auto, unfolding(crate::specs::Expressions::expression_finding))]
     pub fn resolve_expression(
         &self,
-        written: &syntax::Expression,
+        written: &syntax::Expression<'_>,
     ) -> Result<TypedExpression, TypeFault>
         ensures { Resolves typed_view result
             (expression_finding (names_of self.now) (expression_tree written.now)) }
@@ -98,8 +98,8 @@ impl<'a> Body<'a> {
     #[tactic(auto, unfolding(crate::specs::Expressions::expression_finding))]
     fn resolve_element(
         &self,
-        name: &Name,
-        index: &syntax::Expression,
+        name: &Name<'_>,
+        index: &syntax::Expression<'_>,
     ) -> Result<TypedExpression, TypeFault>
         ensures { Resolves typed_view result (expression_finding (names_of self.now)
             (ElementTree (name_tree name.now) (expression_tree index.now))) }
@@ -119,7 +119,7 @@ impl<'a> Body<'a> {
     fn resolve_unary(
         &self,
         operator: UnaryOperator,
-        operand: &syntax::Expression,
+        operand: &syntax::Expression<'_>,
     ) -> Result<TypedExpression, TypeFault>
         ensures { (at : ℕ) → Resolves typed_view result (expression_finding (names_of self.now)
             (UnaryTree at operator (expression_tree operand.now))) }
@@ -139,8 +139,8 @@ impl<'a> Body<'a> {
     fn resolve_binary(
         &self,
         operator: BinaryOperator,
-        left: &syntax::Expression,
-        right: &syntax::Expression,
+        left: &syntax::Expression<'_>,
+        right: &syntax::Expression<'_>,
     ) -> Result<TypedExpression, TypeFault>
         ensures { (at : ℕ) → Resolves typed_view result (expression_finding (names_of self.now)
             (BinaryTree at operator (expression_tree left.now) (expression_tree right.now))) }
@@ -166,7 +166,7 @@ impl<'a> Body<'a> {
     pub fn type_expression(
         &self,
         base: Base,
-        written: &syntax::Expression,
+        written: &syntax::Expression<'_>,
     ) -> Result<Expression, TypeFault>
         ensures { Resolves expression_of result
             (typed_finding (names_of self.now) base (expression_tree written.now)) }

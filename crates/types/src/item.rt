@@ -31,7 +31,7 @@ use syntax::{Constant, GlobalValue};
 pub fn resolve_channel(
     place: &ItemPlace<'_>,
     variables: &mut DeclaredVariables,
-    written: &syntax::Channel,
+    written: &syntax::Channel<'_>,
 ) -> Result<Channel, TypeFault>
     requires room { length variables.old.labels < most_nodes }
     ensures made { Resolves (λ channel. channel_entry variables.new.labels channel) result
@@ -42,7 +42,7 @@ pub fn resolve_channel(
     let label = place.add_label(variables, &written.label)?;
     Ok(Channel {
         direction: written.direction,
-        name: String::from_str(place.alloc, written.name.text.as_str())?,
+        name: String::from_str(place.alloc, written.name.text)?,
         label,
     })
 }
@@ -122,7 +122,7 @@ fn resolve_first_value(base: Base, value: &GlobalValue) -> Result<(Option<u32>, 
 pub fn resolve_global(
     place: &ItemPlace<'_>,
     variables: &mut DeclaredVariables,
-    written: &syntax::GlobalVariable,
+    written: &syntax::GlobalVariable<'_>,
 ) -> Result<GlobalVariable, TypeFault>
     requires small { IsWrittenGlobalValue Anywhere (IsNameWithin MAX_TEXT) IsInteger
         (global_value_tree written.now.value) }
@@ -136,7 +136,7 @@ pub fn resolve_global(
     let base = base_of(written.base);
     let (size, first) = resolve_first_value(base, &written.value)?;
     Ok(GlobalVariable {
-        name: String::from_str(place.alloc, written.name.text.as_str())?,
+        name: String::from_str(place.alloc, written.name.text)?,
         base,
         size,
         label,

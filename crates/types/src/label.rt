@@ -45,10 +45,10 @@ pub struct ItemPlace<'a> {
 
 /// The number of a principal.
 #[tactic(auto, unfolding(crate::specs::Labels::principal_finding))]
-fn find_principal(hierarchy: &Hierarchy, name: &Name) -> Result<u32, TypeFault>
+fn find_principal(hierarchy: &Hierarchy, name: &Name<'_>) -> Result<u32, TypeFault>
     ensures { Resolves itself result (principal_finding hierarchy.now (name_tree name.now)) }
 {
-    match hierarchy.find(name.text.as_str()) {
+    match hierarchy.find(name.text) {
         Some(number) => Ok(number),
         None => Err(OrNoMemory::Refused(TypeRefusal {
             defect: TypeDefect::UnknownPrincipal,
@@ -61,7 +61,7 @@ fn find_principal(hierarchy: &Hierarchy, name: &Name) -> Result<u32, TypeFault>
 fn resolve_readers(
     alloc: Global,
     hierarchy: &Hierarchy,
-    names: &[Name],
+    names: &[Name<'_>],
 ) -> Result<Vec<u32>, TypeFault>
     ensures { Resolves (λ numbers. numbers.items) result
         (readers_finding hierarchy.now (map name_tree names.now)) }
@@ -78,8 +78,8 @@ fn resolve_readers(
 fn resolve_policy(
     alloc: Global,
     hierarchy: &Hierarchy,
-    owner: &Name,
-    readers: &[Name],
+    owner: &Name<'_>,
+    readers: &[Name<'_>],
 ) -> Result<Policy, TypeFault>
     ensures made { Resolves itself result
         (policy_finding hierarchy.now (name_tree owner.now) (map name_tree readers.now)) }
@@ -116,7 +116,7 @@ impl<'a> ItemPlace<'a> {
     pub fn add_label(
         &self,
         variables: &mut DeclaredVariables,
-        written: &WrittenLabel,
+        written: &WrittenLabel<'_>,
     ) -> Result<u32, TypeFault>
         requires room { length variables.old.labels < most_nodes }
         ensures made { Resolves (λ number. label_at variables.new.labels number) result
@@ -138,7 +138,7 @@ impl<'a> ItemPlace<'a> {
     pub fn add_optional_label(
         &self,
         variables: &mut DeclaredVariables,
-        written: &Option<WrittenLabel>,
+        written: &Option<WrittenLabel<'_>>,
     ) -> Result<Option<u32>, TypeFault>
         requires room { length variables.old.labels < most_nodes }
         ensures made { Resolves (λ number. written_at variables.new.labels number) result
@@ -157,10 +157,10 @@ impl<'a> ItemPlace<'a> {
 
 impl<'a> LabelPlace<'a> {
     /// What a name stands for.
-    pub fn look_up(&self, name: &Name) -> Option<Meaning>
+    pub fn look_up(&self, name: &Name<'_>) -> Option<Meaning>
         ensures { result ≡ (label_scope_of self.now).names (name_tree name.now).text }
     {
-        let text = name.text.as_str();
+        let text = name.text;
         let local = match self.locals {
             None => None,
             Some(locals) => find(locals, text),
@@ -192,7 +192,7 @@ impl<'a> LabelPlace<'a> {
 
     /// The number of the label of the variable of this name.
     #[tactic(auto, unfolding(crate::specs::Labels::named_label_finding))]
-    fn label_of(&self, name: &Name) -> Result<u32, TypeFault>
+    fn label_of(&self, name: &Name<'_>) -> Result<u32, TypeFault>
         ensures { Resolves (λ number. label_at self.now.variables.now.labels number) result
             (named_label_finding (label_scope_of self.now) (name_tree name.now)) }
     {
@@ -208,7 +208,7 @@ impl<'a> LabelPlace<'a> {
     /// The first fault of, from the left: 303 at a principal that the hierarchy lacks, 301 at a name that is not declared, not in
     /// scope, or that of a global that is declared later, 403 at a name that is no variable, 305 at a local without a written label;
     /// or out of memory.
-    pub fn resolve(&self, written: &WrittenLabel) -> Result<LabelParts, TypeFault>
+    pub fn resolve(&self, written: &WrittenLabel<'_>) -> Result<LabelParts, TypeFault>
         ensures { Resolves (λ parts. label_with self.now.variables.now.labels parts) result
             (label_finding (label_scope_of self.now) (label_tree written.now)) }
     {
@@ -236,7 +236,7 @@ impl<'a> LabelPlace<'a> {
     #[tactic(auto, unfolding(crate::specs::Labels::optional_label_finding))]
     pub fn resolve_optional(
         &self,
-        written: &Option<WrittenLabel>,
+        written: &Option<WrittenLabel<'_>>,
     ) -> Result<Option<LabelParts>, TypeFault>
         ensures { Resolves (λ parts. optional_label_with self.now.variables.now.labels parts) result
             (optional_label_finding (label_scope_of self.now) (optional_label_tree written.now)) }

@@ -31,7 +31,7 @@ use syntax::{Parameter, WrittenResult};
 fn resolve_result(
     place: &ItemPlace<'_>,
     variables: &mut DeclaredVariables,
-    written: &WrittenResult,
+    written: &WrittenResult<'_>,
 ) -> Result<Option<ResultType>, TypeFault>
     requires room { length variables.old.labels < most_nodes }
     ensures made { Resolves (λ value. result_entry variables.new.labels value) result
@@ -57,7 +57,7 @@ fn resolve_result(
 
 impl<'a> Body<'a> {
     /// Declares the next parameter.
-    fn declare_parameter(&mut self, written: &Parameter) -> Result<(), TypeFault>
+    fn declare_parameter(&mut self, written: &Parameter<'_>) -> Result<(), TypeFault>
         requires room { taken self.old < most_nodes }
         ensures made { Resolves (λ _. point_of self.new) result
             (next_parameter (item_scope_of self.old) (point_of self.old)
@@ -75,7 +75,7 @@ impl<'a> Body<'a> {
     }
 
     /// Declares parameters.
-    fn declare_parameters(&mut self, written: &[Parameter]) -> Result<(), TypeFault>
+    fn declare_parameters(&mut self, written: &[Parameter<'_>]) -> Result<(), TypeFault>
         requires room { taken self.old + 2 * length written.now < most_nodes }
         ensures made { Resolves (λ _. point_of self.new) result
             (along (next_parameter (item_scope_of self.old)) (point_of self.old)
@@ -96,7 +96,7 @@ fn add_thrown(
     variables: &mut DeclaredVariables,
     seen: &mut IndexSet<u32>,
     throws: &mut Vec<Thrown>,
-    written: &syntax::Thrown,
+    written: &syntax::Thrown<'_>,
 ) -> Result<(), TypeFault>
     requires room { length variables.old.labels < most_nodes }
     requires same { (number : ℕ) → contains nat_eq seen.old number ≡
@@ -111,7 +111,7 @@ fn add_thrown(
     ensures more { OnOk result (HasMoreLabels 1 variables.old variables.new) }
 {
     let name = &written.name;
-    let found = find(&place.top.names, name.text.as_str());
+    let found = find(&place.top.names, name.text);
     let number = require_exception(found, name.at)?;
     if !seen.insert(number)? {
         return Err(OrNoMemory::Refused(TypeRefusal {
@@ -132,7 +132,7 @@ fn add_thrown(
 fn resolve_throws(
     place: &ItemPlace<'_>,
     variables: &mut DeclaredVariables,
-    written: &[syntax::Thrown],
+    written: &[syntax::Thrown<'_>],
 ) -> Result<Vec<Thrown>, TypeFault>
     requires room { length variables.old.labels + length written.now < most_nodes }
     ensures made { Resolves (λ throws. throws_view variables.new.labels throws) result
@@ -226,7 +226,7 @@ fn make_end_label(
 pub fn resolve_procedure(
     place: &ItemPlace<'_>,
     variables: DeclaredVariables,
-    written: &syntax::Procedure,
+    written: &syntax::Procedure<'_>,
 ) -> Result<(DeclaredVariables, Procedure), TypeFault>
     requires none { variables.slots ≡ [] }
     requires room { length variables.labels + procedure_nodes (procedure_tree written.now) ≤
@@ -256,7 +256,7 @@ pub fn resolve_procedure(
     let slots = variables.take_slots(place.alloc);
     let procedure = Procedure {
         at: written.name.at,
-        name: String::from_str(place.alloc, written.name.text.as_str())?,
+        name: String::from_str(place.alloc, written.name.text)?,
         result: value,
         begin_label,
         end_label,

@@ -53,7 +53,7 @@ impl ItemTables {
 
     /// Puts the entry of the next item behind the others of its kind.
     #[tactic(auto, unfolding(crate::specs::Resolution::next_item))]
-    fn with_item(self, place: &ItemPlace<'_>, item: &Item) -> Result<ItemTables, TypeFault>
+    fn with_item(self, place: &ItemPlace<'_>, item: &Item<'_>) -> Result<ItemTables, TypeFault>
         requires written { IsWrittenItem Anywhere (IsNameWithin MAX_TEXT) IsInteger
             (item_tree item.now) }
         requires inside { AreTablesInside self }
@@ -75,7 +75,7 @@ impl ItemTables {
         match item {
             Item::Channel(one) => channels.push(resolve_channel(place, &mut variables, one)?)?,
             Item::Exception { name, .. } => {
-                exceptions.push(String::from_str(place.alloc, name.text.as_str())?)?
+                exceptions.push(String::from_str(place.alloc, name.text)?)?
             }
             Item::Global(one) => {
                 let global = resolve_global(place, &mut variables, one)?;
@@ -97,7 +97,7 @@ impl ItemTables {
 
     /// The tables of these items, each kind in the order of the text.
     #[tactic(auto, unfolding(crate::specs::Resolution::items_finding))]
-    pub fn of(place: &ItemPlace<'_>, items: &[Item]) -> Result<ItemTables, TypeFault>
+    pub fn of(place: &ItemPlace<'_>, items: &[Item<'_>]) -> Result<ItemTables, TypeFault>
         requires written { All (IsWrittenItem Anywhere (IsNameWithin MAX_TEXT) IsInteger)
             (map item_tree items.now) }
         requires room { sum_by item_nodes (map item_tree items.now) < most_nodes }
@@ -145,7 +145,7 @@ pub fn find_main(found: Option<Meaning>, tables: &ItemTables) -> Result<u32, Typ
 fn resolve_tables(
     alloc: Global,
     hierarchy: &Hierarchy,
-    items: &[Item],
+    items: &[Item<'_>],
 ) -> Result<(ItemTables, u32), TypeFault>
     requires written { All (IsWrittenItem Anywhere (IsNameWithin MAX_TEXT) IsInteger)
         (map item_tree items.now) }
@@ -176,16 +176,20 @@ fn resolve_tables(
 ///
 /// The first fault in the order in which the definitions look: the names of the items, the items from left to right, `main`, and
 /// the cells of the globals and of each procedure; or out of memory.
-pub fn resolve(alloc: Global, program: Program, hierarchy: &Hierarchy) -> Result<Core, TypeFault>
+pub fn resolve(
+    alloc: Global,
+    program: Program<'_>,
+    hierarchy: &Hierarchy,
+) -> Result<Core, TypeFault>
     requires of_text { IsOfText (program_tree program) }
 
     // An answer is the program that the tree stands for.
     ensures accepted { IfOk result (λ core.
-        resolution hierarchy.now (program_tree program) ≡ give (program_of core)) }
+        resolution hierarchy.now (program_tree program.entry) ≡ give (program_of core)) }
 
     // A refusal is the first fault, and stands where that stands.
     ensures first_fault { IfErr result (IfRefused
-        (IsRefusalOf (resolution hierarchy.now (program_tree program)))) }
+        (IsRefusalOf (resolution hierarchy.now (program_tree program.entry)))) }
 {
     prove!(hierarchy.count() <= MAX_PRINCIPALS);
     let (tables, main) = resolve_tables(alloc, hierarchy, program.items())?;

@@ -57,7 +57,7 @@ impl<'a> Body<'a> {
     fn resolve_arguments(
         &self,
         parameters: &[Base],
-        written: &[syntax::Expression],
+        written: &[syntax::Expression<'_>],
     ) -> Result<Vec<Expression>, TypeFault>
         ensures { Resolves expressions_of result
             (arguments_finding (names_of self.now) parameters.now
@@ -76,7 +76,7 @@ impl<'a> Body<'a> {
 
     /// A call.
     #[tactic(auto, unfolding(crate::specs::Statements::call_finding, crate::specs::Statements::applied_finding))]
-    fn resolve_call(&self, written: &Call) -> Result<UsedCall, TypeFault>
+    fn resolve_call(&self, written: &Call<'_>) -> Result<UsedCall, TypeFault>
         ensures { Resolves call_use result
             (call_finding (signatures_of self.now) (names_of self.now) (call_tree written.now)) }
     {
@@ -104,7 +104,7 @@ impl<'a> Body<'a> {
         at: usize,
         target: Variable,
         base: Base,
-        value: &RightSide,
+        value: &RightSide<'_>,
     ) -> Result<Statement, TypeFault>
         ensures { Resolves statement_of result
             (assigned_finding (signatures_of self.now) (names_of self.now) at target base
@@ -153,7 +153,7 @@ impl<'a> Body<'a> {
         base: Base,
         size: Option<u32>,
         label: Option<LabelParts>,
-        name: &Name,
+        name: &Name<'_>,
     ) -> Result<NewSlot, AllocError>
         ensures { IfOk result (λ slot. new_slot_entry self.now.variables.labels slot ≡
             record {
@@ -169,7 +169,7 @@ impl<'a> Body<'a> {
             size,
             label,
             at,
-            name: String::from_str(self.alloc, name.text.as_str())?,
+            name: String::from_str(self.alloc, name.text)?,
         })
     }
 
@@ -185,9 +185,9 @@ impl<'a> Body<'a> {
         &mut self,
         at: usize,
         base: Base,
-        label: &Option<WrittenLabel>,
-        name: &Name,
-        value: &RightSide,
+        label: &Option<WrittenLabel<'_>>,
+        name: &Name<'_>,
+        value: &RightSide<'_>,
     ) -> Result<Statement, TypeFault>
         requires room { taken self.old < most_nodes }
         ensures made { Resolves (at_point self.new statement_of) result
@@ -217,8 +217,8 @@ impl<'a> Body<'a> {
         &mut self,
         at: usize,
         base: Base,
-        written: &Option<WrittenLabel>,
-        name: &Name,
+        written: &Option<WrittenLabel<'_>>,
+        name: &Name<'_>,
         size: Size,
     ) -> Result<Statement, TypeFault>
         requires room { taken self.old < most_nodes }
@@ -244,7 +244,11 @@ impl<'a> Body<'a> {
     /// 301 and 403 where a name stands for nothing or for something of another sort, 401 where a type is wrong, 402 where a call
     /// has another number of arguments than its procedure has parameters; or out of memory.
     #[tactic(auto, unfolding(crate::specs::Statements::assign_finding))]
-    pub fn resolve_assign(&self, target: &Name, value: &RightSide) -> Result<Statement, TypeFault>
+    pub fn resolve_assign(
+        &self,
+        target: &Name<'_>,
+        value: &RightSide<'_>,
+    ) -> Result<Statement, TypeFault>
         ensures { Resolves statement_of result
             (assign_finding (signatures_of self.now) (names_of self.now) (name_tree target.now)
             (right_tree value.now)) }
@@ -262,9 +266,9 @@ impl<'a> Body<'a> {
     #[tactic(auto, unfolding(crate::specs::Statements::store_finding))]
     pub fn resolve_store(
         &self,
-        name: &Name,
-        index: &syntax::Expression,
-        value: &syntax::Expression,
+        name: &Name<'_>,
+        index: &syntax::Expression<'_>,
+        value: &syntax::Expression<'_>,
     ) -> Result<Statement, TypeFault>
         ensures { Resolves statement_of result
             (store_finding (names_of self.now) (name_tree name.now) (expression_tree index.now)
@@ -283,7 +287,7 @@ impl<'a> Body<'a> {
     /// 301 and 403 where a name stands for nothing or for something of another sort, 402 where there are more or fewer arguments
     /// than parameters, 401 where the type of an argument is wrong; or out of memory.
     #[tactic(auto, unfolding(crate::specs::Statements::call_statement_finding))]
-    pub fn resolve_call_statement(&self, call: &Call) -> Result<Statement, TypeFault>
+    pub fn resolve_call_statement(&self, call: &Call<'_>) -> Result<Statement, TypeFault>
         ensures { Resolves statement_of result
             (call_statement_finding (signatures_of self.now) (names_of self.now)
             (call_tree call.now)) }
@@ -298,7 +302,7 @@ impl<'a> Body<'a> {
     ///
     /// 301 where the name of the channel stands for nothing, 403 where it stands for something else than an input.
     #[tactic(auto, unfolding(crate::specs::Statements::receive_finding))]
-    pub fn resolve_receive(&self, at: usize, channel: &Name) -> Result<Statement, TypeFault>
+    pub fn resolve_receive(&self, at: usize, channel: &Name<'_>) -> Result<Statement, TypeFault>
         ensures { Resolves statement_of result
             (receive_finding (names_of self.now) at (name_tree channel.now)) }
     {
@@ -316,8 +320,8 @@ impl<'a> Body<'a> {
     pub fn resolve_send(
         &self,
         at: usize,
-        channel: &Name,
-        value: &syntax::Expression,
+        channel: &Name<'_>,
+        value: &syntax::Expression<'_>,
     ) -> Result<Statement, TypeFault>
         ensures { Resolves statement_of result
             (send_finding (names_of self.now) at (name_tree channel.now)
@@ -333,7 +337,7 @@ impl<'a> Body<'a> {
     ///
     /// 301 where its name stands for nothing, 403 where it stands for something else than an exception.
     #[tactic(auto, unfolding(crate::specs::Statements::throw_finding))]
-    pub fn resolve_throw(&self, at: usize, name: &Name) -> Result<Statement, TypeFault>
+    pub fn resolve_throw(&self, at: usize, name: &Name<'_>) -> Result<Statement, TypeFault>
         ensures { Resolves statement_of result
             (throw_finding (names_of self.now) at (name_tree name.now)) }
     {
@@ -351,7 +355,7 @@ impl<'a> Body<'a> {
     pub fn resolve_return(
         &self,
         at: usize,
-        value: &Option<syntax::Expression>,
+        value: &Option<syntax::Expression<'_>>,
     ) -> Result<Statement, TypeFault>
         ensures { Resolves statement_of result
             (return_finding self.now.result (names_of self.now) at

@@ -55,7 +55,7 @@ fn global_meaning_of(base: Base, number: u32, value: &GlobalValue) -> Meaning
 }
 
 /// The type of the value that a procedure gives, if it gives one.
-pub fn result_of(written: &WrittenResult) -> Option<Base>
+pub fn result_of(written: &WrittenResult<'_>) -> Option<Base>
     ensures { result ≡ result_base_of (written_result_tree written.now) }
 {
     match written {
@@ -64,7 +64,7 @@ pub fn result_of(written: &WrittenResult) -> Option<Base>
     }
 }
 
-fn make_signature(alloc: Global, procedure: &Procedure) -> Result<CodeSignature, AllocError>
+fn make_signature(alloc: Global, procedure: &Procedure<'_>) -> Result<CodeSignature, AllocError>
     ensures { IfOk result (λ signature. signature_view signature ≡
         signature_of (procedure_tree procedure.now)) }
 {
@@ -79,7 +79,7 @@ fn make_signature(alloc: Global, procedure: &Procedure) -> Result<CodeSignature,
 }
 
 /// The name of an item.
-fn name_of(item: &Item) -> &Name
+fn name_of<'t, 'a>(item: &'t Item<'a>) -> &'t Name<'a>
     ensures { name_tree result.now ≡ item_name (item_tree item.now) }
 {
     match item {
@@ -123,7 +123,7 @@ impl TopNames {
     }
 
     /// What the name of the next item stands for.
-    fn meaning_of(&self, item: &Item) -> Meaning
+    fn meaning_of(&self, item: &Item<'_>) -> Meaning
         requires { length self.now.signatures.items < most_nodes + BUILT_IN }
         ensures { result ≡ item_meaning (top_view self.now) (item_tree item.now) }
     {
@@ -139,7 +139,7 @@ impl TopNames {
 
     /// Declares the name of the next item.
     #[tactic(auto, unfolding(crate::specs::Resolution::next_name))]
-    fn add(&mut self, alloc: Global, item: &Item) -> Result<(), TypeFault>
+    fn add(&mut self, alloc: Global, item: &Item<'_>) -> Result<(), TypeFault>
         requires room { self.old.channels + self.old.exceptions + self.old.globals +
             length self.old.signatures.items < most_nodes + BUILT_IN }
         ensures made { Resolves (λ _. top_view self.new) result
@@ -152,8 +152,8 @@ impl TopNames {
     {
         let name = name_of(item);
         let meaning = self.meaning_of(item);
-        require_fresh(find(&self.names, name.text.as_str()), name.at)?;
-        insert(alloc, &mut self.names, name.text.as_str(), meaning)?;
+        require_fresh(find(&self.names, name.text), name.at)?;
+        insert(alloc, &mut self.names, name.text, meaning)?;
         match item {
             Item::Channel(_) => self.channels += 1,
             Item::Exception { .. } => self.exceptions += 1,
@@ -165,7 +165,7 @@ impl TopNames {
 
     /// The top level of these items.
     #[tactic(auto, unfolding(crate::specs::Resolution::top_finding))]
-    pub fn of(alloc: Global, items: &[Item]) -> Result<TopNames, TypeFault>
+    pub fn of(alloc: Global, items: &[Item<'_>]) -> Result<TopNames, TypeFault>
         requires { length items.now < most_nodes }
         ensures { Resolves top_view result (top_finding (map item_tree items.now)) }
     {

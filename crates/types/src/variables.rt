@@ -136,15 +136,7 @@ impl DeclaredVariables {
             label_at self.new.labels number ≡ label_with self.old.labels parts) }
     {
         let LabelParts { own, named } = parts;
-        match self.labels.add(own, named) {
-            Ok(number) => Ok(number),
-            Err(error) => {
-                // What the table holds now is not known, so nothing may name a label in it.
-                self.globals.clear();
-                self.slots.clear();
-                Err(error)
-            }
-        }
+        Ok(self.labels.add(own, named)?)
     }
 
     /// Gives a label its number, if there is one.

@@ -1,23 +1,23 @@
 use Rattle.std.proofs.Common.{Err, arith, sym, ◌∙◌, ◌≡◌}
 use Rattle.modules.specs.Form.{read_all}
 use Rattle.modules.specs.Format.{module_file}
-use Rattle.bytecode.specs.Reading.{contents_of}
+use Rattle.modules.specs.ContentsOf.{contents_of}
 use Rattle.bytecode.proofs.Both.{module_again, module_taken}
 use Rattle.bytecode.proofs.Inside.{stop_inside}
 use Rattle.bytecode.proofs.Steps.{same_value}
 use Rattle.bytecode.proofs.decoding.decode.Goals as goal
 
-pub module_of-requires : goal.module_of-requires
-module_of-requires c =
-    (module_taken c.args.bytes.now (contents_of c.in-Ok.fields) (record { below = λ i. omega (arith, c.type_inv.bytes i) }) c.in-Ok.ensures).0
+pub new-requires : goal.new-requires
+new-requires c =
+    (module_taken c.args.bytes.now (contents_of c.in-Ok.contents) (record { below = λ i. omega (arith, c.type_inv.bytes i) }) c.in-Ok.ensures).0
 
 pub returns-in-Ok-clause-accepted : goal.returns-in-Ok-clause-accepted
 returns-in-Ok-clause-accepted c =
-    rw c.module_of.ensures (module_taken c.args.bytes.now (contents_of c.in-Ok.fields) (record { below = λ i. omega (arith, c.type_inv.bytes i) }) c.in-Ok.ensures)
+    rw c.new.ensures (module_taken c.args.bytes.now (contents_of c.in-Ok.contents) (record { below = λ i. omega (arith, c.type_inv.bytes i) }) c.in-Ok.ensures)
 
 pub returns-in-Ok-clause-complete : goal.returns-in-Ok-clause-complete
 returns-in-Ok-clause-complete c = λ m spells.
-    c.module_of.ensures ∙ same_value (contents_of c.in-Ok.fields) m (sym c.in-Ok.ensures ∙ module_again c.args.bytes.now m spells)
+    c.new.ensures ∙ same_value (contents_of c.in-Ok.contents) m (sym c.in-Ok.ensures ∙ module_again c.args.bytes.now m spells)
 
 pub returns-in-Err-Refused-clause-complete : goal.returns-in-Err-Refused-clause-complete
 returns-in-Err-Refused-clause-complete c = λ m spells.

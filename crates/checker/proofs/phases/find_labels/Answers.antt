@@ -1,4 +1,4 @@
-use Rattle.std.proofs.Common.{ℕ, arith, subst}
+use Rattle.std.proofs.Common.{ℕ, subst}
 use Rattle.labels.specs.Label.{Label}
 use Rattle.labels.specs.Constraints.{label_lattice}
 use Rattle.resolved.specs.CoreOf.{program_of}
@@ -23,5 +23,4 @@ of-requires c =
       least = least-labels program (constraints_of l c.args.core.labels c.in_ok-system.system.constraints.items) c.in_ok-system.ensures.gathered.gathered values
           (unwritten_number program) c.in_ok-system.ensures.gathered.numbered solved.least;
       names = c.requires.names;
-      rows = omega (arith, solved.rows);
     }

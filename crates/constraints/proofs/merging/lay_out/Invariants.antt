@@ -1,5 +1,10 @@
-use Rattle.constraints.specs.Merging.{AreLaidOut}
+use Rattle.std.proofs.Common.{◌≡◌, ◌*◌, ◌+◌, ◌≤◌, length}
+use Rattle.constraints.specs.Merging.{AreLaidSoFar, held_count, rows_of}
 use Rattle.constraints.proofs.merging.lay_out.Given as goal
 
-abbrev pub invariant-loop-i : goal.invariant-loop-i
-invariant-loop-i l = AreLaidOut l.rows l.i l.fn.constraints.items l.constraints.items
+abbrev pub invariant-loop-parts : goal.invariant-loop-parts
+invariant-loop-parts l = record {
+  so_far : AreLaidSoFar (rows_of l.fn.kept) (length l.yielded) l.fn.made.number l.made.number l.held l.fn.made.constraints.items l.made.constraints.items;
+  number : l.number ≡ length l.yielded;
+  few : 2 * l.made.number ≤ 2 * l.fn.made.number + l.number + held_count l.held;
+}

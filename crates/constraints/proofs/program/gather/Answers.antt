@@ -11,8 +11,8 @@ use Rattle.solver.specs.Constraints.{constraint_of}
 use Rattle.solver.specs.Links.{InRange}
 use Rattle.gathering.specs.Gathered.{AreConstraintsOf, FitsConstraints}
 use Rattle.constraints.specs.declared.spreading.Made.{Made}
-use Rattle.constraints.proofs.Gathered.{all-fit, all-gathered, all-in-range}
-use Rattle.constraints.proofs.SpreadCalls.{calls-fit, spread-few}
+use Rattle.constraints.proofs.Gathered.{all-few, all-fit, all-gathered, all-in-range}
+use Rattle.constraints.proofs.SpreadCalls.{calls-fit}
 use Rattle.constraints.proofs.program.gather.Goals as goal
 
 pub walk_procedures-requires : goal.walk_procedures-requires
@@ -60,6 +60,5 @@ returns-clause-few c =
     let table = c.in_ok-table.table in
     let progress = c.in_ok-progress.progress in
     let begun : Made = record { number = progress.number; constraints = progress.constraints } in
-    subst (λ (k : Core). c.spread_calls.new.made.number ≤ 4 * program_nodes (program_of k)) c.in_ok-table.ensures
-    (spread-few table.core.now table.core.now.labels progress begun.number c.spread_calls.new.made.number c.in_ok-spread_calls.ensures.spread c.in_ok-progress.ensures.added
-    c.in_ok-spread_calls.ensures.are_spread c.in_ok-progress.ensures.number)
+    subst (λ (k : Core). c.spread_calls.new.made.number ≤ 6 * program_nodes (program_of k)) c.in_ok-table.ensures
+    (all-few table.core.now table.core.now.labels progress begun c.spread_calls.new.made c.in_ok-progress.ensures.added c.in_ok-spread_calls.ensures c.in_ok-progress.ensures.number refl)

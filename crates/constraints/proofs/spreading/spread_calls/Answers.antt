@@ -1,10 +1,12 @@
 use Rattle.std.proofs.Common.{ap, arith, length, refl, subst, sym, ◌∙◌, ◌+◌, ◌<◌, [], take}
-use Rattle.constraints.specs.Merging.{AreSpreadSoFar}
+use Rattle.std.proofs.lemmas.List.{length-map}
+use Rattle.constraints.specs.Merging.{AreSpreadSoFar, row_of, rows_of}
 use Rattle.constraints.specs.Spreading.{AreRowsOf, all_calls}
 use Rattle.constraints.specs.declared.spreading.Made.{Made}
 use Rattle.constraints.proofs.Bodies.{procedures-numbered}
 use Rattle.constraints.proofs.CallRows.{calls-more, calls-upto}
-use Rattle.constraints.proofs.PartRows.{merged-all, so-far-next, taken-none}
+use Rattle.constraints.proofs.LaidRows.{shared-all}
+use Rattle.constraints.proofs.PartRows.{so-far-next, taken-none}
 use Rattle.constraints.proofs.Spread.{whole-none}
 use Rattle.constraints.proofs.SpreadRows.{calls-all, calls-next}
 use Rattle.constraints.specs.Spreading.{Declares}
@@ -15,10 +17,11 @@ loop-i-init c = record {
   spread = record {
     spread = [];
     are_spread = whole-none c.args.table.now.core.now c.args.table.now.core.now.labels c.args.journal.now (Declares c.args.table.now.core.now) [] c.args.made.now.number refl;
-    are_taken = taken-none c.in_ok-kept.kept.items c.args.made.now.constraints.items;
+    are_taken = taken-none (rows_of c.in_ok-kept.kept) c.args.made.now.constraints.items;
   };
   count = c.in_ok-kept.ensures.count;
   few = omega arith;
+  sound = c.in_ok-kept.ensures.sound;
 }
 
 pub loop-i-preserved : goal.loop-i-preserved
@@ -34,7 +37,7 @@ loop-i-preserved c =
     let so_far = c.loop-i.invariant.spread in
     record {
       spread =
-          so-far-next core table journal (all_calls (take i rows)) (all_calls (take (i + 1) rows)) c.in_ok-kept.kept.items c.loop-i.kept.items c.take_all.new.rows.items own.constraints.items
+          so-far-next core table journal (all_calls (take i rows)) (all_calls (take (i + 1) rows)) (rows_of c.in_ok-kept.kept) (rows_of c.loop-i.kept) (rows_of c.take_all.new.kept) own.constraints.items
           c.args.made.now c.loop-i.made made so_far
           (calls-next core table journal rows c.len.result i c.row-item.result c.deref-in-loop-i.result.now c.deref.result.now c.args.made.now.number so_far.spread begun own
           c.loop-i-test.true c.row-item.is c.deref-in-loop-i.ensures.value (subst (AreRowsOf c.len.result c.deref.result.now) (sym c.deref-row-items.ensures.value) c.in_ok-rows.ensures)
@@ -44,6 +47,7 @@ loop-i-preserved c =
       few =
           let more = calls-more rows i c.row-item.result c.deref-in-loop-i.result.now c.loop-i-test.true c.row-item.is c.deref-in-loop-i.ensures.value in
           omega (arith, c.loop-i.invariant.few, c.in_ok-spread_row.ensures.few, more);
+      sound = c.in_ok-take_all.ensures.sound;
     }
 
 pub spread_row-requires-clause-room : goal.spread_row-requires-clause-room
@@ -68,13 +72,12 @@ returns c =
     let journal = c.args.journal.now in
     let are = subst (AreRowsOf c.len.result c.deref.result.now) (sym c.deref-row-items.ensures.value) c.in_ok-rows.ensures in
     let so_far = c.loop-i.invariant.spread in
-    let made : Made = record { number = c.loop-i.made.number; constraints = c.lay_out.new.constraints } in
-    let whole : AreSpreadSoFar core table journal journal.calls.items c.in_ok-kept.kept.items c.loop-i.kept.items c.args.made.now c.loop-i.made = record {
+    let whole : AreSpreadSoFar core table journal journal.calls.items (rows_of c.in_ok-kept.kept) (rows_of c.loop-i.kept) c.args.made.now c.loop-i.made = record {
       spread = so_far.spread;
       are_spread = calls-all core table journal c.deref-row-items.result.now c.len.result c.loop-i.i journal.calls.items c.args.made.now.number c.loop-i.made.number so_far.spread
           c.loop-i-test.false (c.len.ensures ∙ core.procedures.ok.0)
           (subst (λ list. AreRowsOf c.len.result list c.deref-row-items.result.now) c.deref.ensures.value are) so_far.are_spread;
       are_taken = so_far.are_taken;
     } in
-    merged-all core table journal journal.calls.items c.in_ok-kept.kept.items c.loop-i.kept.items c.deref-2.result.now c.args.made.now c.loop-i.made made
-    c.in_ok-kept.ensures.nothing refl c.deref-2.ensures.value whole c.in_ok-lay_out.ensures
+    shared-all core table journal journal.calls.items (rows_of c.in_ok-kept.kept) (rows_of c.loop-i.kept) (length c.loop-i.kept.rows.items) c.args.made.now c.loop-i.made c.lay_out.new.made
+    c.in_ok-kept.ensures.nothing (length-map c.loop-i.kept.rows.items (row_of c.loop-i.kept.lists.lists.items)) c.loop-i.invariant.count whole c.in_ok-lay_out.ensures.laid c.in_ok-lay_out.ensures.few

@@ -55,7 +55,7 @@ returns-clause-never_stuck c =
     let core = c.args.checked.now.core in
     subst (λ (graph : ModuleContents). IsNeverStuck (laid_out graph)) (sym (graph_is c.in_ok-graph.graph c.core.result.now core c.in_ok-graph.ensures c.core.ensures.core))
     (modules-run (program_of core) core.well_formed c.core.ensures.checked.ended
-    (subst (Fits module_file) (graph_is c.in_ok-graph.graph c.core.result.now core c.in_ok-graph.ensures c.core.ensures.core) c.procedures-procedures.ensures.graph.limits))
+    (subst (Fits module_file) (graph_is c.in_ok-graph.graph c.core.result.now core c.in_ok-graph.ensures c.core.ensures.core) c.contents-contents.ensures.graph.limits))
 
 pub returns-clause-direct : goal.returns-clause-direct
 returns-clause-direct c =

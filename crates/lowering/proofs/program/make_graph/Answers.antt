@@ -17,15 +17,15 @@ new-requires c =
     subst IsGraph
     (sym (graph-made (program_of c.args.core.now) _ _ _ _ _ _
     c.module_version.ensures
-    c.in_ok-hierarchy.ensures
-    (c.in_ok-exceptions.ensures ∙ ap (map (λ name. string_bytes name)) c.deref.ensures.value)
-    (c.in_ok-channels.ensures ∙ ap (λ l. map channel_contents (map (channel_entry c.args.core.now.labels) l)) c.deref-2.ensures.value)
-    (c.in_ok-globals.ensures.exact c.args.core.now.labels ∙ ap (λ l. map global_contents (map (global_entry c.args.core.now.labels) l)) c.deref-3.ensures.value)
-    c.in_ok-procedures.ensures))
+    c.in_ok-hierarchy_of.ensures
+    (c.in_ok-copy_names.ensures ∙ ap (map (λ name. string_bytes name)) c.deref.ensures.value)
+    (c.in_ok-channels_of.ensures ∙ ap (λ l. map channel_contents (map (channel_entry c.args.core.now.labels) l)) c.deref-2.ensures.value)
+    (c.in_ok-globals_of.ensures.exact c.args.core.now.labels ∙ ap (λ l. map global_contents (map (global_entry c.args.core.now.labels) l)) c.deref-3.ensures.value)
+    c.in_ok-procedures_of.ensures))
     (record {
       positions = graphs-positioned (program_of c.args.core.now) c.args.core.now.well_formed c.requires.ends;
       limits = graphs-fit (program_of c.args.core.now) c.args.core.now.well_formed c.requires.ends c.requires.names
-          (subst (λ l. All (λ (entry : GlobalEntry). IsShortValue entry.first) (map (global_entry c.args.core.now.labels) l)) c.deref-3.ensures.value (c.in_ok-globals.ensures.short c.args.core.now.labels));
+          (subst (λ l. All (λ (entry : GlobalEntry). IsShortValue entry.first) (map (global_entry c.args.core.now.labels) l)) c.deref-3.ensures.value (c.in_ok-globals_of.ensures.short c.args.core.now.labels));
     })
 
 pub returns : goal.returns
@@ -33,8 +33,8 @@ returns c =
     c.new.ensures
     ∙ graph-made (program_of c.args.core.now) _ _ _ _ _ _
     c.module_version.ensures
-    c.in_ok-hierarchy.ensures
-    (c.in_ok-exceptions.ensures ∙ ap (map (λ name. string_bytes name)) c.deref.ensures.value)
-    (c.in_ok-channels.ensures ∙ ap (λ l. map channel_contents (map (channel_entry c.args.core.now.labels) l)) c.deref-2.ensures.value)
-    (c.in_ok-globals.ensures.exact c.args.core.now.labels ∙ ap (λ l. map global_contents (map (global_entry c.args.core.now.labels) l)) c.deref-3.ensures.value)
-    c.in_ok-procedures.ensures
+    c.in_ok-hierarchy_of.ensures
+    (c.in_ok-copy_names.ensures ∙ ap (map (λ name. string_bytes name)) c.deref.ensures.value)
+    (c.in_ok-channels_of.ensures ∙ ap (λ l. map channel_contents (map (channel_entry c.args.core.now.labels) l)) c.deref-2.ensures.value)
+    (c.in_ok-globals_of.ensures.exact c.args.core.now.labels ∙ ap (λ l. map global_contents (map (global_entry c.args.core.now.labels) l)) c.deref-3.ensures.value)
+    c.in_ok-procedures_of.ensures

@@ -7,6 +7,7 @@ use Rattle.solver.proofs.breaker.compare.Given as goal
 
 abbrev pub invariant-loop-n : goal.invariant-loop-n
 invariant-loop-n g l = record {
+  comparing : g.W.WrittenElements.compares l.written l.comparing;
   count : length l.known ≡ length l.fn.known;
   known : IsKnown (is_below (g.W.WrittenElements.order l.written) (g.W.WrittenElements.elements l.written)) l.known l.to;
   from : l.from ≤ length l.left;

@@ -4,14 +4,14 @@ use Rattle.solver.specs.Broken.{is_below}
 use Rattle.solver.proofs.Comparing.{kept-count, kept-known}
 use Rattle.solver.proofs.breaker.first_above.Goals as goal
 
-pub compare-above-requires-clause-count : goal.compare-above-requires-clause-count
-compare-above-requires-clause-count g c =
+pub compare-requires-clause-count : goal.compare-requires-clause-count
+compare-requires-clause-count g c =
     let below = is_below (g.W.WrittenElements.order c.args.written.now) (g.W.WrittenElements.elements c.args.written.now) in
     let known : IsKnownRow below c.len.result c.args.to c.take.result = rw (c.len.ensures, c.take.ensures.value) c.requires.known in
     kept-count below c.len.result c.args.to c.in_ok-below.below (c.in_ok-below.ensures below c.args.to known) ∙ c.len.ensures
 
-pub compare-above-requires-clause-known : goal.compare-above-requires-clause-known
-compare-above-requires-clause-known g c =
+pub compare-requires-clause-known : goal.compare-requires-clause-known
+compare-requires-clause-known g c =
     let below = is_below (g.W.WrittenElements.order c.args.written.now) (g.W.WrittenElements.elements c.args.written.now) in
     let known : IsKnownRow below c.len.result c.args.to c.take.result = rw (c.len.ensures, c.take.ensures.value) c.requires.known in
     kept-known below c.len.result c.args.to c.in_ok-below.below (c.in_ok-below.ensures below c.args.to known)
@@ -20,6 +20,6 @@ pub returns-clause-known : goal.returns-clause-known
 returns-clause-known g c =
     let below = is_below (g.W.WrittenElements.order c.args.written.now) (g.W.WrittenElements.elements c.args.written.now) in
     let known : IsKnownRow below c.len.result c.args.to c.take.result = rw (c.len.ensures, c.take.ensures.value) c.requires.known in
-    some c.compare-above.new.known
-    (c.compare-above.ensures.count ∙ (kept-count below c.len.result c.args.to c.in_ok-below.below (c.in_ok-below.ensures below c.args.to known) ∙ c.len.ensures))
-    c.compare-above.ensures.known
+    some c.compare.new.known
+    (c.compare.ensures.count ∙ (kept-count below c.len.result c.args.to c.in_ok-below.below (c.in_ok-below.ensures below c.args.to known) ∙ c.len.ensures))
+    c.compare.ensures.known

@@ -8,9 +8,9 @@ loop-i-preserved g c =
     let item = c.index-constraints-i.result in
     record {
       written = λ k. links_step (Written k) c.args.constraints.now c.loop-i.i item c.as_slice.result.now _ _ c.loop-i-test.true c.index-constraints-i.is
-          c.as_slice.ensures.value (c.loop-i.invariant.written k) (c.in_ok-add_left.ensures.written k);
+          c.as_slice.ensures (c.loop-i.invariant.written k) (c.in_ok-add_left.ensures.written k);
       unknown = λ k. links_step (Unknown k) c.args.constraints.now c.loop-i.i item c.as_slice.result.now _ _ c.loop-i-test.true c.index-constraints-i.is
-          c.as_slice.ensures.value (c.loop-i.invariant.unknown k) (c.in_ok-add_left.ensures.unknown k);
+          c.as_slice.ensures (c.loop-i.invariant.unknown k) (c.in_ok-add_left.ensures.unknown k);
       written_count = c.in_ok-add_left.ensures.written_count ∙ c.loop-i.invariant.written_count;
       unknown_count = c.in_ok-add_left.ensures.unknown_count ∙ c.loop-i.invariant.unknown_count;
     }

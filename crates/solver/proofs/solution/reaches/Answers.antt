@@ -6,7 +6,7 @@ use Rattle.solver.proofs.solution.reaches.Goals as goal
 pub returns-then-unknown-rows : goal.returns-then-unknown-rows
 returns-then-unknown-rows c =
     let row : List Bool = c.index-rows-unknown.result in
-    c.has.ensures ∙ (ap (λ (r : List Bool). has r c.args.number) c.index-rows-unknown.is
+    c.contains.ensures ∙ (ap (λ (r : List Bool). has r c.args.number) c.index-rows-unknown.is
     ∙ has_at-read c.args.rows.now c.args.unknown c.args.number row c.if-unknown-rows.true)
 
 pub returns-else-unknown-rows : goal.returns-else-unknown-rows

@@ -5,6 +5,6 @@ use Rattle.solver.proofs.worklist.empty_rows.Given as goal
 abbrev pub invariant-loop-u : goal.invariant-loop-u
 invariant-loop-u l = record {
   all : length l.rows.items ≡ l._u;
-  sized : AreSized l.written l.rows.items;
+  sized : (written : ℕ) → AreSized written l.rows.items;
   empty : (u n : ℕ) → has_at l.rows.items u n ≡ false;
 }

@@ -1,7 +1,6 @@
 use Rattle.std.proofs.Common.{◌≡◌, ◌+◌, ap, ◌∙◌, sym, subst, arith, length, set, false, ◌∷◌, ℕ, List}
 use Rattle.std.specs.Prelude.{Contains}
 use Rattle.principals.proofs.Closure.{Contains-first}
-use Rattle.solver.specs.Rows.{AreSized}
 use Rattle.solver.specs.Work.{AreSoFar, IsWork}
 use Rattle.solver.proofs.Comparing.{slice_get-inside}
 use Rattle.solver.proofs.Queued.{next-none, next-some}
@@ -13,10 +12,9 @@ use Rattle.solver.proofs.worklist.rows_of.Goals.{In-Some}
 pub loop-by-init : goal.loop-by-init
 loop-by-init g c =
     let all : length c.in_ok-empty_rows.field-0.items ≡ length c.args.edges.now.unknown.items = omega (arith, c.in_ok-empty_rows.ensures.all, c.len.ensures, c.args.edges.now.unknown.ok.0) in
-    let written : c.len-written.result ≡ length c.args.edges.now.written.items = omega (arith, c.len-written.ensures, c.args.edges.now.written.ok.0) in
     record {
       work = work-first c.args.constraints.now c.args.edges.now c.requires.edges c.in_ok-empty_rows.field-0.items c.in_ok-queue.queue.waits.items c.in_ok-queue.queue.order.items all
-          (subst (λ n. AreSized n c.in_ok-empty_rows.field-0.items) written c.in_ok-empty_rows.ensures.sized) c.in_ok-empty_rows.ensures.empty c.in_ok-queue.ensures;
+          (c.in_ok-empty_rows.ensures.sized (length c.args.edges.now.written.items)) c.in_ok-empty_rows.ensures.empty c.in_ok-queue.ensures;
       so_far = so-far-first c.args.constraints.now c.args.edges.now c.requires.edges c.in_ok-empty_rows.field-0.items c.in_ok-queue.queue.waits.items c.in_ok-queue.queue.order.items c.in_ok-queue.ensures;
     }
 

@@ -1,74 +1,187 @@
-use Rattle.std.proofs.Common.{◌≡◌, ◌∙◌, ap, sym, subst, map, length, arith, Ok}
-use Rattle.std.specs.Prelude.{string_bytes}
+use Rattle.std.proofs.Common.{◌≡◌, ◌+◌, ◌*◌, ◌≤◌, ◌∙◌, [], ap, sym, subst, map, length, arith, Ok}
+use Rattle.std.specs.Prelude.{string_bytes, sum_by}
 use Rattle.std.proofs.lemmas.List.{length-map}
 use Rattle.std.proofs.lemmas.Result.{err_from_is_err_and}
 use Rattle.labels.specs.LabelTable.{Extends, label_at}
+use Rattle.syntax.specs.Nodes.{optional_label_nodes, parameter_nodes, thrown_nodes, written_result_nodes}
 use Rattle.syntax.specs.Tree.{parameter_tree, thrown_tree, procedure_tree}
-use Rattle.resolved.specs.ProgramOf.{result_entry, thrown_entry, written_at}
+use Rattle.resolved.specs.ProgramOf.{thrown_entry, written_at}
 use Rattle.resolved.specs.TreeOf.{block_of}
 use Rattle.common.specs.Answers.{IfRefused}
-use Rattle.types.specs.Finding.{IsRefusalOf}
+use Rattle.types.specs.Finding.{IsRefusalOf, along}
 use Rattle.types.specs.Labels.{optional_label_finding}
-use Rattle.types.specs.Resolution.{end_label_of, setting_within, throws_finding}
+use Rattle.types.specs.Resolution.{end_label_of, next_parameter, parameters_finding, setting_within, throws_finding}
 use Rattle.types.specs.Statements.{block_finding}
 use Rattle.types.specs.VariableEntries.{VariableEntries}
-use Rattle.types.specs.Views.{item_scope, item_scope_of, point_of, setting_of, throws_view, top_view}
+use Rattle.types.specs.Views.{item_scope, item_scope_of, point_of, setting_of, taken, throws_view, top_view}
 use Rattle.types.proofs.LabelNumbers.{extends_through, still_inside, same_label, same_written, result_still_inside, same_result, thrown_still_inside, same_thrown}
 use Rattle.types.proofs.Later.{setting_same}
-use Rattle.types.proofs.Procedures.{same_scope, optional_in_scope, optional_wrong_in_scope, parameters_in_scope, parameters_few, throws_few, parameters_wrong, end_wrong, throws_wrong, block_wrong, procedure_found}
+use Rattle.types.proofs.Procedures.{same_scope, optional_in_scope, optional_wrong_in_scope, parameters_in_scope, parameters_few, parameters_need, throws_need, parameters_wrong, end_wrong, throws_wrong, block_wrong, procedure_found}
 use Rattle.types.proofs.procedure.resolve_procedure.Goals as goal
+use Rattle.types.proofs.procedure.resolve_procedure.Goals.{After-deref, After-deref-2, After-deref-3, After-resolve_block, After-len}
+
+-- ---- with the begin label: what it was found to be, and that the globals are as they were and no slot is taken
+
+begun : (c : After-deref) → optional_label_finding (item_scope c.args.place.now c.args.variables) (procedure_tree c.args.written.now).begin
+    ≡ Ok (written_at c.add_optional_label.new.variables.labels c.in_ok-begin.begin)
+begun c =
+    let scope = item_scope c.args.place.now c.args.variables in
+    let first = c.resolve_result.new.variables in
+    let same = same_scope c.args.place.now c.args.variables first c.in_ok-value.ensures.more.globals in
+    optional_in_scope (item_scope c.args.place.now first) scope (procedure_tree c.args.written.now).begin _ same c.in_ok-begin.ensures.made
+
+begun_globals : (c : After-deref) → c.add_optional_label.new.variables.globals ≡ c.args.variables.globals
+begun_globals c = c.in_ok-begin.ensures.more.globals ∙ c.in_ok-value.ensures.more.globals
+
+begun_slots : (c : After-deref) → c.add_optional_label.new.variables.slots ≡ []
+begun_slots c = c.in_ok-begin.ensures.more.slots ∙ c.in_ok-value.ensures.more.slots ∙ c.requires.none
+
+begun_labels : (c : After-deref) → Extends c.args.variables.labels c.add_optional_label.new.variables.labels
+begun_labels c =
+    extends_through c.args.variables.labels c.resolve_result.new.variables.labels c.add_optional_label.new.variables.labels c.in_ok-value.ensures.more.extended c.in_ok-begin.ensures.more.extended
+
+begun_taken : (c : After-deref) → taken c.new-body.result
+    ≤ length c.args.variables.labels + written_result_nodes (procedure_tree c.args.written.now).result + optional_label_nodes (procedure_tree c.args.written.now).begin
+begun_taken c = omega (arith, ap length (begun_slots c), c.new-body.ensures.taken, c.in_ok-value.ensures.more.few, c.in_ok-begin.ensures.more.few)
+
+parameters_are : (c : After-deref) → along (next_parameter (item_scope_of c.new-body.result)) (point_of c.new-body.result) (map parameter_tree c.deref.result.now)
+    ≡ parameters_finding (item_scope c.args.place.now c.args.variables) (procedure_tree c.args.written.now).parameters
+parameters_are c =
+    let scope = item_scope c.args.place.now c.args.variables in
+    let begins = c.new-body.result in
+    let same = c.new-body.ensures.scope ∙ same_scope c.args.place.now c.args.variables c.add_optional_label.new.variables (begun_globals c) in
+    let start = c.new-body.ensures.point ∙ ap (λ slots. record { names = scope.names; slots = slots; loops = 0 }) (begun_slots c) in
+    parameters_in_scope (item_scope_of begins) scope (point_of begins) (map parameter_tree c.deref.result.now) (procedure_tree c.args.written.now).parameters
+    same start (ap (map parameter_tree) c.deref.ensures.value)
+
+parameters_room : (c : After-deref) → 2 * length c.deref.result.now ≤ sum_by parameter_nodes (procedure_tree c.args.written.now).parameters
+parameters_room c = parameters_need parameter_tree c.deref.result.now c.args.written.now.parameters.items c.deref.ensures.value
+
+-- ---- with the parameters and the end label
+
+declared : (c : After-deref-2) → parameters_finding (item_scope c.args.place.now c.args.variables) (procedure_tree c.args.written.now).parameters
+    ≡ Ok (point_of c.declare_parameters.new.self)
+declared c = sym (parameters_are (goal.at.resolve_throws-requires c).After-deref) ∙ c.in_ok-declare_parameters.ensures.made
+
+declared_globals : (c : After-deref-2) → c.declare_parameters.new.self.variables.globals ≡ c.args.variables.globals
+declared_globals c =
+    c.in_ok-declare_parameters.ensures.later.globals ∙ ap (λ (one : VariableEntries). one.globals) c.new-body.ensures.variables
+    ∙ begun_globals (goal.at.resolve_throws-requires c).After-deref
+
+declared_labels : (c : After-deref-2) → Extends c.add_optional_label.new.variables.labels c.declare_parameters.new.self.variables.labels
+declared_labels c =
+    subst (λ (one : VariableEntries). Extends one.labels c.declare_parameters.new.self.variables.labels) c.new-body.ensures.variables c.in_ok-declare_parameters.ensures.later.labels
+
+declared_taken : (c : After-deref-2) → taken c.declare_parameters.new.self ≤ length c.args.variables.labels
+    + written_result_nodes (procedure_tree c.args.written.now).result + optional_label_nodes (procedure_tree c.args.written.now).begin
+    + sum_by parameter_nodes (procedure_tree c.args.written.now).parameters
+declared_taken c =
+    let at = (goal.at.resolve_throws-requires c).After-deref in
+    omega (arith, begun_taken at, parameters_room at, c.in_ok-declare_parameters.ensures.grows)
+
+ended : (c : After-deref-2) → optional_label_finding (item_scope c.args.place.now c.args.variables) (procedure_tree c.args.written.now).end
+    ≡ Ok (written_at c.add_optional_label-2.new.variables.labels c.in_ok-end.end)
+ended c =
+    let scope = item_scope c.args.place.now c.args.variables in
+    let third = c.declare_parameters.new.self.variables in
+    optional_in_scope (item_scope c.args.place.now third) scope (procedure_tree c.args.written.now).end _ (same_scope c.args.place.now c.args.variables third (declared_globals c)) c.in_ok-end.ensures.made
+
+throws_are : (c : After-deref-2) → throws_finding (item_scope c.args.place.now c.add_optional_label-2.new.variables) (map thrown_tree c.deref-2.result.now)
+    ≡ throws_finding (item_scope c.args.place.now c.args.variables) (procedure_tree c.args.written.now).throws
+throws_are c =
+    let scope = item_scope c.args.place.now c.args.variables in
+    let globals = c.in_ok-end.ensures.more.globals ∙ declared_globals c in
+    ap (λ one. throws_finding one (map thrown_tree c.deref-2.result.now)) (same_scope c.args.place.now c.args.variables c.add_optional_label-2.new.variables globals)
+    ∙ ap (λ list. throws_finding scope (map thrown_tree list)) c.deref-2.ensures.value
+
+throws_room : (c : After-deref-2) → length c.deref-2.result.now ≤ sum_by thrown_nodes (procedure_tree c.args.written.now).throws
+throws_room c = throws_need thrown_tree c.deref-2.result.now c.args.written.now.throws.items c.deref-2.ensures.value
+
+-- ---- with the exceptions
+
+thrown : (c : After-deref-3) → throws_finding (item_scope c.args.place.now c.args.variables) (procedure_tree c.args.written.now).throws
+    ≡ Ok (throws_view c.resolve_throws.new.variables.labels c.in_ok-throws.throws)
+thrown c = sym (throws_are (goal.at.make_end_label-requires-clause-room c).After-deref-2) ∙ c.in_ok-throws.ensures.made
+
+thrown_labels : (c : After-deref-3) → Extends c.add_optional_label.new.variables.labels c.resolve_throws.new.variables.labels
+thrown_labels c =
+    let second = c.add_optional_label.new.variables.labels in
+    let third = c.declare_parameters.new.self.variables.labels in
+    let fifth = c.resolve_throws.new.variables.labels in
+    let since = extends_through third c.add_optional_label-2.new.variables.labels fifth c.in_ok-end.ensures.more.extended c.in_ok-throws.ensures.more.extended in
+    extends_through second third fifth (declared_labels (goal.at.make_end_label-requires-clause-room c).After-deref-2) since
+
+thrown_taken : (c : After-deref-3) → taken (record c.declare_parameters.new.self { variables = c.resolve_throws.new.variables }) ≤ length c.args.variables.labels
+    + written_result_nodes (procedure_tree c.args.written.now).result + optional_label_nodes (procedure_tree c.args.written.now).begin
+    + sum_by parameter_nodes (procedure_tree c.args.written.now).parameters + optional_label_nodes (procedure_tree c.args.written.now).end
+    + sum_by thrown_nodes (procedure_tree c.args.written.now).throws
+thrown_taken c =
+    let at = (goal.at.make_end_label-requires-clause-room c).After-deref-2 in
+    let slots = ap length (c.in_ok-throws.ensures.more.slots ∙ c.in_ok-end.ensures.more.slots) in
+    omega (arith, declared_taken at, throws_room at, slots, c.in_ok-end.ensures.more.few, c.in_ok-throws.ensures.more.few)
+
+-- ---- where the body begins
+
+entered_globals : (c : After-resolve_block) → c.make_end_label.new.variables.globals ≡ c.declare_parameters.new.self.variables.globals
+entered_globals c = c.in_ok-end_label.ensures.more.globals ∙ c.in_ok-throws.ensures.more.globals ∙ c.in_ok-end.ensures.more.globals
+
+entered_slots : (c : After-resolve_block) → c.make_end_label.new.variables.slots ≡ c.declare_parameters.new.self.variables.slots
+entered_slots c = c.in_ok-end_label.ensures.more.slots ∙ c.in_ok-throws.ensures.more.slots ∙ c.in_ok-end.ensures.more.slots
+
+block_is : (c : After-resolve_block) → c.add_optional_label.new.variables.globals ≡ c.args.variables.globals →
+    block_finding (setting_of (record c.declare_parameters.new.self { variables = c.make_end_label.new.variables }))
+    (point_of (record c.declare_parameters.new.self { variables = c.make_end_label.new.variables })) (procedure_tree c.args.written.now).body
+    ≡ block_finding (setting_within (item_scope c.args.place.now c.args.variables) (top_view c.args.place.now.top.now).signatures (procedure_tree c.args.written.now))
+    (point_of c.declare_parameters.new.self) (procedure_tree c.args.written.now).body
+block_is c globals =
+    let tree = procedure_tree c.args.written.now in
+    let signatures = (top_view c.args.place.now.top.now).signatures in
+    let scope = item_scope c.args.place.now c.args.variables in
+    let third = c.declare_parameters.new.self in
+    let entered = record third { variables = c.make_end_label.new.variables } in
+    let setting : setting_of entered ≡ setting_within scope signatures tree =
+    (λ i. record (setting_of third) { globals = entered_globals c i }) ∙ setting_same c.new-body.result third c.in_ok-declare_parameters.ensures.later ∙ c.new-body.ensures.setting
+    ∙ (λ i. record { hierarchy = scope.hierarchy; globals = globals i; signatures = signatures; result = c.result_of.ensures i }) in
+    let point : point_of entered ≡ point_of third = λ i. record (point_of third) { slots = entered_slots c i } in
+    λ i. block_finding (setting i) (point i) tree.body
+
+-- ---- behind the body: labels keep their numbers
+
+last_of_fifth : (c : After-len) → Extends c.resolve_throws.new.variables.labels c.resolve_block.new.self.variables.labels
+last_of_fifth c =
+    extends_through c.resolve_throws.new.variables.labels c.make_end_label.new.variables.labels c.resolve_block.new.self.variables.labels
+    c.in_ok-end_label.ensures.more.extended c.in_ok-statements.ensures.later.labels
+
+last_of_second : (c : After-len) → Extends c.add_optional_label.new.variables.labels c.resolve_block.new.self.variables.labels
+last_of_second c =
+    extends_through c.add_optional_label.new.variables.labels c.resolve_throws.new.variables.labels c.resolve_block.new.self.variables.labels
+    (thrown_labels (goal.at.overflow_cast-procedure c).After-deref-3) (last_of_fifth c)
+
+last_of_first : (c : After-len) → Extends c.resolve_result.new.variables.labels c.resolve_block.new.self.variables.labels
+last_of_first c =
+    extends_through c.resolve_result.new.variables.labels c.add_optional_label.new.variables.labels c.resolve_block.new.self.variables.labels
+    c.in_ok-begin.ensures.more.extended (last_of_second c)
 
 -- ---- there is room
 
 pub declare_parameters-requires : goal.declare_parameters-requires
-declare_parameters-requires c =
-    let parameters = parameters_few (map parameter_tree c.args.written.now.parameters.items) in
-    let parameters_same = length-map c.args.written.now.parameters.items parameter_tree in
-    let parameters_lent = ap length c.deref.ensures.value in
-    let none = ap length (c.in_ok-begin.ensures.more.slots ∙ c.in_ok-value.ensures.more.slots ∙ c.requires.none) in
-    record { room = omega (arith, parameters, parameters_same, parameters_lent, none, c.new-body.ensures.taken, c.in_ok-value.ensures.more.few, c.in_ok-begin.ensures.more.few, c.requires.room) }
+declare_parameters-requires c = record { room = omega (arith, begun_taken c, parameters_room c, c.requires.room) }
 
 pub add_optional_label-requires-2 : goal.add_optional_label-requires-2
 add_optional_label-requires-2 c =
-    let parameters = parameters_few (map parameter_tree c.args.written.now.parameters.items) in
-    let parameters_same = length-map c.args.written.now.parameters.items parameter_tree in
-    let parameters_lent = ap length c.deref.ensures.value in
-    let none = ap length (c.in_ok-begin.ensures.more.slots ∙ c.in_ok-value.ensures.more.slots ∙ c.requires.none) in
-    record { room = omega (arith, parameters, parameters_same, parameters_lent, none, c.new-body.ensures.taken, c.in_ok-value.ensures.more.few, c.in_ok-begin.ensures.more.few, c.requires.room, c.in_ok-declare_parameters.ensures.grows) }
+    let at = (goal.at.add_optional_label-requires-2 c).After-deref in
+    record { room = omega (arith, begun_taken at, parameters_room at, c.in_ok-declare_parameters.ensures.grows, c.requires.room) }
 
 pub resolve_throws-requires : goal.resolve_throws-requires
-resolve_throws-requires c =
-    let parameters = parameters_few (map parameter_tree c.args.written.now.parameters.items) in
-    let parameters_same = length-map c.args.written.now.parameters.items parameter_tree in
-    let parameters_lent = ap length c.deref.ensures.value in
-    let none = ap length (c.in_ok-begin.ensures.more.slots ∙ c.in_ok-value.ensures.more.slots ∙ c.requires.none) in
-    let throws = throws_few (map thrown_tree c.args.written.now.throws.items) in
-    let throws_same = length-map c.args.written.now.throws.items thrown_tree in
-    let throws_lent = ap length c.deref-2.ensures.value in
-    record { room = omega (arith, parameters, parameters_same, parameters_lent, none, c.new-body.ensures.taken, c.in_ok-value.ensures.more.few, c.in_ok-begin.ensures.more.few, c.requires.room, throws, throws_same, throws_lent, c.in_ok-declare_parameters.ensures.grows, c.in_ok-end.ensures.more.few) }
+resolve_throws-requires c = record { room = omega (arith, declared_taken c, throws_room c, c.in_ok-end.ensures.more.few, c.requires.room) }
 
 pub make_end_label-requires-clause-room : goal.make_end_label-requires-clause-room
-make_end_label-requires-clause-room c =
-    let parameters = parameters_few (map parameter_tree c.args.written.now.parameters.items) in
-    let parameters_same = length-map c.args.written.now.parameters.items parameter_tree in
-    let parameters_lent = ap length c.deref.ensures.value in
-    let none = ap length (c.in_ok-begin.ensures.more.slots ∙ c.in_ok-value.ensures.more.slots ∙ c.requires.none) in
-    let throws = throws_few (map thrown_tree c.args.written.now.throws.items) in
-    let throws_same = length-map c.args.written.now.throws.items thrown_tree in
-    let throws_lent = ap length c.deref-2.ensures.value in
-    omega (arith, parameters, parameters_same, parameters_lent, none, c.new-body.ensures.taken, c.in_ok-value.ensures.more.few, c.in_ok-begin.ensures.more.few, c.requires.room, throws, throws_same, throws_lent, c.in_ok-declare_parameters.ensures.grows, c.in_ok-end.ensures.more.few, c.in_ok-throws.ensures.more.few)
+make_end_label-requires-clause-room c = omega (arith, thrown_taken c, c.requires.room)
 
 pub resolve_block-requires : goal.resolve_block-requires
 resolve_block-requires c =
-    let parameters = parameters_few (map parameter_tree c.args.written.now.parameters.items) in
-    let parameters_same = length-map c.args.written.now.parameters.items parameter_tree in
-    let parameters_lent = ap length c.deref.ensures.value in
-    let none = ap length (c.in_ok-begin.ensures.more.slots ∙ c.in_ok-value.ensures.more.slots ∙ c.requires.none) in
-    let throws = throws_few (map thrown_tree c.args.written.now.throws.items) in
-    let throws_same = length-map c.args.written.now.throws.items thrown_tree in
-    let throws_lent = ap length c.deref-2.ensures.value in
-    let slots = ap length (c.in_ok-end_label.ensures.more.slots ∙ c.in_ok-throws.ensures.more.slots ∙ c.in_ok-end.ensures.more.slots) in
-    record { room = omega (arith, parameters, parameters_same, parameters_lent, none, c.new-body.ensures.taken, c.in_ok-value.ensures.more.few, c.in_ok-begin.ensures.more.few, c.requires.room, throws, throws_same, throws_lent, slots, c.in_ok-declare_parameters.ensures.grows, c.in_ok-end.ensures.more.few, c.in_ok-throws.ensures.more.few, c.in_ok-end_label.ensures.more.few) }
+    let so_far = thrown_taken (goal.at.resolve_block-requires c).After-deref-3 in
+    record { room = omega (arith, so_far, ap length c.in_ok-end_label.ensures.more.slots, c.in_ok-end_label.ensures.more.few, c.requires.room) }
 
 pub overflow_cast-procedure : goal.overflow_cast-procedure
 overflow_cast-procedure c =
@@ -80,186 +193,68 @@ overflow_cast-procedure c =
 
 pub returns-in_err-declare_parameters-clause-made : goal.returns-in_err-declare_parameters-clause-made
 returns-in_err-declare_parameters-clause-made c =
+    let at = (goal.at.returns-in_err-declare_parameters-clause-made c).After-deref in
     let p = err_from_is_err_and c.from_residual-in_err-declare_parameters.result c.from_residual-in_err-declare_parameters.ensures.1 in
     let fault = c.in_err-declare_parameters.field-0.0 in
-    let tree = procedure_tree c.args.written.now in
-    let signatures = (top_view c.args.place.now.top.now).signatures in
-    let scope = item_scope c.args.place.now c.args.variables in
-    let first = c.resolve_result.new.variables in
-    let second = c.add_optional_label.new.variables in
-    let begins = c.new-body.result in
-    let begun : optional_label_finding scope tree.begin ≡ Ok (written_at second.labels c.in_ok-begin.begin) =
-    optional_in_scope (item_scope c.args.place.now first) scope tree.begin _ (same_scope c.args.place.now c.args.variables first c.in_ok-value.ensures.more.globals) c.in_ok-begin.ensures.made in
-    let globals_second = c.in_ok-begin.ensures.more.globals ∙ c.in_ok-value.ensures.more.globals in
-    let none = c.in_ok-begin.ensures.more.slots ∙ c.in_ok-value.ensures.more.slots ∙ c.requires.none in
-    let start = c.new-body.ensures.point ∙ ap (λ slots. record { names = scope.names; slots = slots; loops = 0 }) none in
-    let are = parameters_in_scope (item_scope_of begins) scope (point_of begins) (map parameter_tree c.deref.result.now) tree.parameters
-    (c.new-body.ensures.scope ∙ same_scope c.args.place.now c.args.variables second globals_second) start (ap (map parameter_tree) c.deref.ensures.value) in
-    rw (p.1, p.2) (parameters_wrong scope signatures tree (result_entry first.labels c.in_ok-value.value) (written_at second.labels c.in_ok-begin.begin) c.in_ok-value.ensures.made begun fault
-    (subst (λ one. IfRefused (IsRefusalOf one) fault) are c.in_err-declare_parameters.ensures.made))
+    rw (p.1, p.2) (parameters_wrong _ _ _ _ _ c.in_ok-value.ensures.made (begun at) fault
+    (subst (λ one. IfRefused (IsRefusalOf one) fault) (parameters_are at) c.in_err-declare_parameters.ensures.made))
 
 pub returns-in_err-end-clause-made : goal.returns-in_err-end-clause-made
 returns-in_err-end-clause-made c =
+    let at = (goal.at.returns-in_err-end-clause-made c).After-deref in
     let p = err_from_is_err_and c.from_residual-in_err-end.result c.from_residual-in_err-end.ensures.1 in
     let fault = c.in_err-end.field-0.0 in
-    let tree = procedure_tree c.args.written.now in
-    let signatures = (top_view c.args.place.now.top.now).signatures in
-    let scope = item_scope c.args.place.now c.args.variables in
-    let first = c.resolve_result.new.variables in
-    let second = c.add_optional_label.new.variables in
-    let begins = c.new-body.result in
-    let begun : optional_label_finding scope tree.begin ≡ Ok (written_at second.labels c.in_ok-begin.begin) =
-    optional_in_scope (item_scope c.args.place.now first) scope tree.begin _ (same_scope c.args.place.now c.args.variables first c.in_ok-value.ensures.more.globals) c.in_ok-begin.ensures.made in
-    let globals_second = c.in_ok-begin.ensures.more.globals ∙ c.in_ok-value.ensures.more.globals in
-    let none = c.in_ok-begin.ensures.more.slots ∙ c.in_ok-value.ensures.more.slots ∙ c.requires.none in
-    let start = c.new-body.ensures.point ∙ ap (λ slots. record { names = scope.names; slots = slots; loops = 0 }) none in
-    let are = parameters_in_scope (item_scope_of begins) scope (point_of begins) (map parameter_tree c.deref.result.now) tree.parameters
-    (c.new-body.ensures.scope ∙ same_scope c.args.place.now c.args.variables second globals_second) start (ap (map parameter_tree) c.deref.ensures.value) in
-    let third = c.declare_parameters.new.self in
-    let later = c.in_ok-declare_parameters.ensures.later in
-    let declared = sym are ∙ c.in_ok-declare_parameters.ensures.made in
-    let globals_third = later.globals ∙ ap (λ (one : VariableEntries). one.globals) c.new-body.ensures.variables ∙ globals_second in
-    let scope_third = same_scope c.args.place.now c.args.variables third.variables globals_third in
-    rw (p.1, p.2) (end_wrong scope signatures tree (result_entry first.labels c.in_ok-value.value) (written_at second.labels c.in_ok-begin.begin) c.in_ok-value.ensures.made begun
-    (point_of third) declared fault (optional_wrong_in_scope (item_scope c.args.place.now third.variables) scope tree.end fault scope_third c.in_err-end.ensures.made))
+    let third = c.declare_parameters.new.self.variables in
+    let globals = c.in_ok-declare_parameters.ensures.later.globals ∙ ap (λ (one : VariableEntries). one.globals) c.new-body.ensures.variables ∙ begun_globals at in
+    let same = same_scope c.args.place.now c.args.variables third globals in
+    rw (p.1, p.2) (end_wrong _ _ _ _ _ c.in_ok-value.ensures.made (begun at) _ (sym (parameters_are at) ∙ c.in_ok-declare_parameters.ensures.made) fault
+    (optional_wrong_in_scope (item_scope c.args.place.now third) (item_scope c.args.place.now c.args.variables) (procedure_tree c.args.written.now).end fault same c.in_err-end.ensures.made))
 
 pub returns-in_err-throws-clause-made : goal.returns-in_err-throws-clause-made
 returns-in_err-throws-clause-made c =
+    let at = goal.at.returns-in_err-throws-clause-made c in
     let p = err_from_is_err_and c.from_residual-in_err-throws.result c.from_residual-in_err-throws.ensures.1 in
     let fault = c.in_err-throws.field-0.0 in
-    let tree = procedure_tree c.args.written.now in
-    let signatures = (top_view c.args.place.now.top.now).signatures in
-    let scope = item_scope c.args.place.now c.args.variables in
-    let first = c.resolve_result.new.variables in
-    let second = c.add_optional_label.new.variables in
-    let begins = c.new-body.result in
-    let begun : optional_label_finding scope tree.begin ≡ Ok (written_at second.labels c.in_ok-begin.begin) =
-    optional_in_scope (item_scope c.args.place.now first) scope tree.begin _ (same_scope c.args.place.now c.args.variables first c.in_ok-value.ensures.more.globals) c.in_ok-begin.ensures.made in
-    let globals_second = c.in_ok-begin.ensures.more.globals ∙ c.in_ok-value.ensures.more.globals in
-    let none = c.in_ok-begin.ensures.more.slots ∙ c.in_ok-value.ensures.more.slots ∙ c.requires.none in
-    let start = c.new-body.ensures.point ∙ ap (λ slots. record { names = scope.names; slots = slots; loops = 0 }) none in
-    let are = parameters_in_scope (item_scope_of begins) scope (point_of begins) (map parameter_tree c.deref.result.now) tree.parameters
-    (c.new-body.ensures.scope ∙ same_scope c.args.place.now c.args.variables second globals_second) start (ap (map parameter_tree) c.deref.ensures.value) in
-    let third = c.declare_parameters.new.self in
-    let later = c.in_ok-declare_parameters.ensures.later in
-    let declared = sym are ∙ c.in_ok-declare_parameters.ensures.made in
-    let globals_third = later.globals ∙ ap (λ (one : VariableEntries). one.globals) c.new-body.ensures.variables ∙ globals_second in
-    let scope_third = same_scope c.args.place.now c.args.variables third.variables globals_third in
-    let fourth = c.add_optional_label-2.new.variables in
-    let ended = optional_in_scope (item_scope c.args.place.now third.variables) scope tree.end _ scope_third c.in_ok-end.ensures.made in
-    let globals_fourth = c.in_ok-end.ensures.more.globals ∙ globals_third in
-    let throws_are = ap (λ one. throws_finding one (map thrown_tree c.deref-2.result.now)) (same_scope c.args.place.now c.args.variables fourth globals_fourth)
-    ∙ ap (λ list. throws_finding scope (map thrown_tree list)) c.deref-2.ensures.value in
-    rw (p.1, p.2) (throws_wrong scope signatures tree (result_entry first.labels c.in_ok-value.value) (written_at second.labels c.in_ok-begin.begin) c.in_ok-value.ensures.made begun
-    (point_of third) declared (written_at fourth.labels c.in_ok-end.end) ended fault (subst (λ one. IfRefused (IsRefusalOf one) fault) throws_are c.in_err-throws.ensures.made))
+    rw (p.1, p.2) (throws_wrong _ _ _ _ _ c.in_ok-value.ensures.made (begun at.After-deref) _ (declared at.After-deref-2) _ (ended at.After-deref-2) fault
+    (subst (λ one. IfRefused (IsRefusalOf one) fault) (throws_are at.After-deref-2) c.in_err-throws.ensures.made))
 
 pub returns-in_err-statements-clause-made : goal.returns-in_err-statements-clause-made
 returns-in_err-statements-clause-made c =
+    let at = goal.at.returns-in_err-statements-clause-made c in
     let p = err_from_is_err_and c.from_residual-in_err-statements.result c.from_residual-in_err-statements.ensures.1 in
     let fault = c.in_err-statements.field-0.0 in
-    let tree = procedure_tree c.args.written.now in
-    let signatures = (top_view c.args.place.now.top.now).signatures in
-    let scope = item_scope c.args.place.now c.args.variables in
-    let first = c.resolve_result.new.variables in
-    let second = c.add_optional_label.new.variables in
-    let begins = c.new-body.result in
-    let begun : optional_label_finding scope tree.begin ≡ Ok (written_at second.labels c.in_ok-begin.begin) =
-    optional_in_scope (item_scope c.args.place.now first) scope tree.begin _ (same_scope c.args.place.now c.args.variables first c.in_ok-value.ensures.more.globals) c.in_ok-begin.ensures.made in
-    let globals_second = c.in_ok-begin.ensures.more.globals ∙ c.in_ok-value.ensures.more.globals in
-    let none = c.in_ok-begin.ensures.more.slots ∙ c.in_ok-value.ensures.more.slots ∙ c.requires.none in
-    let start = c.new-body.ensures.point ∙ ap (λ slots. record { names = scope.names; slots = slots; loops = 0 }) none in
-    let are = parameters_in_scope (item_scope_of begins) scope (point_of begins) (map parameter_tree c.deref.result.now) tree.parameters
-    (c.new-body.ensures.scope ∙ same_scope c.args.place.now c.args.variables second globals_second) start (ap (map parameter_tree) c.deref.ensures.value) in
-    let third = c.declare_parameters.new.self in
-    let later = c.in_ok-declare_parameters.ensures.later in
-    let declared = sym are ∙ c.in_ok-declare_parameters.ensures.made in
-    let globals_third = later.globals ∙ ap (λ (one : VariableEntries). one.globals) c.new-body.ensures.variables ∙ globals_second in
-    let scope_third = same_scope c.args.place.now c.args.variables third.variables globals_third in
-    let fourth = c.add_optional_label-2.new.variables in
-    let ended = optional_in_scope (item_scope c.args.place.now third.variables) scope tree.end _ scope_third c.in_ok-end.ensures.made in
-    let globals_fourth = c.in_ok-end.ensures.more.globals ∙ globals_third in
-    let throws_are = ap (λ one. throws_finding one (map thrown_tree c.deref-2.result.now)) (same_scope c.args.place.now c.args.variables fourth globals_fourth)
-    ∙ ap (λ list. throws_finding scope (map thrown_tree list)) c.deref-2.ensures.value in
-    let fifth = c.resolve_throws.new.variables in
-    let thrown = sym throws_are ∙ c.in_ok-throws.ensures.made in
-    let sixth = c.make_end_label.new.variables in
-    let globals_behind = c.in_ok-end_label.ensures.more.globals ∙ c.in_ok-throws.ensures.more.globals ∙ c.in_ok-end.ensures.more.globals in
-    let slots_behind = c.in_ok-end_label.ensures.more.slots ∙ c.in_ok-throws.ensures.more.slots ∙ c.in_ok-end.ensures.more.slots in
-    let body : setting_of (record third { variables = sixth }) ≡ setting_within scope signatures tree =
-    (λ i. record (setting_of third) { globals = globals_behind i }) ∙ setting_same begins third later ∙ c.new-body.ensures.setting
-    ∙ (λ i. record { hierarchy = scope.hierarchy; globals = globals_second i; signatures = signatures; result = c.result_of.ensures i }) in
-    let point : point_of (record third { variables = sixth }) ≡ point_of third = λ i. record (point_of third) { slots = slots_behind i } in
-    let blocks : block_finding (setting_of (record third { variables = sixth })) (point_of (record third { variables = sixth })) tree.body ≡ block_finding (setting_within scope signatures tree) (point_of third) tree.body =
-    λ i. block_finding (body i) (point i) tree.body in
-    rw (p.1, p.2) (block_wrong scope signatures tree (result_entry first.labels c.in_ok-value.value) (written_at second.labels c.in_ok-begin.begin) c.in_ok-value.ensures.made begun
-    (point_of third) declared (written_at fourth.labels c.in_ok-end.end) ended (throws_view fifth.labels c.in_ok-throws.throws) thrown fault
-    (subst (λ one. IfRefused (IsRefusalOf one) fault) blocks c.in_err-statements.ensures.made))
+    rw (p.1, p.2) (block_wrong _ _ _ _ _ c.in_ok-value.ensures.made (begun at.After-deref) _ (declared at.After-deref-2) _ (ended at.After-deref-2) _ (thrown at.After-deref-3) fault
+    (subst (λ one. IfRefused (IsRefusalOf one) fault) (block_is at.After-resolve_block (begun_globals at.After-deref)) c.in_err-statements.ensures.made))
 
 -- ---- the procedure
 
 pub returns-clause-made : goal.returns-clause-made
 returns-clause-made c =
-    let tree = procedure_tree c.args.written.now in
-    let signatures = (top_view c.args.place.now.top.now).signatures in
-    let scope = item_scope c.args.place.now c.args.variables in
-    let first = c.resolve_result.new.variables in
-    let second = c.add_optional_label.new.variables in
-    let begins = c.new-body.result in
-    let begun : optional_label_finding scope tree.begin ≡ Ok (written_at second.labels c.in_ok-begin.begin) =
-    optional_in_scope (item_scope c.args.place.now first) scope tree.begin _ (same_scope c.args.place.now c.args.variables first c.in_ok-value.ensures.more.globals) c.in_ok-begin.ensures.made in
-    let globals_second = c.in_ok-begin.ensures.more.globals ∙ c.in_ok-value.ensures.more.globals in
-    let none = c.in_ok-begin.ensures.more.slots ∙ c.in_ok-value.ensures.more.slots ∙ c.requires.none in
-    let start = c.new-body.ensures.point ∙ ap (λ slots. record { names = scope.names; slots = slots; loops = 0 }) none in
-    let are = parameters_in_scope (item_scope_of begins) scope (point_of begins) (map parameter_tree c.deref.result.now) tree.parameters
-    (c.new-body.ensures.scope ∙ same_scope c.args.place.now c.args.variables second globals_second) start (ap (map parameter_tree) c.deref.ensures.value) in
-    let third = c.declare_parameters.new.self in
-    let later = c.in_ok-declare_parameters.ensures.later in
-    let declared = sym are ∙ c.in_ok-declare_parameters.ensures.made in
-    let globals_third = later.globals ∙ ap (λ (one : VariableEntries). one.globals) c.new-body.ensures.variables ∙ globals_second in
-    let scope_third = same_scope c.args.place.now c.args.variables third.variables globals_third in
-    let fourth = c.add_optional_label-2.new.variables in
-    let ended = optional_in_scope (item_scope c.args.place.now third.variables) scope tree.end _ scope_third c.in_ok-end.ensures.made in
-    let globals_fourth = c.in_ok-end.ensures.more.globals ∙ globals_third in
-    let throws_are = ap (λ one. throws_finding one (map thrown_tree c.deref-2.result.now)) (same_scope c.args.place.now c.args.variables fourth globals_fourth)
-    ∙ ap (λ list. throws_finding scope (map thrown_tree list)) c.deref-2.ensures.value in
-    let fifth = c.resolve_throws.new.variables in
-    let thrown = sym throws_are ∙ c.in_ok-throws.ensures.made in
-    let sixth = c.make_end_label.new.variables in
-    let globals_behind = c.in_ok-end_label.ensures.more.globals ∙ c.in_ok-throws.ensures.more.globals ∙ c.in_ok-end.ensures.more.globals in
-    let slots_behind = c.in_ok-end_label.ensures.more.slots ∙ c.in_ok-throws.ensures.more.slots ∙ c.in_ok-end.ensures.more.slots in
-    let body : setting_of (record third { variables = sixth }) ≡ setting_within scope signatures tree =
-    (λ i. record (setting_of third) { globals = globals_behind i }) ∙ setting_same begins third later ∙ c.new-body.ensures.setting
-    ∙ (λ i. record { hierarchy = scope.hierarchy; globals = globals_second i; signatures = signatures; result = c.result_of.ensures i }) in
-    let point : point_of (record third { variables = sixth }) ≡ point_of third = λ i. record (point_of third) { slots = slots_behind i } in
-    let blocks : block_finding (setting_of (record third { variables = sixth })) (point_of (record third { variables = sixth })) tree.body ≡ block_finding (setting_within scope signatures tree) (point_of third) tree.body =
-    λ i. block_finding (body i) (point i) tree.body in
-    let to_second = extends_through c.args.variables.labels first.labels second.labels c.in_ok-value.ensures.more.extended c.in_ok-begin.ensures.more.extended in
-    let second_third : Extends second.labels third.variables.labels = subst (λ (one : VariableEntries). Extends one.labels third.variables.labels) c.new-body.ensures.variables later.labels in
-    let third_fifth = extends_through third.variables.labels fourth.labels fifth.labels c.in_ok-end.ensures.more.extended c.in_ok-throws.ensures.more.extended in
-    let second_fifth = extends_through second.labels third.variables.labels fifth.labels second_third third_fifth in
-    let last = c.resolve_block.new.self.variables in
-    let sixth_last : Extends sixth.labels last.labels = c.in_ok-statements.ensures.later.labels in
-    let fifth_last = extends_through fifth.labels sixth.labels last.labels c.in_ok-end_label.ensures.more.extended sixth_last in
-    let second_last = extends_through second.labels fifth.labels last.labels second_fifth fifth_last in
-    let first_last = extends_through first.labels second.labels last.labels c.in_ok-begin.ensures.more.extended second_last in
-    let entered = label_at second.labels c.make_begin_label-begin_label.result in
-    let ends : label_at sixth.labels c.in_ok-end_label.end_label ≡ end_label_of (written_at fourth.labels c.in_ok-end.end) entered (throws_view fifth.labels c.in_ok-throws.throws) =
+    let at = goal.at.returns-clause-made c in
+    let first = c.resolve_result.new.variables.labels in
+    let second = c.add_optional_label.new.variables.labels in
+    let fourth = c.add_optional_label-2.new.variables.labels in
+    let fifth = c.resolve_throws.new.variables.labels in
+    let sixth = c.make_end_label.new.variables.labels in
+    let last = c.resolve_block.new.self.variables.labels in
+    let entered = label_at second c.make_begin_label-begin_label.result in
+    let ends : label_at sixth c.in_ok-end_label.end_label ≡ end_label_of (written_at fourth c.in_ok-end.end) entered (throws_view fifth c.in_ok-throws.throws) =
     c.in_ok-end_label.ensures.label
-    ∙ (λ i. end_label_of (same_written fourth.labels fifth.labels c.in_ok-throws.ensures.more.extended c.in_ok-end.end c.in_ok-end.ensures.inside i)
-    (same_label second.labels fifth.labels second_fifth c.make_begin_label-begin_label.result c.make_begin_label-begin_label.ensures.inside i)
-    (map (thrown_entry fifth.labels) (c.deref-3.ensures.value i))) in
-    let counted : c.len.result ≡ length tree.parameters = omega (arith, length-map c.args.written.now.parameters.items parameter_tree) in
-    let found = procedure_found scope signatures tree (result_entry first.labels c.in_ok-value.value) (written_at second.labels c.in_ok-begin.begin) c.in_ok-value.ensures.made begun
-    (point_of third) declared (written_at fourth.labels c.in_ok-end.end) ended (throws_view fifth.labels c.in_ok-throws.throws) thrown (point_of c.resolve_block.new.self) (block_of c.in_ok-statements.statements.items)
-    (sym blocks ∙ c.in_ok-statements.ensures.made) (string_bytes c.in_ok-from_str.field-0) entered (label_at sixth.labels c.in_ok-end_label.end_label) c.len.result
-    (c.in_ok-from_str.ensures.ok ∙ c.as_str.ensures.value) c.make_begin_label-begin_label.ensures.label ends counted in
+    ∙ (λ i. end_label_of (same_written fourth fifth c.in_ok-throws.ensures.more.extended c.in_ok-end.end c.in_ok-end.ensures.inside i)
+    (same_label second fifth (thrown_labels at.After-deref-3) c.make_begin_label-begin_label.result c.make_begin_label-begin_label.ensures.inside i)
+    (map (thrown_entry fifth) (c.deref-3.ensures.value i))) in
+    let counted : c.len.result ≡ length (procedure_tree c.args.written.now).parameters = omega (arith, length-map c.args.written.now.parameters.items parameter_tree) in
+    let found = procedure_found _ _ _ _ _ c.in_ok-value.ensures.made (begun at.After-deref)
+    _ (declared at.After-deref-2) _ (ended at.After-deref-2) _ (thrown at.After-deref-3) (point_of c.resolve_block.new.self) (block_of c.in_ok-statements.statements.items)
+    (sym (block_is at.After-resolve_block (begun_globals at.After-deref)) ∙ c.in_ok-statements.ensures.made) (string_bytes c.in_ok-from_str.field-0) entered (label_at sixth c.in_ok-end_label.end_label) c.len.result
+    c.in_ok-from_str.ensures.ok c.make_begin_label-begin_label.ensures.label ends counted in
     rw c.take_slots-slots.ensures.rest (found ∙ (λ i. Ok (record {
       at = c.args.written.now.name.at;
       name = string_bytes c.in_ok-from_str.field-0;
-      result = sym (same_result first.labels last.labels first_last c.in_ok-value.value c.in_ok-value.ensures.inside) i;
-      begin_label = sym (same_label second.labels last.labels second_last c.make_begin_label-begin_label.result c.make_begin_label-begin_label.ensures.inside) i;
-      end_label = sym (same_label sixth.labels last.labels sixth_last c.in_ok-end_label.end_label c.in_ok-end_label.ensures.inside) i;
-      throws = sym (same_thrown fifth.labels last.labels fifth_last c.in_ok-throws.throws.items c.in_ok-throws.ensures.inside) i;
+      result = sym (same_result first last (last_of_first at.After-len) c.in_ok-value.value c.in_ok-value.ensures.inside) i;
+      begin_label = sym (same_label second last (last_of_second at.After-len) c.make_begin_label-begin_label.result c.make_begin_label-begin_label.ensures.inside) i;
+      end_label = sym (same_label sixth last c.in_ok-statements.ensures.later.labels c.in_ok-end_label.end_label c.in_ok-end_label.ensures.inside) i;
+      throws = sym (same_thrown fifth last (last_of_fifth at.After-len) c.in_ok-throws.throws.items c.in_ok-throws.ensures.inside) i;
       parameters = c.len.result;
       slots = sym c.take_slots-slots.ensures.slots i;
       loops = c.resolve_block.new.self.loops;
@@ -268,114 +263,22 @@ returns-clause-made c =
 
 pub returns-clause-inside : goal.returns-clause-inside
 returns-clause-inside c =
-    let tree = procedure_tree c.args.written.now in
-    let signatures = (top_view c.args.place.now.top.now).signatures in
-    let scope = item_scope c.args.place.now c.args.variables in
-    let first = c.resolve_result.new.variables in
-    let second = c.add_optional_label.new.variables in
-    let begins = c.new-body.result in
-    let begun : optional_label_finding scope tree.begin ≡ Ok (written_at second.labels c.in_ok-begin.begin) =
-    optional_in_scope (item_scope c.args.place.now first) scope tree.begin _ (same_scope c.args.place.now c.args.variables first c.in_ok-value.ensures.more.globals) c.in_ok-begin.ensures.made in
-    let globals_second = c.in_ok-begin.ensures.more.globals ∙ c.in_ok-value.ensures.more.globals in
-    let none = c.in_ok-begin.ensures.more.slots ∙ c.in_ok-value.ensures.more.slots ∙ c.requires.none in
-    let start = c.new-body.ensures.point ∙ ap (λ slots. record { names = scope.names; slots = slots; loops = 0 }) none in
-    let are = parameters_in_scope (item_scope_of begins) scope (point_of begins) (map parameter_tree c.deref.result.now) tree.parameters
-    (c.new-body.ensures.scope ∙ same_scope c.args.place.now c.args.variables second globals_second) start (ap (map parameter_tree) c.deref.ensures.value) in
-    let third = c.declare_parameters.new.self in
-    let later = c.in_ok-declare_parameters.ensures.later in
-    let declared = sym are ∙ c.in_ok-declare_parameters.ensures.made in
-    let globals_third = later.globals ∙ ap (λ (one : VariableEntries). one.globals) c.new-body.ensures.variables ∙ globals_second in
-    let scope_third = same_scope c.args.place.now c.args.variables third.variables globals_third in
-    let fourth = c.add_optional_label-2.new.variables in
-    let ended = optional_in_scope (item_scope c.args.place.now third.variables) scope tree.end _ scope_third c.in_ok-end.ensures.made in
-    let globals_fourth = c.in_ok-end.ensures.more.globals ∙ globals_third in
-    let throws_are = ap (λ one. throws_finding one (map thrown_tree c.deref-2.result.now)) (same_scope c.args.place.now c.args.variables fourth globals_fourth)
-    ∙ ap (λ list. throws_finding scope (map thrown_tree list)) c.deref-2.ensures.value in
-    let fifth = c.resolve_throws.new.variables in
-    let thrown = sym throws_are ∙ c.in_ok-throws.ensures.made in
-    let sixth = c.make_end_label.new.variables in
-    let globals_behind = c.in_ok-end_label.ensures.more.globals ∙ c.in_ok-throws.ensures.more.globals ∙ c.in_ok-end.ensures.more.globals in
-    let slots_behind = c.in_ok-end_label.ensures.more.slots ∙ c.in_ok-throws.ensures.more.slots ∙ c.in_ok-end.ensures.more.slots in
-    let body : setting_of (record third { variables = sixth }) ≡ setting_within scope signatures tree =
-    (λ i. record (setting_of third) { globals = globals_behind i }) ∙ setting_same begins third later ∙ c.new-body.ensures.setting
-    ∙ (λ i. record { hierarchy = scope.hierarchy; globals = globals_second i; signatures = signatures; result = c.result_of.ensures i }) in
-    let point : point_of (record third { variables = sixth }) ≡ point_of third = λ i. record (point_of third) { slots = slots_behind i } in
-    let blocks : block_finding (setting_of (record third { variables = sixth })) (point_of (record third { variables = sixth })) tree.body ≡ block_finding (setting_within scope signatures tree) (point_of third) tree.body =
-    λ i. block_finding (body i) (point i) tree.body in
-    let to_second = extends_through c.args.variables.labels first.labels second.labels c.in_ok-value.ensures.more.extended c.in_ok-begin.ensures.more.extended in
-    let second_third : Extends second.labels third.variables.labels = subst (λ (one : VariableEntries). Extends one.labels third.variables.labels) c.new-body.ensures.variables later.labels in
-    let third_fifth = extends_through third.variables.labels fourth.labels fifth.labels c.in_ok-end.ensures.more.extended c.in_ok-throws.ensures.more.extended in
-    let second_fifth = extends_through second.labels third.variables.labels fifth.labels second_third third_fifth in
-    let last = c.resolve_block.new.self.variables in
-    let sixth_last : Extends sixth.labels last.labels = c.in_ok-statements.ensures.later.labels in
-    let fifth_last = extends_through fifth.labels sixth.labels last.labels c.in_ok-end_label.ensures.more.extended sixth_last in
-    let second_last = extends_through second.labels fifth.labels last.labels second_fifth fifth_last in
-    let first_last = extends_through first.labels second.labels last.labels c.in_ok-begin.ensures.more.extended second_last in
+    let at = (goal.at.returns-clause-inside c).After-len in
+    let last = c.resolve_block.new.self.variables.labels in
     rw c.take_slots-slots.ensures.rest (record {
-      of_result = result_still_inside first.labels last.labels first_last c.in_ok-value.value c.in_ok-value.ensures.inside;
-      of_begin = still_inside second.labels last.labels second_last c.make_begin_label-begin_label.result c.make_begin_label-begin_label.ensures.inside;
-      of_end = still_inside sixth.labels last.labels sixth_last c.in_ok-end_label.end_label c.in_ok-end_label.ensures.inside;
-      of_throws = thrown_still_inside fifth.labels last.labels fifth_last c.in_ok-throws.throws.items c.in_ok-throws.ensures.inside;
+      of_result = result_still_inside c.resolve_result.new.variables.labels last (last_of_first at) c.in_ok-value.value c.in_ok-value.ensures.inside;
+      of_begin = still_inside c.add_optional_label.new.variables.labels last (last_of_second at) c.make_begin_label-begin_label.result c.make_begin_label-begin_label.ensures.inside;
+      of_end = still_inside c.make_end_label.new.variables.labels last c.in_ok-statements.ensures.later.labels c.in_ok-end_label.end_label c.in_ok-end_label.ensures.inside;
+      of_throws = thrown_still_inside c.resolve_throws.new.variables.labels last (last_of_fifth at) c.in_ok-throws.throws.items c.in_ok-throws.ensures.inside;
       of_slots = c.take_slots-slots.ensures.inside;
     })
 
 pub returns-clause-more : goal.returns-clause-more
 returns-clause-more c =
-    let tree = procedure_tree c.args.written.now in
-    let signatures = (top_view c.args.place.now.top.now).signatures in
-    let scope = item_scope c.args.place.now c.args.variables in
-    let first = c.resolve_result.new.variables in
-    let second = c.add_optional_label.new.variables in
-    let begins = c.new-body.result in
-    let begun : optional_label_finding scope tree.begin ≡ Ok (written_at second.labels c.in_ok-begin.begin) =
-    optional_in_scope (item_scope c.args.place.now first) scope tree.begin _ (same_scope c.args.place.now c.args.variables first c.in_ok-value.ensures.more.globals) c.in_ok-begin.ensures.made in
-    let globals_second = c.in_ok-begin.ensures.more.globals ∙ c.in_ok-value.ensures.more.globals in
-    let none = c.in_ok-begin.ensures.more.slots ∙ c.in_ok-value.ensures.more.slots ∙ c.requires.none in
-    let start = c.new-body.ensures.point ∙ ap (λ slots. record { names = scope.names; slots = slots; loops = 0 }) none in
-    let are = parameters_in_scope (item_scope_of begins) scope (point_of begins) (map parameter_tree c.deref.result.now) tree.parameters
-    (c.new-body.ensures.scope ∙ same_scope c.args.place.now c.args.variables second globals_second) start (ap (map parameter_tree) c.deref.ensures.value) in
-    let third = c.declare_parameters.new.self in
-    let later = c.in_ok-declare_parameters.ensures.later in
-    let declared = sym are ∙ c.in_ok-declare_parameters.ensures.made in
-    let globals_third = later.globals ∙ ap (λ (one : VariableEntries). one.globals) c.new-body.ensures.variables ∙ globals_second in
-    let scope_third = same_scope c.args.place.now c.args.variables third.variables globals_third in
-    let fourth = c.add_optional_label-2.new.variables in
-    let ended = optional_in_scope (item_scope c.args.place.now third.variables) scope tree.end _ scope_third c.in_ok-end.ensures.made in
-    let globals_fourth = c.in_ok-end.ensures.more.globals ∙ globals_third in
-    let throws_are = ap (λ one. throws_finding one (map thrown_tree c.deref-2.result.now)) (same_scope c.args.place.now c.args.variables fourth globals_fourth)
-    ∙ ap (λ list. throws_finding scope (map thrown_tree list)) c.deref-2.ensures.value in
-    let fifth = c.resolve_throws.new.variables in
-    let thrown = sym throws_are ∙ c.in_ok-throws.ensures.made in
-    let sixth = c.make_end_label.new.variables in
-    let globals_behind = c.in_ok-end_label.ensures.more.globals ∙ c.in_ok-throws.ensures.more.globals ∙ c.in_ok-end.ensures.more.globals in
-    let slots_behind = c.in_ok-end_label.ensures.more.slots ∙ c.in_ok-throws.ensures.more.slots ∙ c.in_ok-end.ensures.more.slots in
-    let body : setting_of (record third { variables = sixth }) ≡ setting_within scope signatures tree =
-    (λ i. record (setting_of third) { globals = globals_behind i }) ∙ setting_same begins third later ∙ c.new-body.ensures.setting
-    ∙ (λ i. record { hierarchy = scope.hierarchy; globals = globals_second i; signatures = signatures; result = c.result_of.ensures i }) in
-    let point : point_of (record third { variables = sixth }) ≡ point_of third = λ i. record (point_of third) { slots = slots_behind i } in
-    let blocks : block_finding (setting_of (record third { variables = sixth })) (point_of (record third { variables = sixth })) tree.body ≡ block_finding (setting_within scope signatures tree) (point_of third) tree.body =
-    λ i. block_finding (body i) (point i) tree.body in
-    let to_second = extends_through c.args.variables.labels first.labels second.labels c.in_ok-value.ensures.more.extended c.in_ok-begin.ensures.more.extended in
-    let second_third : Extends second.labels third.variables.labels = subst (λ (one : VariableEntries). Extends one.labels third.variables.labels) c.new-body.ensures.variables later.labels in
-    let third_fifth = extends_through third.variables.labels fourth.labels fifth.labels c.in_ok-end.ensures.more.extended c.in_ok-throws.ensures.more.extended in
-    let second_fifth = extends_through second.labels third.variables.labels fifth.labels second_third third_fifth in
-    let last = c.resolve_block.new.self.variables in
-    let sixth_last : Extends sixth.labels last.labels = c.in_ok-statements.ensures.later.labels in
-    let fifth_last = extends_through fifth.labels sixth.labels last.labels c.in_ok-end_label.ensures.more.extended sixth_last in
-    let second_last = extends_through second.labels fifth.labels last.labels second_fifth fifth_last in
-    let first_last = extends_through first.labels second.labels last.labels c.in_ok-begin.ensures.more.extended second_last in
-    let parameters = parameters_few (map parameter_tree c.args.written.now.parameters.items) in
-    let parameters_same = length-map c.args.written.now.parameters.items parameter_tree in
-    let parameters_lent = ap length c.deref.ensures.value in
-    let no_slots = ap length (c.in_ok-begin.ensures.more.slots ∙ c.in_ok-value.ensures.more.slots ∙ c.requires.none) in
-    let exceptions = throws_few (map thrown_tree c.args.written.now.throws.items) in
-    let throws_same = length-map c.args.written.now.throws.items thrown_tree in
-    let throws_lent = ap length c.deref-2.ensures.value in
-    let slots = ap length (c.in_ok-end_label.ensures.more.slots ∙ c.in_ok-throws.ensures.more.slots ∙ c.in_ok-end.ensures.more.slots) in
-    let grown = c.in_ok-statements.ensures.grows in
+    let at = goal.at.returns-clause-more c in
     rw c.take_slots-slots.ensures.rest (record {
-      extended = extends_through c.args.variables.labels second.labels last.labels to_second second_last;
-      few = omega (arith, parameters, parameters_same, parameters_lent, no_slots, c.new-body.ensures.taken, c.in_ok-value.ensures.more.few, c.in_ok-begin.ensures.more.few, c.requires.room, exceptions, throws_same, throws_lent, slots, grown, c.in_ok-declare_parameters.ensures.grows, c.in_ok-end.ensures.more.few, c.in_ok-throws.ensures.more.few, c.in_ok-end_label.ensures.more.few);
-      globals = c.in_ok-statements.ensures.later.globals ∙ globals_behind ∙ globals_third;
+      extended = extends_through c.args.variables.labels c.add_optional_label.new.variables.labels c.resolve_block.new.self.variables.labels (begun_labels at.After-deref) (last_of_second at.After-len);
+      few = omega (arith, thrown_taken at.After-deref-3, ap length c.in_ok-end_label.ensures.more.slots, c.in_ok-end_label.ensures.more.few, c.in_ok-statements.ensures.grows);
+      globals = c.in_ok-statements.ensures.later.globals ∙ entered_globals at.After-resolve_block ∙ declared_globals at.After-deref-2;
       slots = sym c.requires.none;
     })

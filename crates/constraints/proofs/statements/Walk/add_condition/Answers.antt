@@ -14,4 +14,4 @@ returns c = λ named stands.
     let procedure = c.args.self.now.procedure in
     let e = expression_of c.args.condition.now in
     let q : List NamedAtom = named ∷ named_atoms (raise_atoms (scope_of core procedure) e) in
-    c.in_ok-add_raised.ensures q (raises e) (left-same core table q c.in_ok-left.left.items c.deref.result.now c.deref.ensures.value (c.in_ok-left.ensures named stands)) c.raises_of-found.ensures
+    c.in_ok-add_raised.ensures q (raises e) (left-same core table q c.in_ok-left.left.items c.deref.result.now c.deref.ensures (c.in_ok-left.ensures named stands)) c.raises_of-found.ensures

@@ -10,7 +10,7 @@ use Rattle.gathering.specs.Names.{NamedAtom, Real, named_atoms}
 use Rattle.gathering.specs.Walk.{flow, inner_atom, inner_constraint, raise_atoms, raised_flows, rule_constraint}
 use Rattle.solver.specs.declared.constraints.Atom.TheVariants as stored
 use Rattle.constraints.specs.LeftSides.{scope_of}
-use Rattle.constraints.specs.Takers.{takers_of}
+use Rattle.constraints.specs.Takers.{takers_around}
 use Rattle.constraints.proofs.Added.{added-then, alone-left, flow-added, left-same}
 use Rattle.constraints.proofs.statements.Walk.add_loop_head.Goals as goal
 
@@ -21,16 +21,16 @@ returns c = λ named stands.
     let procedure = c.args.self.now.procedure in
     let scope = scope_of core procedure in
     let e = expression_of c.args.condition.now in
-    let takers = takers_of c.args.takers c.args.thrown.now in
-    let turn : NamedAtom = renamed Real (label_of (program_of core) (ToLoop procedure c.args.number)) in
+    let takers = takers_around c.args.around.now in
+    let turn : NamedAtom = renamed Real (label_of (program_of core) (ToLoop procedure c.args.site.number)) in
     let body : List NamedAtom = inner_atom c.args.inner ∷ [] in
     let raised = raised_flows (turn ∷ named_atoms (raise_atoms scope e)) takers (raises e) in
     let leaving = flow body (takers Normal) in
     let branch = inner_constraint (turn ∷ named_atoms (value_label scope e)) c.args.inner in
-    added-then core table (rule_constraint scope c.args.at 8 (named ∷ []) (ToLoop procedure c.args.number)) (branch ++ (leaving ++ raised)) _ _ _ (c.in_ok-add_turn.ensures named stands)
+    added-then core table (rule_constraint scope c.args.site.at 8 (named ∷ []) (ToLoop procedure c.args.site.number)) (branch ++ (leaving ++ raised)) _ _ _ (c.in_ok-add_turn.ensures named stands)
     (added-then core table branch (leaving ++ raised) _ _ _ (c.in_ok-add_branch.ensures turn c.part-turn.ensures)
     (added-then core table leaving raised _ _ _
-    (flow-added core table body c.at-taker.result (takers Normal) _ _ c.at-taker.ensures
-    (c.in_ok-add_flow.ensures body (left-same core table body c.in_ok-left.left.items c.deref.result.now c.deref.ensures.value
+    (flow-added core table body c.taker-taker.result (takers Normal) _ _ c.taker-taker.ensures
+    (c.in_ok-add_flow.ensures body (left-same core table body c.in_ok-left.left.items c.deref.result.now c.deref.ensures
     (alone-left core table (inner_atom c.args.inner) (stored.Unknown c.args.inner) c.in_ok-left.left.items c.in_ok-left.ensures refl))))
     (c.in_ok-add_condition.ensures turn c.part-turn.ensures)))

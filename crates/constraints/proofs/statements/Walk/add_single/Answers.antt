@@ -2,7 +2,7 @@ use Rattle.std.proofs.Common.{sym, ap, ◌∙◌, List, [], ◌∷◌}
 use Rattle.resolved.specs.Ends.{one_end}
 use Rattle.gathering.specs.Names.{NamedAtom}
 use Rattle.gathering.specs.Walk.{flow, single}
-use Rattle.constraints.specs.Takers.{takers_of}
+use Rattle.constraints.specs.Takers.{takers_around}
 use Rattle.constraints.proofs.Added.{added-none, added-same, alone-left, flow-added, left-same}
 use Rattle.constraints.proofs.Branched.{single-is, single_flow}
 use Rattle.constraints.proofs.statements.Walk.add_single.Goals as goal
@@ -12,7 +12,7 @@ returns-in-None c = λ ends are named stands.
     let core = c.args.self.now.table.now.core.now in
     let table = c.args.self.now.table.now.core.now.labels in
     let procedure = c.args.self.now.procedure in
-    let takers = takers_of c.args.takers c.args.thrown.now in
+    let takers = takers_around c.args.around.now in
     added-same core table (single (one_end ends) named takers ends) [] _ _
     (single-is ends named takers ∙ ap (single_flow named takers) (sym (c.single.ensures ends are) ∙ c.in-None.is)) (added-none core table _)
 
@@ -21,10 +21,10 @@ returns-in_ok-add_flow-in-Some c = λ ends are named stands.
     let core = c.args.self.now.table.now.core.now in
     let table = c.args.self.now.table.now.core.now.labels in
     let procedure = c.args.self.now.procedure in
-    let takers = takers_of c.args.takers c.args.thrown.now in
+    let takers = takers_around c.args.around.now in
     let q : List NamedAtom = named ∷ [] in
     added-same core table (single (one_end ends) named takers ends) (flow q (takers c.in-Some.exit)) _ _
     (single-is ends named takers ∙ ap (single_flow named takers) (sym (c.single.ensures ends are) ∙ c.in-Some.is))
-    (flow-added core table q c.at-taker.result (takers c.in-Some.exit) _ _ c.at-taker.ensures
-    (c.in_ok-add_flow-in-Some.ensures q (left-same core table q c.in_ok-left-in-Some.left.items c.deref.result.now c.deref.ensures.value
-    (alone-left core table named c.args.pc c.in_ok-left-in-Some.left.items c.in_ok-left-in-Some.ensures stands))))
+    (flow-added core table q c.taker-taker.result (takers c.in-Some.exit) _ _ c.taker-taker.ensures
+    (c.in_ok-add_flow-in-Some.ensures q (left-same core table q c.in_ok-left-in-Some.left.items c.deref.result.now c.deref.ensures
+    (alone-left core table named c.args.around.now.pc c.in_ok-left-in-Some.left.items c.in_ok-left-in-Some.ensures stands))))

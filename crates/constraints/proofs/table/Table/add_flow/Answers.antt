@@ -4,11 +4,11 @@ use Rattle.gathering.specs.Walk.{flow, inner_constraint}
 use Rattle.constraints.proofs.Added.{added-same, left-same}
 use Rattle.constraints.proofs.table.Table.add_flow.Goals as goal
 
-pub returns-in_ok-to_vec-in-Some : goal.returns-in_ok-to_vec-in-Some
-returns-in_ok-to_vec-in-Some c =
+pub returns-in_ok-from_slice-in-Some : goal.returns-in_ok-from_slice-in-Some
+returns-in_ok-from_slice-in-Some c =
     let core = c.args.self.now.core.now in
     let table = c.args.self.now.core.now.labels in
     on_ok_weaker c.add_inner.result
     (λ added. λ atoms left. added-same core table (flow atoms c.args.taker) (inner_constraint atoms c.in-Some.number) _ _ (ap (flow atoms) c.in-Some.is)
-    (added atoms (left-same core table atoms c.args.left.now c.in_ok-to_vec-in-Some.field-0.items (c.in_ok-to_vec-in-Some.ensures.items_if_clones_equal (λ x y e. e)) left)))
+    (added atoms (left-same core table atoms c.args.left.now c.in_ok-from_slice-in-Some.field-0.items c.in_ok-from_slice-in-Some.ensures.ok left)))
     c.add_inner.ensures

@@ -1,4 +1,4 @@
-use Rattle.std.proofs.Common.{ap, ◌∙◌, arith, ◌<◌, ◌≡◌, ◌/◌, length, bit_and, ◌*◌, ◌%◌, ◌^◌, ℕ, false, set, refl}
+use Rattle.std.proofs.Common.{ap, ◌∙◌, arith, ◌<◌, ◌/◌, length, bit_and, ◌*◌, ◌%◌, ◌^◌, ℕ, false, set, refl}
 use Rattle.std.proofs.lemmas.List.{length-set}
 use Rattle.smallvec.proofs.SmallVecLemmas.{items-with_items}
 use Rattle.std.specs.Int.{w64, bit_not}

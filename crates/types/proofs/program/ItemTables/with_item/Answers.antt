@@ -1,4 +1,3 @@
-use Rattle.std.proofs.Common.{◌∙◌}
 use Rattle.syntax.specs.Tree.{name_tree, channel_tree, global_tree, procedure_tree}
 use Rattle.types.specs.Views.{top_view}
 use Rattle.types.proofs.ItemsAdded.{exception_added, channel_added, global_added, procedure_added, same_inside, channel_inside, procedure_inside}
@@ -16,7 +15,7 @@ returns-clause-made c =
           w.in_ok-resolve_channel-in-Channel.ensures.made w.in_ok-push-in-Channel.ensures.items)
       | in-Exception+in_ok-from_str-in-Exception+in_ok-push-in-Exception w ↦
           rw (w.in-Exception.is, w.variables-is, w.channels-is, w.exceptions-is, w.procedures-is) (exception_added h top c.args.self w.in-Exception.at (name_tree w.in-Exception.name) w.in_ok-from_str-in-Exception.field-0
-          w.push-in-Exception.new.self (w.in_ok-from_str-in-Exception.ensures.ok ∙ w.as_str.ensures.value) w.in_ok-push-in-Exception.ensures.items)
+          w.push-in-Exception.new.self w.in_ok-from_str-in-Exception.ensures.ok w.in_ok-push-in-Exception.ensures.items)
       | in-Global+in_ok-global-in-Global+in_ok-push_global-in-Global w ↦
           rw (w.in-Global.is, w.variables-is, w.channels-is, w.exceptions-is, w.procedures-is) (global_added h top c.args.self c.requires.inside w.resolve_global.new.variables
           w.in_ok-global-in-Global.ensures.more.extended w.in_ok-global-in-Global.ensures.more.globals (global_tree w.in-Global.one) w.in_ok-global-in-Global.global w.push_global.new.self

@@ -9,20 +9,20 @@ use Rattle.types.proofs.top.TopNames.add.Goals as goal
 
 pub returns-in-Channel-clause-made : goal.returns-in-Channel-clause-made
 returns-in-Channel-clause-made c =
-    named (top_view c.args.self.now) (item_tree c.args.item.now) (found_in c.insert.new.table) (name_tree c.name_of-name.result.now) _ _ _ _
-    c.name_of-name.ensures c.as_str.ensures.value c.as_str-2.ensures.value c.find.ensures c.in_ok-require_fresh.ensures.made c.meaning_of-meaning.ensures c.in_ok-insert.ensures
+    named (top_view c.args.self.now) (item_tree c.args.item.now) (found_in c.insert.new.table) (name_tree c.name_of-name.result.now) _ _
+    c.name_of-name.ensures c.find.ensures c.in_ok-require_fresh.ensures.made c.meaning_of-meaning.ensures c.in_ok-insert.ensures
     ∙ ap (λ (item : Item). Ok (record (counted (top_view c.args.self.now) (item_tree item)) { names = found_in c.insert.new.table })) c.in-Channel.is
 
 pub returns-in-Exception-clause-made : goal.returns-in-Exception-clause-made
 returns-in-Exception-clause-made c =
-    named (top_view c.args.self.now) (item_tree c.args.item.now) (found_in c.insert.new.table) (name_tree c.name_of-name.result.now) _ _ _ _
-    c.name_of-name.ensures c.as_str.ensures.value c.as_str-2.ensures.value c.find.ensures c.in_ok-require_fresh.ensures.made c.meaning_of-meaning.ensures c.in_ok-insert.ensures
+    named (top_view c.args.self.now) (item_tree c.args.item.now) (found_in c.insert.new.table) (name_tree c.name_of-name.result.now) _ _
+    c.name_of-name.ensures c.find.ensures c.in_ok-require_fresh.ensures.made c.meaning_of-meaning.ensures c.in_ok-insert.ensures
     ∙ ap (λ (item : Item). Ok (record (counted (top_view c.args.self.now) (item_tree item)) { names = found_in c.insert.new.table })) c.in-Exception.is
 
 pub returns-in-Global-clause-made : goal.returns-in-Global-clause-made
 returns-in-Global-clause-made c =
-    named (top_view c.args.self.now) (item_tree c.args.item.now) (found_in c.insert.new.table) (name_tree c.name_of-name.result.now) _ _ _ _
-    c.name_of-name.ensures c.as_str.ensures.value c.as_str-2.ensures.value c.find.ensures c.in_ok-require_fresh.ensures.made c.meaning_of-meaning.ensures c.in_ok-insert.ensures
+    named (top_view c.args.self.now) (item_tree c.args.item.now) (found_in c.insert.new.table) (name_tree c.name_of-name.result.now) _ _
+    c.name_of-name.ensures c.find.ensures c.in_ok-require_fresh.ensures.made c.meaning_of-meaning.ensures c.in_ok-insert.ensures
     ∙ ap (λ (item : Item). Ok (record (counted (top_view c.args.self.now) (item_tree item)) { names = found_in c.insert.new.table })) c.in-Global.is
 
 pub returns-in_ok-push-in-Procedure-clause-made : goal.returns-in_ok-push-in-Procedure-clause-made
@@ -32,7 +32,7 @@ returns-in_ok-push-in-Procedure-clause-made c =
     let pushed : map signature_view c.push.new.self.items ≡ map signature_view old ++ signature_view c.in_ok-make_signature-in-Procedure.field-0 ∷ [] =
     rw c.in_ok-push-in-Procedure.ensures.items (map_push signature_view old c.in_ok-make_signature-in-Procedure.field-0) in
     let all = ap (λ last. map signature_view old ++ last ∷ []) (sym c.in_ok-make_signature-in-Procedure.ensures) ∙ sym pushed in
-    named (top_view c.args.self.now) (item_tree c.args.item.now) (found_in c.insert.new.table) (name_tree c.name_of-name.result.now) _ _ _ _
-    c.name_of-name.ensures c.as_str.ensures.value c.as_str-2.ensures.value c.find.ensures c.in_ok-require_fresh.ensures.made c.meaning_of-meaning.ensures c.in_ok-insert.ensures
+    named (top_view c.args.self.now) (item_tree c.args.item.now) (found_in c.insert.new.table) (name_tree c.name_of-name.result.now) _ _
+    c.name_of-name.ensures c.find.ensures c.in_ok-require_fresh.ensures.made c.meaning_of-meaning.ensures c.in_ok-insert.ensures
     ∙ ap (λ (item : Item). Ok (record (counted (top_view c.args.self.now) (item_tree item)) { names = found_in c.insert.new.table })) c.in-Procedure.is
     ∙ (λ i. Ok (record { names = found_in c.insert.new.table; channels = before.channels; exceptions = before.exceptions; globals = before.globals; signatures = all i }))

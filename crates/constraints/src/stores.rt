@@ -1,0 +1,116 @@
+//! The constraints of stores into arrays.
+ghost use Rattle.constraints.specs.Added.{IsLeftFrom};
+ghost use Rattle.constraints.specs.LeftSides.{IsJoined, index_atoms, scope_of};
+ghost use Rattle.constraints.specs.Takers.{takers_around};
+ghost use Rattle.constraints.specs.Walks.{IsSimple};
+ghost use Rattle.gathering.specs.Walk.{store_atoms};
+ghost use Rattle.path_map.specs.Exceptions.{AreRaised};
+ghost use Rattle.resolved.specs.Ends.{index_raises, raises};
+ghost use Rattle.resolved.specs.Labelled.{value_label};
+ghost use Rattle.resolved.specs.Tree.{Store};
+ghost use Rattle.resolved.specs.TreeOf.{expression_of};
+ghost use Rattle.std.specs.Prelude.{IfOk, OnOk, ◌++◌};
+
+use crate::around::Around;
+use crate::forms::ArrayStore;
+use crate::lefts::left_of_pc;
+use crate::statements::Walk;
+use path_map::raises::{Raises, index_can_raise, raises_of};
+use resolved::expression::Expression;
+use resolved::statement::Exit;
+use resolved::target::Target;
+use solver::{Atom, Constraint, Left};
+use std::alloc::AllocError;
+
+impl<'a> Walk<'a> {
+    // The pc, and the labels of the index and the value of a store.
+    fn left_of_stored(
+        &self,
+        pc: Atom,
+        index: &Expression,
+        value: &Expression,
+    ) -> Result<Left, AllocError>
+        ensures { IfOk result (λ left. IsLeftFrom self.now.table.now.core.now
+            self.now.table.now.core.now.labels pc
+            (value_label (scope_of self.now.table.now.core.now self.now.procedure)
+            (expression_of index.now)
+            ++ value_label (scope_of self.now.table.now.core.now self.now.procedure)
+            (expression_of value.now)) left.items) }
+    {
+        let mut left = left_of_pc(self.alloc, pc)?;
+        self.table.add_value(self.procedure, index, &mut left)?;
+        self.table.add_value(self.procedure, value, &mut left)?;
+        Ok(left)
+    }
+
+    // The pc, and what decides whether a store into an array of this length raises an exception.
+    fn left_of_store(
+        &self,
+        pc: Atom,
+        length: u32,
+        index: &Expression,
+        value: &Expression,
+    ) -> Result<Left, AllocError>
+        ensures { IfOk result (λ left. IsLeftFrom self.now.table.now.core.now
+            self.now.table.now.core.now.labels pc
+            (store_atoms (scope_of self.now.table.now.core.now self.now.procedure) length
+            (expression_of index.now) (expression_of value.now)) left.items) }
+    {
+        let mut left = left_of_pc(self.alloc, pc)?;
+        self.add_index(length, index, &mut left)?;
+        self.table.add_raise(self.procedure, value, &mut left)?;
+        Ok(left)
+    }
+
+    // Adds what decides whether the index of a store raises an exception.
+    fn add_index(&self, length: u32, index: &Expression, left: &mut Left) -> Result<(), AllocError>
+        ensures { OnOk result (IsJoined self.now.table.now.core.now
+            self.now.table.now.core.now.labels
+            (index_atoms (scope_of self.now.table.now.core.now self.now.procedure) length
+            (expression_of index.now)) left.old.items left.new.items) }
+    {
+        if index_can_raise(index, length) {
+            return self.table.add_value(self.procedure, index, left);
+        }
+        self.table.add_raise(self.procedure, index, left)?;
+        Ok(())
+    }
+
+    /// Adds what is gathered of a store into an array.
+    pub fn add_store(
+        &self,
+        store: ArrayStore,
+        index: &Expression,
+        value: &Expression,
+        around: &Around,
+        constraints: &mut Vec<Constraint<Option<Target>>>,
+    ) -> Result<(), AllocError>
+        ensures { OnOk result (IsSimple self.now.table.now.core.now
+            self.now.table.now.core.now.labels self.now.procedure
+            around.now.pc (takers_around around.now)
+            (Store store.at store.array store.length
+            (expression_of index.now) (expression_of value.now))
+            constraints.old.items constraints.new.items) }
+    {
+        let target = Target::ToVariable(self.procedure, store.array);
+        let stored = self.left_of_stored(around.pc, index, value)?;
+        self.table
+            .add_rule(store.at, 3, stored, target, constraints)?;
+        let left = self.left_of_store(around.pc, store.length, index, value)?;
+        let found = raises_of_store(store.length, index, value);
+        self.add_ends(&left, around, Exit::Normal, found, constraints)?;
+        Ok(())
+    }
+}
+
+// The exceptions that a store into an array of this length can raise.
+fn raises_of_store(length: u32, index: &Expression, value: &Expression) -> Raises
+    ensures { AreRaised result (raises (expression_of index.now) ++ raises (expression_of value.now)
+        ++ index_raises (expression_of index.now) length) }
+{
+    let access = Raises {
+        arith: false,
+        bounds: index_can_raise(index, length),
+    };
+    raises_of(index).or(raises_of(value)).or(access)
+}
