@@ -236,13 +236,101 @@ def halves_of_two_long_labels_flow(size):
     return flat(256), head + joined(found) + "}\n"
 
 
+def small_policy(number):
+    """A policy of its own for each number below 255 times 256."""
+    return f"P{number % 255}: P{number // 255}"
+
+
+def to_many_places(size, first, label, place, taker=lambda n: "u"):
+    """Many locals with labels by their number, which are copied to a taker, which is copied to as many others with labels of their own.
+    Before them stand first lines."""
+    found = pieces(
+        size - len(first) - 20,
+        lambda n: (
+            f"int{{{label(n)}}} x{n} = 0; {taker(n)} = x{n};\n",
+            f"int{{{place(n)}}} z{n} = {taker(n)};\n",
+        ),
+    )
+    return chain(256), first + joined(found) + joined(found, 1) + "}\n"
+
+
 def many_labels_to_many_places(size):
     """Many locals, each with a label of its own, that are copied to one, which is copied to many others with labels of their own."""
+    return to_many_places(size, "void main() {\nint u = 0;\n", small_policy, lambda n: f"P255:; {one_policy(n)}")
+
+
+def pairs_of_policies_to_many_places(size):
+    """The same with two policies in each label."""
+    label = lambda n: f"{small_policy(n)}; P{(n * 7 + 3) % 255}: P{n // 255}"
+    return to_many_places(size, "void main() {\nint u = 0;\n", label, lambda n: f"P255:; {one_policy(n)}")
+
+
+def many_labels_to_places_with_many_readers(size):
+    """The same where every twentieth of the places has more than a hundred readers."""
+    readers = ", ".join(f"P{n}" for n in range(128, 250))
+    place = lambda n: f"P255: P{n % 250}, {readers if n % 20 == 0 else f'P{n // 250}'}"
+    return to_many_places(size, "void main() {\nint u = 0;\n", small_policy, place)
+
+
+def left_sides_in_turn(size):
+    """The same with two takers, which are copied to the places in turn."""
+    first, place = "void main() {\nint u = 0; int v = 0;\n", lambda n: f"P255:; {one_policy(n)}"
+    return to_many_places(size, first, small_policy, place, lambda n: "uv"[n % 2])
+
+
+def named_labels_to_many_places(size):
+    """The same where each label on the left names a local too."""
+    first = "void main() {\nint{P3:} g = 0; int u = 0;\n"
+    return to_many_places(size, first, lambda n: f"g; {small_policy(n)}", lambda n: f"P255:; {one_policy(n)}")
+
+
+def many_labels_to_places_with_a_long_label(size):
+    """The same where each place has a long label by the name of a global, and a policy beside it."""
+    first = f"global int{{P255:; {policies(size // 3)[1:-1]}}} g = 1;\nvoid main() {{\nint u = 0;\n"
+    return to_many_places(size, first, small_policy, lambda n: f"g; {one_policy(n)}")
+
+
+def many_labels_to_places_along_names(size):
+    """The same where each place has the label of the one before and a policy more."""
+    first = "void main() {\nint u = 0;\n"
+    found = pieces(
+        size - len(first) - 40,
+        lambda n: (f"int{{{small_policy(n)}}} x{n} = 0; u = x{n};\n", f"int{{z{n}; {one_policy(n)}}} z{n + 1} = u;\n"),
+    )
+    return chain(256), first + joined(found) + "int{P255:} z0 = 0;\n" + joined(found, 1) + "}\n"
+
+
+def labels_along_names_to_many_places(size):
+    """The same where each label on the left is that of the local before and a policy more."""
+    first = "void main() {\nint{P3:} a0 = 0; int u = 0;\n"
+    found = pieces(
+        size - len(first) - 20,
+        lambda n: (
+            f"int{{a{n}; {small_policy(n)}}} a{n + 1} = 0; u = a{n};\n",
+            f"int{{P255:; {one_policy(n)}}} z{n} = u;\n",
+        ),
+    )
+    return chain(256), first + joined(found) + joined(found, 1) + "}\n"
+
+
+def growing_left_sides_to_many_places(size):
+    """The same with a chain of takers, each with a label more than the one before it, and each copied to a place of its own."""
     found = pieces(
         size - 40,
-        lambda n: (f"int{{P{n % 255}: P{n // 255}}} x{n} = 0; u = x{n};\n", f"int{{P255:; {one_policy(n)}}} z{n} = u;\n"),
+        lambda n: (
+            f"int{{{small_policy(n)}}} x{n} = 0; int u{n} = x{n};" + (f" u{n} = u{n - 1};\n" if n else "\n"),
+            f"int{{P255:; {one_policy(n)}}} z{n} = u{n};\n",
+        ),
     )
-    return chain(256), "void main() {\nint u = 0;\n" + joined(found) + joined(found, 1) + "}\n"
+    return chain(256), "void main() {\n" + joined(found) + joined(found, 1) + "}\n"
+
+
+def long_places_in_turn(size):
+    """Many locals with labels of their own that are sent to two channels in turn, both with long labels."""
+    one, other = policies(size // 4)[1:-1], policies(size // 4, 1 << 20)[1:-1]
+    head = f"output{{P255:; {one}}} p;\noutput{{P255:; {other}}} q;\nvoid main() {{\n"
+    found = pieces(size - len(head) - 2, lambda n: (f"int{{{small_policy(n)}}} x{n} = 0; send p, x{n}; send q, x{n};\n",))
+    return chain(256), head + joined(found) + "}\n"
 
 
 def flows_along_names(size):
@@ -353,6 +441,15 @@ SHAPES = [
     (half_of_a_long_label_flows, 20, 40),
     (halves_of_two_long_labels_flow, 20, 40),
     (many_labels_to_many_places, 20, 400),
+    (pairs_of_policies_to_many_places, 20, 400),
+    (many_labels_to_places_with_many_readers, 20, 400),
+    (left_sides_in_turn, 20, 400),
+    (named_labels_to_many_places, 20, 400),
+    (many_labels_to_places_with_a_long_label, 20, 400),
+    (many_labels_to_places_along_names, 20, 400),
+    (labels_along_names_to_many_places, 20, 400),
+    (growing_left_sides_to_many_places, 20, 400),
+    (long_places_in_turn, 20, 400),
     (flows_along_names, 20, 400),
     (all_names_flow_to_the_last, 20, 400),
     (exceptions_of_calls, 20, 400),

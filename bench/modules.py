@@ -4,22 +4,25 @@
     bench/modules.py PROGRAM
 
 PROGRAM is the built program (crates/flowc_main/out/flowc_main). Each module is built at 256 KiB, 512 KiB and 1 MiB and run for no
-step, so that its bytes are decoded and its code is verified. The least time of ROUNDS counts, and that of a module of one
-instruction is taken off. Growth is the time at 1 MiB by that at 512 KiB: 2 where the work is in proportion to the size.
+step, so that its bytes are decoded and its code is verified. The least of ROUNDS user and system times counts, and that of a module
+of one instruction is taken off. Growth is the time at 1 MiB by that at 512 KiB: 2 where the work is in proportion to the size. Behind a
+module that takes more than BOUND times what many short procedures of its size take stands `TOO SLOW`.
 
 Then how much memory is held where bytes are read and refused, by byte read, past the LITTLE that the program itself may take: each
 module of 8 MiB is read without its last byte under a limit of the process. So is a small module with any four of its bytes made ff,
-so that each count claims more than there is. The status is 1 where 64 bytes for each byte read do not do, or a claim takes memory.
+so that each count claims more than there is. The status is 1 where a module is too slow, 64 bytes for each byte read do not do, or a
+claim takes memory.
 """
 
+import resource
 import struct
 import subprocess
 import sys
 import tempfile
-import time
 from pathlib import Path
 
 ROUNDS = 3
+BOUND = 20
 LITTLE = 24 << 20
 SIZES = [256 << 10, 512 << 10, 1 << 20]
 PUSH_TRUE, POP, NOT, RETURN = b"\x02\x01", b"\x03", b"\x16", b"\x23"
@@ -87,21 +90,23 @@ def many_procedures(size):
 
 
 MODULES = {
+    "many short procedures": many_procedures,
     "a handler for each instruction": handler_for_each_instruction,
     "handlers over all code": handlers_over_all_code,
     "pushes, then branches": pushes_then_branches,
     "jumps to one place": jumps_to_one_place,
     "forks to calls with many parameters": forks_to_calls,
-    "many short procedures": many_procedures,
 }
 
 
 def seconds(program, path, world):
-    best = float("inf")
-    for _ in range(ROUNDS):
-        begun = time.perf_counter()
+    best, before = float("inf"), 0
+    for _ in range(ROUNDS + 1):
         ended = subprocess.run([program, "run", path, world, "--steps", "0"], capture_output=True)
-        best = min(best, time.perf_counter() - begun)
+        used = resource.getrusage(resource.RUSAGE_CHILDREN)
+        after = used.ru_utime + used.ru_stime
+        # The first one tells where the others begin.
+        best, before = min(best, after - before) if before else best, after
         if ended.returncode not in (0, 6):
             sys.exit(f"{path}: status {ended.returncode}: {ended.stderr.decode()[:200]}")
     return best
@@ -144,13 +149,17 @@ def main():
     nothing = seconds(program, path, world)
     print("| Module | 256 KiB | 512 KiB | 1 MiB | growth |")
     print("|---|---|---|---|---|")
+    usual, slow = [], 0
     for name, build in MODULES.items():
         took = []
         for size in SIZES:
             path.write_bytes(build(size))
-            took.append(max(seconds(program, path, world) - nothing, 1e-6))
-        print(f"| {name} | " + " | ".join(f"{t:.3f} s" for t in took) + f" | {took[2] / took[1]:.2f} |", flush=True)
-    return 0 if is_bounded(program, path) else 1
+            took.append(max(seconds(program, path, world) - nothing, 1e-3))
+        usual = usual or took
+        is_slow = any(time > BOUND * other for time, other in zip(took, usual))
+        slow += is_slow
+        print(f"| {name} | " + " | ".join(f"{t:.3f} s" for t in took) + f" | {took[2] / took[1]:.2f}{', TOO SLOW' if is_slow else ''} |", flush=True)
+    return 0 if is_bounded(program, path) and not slow else 1
 
 
 if __name__ == "__main__":

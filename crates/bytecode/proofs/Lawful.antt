@@ -90,6 +90,12 @@ width_by byte (a ∷ b ∷ c ∷ []) x size e = absurd (elim size [ inl h ↦ om
 width_by byte (a ∷ b ∷ c ∷ d ∷ []) x size e = with_width byte 5 (numbered (from_be_bytes w32 (a ∷ b ∷ c ∷ d ∷ []))) x (refl, (refl, (refl, (refl, (refl, (refl, (refl, (refl, (refl, (refl, (refl, (refl, (refl, (refl, (refl, (refl, tt)))))))))))))))) e
 width_by byte (a ∷ b ∷ c ∷ d ∷ f ∷ rest) x size e = absurd (elim size [ inl h ↦ omega arith | inr more ↦ elim more [ inl h ↦ omega arith | inr h ↦ omega arith ] ])
 
+-- an opcode that is followed by a number is so in each version
+pub numbered_width : (version : Version) (byte n : ℕ) (x : Instruction) → with_opcode byte (numbered n) ≡ Some x → width_after version byte ≡ Some 4
+numbered_width version byte n x e =
+    let f = found (λ y. eqb (opcode_of y) byte) (λ y. width_after version (opcode_of y) ≡ Some 4) (numbered n) x (refl, (refl, (refl, (refl, (refl, (refl, (refl, (refl, (refl, (refl, (refl, (refl, (refl, (refl, (refl, (refl, tt)))))))))))))))) e in
+    subst (λ (b : ℕ). width_after version b ≡ Some 4) (eqb-true _ _ f.0) f.1
+
 three_widths : (operand : Operand) (n : ℕ) → operand_width operand ≡ n → (n ≡ 0) ⊎ ((n ≡ 1) ⊎ (n ≡ 4))
 three_widths Absent n e = inl (sym e)
 three_widths (Boolean b) n e = inr (inl (sym e))

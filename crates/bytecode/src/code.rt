@@ -4,13 +4,35 @@ ghost use Rattle.modules.specs.Code.{width_of};
 ghost use Rattle.modules.specs.Form.{Code, code_at, instruction_in, read};
 ghost use Rattle.modules.specs.Opcodes.{instructions};
 ghost use Rattle.bytecode.specs.Reading.{Decodes};
-ghost use Rattle.std.specs.Prelude.{[], IfOk, ◌≤◌};
+ghost use Rattle.modules.specs.declared.version.Version.{Version};
+ghost use Rattle.std.specs.Prelude.{[], IfOk, IfSome, Ok, ◌≡◌, ◌≤◌};
 
 use crate::reading::{ReadFault, read_byte, read_number, read_text, refuse};
 use modules::instruction::Instruction;
-use modules::opcode::{instruction_of, width_after};
+use modules::opcode::{instruction_of, numbered_instruction, width_after};
 use modules::{FormatDefect, Version};
 use std::alloc::Global;
+
+/// The instruction with a number at the front, if there is one that ends within the room that is left in its code. Each version has it.
+fn read_numbered(room: u32, bytes: &[u8]) -> Option<(Instruction, &[u8])>
+    ensures gives { IfSome result (λ x. (version : Version) →
+        instruction_in (instructions version) room bytes.now ≡ Ok (x.0, x.1.now)) }
+    ensures inside { IfSome result (λ x. width_of x.0 ≤ room) }
+{
+    let [opcode, rest @ ..] = bytes else {
+        return None;
+    };
+    if room < 5 {
+        return None;
+    }
+    let Ok((number, after)) = read_number(rest) else {
+        return None;
+    };
+    match numbered_instruction(*opcode, number) {
+        Some(instruction) => Some((instruction, after)),
+        None => None,
+    }
+}
 
 /// The instruction of a version at the front, which ends within the room that is left in its code.
 #[tactic(auto, unfolding(modules::specs::Opcodes::instructions))]
@@ -23,6 +45,9 @@ fn read_instruction(
         bytes.now) }
     ensures inside { IfOk result (λ x. width_of x.0 ≤ room) }
 {
+    if let Some(found) = read_numbered(room, bytes) {
+        return Ok(found);
+    }
     let (opcode, rest) = read_byte(bytes)?;
     let Some(width) = width_after(version, opcode) else {
         return Err(refuse(FormatDefect::BadValue, bytes));
@@ -37,8 +62,12 @@ fn read_instruction(
     Ok((instruction, after))
 }
 
+// For how many instructions there is room at first: most procedures have no more.
+const FEW: usize = 32;
+
 /// The instructions of a version that the next `size` bytes are. Room for them grows with what was read, whatever the size claims, and
-/// what is not taken in the end is given back.
+/// what is not taken in the end is given back. It is not inlined, so that the loop has all registers for itself.
+#[inline(never)]
 fn read_instructions(
     alloc: Global,
     version: Version,
@@ -48,7 +77,7 @@ fn read_instructions(
     ensures { Decodes (λ x. (x.0.items, x.1.now)) result (code_at (instructions version) size size []
         bytes.now) }
 {
-    let mut code = Vec::new(alloc);
+    let mut code = Vec::with_capacity(alloc, FEW)?;
     let mut rest = bytes;
     let mut room = size;
     while room > 0 {

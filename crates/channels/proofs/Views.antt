@@ -11,9 +11,9 @@ use Rattle.labels.specs.Sent.{IsPrefix}
 use Rattle.labels.proofs.Prefixes.{prefix-through}
 use Rattle.channels.specs.Sink.{AppendsPrefix}
 use Rattle.modules.specs.Contents.{ChannelContents, ModuleContents}
-use Rattle.modules.specs.Isolated.{channel_label, channel_label_under, label_in}
+use Rattle.modules.specs.Isolated.{channel_label_under, label_in}
 use Rattle.principals.specs.ActsFor.{PrincipalHierarchy}
-use Rattle.labels.specs.Carried.{carried_label, label_under, number_by_name, numbered}
+use Rattle.labels.specs.Carried.{label_under}
 use Rattle.labels.specs.Label.{may_read}
 use Rattle.std.specs.Prelude.{slice_get, map, zero, suc}
 use Rattle.channels.specs.View.{CarriesLabels, renumbered, is_readable, is_shown, pair_line, readable, observer_view, view_text}
@@ -142,10 +142,6 @@ answers_are h m numbers observer same = go m.channels same
         ≡ map (λ channel. may_read h observer (label_under m.hierarchy h channel.label)) channels
     go [] same = refl
     go (channel ∷ channels) same = λ i. may_read h observer (same 0 i) ∷ go channels (λ k. same (suc k)) i
-
--- a list that has the numbers by name carries the labels
-pub carried_by_name : (h : PrincipalHierarchy) (m : ModuleContents) (numbers : List ℕ) → numbered numbers ≡ number_by_name m.hierarchy h → CarriesLabels h m (Some numbers)
-carried_by_name h m numbers same k = λ i. carried_label (same i) (channel_label m k)
 
 pub on_err : {X Y : Type 0} (result : Result X Y) (P : Type 0) → P → OnErr result P
 on_err (Ok x) P holds = tt

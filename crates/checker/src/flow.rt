@@ -38,7 +38,7 @@ pub(crate) fn flow_of(
     let Atom::Written(to) = last.right else {
         unreachable!();
     };
-    // It brings that the numbers of labels are of 32 bits.
+    // Its contract says that the numbers of labels are of 32 bits.
     let _count = core.labels.len();
     let from = refusal.from as u32;
     let Some(policy) = core.labels.find_uncovered(&core.hierarchy, from, to) else {

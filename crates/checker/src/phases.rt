@@ -56,7 +56,7 @@ pub fn check(alloc: Global, hierarchy: &Hierarchy, source: &str) -> Result<Check
     isolation::noninterference::labelled_programs_are_isolated();
     isolation::noninterference::labelled_programs_stay_isolated();
     resolved_programs_have_names();
-    // It brings that this is a hierarchy, with names that a module file holds.
+    // Its contract says that this is a hierarchy, with names that a module file holds.
     let _count = hierarchy.count();
     let analysed = match analyse(alloc, hierarchy, source) {
         Ok(analysed) => analysed,

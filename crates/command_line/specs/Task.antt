@@ -10,7 +10,7 @@ use Rattle.clap.specs.Words.{Row, Text, first_of}
 use Rattle.command_line.specs.declared.request.Task.{Task}
 use Rattle.command_line.specs.declared.request.Task.TheVariants.{Check, Build, Run, Explain, List as ListModule}
 
--- at most so many steps; a task that runs nothing takes none
+-- how many steps a task takes at most; one that runs nothing takes none
 abbrev pub steps_of : Task → ℕ
 steps_of (Check hierarchy source) = 0
 steps_of (Build hierarchy source out) = 0

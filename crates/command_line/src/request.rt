@@ -21,7 +21,7 @@ pub enum Task {
         src: String,
         out: String,
     },
-    /// Run a module on a world for at most so many steps, and show what this principal may read, or all of it where none is
+    /// Run a module on a world for at most a number of steps, and show what this principal may read, or all of it where none is
     /// named. The principals are those of the hierarchy `under`, or of the module's own where none is named.
     Run {
         file: String,

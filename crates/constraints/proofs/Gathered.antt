@@ -1,5 +1,5 @@
 -- Stored constraints that stand for what is gathered: they are just that, and their numbers are in range and few.
-use Rattle.std.proofs.Common.{◌≡◌, refl, sym, ap, ◌∙◌, subst, ℕ, ◌*◌, ◌<◌, ◌≤◌, arith, List, [], ◌∷◌, ◌++◌, map, length, ⊎_elim}
+use Rattle.std.proofs.Common.{◌≡◌, refl, sym, ap, ◌∙◌, subst, ℕ, ◌+◌, ◌*◌, ◌<◌, ◌≤◌, arith, List, [], ◌∷◌, ◌++◌, map, length, ⊎_elim}
 use Rattle.std.specs.Prelude.{◌↔◌, Contains, Some, nat_le, slice_get}
 use Rattle.std.proofs.lemmas.Bool.{le-leb}
 use Rattle.std.proofs.lemmas.List.{map-append}
@@ -19,6 +19,8 @@ use Rattle.resolved.specs.Labelled.{FitsDemands, Labelling, program_demands}
 use Rattle.gathering.specs.Gathered.{AreConstraintsOf, FitsConstraints}
 use Rattle.gathering.specs.Names.{numbered, real_unknowns}
 use Rattle.gathering.specs.Rerouted.{IsRerouted}
+use Rattle.gathering.proofs.Begins.{calls-counted}
+use Rattle.gathering.specs.Size.{begins}
 use Rattle.gathering.specs.Walk as walk
 use Rattle.gathering.specs.Walk.{gathered_constraints, program_constraints, unknown_count}
 use Rattle.gathering.proofs.ReroutedPrograms.{constraints-fit, rerouted-constraints}
@@ -33,7 +35,7 @@ use Rattle.constraints.specs.Thinned.{ThinnedWhole}
 use Rattle.constraints.specs.declared.progress.Progress.{Progress}
 use Rattle.constraints.specs.declared.spreading.Made.{Made}
 use Rattle.constraints.proofs.Merged.{FitsIn, fits-more, meant-rerouted, shared-in-range}
-use Rattle.constraints.proofs.SpreadCalls.{all-numbered, calls-rerouted, ranged-unknowns, spread-below, spread-few}
+use Rattle.constraints.proofs.SpreadCalls.{all-numbered, calls-rerouted, ranged-unknowns, spread-below, spread-least}
 use Rattle.constraints.proofs.Wanted.{constraints-numbered, wanted, wanted_of}
 
 module _ (l : Lattice Label) (table : List Label) where
@@ -180,7 +182,8 @@ module _ (core : Core) (table : List Label) (walked : Progress) (old new : Made)
       (Contains-append_cases old.constraints.items made.shared c h)))
 
   -- and few
-  pub all-few : new.number ≤ 6 * program_nodes (program_of core)
+  pub all-few : new.number ≤ 4 * program_nodes (program_of core)
   all-few =
-      let few : made.next ≤ 4 * program_nodes (program_of core) = spread-few core table walked old.number made.next made.spread whole made.are_spread first in
-      omega (arith, few, made.few, made.are_spread.number_is)
+      let least : made.next ≤ unknown_count (program_of core) + begins (program_constraints (program_of core)) =
+      spread-least core table walked old.number made.next made.spread whole made.are_spread first in
+      omega (arith, least, made.few, made.are_spread.number_is, first, calls-counted (program_of core) core.well_formed)

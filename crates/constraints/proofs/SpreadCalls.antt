@@ -17,6 +17,7 @@ use Rattle.resolved.specs.WellFormed.{program_nodes}
 use Rattle.gathering.specs.Names.{NamedAtom, NamedConstraint, is_inner_name, named_atoms, numbered, numbered_atom, real_unknowns}
 use Rattle.gathering.specs.Rerouted.{Brings, IsAdded, IsRerouted, Leads, Links, arrived, itself, onward, others}
 use Rattle.gathering.specs.Walk as walk
+use Rattle.gathering.specs.Size.{begins}
 use Rattle.gathering.specs.Walk.{call_atoms, gathered_constraints, inner_atom, program_constraints, unknown_count}
 use Rattle.gathering.proofs.Begins.{calls-counted}
 use Rattle.gathering.proofs.Numbers.{kept, numbers-below}
@@ -377,10 +378,10 @@ module _ (core : Core) (table : List Label) (walked : Progress) (from_number nex
   all-numbered = constraints-numbered (program_of core) (whole.now.kept ++ spread.added) ranged-unknowns
 
   -- and few
-  pub spread-few : next_number ≤ 4 * program_nodes (program_of core)
-  spread-few =
+  pub spread-least : next_number ≤ unknown_count (program_of core) + begins (program_constraints (program_of core))
+  spread-least =
       let none : length whole.start.calls.items ≡ 0 = ap length whole.no_calls in
-      omega (arith, calls-counted (program_of core) core.well_formed, spread.number_is, spread.few, whole.now.few, none, first)
+      omega (arith, spread.number_is, spread.few, whole.now.few, none, first)
 
 -- before they are spread, there are numbers for an unknown of each call
 pub calls-fit : (core : Core) (table : List Label) (walked : Progress) → ThinnedWhole core table (program_constraints (program_of core)) walked

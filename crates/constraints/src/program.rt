@@ -58,7 +58,7 @@ pub fn gather(alloc: Global, core: &Core, ends: &Ends) -> Result<LabelConstraint
     ensures in_range { IfOk result (λ system. InRange (length core.now.labels)
         system.unknowns system.constraints.items) }
     ensures few { IfOk result (λ system. system.unknowns
-        ≤ 6 * program_nodes (program_of core.now)) }
+        ≤ 4 * program_nodes (program_of core.now)) }
 {
     let table = Table::of(alloc, core)?;
     let progress = walk_procedures(alloc, &table, ends)?;

@@ -50,7 +50,7 @@ fn line_of_policy(
 ) -> Result<String, AllocError>
     ensures { IfOk result (λ line. string_bytes line ≡ policy_line hierarchy.now policy.now) }
 {
-    // It brings that the policy is canonical, as a label wants it.
+    // Its contract says that the policy is canonical, as a label wants it.
     let _readers = policy.readers();
     let mut policies = Vec::new(alloc);
     policies.push(policy.clone()?)?;

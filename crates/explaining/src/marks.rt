@@ -35,7 +35,7 @@ impl<'a> MarkedText<'a> {
         Ok(MarkedText { text, marks })
     }
 
-    /// The line and the column of a byte of the text; of a byte behind it, those of its end.
+    /// The line and the column of a byte of the text; of a byte after it, those of its end.
     pub fn place_of(&self, at: usize) -> Place
         ensures line { result.line ≡ line_of self.now.text.now at }
         ensures column { result.column ≡ column_of self.now.text.now at }

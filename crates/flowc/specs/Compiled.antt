@@ -26,7 +26,7 @@ text_at path files index = record { path = string_bytes path; bytes = bytes_at f
 abbrev pub bytes_of : Option NamedText → Option (List ℕ)
 bytes_of file = option_map (λ text. text.bytes) file
 
--- the same of two files: the hierarchy text, and behind it the source
+-- the same of two files: the hierarchy text, and after it the source
 abbrev pub IsBuilt : List (Vec ℕ Global) → List ℕ → Type 0
 IsBuilt files code = IsCompiled (bytes_at files 0) (bytes_at files 1) code
 

@@ -23,7 +23,7 @@ use Rattle.principals.specs.declared.fault.TheConstants.{UNKNOWN_PRINCIPAL, UNKN
 
 -- ---- lines of refusals
 
--- what a line says behind the place of a refusal: a colon, the number, the words, and a line feed
+-- what a line says after the place of a refusal: a colon, the number, the words, and a line feed
 abbrev pub saying : (number : ℕ) → (words : List ℕ) → List ℕ
 saying number words = codes ": " ++ (decimal number ++ (codes " " ++ (words ++ codes "\n")))
 

@@ -101,7 +101,7 @@ abbrev pub reported_line : ModuleContents → (principal : Option ℕ) → Statu
 reported_line program None end = end_line program.exceptions end
 reported_line program (Some principal) end = []
 
--- the line reports the end that a run had come to after at most so many steps, and to an observer nothing
+-- the line reports the end that a run had come to after at most this number of steps, and to an observer nothing
 pub record IsEndLine (code text : List ℕ) (under observer : Option (List ℕ)) (steps status : ℕ) (line : List ℕ) : Type 0 where
   pub program : ModuleContents
   pub hierarchy : PrincipalHierarchy

@@ -36,7 +36,7 @@ seen_under program None p sent = pairs_for program.hierarchy (channel_label prog
 seen_under program (Some larger) p sent =
     pairs_for larger (λ channel. label_under program.hierarchy larger (channel_label program channel)) p sent
 
--- what a principal sees so of what a program sends on a world with so many turns
+-- what a principal sees so of what a program sends on a world with a number of turns
 abbrev pub program_view : Program → (under : Option PrincipalHierarchy) → (p : ℕ) → World → (turns : ℕ) → List Pair
 program_view program under p world turns = seen_under program under p (sent_by program world turns)
 
@@ -62,7 +62,7 @@ SessionsShowNoMore =
     → IsPrefix pairs (program_view (program_in compiled) under p
     (numbers_of_channel (module_in compiled) world) (sessions.steps_of shows))
 
--- before its view a session has taken so many steps, or has answered that its run has ended
+-- before its view a session has taken this number of steps, or has answered that its run has ended
 abbrev pub HasRun : {code : List ℕ} {world : List InputNumbers} {under : Option PrincipalHierarchy} {p : ℕ} {pairs : List Pair}
     → sessions.Shows code world under p pairs → (steps : ℕ) → Type 0
 HasRun shows steps = (steps ≤ sessions.steps_of shows) ⊎ ((ending : Ending) × sessions.ReportsEnd shows ending)
@@ -81,7 +81,7 @@ SessionsShowNoLess =
     → ShowNoLess (program_in compiled) (module_in compiled) code
 
 -- the relation between events and answers is not empty: on each world for the inputs of the bytes, and under each hierarchy that
--- contains theirs, it allows some session that shows a principal all that it sees of the source with so many turns. A host that is always out of memory keeps it too
+-- contains theirs, it allows some session that shows a principal all that it sees of the source with any number of turns. A host that is always out of memory keeps it too
 abbrev pub SomeSessionsShowAll : Type 0
 SomeSessionsShowAll =
     (hierarchy source code : List ℕ) (compiled : IsCompiled hierarchy source code) (world : List InputNumbers)

@@ -30,7 +30,7 @@ use Rattle.flowc.specs.View.{IsObserver, observer_view, view_text}
 abbrev pub numbers_in : ModuleContents → List ℕ → ℕ → List ℤ
 numbers_in program text = numbers_of_channel program (world_of (input_names program) (lines_of text))
 
--- the text of what is shown under a hierarchy of a run on the world of a text after so many steps
+-- the text of what is shown under a hierarchy of a run on the world of a text after a number of steps
 abbrev pub text_shown : PrincipalHierarchy → ModuleContents → (world : List ℕ) → (principal : Option ℕ) → (taken : ℕ) → List ℕ
 text_shown hierarchy program world principal taken =
     view_text program (observer_view hierarchy program principal (sent_after program (numbers_in program world) taken))
@@ -57,7 +57,7 @@ CannotRun code text under observer =
     (program : ModuleContents) (hierarchy : PrincipalHierarchy) (principal : Option ℕ)
     → ¬ CanRun code text under observer program hierarchy principal
 
--- a run was shown: at most so many steps were taken, and what was written is the view that the observer has of what was sent by
+-- a run was shown: at most this number of steps was taken, and what was written is the view that the observer has of what was sent by
 -- then; the status reports the end, but not to an observer
 pub record ShowsRun (code text : List ℕ) (under observer : Option (List ℕ)) (steps status : ℕ) (old new : Option (List ℕ)) : Type 0 where
   pub program : ModuleContents
@@ -71,7 +71,7 @@ pub record ShowsRun (code text : List ℕ) (under observer : Option (List ℕ)) 
   pub ended : ReportsStatus (machine_code program) steps taken end (after_steps program (numbers_in program text) taken)
   pub reported : status ≡ reported_status principal end
 
--- a text shows nothing else than a run on the world: it is a prefix of what is shown of the run after at most so many steps
+-- a text shows nothing else than a run on the world: it is a prefix of what is shown of the run after at most this number of steps
 pub record IsShown (code text : List ℕ) (under observer : Option (List ℕ)) (steps : ℕ) (out : List ℕ) : Type 0 where
   pub program : ModuleContents
   pub hierarchy : PrincipalHierarchy

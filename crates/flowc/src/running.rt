@@ -46,7 +46,7 @@ pub struct RunFiles<'a> {
     pub under: Option<File<'a>>,
 }
 
-/// Runs a module on a world for at most so many steps, and writes what it sent: all of it, or what the observer may read, who is a
+/// Runs a module on a world for at most `steps` steps, and writes what it sent: all of it, or what the observer may read, who is a
 /// principal of the module's hierarchy, or of the one that is named, which contains it.
 pub fn run<O: Sink>(
     alloc: Global,

@@ -137,6 +137,7 @@ fn finish<E: Sink>(outcome: Result<Ended, PerformFault>, err: &mut E) -> Done
         Ok(ended) => (ended.status, ended.line.as_str()),
         Err(fault) => fault.report(),
     };
+    // Where standard error fails too, nothing is left to report it on.
     let _ = write_all(err, line.as_bytes());
     Done { status, code: None }
 }
@@ -159,6 +160,7 @@ fn finish_build<E: Sink>(outcome: Result<Vec<u8>, PerformFault>, err: &mut E) ->
         },
         Err(fault) => {
             let (status, line) = fault.report();
+            // Where standard error fails too, nothing is left to report it on.
             let _ = write_all(err, line.as_bytes());
             Done { status, code: None }
         }

@@ -81,7 +81,7 @@ thrown_number (runs.Threw exception) = exception
 thrown_number runs.Deep = 0
 thrown_number runs.NoMemory = 0
 
--- a session takes at most so many steps, and the reply says how many it took and how its run then stands
+-- a session takes at most this number of steps, and the reply says how many it took and the status of its run
 pub record TakesTurn (old : Option HostContents) (id steps : ℕ) (reply : Reply) (new : Option HostContents) : Type 0 where
   pub status : Status
   pub answers : GivesAnswer old (Turn id steps) (Turned reply.taken status) new

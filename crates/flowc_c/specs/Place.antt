@@ -2,7 +2,7 @@
 -- Source: our own.
 use Rattle.std.specs.Prelude.{◌≡◌, ◌≤◌, ◌<◌, ℕ, List, length, take, drop}
 
--- a result stands at the head of the place, and its length was said; behind it the place is as it was
+-- a result stands at the head of the place, and its length was said; after it the place is as it was
 pub record IsPut {A : Type 0} (text : List A) (said : ℕ) (old new : List A) : Type 0 where
   pub said_length : said ≡ length text
   pub fits : said ≤ length old

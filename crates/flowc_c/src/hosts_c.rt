@@ -38,7 +38,7 @@ pub extern "C" fn flowc_host_free(alloc: Global, handle: &mut Handle)
     let _freed = handle.take(alloc);
 }
 
-/// Lets a session take at most so many steps, and says how many it took and how its run then stands.
+/// Lets a session take at most `steps` steps, and says how many it took and the status of its run.
 #[unsafe(no_mangle)]
 pub extern "C" fn flowc_host_turn(alloc: Global, handle: &mut Handle, id: u64, steps: u64) -> Reply
     ensures turned { result.status ≡ DONE → TakesTurn

@@ -185,7 +185,7 @@ fn world_for(alloc: Global, program: &Module, text: &[u8]) -> Result<World, Open
     }
 }
 
-// The reply to a refused opening, whose words have so many bytes.
+// The reply to a refused opening, with the number of bytes of its words.
 pub(crate) fn refuse_open(refusal: &OpenRefusal, length: usize) -> Reply
     ensures status { result.status ≡ REFUSED }
     ensures length { result.length ≡ length }

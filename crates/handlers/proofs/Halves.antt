@@ -1,53 +1,13 @@
--- The entries of one handler, and those of two halves of a list of handlers.
-use Rattle.std.proofs.Common.{◌≡◌, ℕ, ◌<◌, ◌≤◌, Bool, true, false, nat_lt, ◌==◌, ◌&&◌, ◌||◌, not, if◌then◌else◌, List, [], ◌∷◌, ◌++◌, Option, Some, None, refl, sym, ap, ◌∙◌, arith}
+-- The entries of two halves of a list of handlers.
+use Rattle.std.proofs.Common.{◌≡◌, ℕ, Bool, true, false, nat_lt, ◌==◌, ◌&&◌, not, if◌then◌else◌, List, [], ◌∷◌, ◌++◌, Option, Some, None, refl, sym, ap, ◌∙◌}
 use Rattle.std.specs.Prelude.{Result, Ok, Err, IfOk}
 use Rattle.std.specs.Option.{option_or}
 use Rattle.std.proofs.Math.Path.{fun_ext}
-use Rattle.std.proofs.lemmas.Bool.Decides.{nat_tests}
 use Rattle.modules.specs.Machine.{handler_for}
 use Rattle.modules.specs.declared.declaration.Handler.{Handler}
-use Rattle.handlers.specs.Targets.{Arranges, IsAscending, is_before, entries_of_handler, target_from, target_in}
+use Rattle.handlers.specs.Targets.{Arranges, IsAscending, target_from, target_in}
 use Rattle.handlers.specs.declared.entries.ThrowSite.{ThrowSite}
 use Rattle.handlers.specs.declared.entries.TableEntry.{TableEntry}
-
--- ---- one handler
-
-ends_later : (exception start end : ℕ) → start < end → (nat_lt exception exception || (exception == exception && nat_lt end start)) ≡ false
-ends_later exception start end h = grind (arith, nat_tests)
-
-pub Arranges-none : Arranges [] []
-Arranges-none = record { ascends = tt; targets = refl }
-
-one_target : (handler : Handler) (offset exception : ℕ) → handler.start < handler.end
-    → (if is_before (record { exception = exception; offset = offset }) (record { exception = handler.exception; offset = handler.start }) then None
-    else (if is_before (record { exception = exception; offset = offset }) (record { exception = handler.exception; offset = handler.end }) then Some handler.target else None))
-    ≡ handler_for (handler ∷ []) offset exception
-one_target handler offset exception h = grind (arith, nat_tests)
-
-no_target : (handler : Handler) (offset exception : ℕ) → handler.end ≤ handler.start → None ≡ handler_for (handler ∷ []) offset exception
-no_target handler offset exception h = grind (arith, nat_tests)
-
-pub Arranges-one : (handler : Handler) → Arranges (entries_of_handler handler) (handler ∷ [])
-Arranges-one handler = go (nat_lt handler.start handler.end) refl
-  where
-    go : (test : Bool) → nat_lt handler.start handler.end ≡ test
-        → Arranges (if test
-        then
-        record { site = record { exception = handler.exception; offset = handler.start }; target = Some handler.target }
-        ∷ record { site = record { exception = handler.exception; offset = handler.end }; target = None }
-        ∷ []
-        else []) (handler ∷ [])
-    go true h =
-        let below : handler.start < handler.end = grind (arith, nat_tests) in
-        record {
-          ascends = (ends_later handler.exception handler.start handler.end below, (tt, tt));
-          targets = fun_ext (λ offset. fun_ext (λ exception. one_target handler offset exception below));
-        }
-    go false h =
-        let most : handler.end ≤ handler.start = grind (arith, nat_tests) in
-        record { ascends = tt; targets = fun_ext (λ offset. fun_ext (λ exception. no_target handler offset exception most)) }
-
--- ---- two halves
 
 by_or : (test : Bool) (target : ℕ) (a b c : Option ℕ) → a ≡ option_or b c → (if test then Some target else a) ≡ option_or (if test then Some target else b) c
 by_or true target a b c e = refl

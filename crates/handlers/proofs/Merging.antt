@@ -142,16 +142,6 @@ pub record Merged (first second entries : List TableEntry) (i j : ℕ) (a b : Op
   pub first_ascends : IsAscending (entries ++ drop i first)
   pub second_ascends : IsAscending (entries ++ drop j second)
 
-pub Merged-init : (first second : List TableEntry) → IsAscending first → IsAscending second → Merged first second [] 0 0 None None
-Merged-init first second f s = record {
-  first_in_range = omega arith;
-  second_in_range = omega arith;
-  target_is = refl;
-  targets = λ site. refl;
-  first_ascends = f;
-  second_ascends = s;
-}
-
 module _ (first second entries entries' : List TableEntry) (i j : ℕ) (a b : Option ℕ) (merged : Merged first second entries i j a b) (z : TableEntry) where
   pub Merged-first : next_of (slice_get first i) (slice_get second j) ≡ First z → entries' ≡ entries ++ with_target z (option_or z.target b) ∷ [] → Merged first second entries' (i + 1) j z.target b
   Merged-first next pushed =

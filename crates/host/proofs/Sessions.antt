@@ -19,7 +19,7 @@ use Rattle.verifier.specs.Loaded.{IsLoaded}
 use Rattle.common.specs.Answers.{IfRefused}
 use Rattle.common.specs.declared.fault.OrNoMemory.{OrNoMemory}
 use Rattle.common.specs.declared.fault.OrNoMemory.TheVariants.{NoMemory, Refused}
-use Rattle.host.specs.Meaning.{SessionContents, HostContents, IsOpen, IsNotOpen, session_of, with_machine, without, HasRoom, CannotOpen, OpenRefused, CanOpen, IsContained, ReportsFault, first_session, hierarchy_under, with_opened}
+use Rattle.host.specs.Meaning.{SessionContents, HostContents, IsOpen, IsNotOpen, session_of, with_machine, without, HasRoom, CannotOpen, OpenRefused, ReportsFault, first_session, hierarchy_under, with_opened}
 use Rattle.host.specs.Next.{next_of}
 use Rattle.host.specs.declared.fault.HostRefusal.{HostRefusal}
 use Rattle.host.specs.declared.fault.HostRefusal.TheVariants.{Full, UnknownId, UnknownPrincipal, Load, New, NotContained}
@@ -162,25 +162,6 @@ refused_with_room limit host bytes world under (Refused NotContained) room canno
 refused_with_room limit host bytes world under (Refused Full) room cannot = absurd cannot
 refused_with_room limit host bytes world under (Refused UnknownId) room cannot = absurd cannot
 refused_with_room limit host bytes world under (Refused UnknownPrincipal) room cannot = absurd cannot
-
--- what is refused under the module's own hierarchy is refused so under every one
-pub refused_under_any : (bytes : List ℕ) (world : List InputNumbers) (under : Option PrincipalHierarchy) (fault : OrNoMemory HostRefusal)
-    → IfRefused (CannotOpen bytes world None) fault → IfRefused (CannotOpen bytes world under) fault
-refused_under_any bytes world under NoMemory cannot = tt
-refused_under_any bytes world under (Refused (Load refusal)) cannot = cannot
-refused_under_any bytes world under (Refused (New UnknownChannel)) cannot = cannot
-refused_under_any bytes world under (Refused NotContained) cannot = absurd (cannot.4 tt)
-refused_under_any bytes world under (Refused Full) cannot = absurd cannot
-refused_under_any bytes world under (Refused UnknownId) cannot = absurd cannot
-refused_under_any bytes world under (Refused UnknownPrincipal) cannot = absurd cannot
-
--- a hierarchy that does not contain that of a module that can be opened
-pub refused_larger : (bytes : List ℕ) (world : List InputNumbers) (under : Option PrincipalHierarchy) (m program : ModuleContents) (fault : OrNoMemory HostRefusal)
-    → program ≡ m → CanOpen bytes world None m → IfRefused (λ refusal. (refusal ≡ NotContained) × ¬ IsContained program under) fault
-    → IfRefused (CannotOpen bytes world under) fault
-refused_larger bytes world under m program NoMemory is can refused = tt
-refused_larger bytes world under m program (Refused refusal) is can refused =
-    rw (refused.0) (m, can.spelled, can.no_defect, can.named, subst (λ (w : ModuleContents). ¬ IsContained w under) is refused.1)
 
 -- what a machine refuses of a module that was loaded
 pub not_made : {T : Type 0} (bytes : List ℕ) (world : List InputNumbers) (m : ModuleContents) (made : Result T (OrNoMemory NewRefusal)) → IsLoaded bytes m

@@ -66,7 +66,7 @@ pub record HasRoom (limit : ℕ) (host : HostContents) : Type 0 where
 -- ---- events and answers
 
 -- what a host is asked: to open a session of bytes on a world, under a hierarchy or under the module's own, to let the session of
--- an id take at most so many steps, to show what a principal sees of it, or to close it
+-- an id take at most a number of steps, to show what a principal sees of it, or to close it
 pub data HostEvent : Type 0 where
   Open : List ℕ → List InputNumbers → Option PrincipalHierarchy → HostEvent
   Turn : ℕ → ℕ → HostEvent
@@ -143,7 +143,7 @@ OpenRefused limit host bytes world under refusal = HasRoom limit host × CannotO
 abbrev pub IdRefused : HostContents → ℕ → HostRefusal → Type 0
 IdRefused host id refusal = (refusal ≡ UnknownId) × IsNotOpen host id
 
--- a session may be let take at most so many steps, takes so many, and reports so how it then stands
+-- a session that may take at most n steps takes this number of them, and reports this status of its run
 pub record Takes (session : SessionContents) (n taken : ℕ) (status : Status) (after : Machine) : Type 0 where
   pub within : taken ≤ n
   pub running : WasRunning (machine_code session.program) taken session.machine
@@ -177,7 +177,7 @@ ViewRefused host id p NotContained = ⊥
 
 -- ---- the meaning
 
--- a host with room for so many sessions may answer an event so, and then is so
+-- what a host with room for a number of sessions may answer an event, and what it then is
 abbrev pub MayAnswer : (limit : ℕ) (old : HostContents) → HostEvent → HostAnswer → (new : HostContents) → Type 0
 -- a session of the next id is opened
 MayAnswer limit old (Open bytes world under) (Opened id) new =

@@ -13,7 +13,7 @@ pub enum Event {
     Open(Vec<u8>, World),
     /// The same under this hierarchy, whose principals then view the session.
     OpenUnder(Vec<u8>, World, Hierarchy),
-    /// To let the session take at most so many steps.
+    /// To let the session take steps, at most this number.
     Turn(Id, u64),
     /// To show what the principal of this number sees of the session.
     View(Id, u32),
@@ -26,7 +26,7 @@ pub enum Event {
 pub enum Answer {
     /// The session was opened, and has this id.
     Opened(Id),
-    /// The session took so many steps, and its run then stands so.
+    /// The session took this number of steps, and its run then has this status.
     Turned(u64, Status),
     /// The pairs that the principal sees, in the order in which they were sent.
     Viewed(Vec<Pair>),

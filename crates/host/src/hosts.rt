@@ -109,7 +109,7 @@ impl Host {
         Ok(id)
     }
 
-    /// Lets a session take at most so many steps, and answers how many it took and how its run then stands.
+    /// Lets a session take at most `steps` steps, and answers how many it took and the status of its run.
     ///
     /// # Errors
     ///

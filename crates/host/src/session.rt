@@ -99,7 +99,7 @@ impl Session {
         }
     }
 
-    /// Takes at most so many steps, and reports how many it took and how the run then stands.
+    /// Takes at most `steps` steps, and reports how many it took and the status of the run.
     pub fn turn(&mut self, steps: u64) -> (u64, Status)
         ensures id { self.new.id ≡ self.old.id }
         ensures program { self.new.run.program ≡ self.old.run.program }

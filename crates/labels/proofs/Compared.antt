@@ -1,20 +1,20 @@
--- What comparisons remember: a label covers what labels cover whose policies it has.
-use Rattle.std.proofs.Common.{◌≡◌, refl, sym, ap, ◌∙◌, subst, ℕ, ◌+◌, ◌<◌, ◌≤◌, ◌↔◌, length, set, get_or, replicate, List, [], Bool, true, false, arith, nat_eq, ◌||◌, ⊎_elim}
-use Rattle.std.specs.Prelude.{All, Contains, IsTrue, ◌==◌}
-use Rattle.std.specs.Global.{Global}
-use Rattle.std.specs.declared.vec.Vec.{Vec}
-use Rattle.std.proofs.lemmas.Bool.{cases_lt, eqb-false, eqb-true, or_cases}
-use Rattle.std.proofs.lemmas.List.{get_or-set_other, get_or-set_same, length-set}
+-- What comparisons keep: rows over the own policies of all entries.
+use Rattle.std.proofs.Common.{◌≡◌, refl, sym, ap, ◌∙◌, subst, ℕ, zero, suc, ◌+◌, ◌<◌, ◌≤◌, length, set, get_or, replicate, List, [], ◌∷◌, ◌++◌, Bool, true, false, arith, ◌||◌, ◌&&◌, ⊎_elim, inl, inr, Option, Some, None}
+use Rattle.std.specs.Prelude.{Contains, IsTrue, ◌==◌, All}
+use Rattle.std.proofs.lemmas.Bool.{cases_lt, eq-eqb, eqb-true, or_cases}
+use Rattle.std.proofs.lemmas.List.{get_or_default, get_or_past, length-set}
+use Rattle.labels.specs.Comparing.{AllFlow, AreOf, HaveAll, IsLeftSide, IsNoMore, IsOneMore, IsRightSide, KeepEach, slots, start}
+use Rattle.labels.specs.Entries.{labels_in, made_of, own_at, own_of, row_at}
 use Rattle.principals.specs.ActsFor.{PrincipalHierarchy}
-use Rattle.labels.specs.Comparing.{AreAllNotes, AreNotes, CoversThose}
-use Rattle.labels.specs.Entries.{labels_in, made_of, own_at, row_at}
-use Rattle.labels.specs.Label.{Covers, Label, PolicyFlowsTo, ReaderPolicy}
+use Rattle.labels.specs.Under.{FirstAbove}
+use Rattle.labels.specs.Label.{Covers, ReaderPolicy, flows}
 use Rattle.labels.specs.LabelTable.{label_at}
-use Rattle.labels.specs.Row.{IncludedBetween, has}
-use Rattle.labels.specs.declared.comparing.Note.{Note}
+use Rattle.labels.specs.Row.{IncludedBetween, Includes, has}
+use Rattle.labels.specs.declared.comparing.LeftSide.{LeftSide}
+use Rattle.labels.specs.declared.comparing.RightSide.{RightSide}
 use Rattle.labels.specs.declared.entries.Entry.{Entry}
-use Rattle.labels.proofs.Elements.{Any-weaker}
-use Rattle.labels.proofs.Held.{each-made, has-inside, has-none, has-set, label-parts, made-in_row}
+use Rattle.labels.proofs.Tests.{flows-decides}
+use Rattle.labels.proofs.Held.{covers-parts, each-made, flows-parts, has-inside, has-none, has-set, label-parts, made-in_row}
 
 -- a label that is made of another one, and of all in that one's row, has its policies
 pub included : (es : List Entry) (to label : ℕ) (row other : List Bool) → row_at es label ≡ row → row_at es to ≡ other → IsTrue (made_of es to label) →
@@ -28,53 +28,178 @@ included es to label row other row-is other-is made among x there =
 pub among-all : (row other : List Bool) → IncludedBetween row other 0 (length row) → (part : ℕ) → IsTrue (has row part) → IsTrue (has other part)
 among-all row other between part held = between part (omega arith) (has-inside row part held) held
 
--- ---- rows of what a label covers
-pub none-those : (h : PrincipalHierarchy) (to : Label) (own : List ReaderPolicy) (n : ℕ) → CoversThose h to own (replicate n false)
-none-those h to own n = λ k d inside held. absurd (let no : false ≡ true = sym (has-none n k) ∙ held in cc)
+-- ---- where own policies stand
+append-left : (xs ys : List ReaderPolicy) (k : ℕ) (d : ReaderPolicy) → k < length xs → get_or (xs ++ ys) k d ≡ get_or xs k d
+append-left [] ys k d lt = absurd (omega (arith, lt))
+append-left (x ∷ xs) ys zero d lt = refl
+append-left (x ∷ xs) ys (suc k) d lt = append-left xs ys k d (omega (arith, lt))
 
-pub more-those : (h : PrincipalHierarchy) (label to : Label) (own : List ReaderPolicy) (old more new : List Bool) → ((x : ReaderPolicy) → Contains label x → Contains to x) →
-    CoversThose h to own old → CoversThose h label own more → ((i : ℕ) → has new i ≡ (has old i || has more i)) → CoversThose h to own new
-more-those h label to own old more new among those these is = λ k d inside held.
-    ⊎_elim (λ was. those k d inside was)
-    (λ come. Any-weaker (λ other. PolicyFlowsTo h (get_or own k d) other) (λ other. PolicyFlowsTo h (get_or own k d) other) label to among (λ other flows. flows) (these k d inside come))
-    (or_cases (has old k) (has more k) (sym (is k) ∙ held))
+append-right : (xs ys : List ReaderPolicy) (k : ℕ) (d : ReaderPolicy) → get_or (xs ++ ys) (length xs + k) d ≡ get_or ys k d
+append-right [] ys k d = let e : 0 + k ≡ k = omega arith in ap (λ j. get_or ys j d) e
+append-right (x ∷ xs) ys k d = let e : suc (length xs) + k ≡ suc (length xs + k) = omega arith in ap (λ j. get_or (x ∷ (xs ++ ys)) j d) e ∙ append-right xs ys k d
 
-pub one-those : (h : PrincipalHierarchy) (to : Label) (own : List ReaderPolicy) (row : List Bool) (i : ℕ) → i < length row → ((d : ReaderPolicy) → Covers h to (get_or own i d)) →
-    CoversThose h to own row → CoversThose h to own (set row i true)
-one-those h to own row i inside covered those = λ k d within held.
-    ⊎_elim (λ same. subst (λ j. Covers h to (get_or own j d)) (sym (eqb-true k i same)) (covered d)) (λ was. those k d within was)
-    (or_cases (k == i) (has row k) (sym (has-set row i k inside) ∙ held))
+append-length : (xs ys : List ReaderPolicy) → length (xs ++ ys) ≡ length xs + length ys
+append-length [] ys = omega arith
+append-length (x ∷ xs) ys = let i = append-length xs ys in omega (arith, i)
 
--- ---- the notes of one more entry
-pub notes-set : (h : PrincipalHierarchy) (es : List Entry) (notes : List (Vec Note Global)) (n : ℕ) (v : Vec Note Global) → AreAllNotes h es notes → n < length notes →
-    AreNotes h es (own_at es n) v.items → AreAllNotes h es (set notes n v)
-notes-set h es notes n v are inside these = record {
-  count = length-set notes n v ∙ are.count;
-  each = λ m d lt. go m d (omega (arith, lt, length-set notes n v)) (nat_eq m n) refl;
+pub slot-is : (es : List Entry) (n k : ℕ) (d : ReaderPolicy) → k < length (own_at es n) → get_or (slots es) (start es n + k) d ≡ get_or (own_at es n) k d
+slot-is [] n k d lt = absurd (omega (arith, lt))
+slot-is (e ∷ es) zero k d lt = let z : 0 + k ≡ k = omega arith in ap (λ j. get_or (own_of e ++ slots es) j d) z ∙ append-left (own_of e) (slots es) k d lt
+slot-is (e ∷ es) (suc n) k d lt =
+    let z : (length (own_of e) + start es n) + k ≡ length (own_of e) + (start es n + k) = omega arith in
+    ap (λ j. get_or (own_of e ++ slots es) j d) z ∙ (append-right (own_of e) (slots es) (start es n + k) d ∙ slot-is es n k d lt)
+
+pub slot-inside : (es : List Entry) (n : ℕ) → n < length es → start es n + length (own_at es n) ≤ length (slots es)
+slot-inside [] n lt = absurd (omega (arith, lt))
+slot-inside (e ∷ es) zero lt = let l = append-length (own_of e) (slots es) in omega (arith, l)
+slot-inside (e ∷ es) (suc n) lt = let l = append-length (own_of e) (slots es) in let i = slot-inside es n (omega (arith, lt)) in omega (arith, l, i)
+
+pub start-next : (es : List Entry) (n : ℕ) → n < length es → start es (suc n) ≡ start es n + length (own_at es n)
+start-next [] n lt = absurd (omega (arith, lt))
+start-next (e ∷ []) zero lt = omega arith
+start-next (e ∷ x ∷ es) zero lt = omega arith
+start-next (e ∷ es) (suc n) lt = let i = start-next es n (omega (arith, lt)) in omega (arith, i)
+
+pub start-end : (es : List Entry) → start es (length es) ≡ length (slots es)
+start-end [] = refl
+start-end (e ∷ es) = let l = append-length (own_of e) (slots es) in let i = start-end es in omega (arith, l, i)
+
+pub start-first : (es : List Entry) → start es 0 ≡ 0
+start-first [] = refl
+start-first (e ∷ es) = refl
+
+pub starts-more : (es : List Entry) (starts new : List ℕ) (n next : ℕ) → length starts ≡ n → ((m d : ℕ) → m < n → get_or starts m d ≡ start es m) → next ≡ start es n → new ≡ starts ++ next ∷ [] →
+    (m d : ℕ) → m < n + 1 → get_or new m d ≡ start es m
+starts-more es starts new n next count each is new-is m d lt =
+    ap (λ (xs : List ℕ). get_or xs m d) new-is ∙ ⊎_elim
+    (λ (less : m < n). before starts m (omega (arith, less, count)) ∙ each m d less)
+    (λ (more : n ≤ m). let same : m ≡ length starts = omega (arith, more, lt, count) in ap (λ j. get_or (starts ++ next ∷ []) j d) same ∙ (last starts ∙ (is ∙ ap (start es) (sym count ∙ sym same))))
+    (cases_lt m n)
+  where
+    before : (xs : List ℕ) (i : ℕ) → i < length xs → get_or (xs ++ next ∷ []) i d ≡ get_or xs i d
+    before [] i h = absurd (omega (arith, h))
+    before (x ∷ xs) zero h = refl
+    before (x ∷ xs) (suc i) h = before xs i (omega (arith, h))
+
+    last : (xs : List ℕ) → get_or (xs ++ next ∷ []) (length xs) d ≡ next
+    last [] = refl
+    last (x ∷ xs) = last xs
+
+-- ---- rows
+pub all-none : (es : List Entry) (P : ReaderPolicy → Type 0) (row : List Bool) → row ≡ replicate (length (slots es)) false → HaveAll es P row
+all-none es P row e = record {
+  count = ap length e ∙ length-none (length (slots es));
+  each = λ s d there. absurd (let no : false ≡ true = sym (ap (λ (r : List Bool). has r s) e ∙ has-none (length (slots es)) s) ∙ there in cc);
 }
   where
-    go : (m : ℕ) (d : Vec Note Global) → m < length notes → (t : Bool) → nat_eq m n ≡ t → AreNotes h es (own_at es m) (get_or (set notes n v) m d).items
-    go m d lt true e =
-        let is : m ≡ n = eqb-true m n e in
-        subst (λ (x : Vec Note Global). AreNotes h es (own_at es m) x.items) (sym (ap (λ j. get_or (set notes n v) j d) is ∙ get_or-set_same notes n v d inside))
-        (subst (λ j. AreNotes h es (own_at es j) v.items) (sym is) these)
-    go m d lt false e = subst (λ (x : Vec Note Global). AreNotes h es (own_at es m) x.items) (sym (get_or-set_other notes n m v d (eqb-false m n e))) (are.each m d lt)
+    length-none : (n : ℕ) → length (replicate n false) ≡ n
+    length-none zero = refl
+    length-none (suc n) = ap suc (length-none n)
 
--- ---- one more policy, and what two tests of one fact answer
-pub flow-step : (h : PrincipalHierarchy) (to : Label) (own : List ReaderPolicy) (k : ℕ) → ((j : ℕ) (d : ReaderPolicy) → j < k → Covers h to (get_or own j d)) →
-    ((d : ReaderPolicy) → Covers h to (get_or own k d)) → (j : ℕ) (d : ReaderPolicy) → j < k + 1 → Covers h to (get_or own j d)
-flow-step h to own k before this j d lt =
-    ⊎_elim (λ less. before j d less) (λ (more : k ≤ j). subst (λ i. Covers h to (get_or own i d)) (let same : k ≡ j = omega (arith, lt, more) in same) (this d)) (cases_lt j k)
+pub all-set : (es : List Entry) (P : ReaderPolicy → Type 0) (row new : List Bool) (n k : ℕ) → n < length es → k < length (own_at es n) → new ≡ set row (start es n + k) true →
+    ((d : ReaderPolicy) → P (get_or (own_at es n) k d)) → HaveAll es P row → HaveAll es P new
+all-set es P row new n k inside lt is holds all =
+    let within : start es n + k < length row = omega (arith, slot-inside es n inside, all.count, lt) in
+    record {
+      count = ap length is ∙ (length-set row (start es n + k) true ∙ all.count);
+      each = λ s d there.
+          ⊎_elim
+          (λ same. subst P (sym (ap (λ j. get_or (slots es) j d) (eqb-true s (start es n + k) same) ∙ slot-is es n k d lt)) (holds d))
+          (λ was. all.each s d was)
+          (or_cases (s == (start es n + k)) (has row s) (sym (ap (λ (r : List Bool). has r s) is ∙ has-set row (start es n + k) s within) ∙ there));
+    }
 
-pub same-truth : (a b : Bool) (P : Type 0) → IsTrue a ↔ P → IsTrue b ↔ P → a ≡ b
-same-truth true true P one other = refl
-same-truth false false P one other = refl
-same-truth true false P one other = absurd (let no : false ≡ true = other.1 (one.0 refl) in cc)
-same-truth false true P one other = absurd (let no : false ≡ true = one.1 (other.0 refl) in cc)
+-- what holds of a policy that was read
+pub told-at : (es : List Entry) (P : ReaderPolicy → Type 0) (n k : ℕ) (own : List ReaderPolicy) (policy : ReaderPolicy) → k < length (own_at es n) → own ≡ own_at es n → policy ≡ get_or own k policy → P policy →
+    (d : ReaderPolicy) → P (get_or (own_at es n) k d)
+told-at es P n k own policy lt is at holds d =
+    subst P (at ∙ (ap (λ (xs : List ReaderPolicy). get_or xs k policy) is ∙ get_or_default (own_at es n) k policy d lt)) holds
 
-pub notes-none : (h : PrincipalHierarchy) (es : List Entry) (notes : List (Vec Note Global)) → length notes ≡ length es → All (λ (those : Vec Note Global). those.items ≡ []) notes →
-    AreAllNotes h es notes
-notes-none h es notes count none = record {
-  count = count;
-  each = λ n d lt. subst (λ (xs : List Note). AreNotes h es (own_at es n) xs) (sym (none n d lt)) (λ k e no. absurd (omega (arith, no)));
+pub all-weaker : (es : List Entry) (P Q : ReaderPolicy → Type 0) (row : List Bool) → ((x : ReaderPolicy) → P x → Q x) → HaveAll es P row → HaveAll es Q row
+all-weaker es P Q row weaker all = record { count = all.count; each = λ s d there. weaker (get_or (slots es) s d) (all.each s d there) }
+
+-- policies that are of a row, or in another one
+pub of-same : (es : List Entry) (P : ReaderPolicy → Type 0) (row : List Bool) → AreOf es P row row
+of-same es P row = record { count = refl; each = λ s d there. inl there }
+
+pub of-more : (es : List Entry) (P : ReaderPolicy → Type 0) (old row more new : List Bool) → AreOf es P old row → HaveAll es P more → length new ≡ length row → ((i : ℕ) → has new i ≡ (has row i || has more i)) →
+    AreOf es P old new
+of-more es P old row more new so_far all count is = record {
+  count = count ∙ so_far.count;
+  each = λ s d there. ⊎_elim (λ was. so_far.each s d was) (λ come. inr (all.each s d come)) (or_cases (has row s) (has more s) (sym (is s) ∙ there));
 }
+
+pub of-all : (es : List Entry) (P Q : ReaderPolicy → Type 0) (old new : List Bool) → ((x : ReaderPolicy) → Q x → P x) → HaveAll es P old → AreOf es Q old new → HaveAll es P new
+of-all es P Q old new weaker all more = record {
+  count = more.count ∙ all.count;
+  each = λ s d there. ⊎_elim (λ was. all.each s d was) (λ come. weaker (get_or (slots es) s d) come) (more.each s d there);
+}
+
+-- a row that another one is joined into
+pub all-joined : (es : List Entry) (P : ReaderPolicy → Type 0) (row more new : List Bool) → row ≡ replicate (length (slots es)) false → HaveAll es P more → length new ≡ length row → ((i : ℕ) → has new i ≡ (has row i || has more i)) →
+    HaveAll es P new
+all-joined es P row more new none all count is = of-all es P P row new (λ x h. h) (all-none es P row none) (of-more es P row row more new (of-same es P row) all count is)
+
+pub and-both : (a b : Bool) → (a && b) ≡ true → IsTrue a × IsTrue b
+and-both true true e = (refl, refl)
+and-both true false e = absurd (let no : false ≡ true = e in cc)
+and-both false b e = absurd (let no : false ≡ true = e in cc)
+
+-- a label covers what an entry covers that it is made of
+pub right-more : (h : PrincipalHierarchy) (es : List Entry) (side : RightSide) (to part : ℕ) (new : List Bool) → side.to ≡ to → IsTrue (made_of es to part) → IsRightSide h es side →
+    AreOf es (Covers h (own_at es part)) side.covered new → IsRightSide h es (record { to = side.to; covered = new })
+right-more h es side to part new is made right more = record {
+  inside = right.inside;
+  covered_are = of-all es (Covers h (label_at (labels_in es) side.to)) (Covers h (own_at es part)) side.covered new
+      (λ x some. (covers-parts h es side.to x).1 (part, subst (λ n. IsTrue (made_of es n part)) (sym is) made, some)) right.covered_are more;
+}
+
+pub none-held : {X : Type 0} (row : List Bool) (n k : ℕ) → row ≡ replicate n false → IsTrue (has row k) → X
+none-held row n k is held = absurd (let no : false ≡ true = sym (ap (λ (r : List Bool). has r k) is ∙ has-none n k) ∙ held in cc)
+
+pub or-first : (a b : Bool) → IsTrue a → (a || b) ≡ true
+or-first true b h = refl
+or-first false b h = absurd (let no : false ≡ true = h in cc)
+
+pub or-second : (a b : Bool) → IsTrue b → (a || b) ≡ true
+or-second true b h = refl
+or-second false b h = h
+
+pub set-is : (row new : List Bool) (i n : ℕ) → i < length row → new ≡ set row i true → has new n ≡ (n == i || has row n)
+set-is row new i n within is = ap (λ (r : List Bool). has r n) is ∙ has-set row i n within
+
+pub set-keeps : (row new : List Bool) (i n : ℕ) → i < length row → new ≡ set row i true → IsTrue (has row n) → IsTrue (has new n)
+set-keeps row new i n within is held = set-is row new i n within is ∙ or-second (n == i) (has row n) held
+
+pub set-adds : (row new : List Bool) (i : ℕ) → i < length row → new ≡ set row i true → IsTrue (has new i)
+set-adds row new i within is = set-is row new i i within is ∙ or-first (i == i) (has row i) (eq-eqb i i refl)
+
+-- where all policies on the left are covered, all labels there flow
+pub all-flow : (h : PrincipalHierarchy) (es : List Entry) (left : LeftSide) (right : RightSide) (labels : List Bool) (to : ℕ) → IsLeftSide es left → IsRightSide h es right → right.to ≡ to →
+    Includes right.covered left.policies → Includes left.labels labels → AllFlow h es labels to
+all-flow h es left right labels to l r is covered among label held =
+    (flows-parts h es label (label_at (labels_in es) to)).1
+    (λ part made k d lt.
+    subst (λ n. Covers h (label_at (labels_in es) n) (get_or (own_at es part) k d)) is
+    (subst (λ x. Covers h (label_at (labels_in es) right.to) x) (slot-is es part k d lt)
+    (r.covered_are.each (start es part + k) d (covered (start es part + k) (l.parts_are part (l.complete label (among label held) part made) k lt)))))
+
+pub flow-first : (h : PrincipalHierarchy) (es : List Entry) (labels : List Bool) (to : ℕ) → AllFlow h es labels to →
+    FirstAbove (λ label. flows h (label_at (labels_in es) label) (label_at (labels_in es) to)) labels None
+flow-first h es labels to all label held = (flows-decides h (label_at (labels_in es) label) (label_at (labels_in es) to)).1 (all label held)
+
+-- ---- rows that are kept
+pub kept-fewer : (Q : ℕ → List Bool → Type 0) (old new : List (Option (List Bool))) → IsNoMore old new → KeepEach Q old → KeepEach Q new
+kept-fewer Q old new fewer each n row is = each n row (fewer n row is)
+
+pub kept-more : (Q : ℕ → List Bool → Type 0) (old new : List (Option (List Bool))) (number : ℕ) (row : List Bool) → IsOneMore old number row new → Q number row → KeepEach Q old → KeepEach Q new
+kept-more Q old new number row more one each n other is =
+    ⊎_elim (λ was. each n other was)
+    (λ now. subst (λ r. Q n r) (sym now.1) (subst (λ m. Q m row) (sym now.0) one))
+    (more n other is)
+
+pub kept-none : (Q : ℕ → List Bool → Type 0) (kept : List (Option (List Bool))) → All (λ row. row ≡ None) kept → KeepEach Q kept
+kept-none Q kept none n row is =
+    ⊎_elim (λ (lt : n < length kept). absurd (let no : ◌≡◌ {A = Option (List Bool)} None (Some row) = sym (none n None lt) ∙ is in cc))
+    (λ (ge : length kept ≤ n). absurd (let no : ◌≡◌ {A = Option (List Bool)} None (Some row) = sym (get_or_past kept n None ge) ∙ is in cc))
+    (cases_lt n (length kept))

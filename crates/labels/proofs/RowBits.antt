@@ -8,8 +8,8 @@ use Rattle.std.proofs.lemmas.Grind.{get_or-set_at}
 use Rattle.std.proofs.lemmas.Simd.{length-zip2}
 use Rattle.std.proofs.Math.Bool.{and-true, and-false}
 use Rattle.labels.specs.Row.{FirstBeyond, Includes, has, union}
-use Rattle.labels.specs.Words.{AreJoined, FirstNew, GrowBetween, SomeGrow, bits_of, has_bit, word}
-use Rattle.labels.proofs.WordBits.{bit-beyond, includes-kept, joined-bit, kept-has}
+use Rattle.labels.specs.Words.{AreJoined, AreMet, FirstNew, GrowBetween, SomeGrow, bits_of, has_bit, word}
+use Rattle.labels.proofs.WordBits.{bit-beyond, includes-kept, joined-bit, kept-has, met-bit}
 
 pub length-bits : (words : List ℕ) (i n : ℕ) → length (bits_of words i n) ≡ n
 length-bits words i zero = refl
@@ -147,6 +147,13 @@ included-bits old others new grew joined k = ⊎_elim
     (λ (ge : length others ≤ k / 64).
     ap (λ w. bit_at w (k % 64) == 1) (joined.behind (k / 64) ge) ∙ sym (ap (λ b. has_bit old k || b) (bit-beyond others k ge) ∙ or-false (has_bit old k)))
     (cases_lt (k / 64) (length others))
+
+-- what words that keep the bits of others mean
+pub met-bits : (old others new : List ℕ) → length others ≡ length old → AreMet old others new (length old) → (k : ℕ) → has_bit new k ≡ (has_bit old k && has_bit others k)
+met-bits old others new count met k = ⊎_elim
+    (λ (lt : k / 64 < length old). met-bit old others new k (met.met (k / 64) lt))
+    (λ (ge : length old ≤ k / 64). rw (bit-beyond new k (omega (arith, ge, met.count)), bit-beyond old k ge) refl)
+    (cases_lt (k / 64) (length old))
 
 -- what comparing words means
 module _ (n : ℕ) (words others : List ℕ) (covers : Bool) (count : length others ≡ length words) (small : (j : ℕ) → word others j < 2 ^ 64)

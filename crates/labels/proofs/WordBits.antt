@@ -1,11 +1,11 @@
 -- The bits of words: after one is set, of words that are joined, and as truth values.
-use Rattle.std.proofs.Common.{◌≡◌, refl, sym, ap, subst, ◌∙◌, ℕ, zero, suc, ◌<◌, ◌≤◌, ◌+◌, ◌*◌, ◌/◌, ◌%◌, ◌^◌, length, set, get_or, get_or-set_other, get_or-set_same, List, Bool, true, false, arith, nat_eq, ◌||◌, ◌&&◌, not, ◌≢◌, w64, max, [], ◌∷◌, ⊎_elim, replicate}
+use Rattle.std.proofs.Common.{◌≡◌, refl, sym, ap, subst, ◌∙◌, ℕ, zero, suc, ◌<◌, ◌≤◌, ◌+◌, ◌*◌, ◌/◌, ◌%◌, ◌^◌, length, set, get_or, get_or-set_other, get_or-set_same, List, Bool, true, false, arith, nat_eq, ◌||◌, ◌&&◌, not, ◌≢◌, w64, max, min, [], ◌∷◌, ⊎_elim, replicate}
 use Rattle.std.specs.Prelude.{IsTrue, bit_or, ◌==◌}
 use Rattle.std.specs.Int.{bit_at, bit_not}
 use Rattle.std.specs.Int.Bits.{bit_and}
 use Rattle.std.proofs.Math.Bool.{and-true, and-false}
 use Rattle.std.proofs.lemmas.Bool.{eqb-true, eqb-false, eq-eqb, cases_lt}
-use Rattle.std.proofs.lemmas.Nat.Bits.{bit_at_or, bit_at_set_same, bit_at_set_other, bit_at_clear_same, bit_at_clear_other, bit_at-lt, bit_at-zero, bit_at_above, same_from_bits}
+use Rattle.std.proofs.lemmas.Nat.Bits.{bit_at_and, bit_at_or, bit_at_set_same, bit_at_set_other, bit_at_clear_same, bit_at_clear_other, bit_at-lt, bit_at-zero, bit_at_above, same_from_bits}
 use Rattle.labels.specs.Row.{has}
 use Rattle.labels.specs.Words.{GrowBetween, IsKept, NoneNew, has_bit, word}
 
@@ -96,6 +96,24 @@ joined-bit words others joined n e =
     let b = get_or others (n / 64) 0 in
     ap (λ x. bit_at x (n % 64) == 1) e
     ∙ (ap (λ x. x == 1) (bit_at_or a b (n % 64)) ∙ max-one (bit_at a (n % 64)) (bit_at b (n % 64)) (bit_at-lt a (n % 64)) (bit_at-lt b (n % 64)))
+
+-- what two words both have
+min-one : (a b : ℕ) → a < 2 → b < 2 → (min a b == 1) ≡ (a == 1 && b == 1)
+min-one zero zero h k = refl
+min-one zero (suc zero) h k = refl
+min-one zero (suc (suc b)) h k = absurd (omega (arith, k))
+min-one (suc zero) zero h k = refl
+min-one (suc zero) (suc zero) h k = refl
+min-one (suc zero) (suc (suc b)) h k = absurd (omega (arith, k))
+min-one (suc (suc a)) b h k = absurd (omega (arith, h))
+
+pub met-bit : (words others met : List ℕ) (n : ℕ) → word met (n / 64) ≡ bit_and (word words (n / 64)) (word others (n / 64)) →
+    has_bit met n ≡ (has_bit words n && has_bit others n)
+met-bit words others met n e =
+    let a = get_or words (n / 64) 0 in
+    let b = get_or others (n / 64) 0 in
+    ap (λ x. bit_at x (n % 64) == 1) e
+    ∙ (ap (λ x. x == 1) (bit_at_and a b (n % 64)) ∙ min-one (bit_at a (n % 64)) (bit_at b (n % 64)) (bit_at-lt a (n % 64)) (bit_at-lt b (n % 64)))
 
 -- a word that its union leaves as it is has all bits of the other
 kept-bit : (a b i : ℕ) → bit_or a b ≡ a → bit_at b i ≡ 1 → bit_at a i ≡ 1

@@ -1,35 +1,105 @@
--- What comparisons of labels remember: of the own policies of an entry, which of them other labels cover.
+-- What comparisons of labels keep: rows of bits over the own policies of all labels of a table.
 -- Source: our own.
-use Rattle.std.specs.Prelude.{◌≡◌, ℕ, ◌<◌, List, length, Bool, All, IsTrue, slice_index_or}
-use Rattle.std.specs.Global.{Global}
-use Rattle.std.specs.declared.vec.Vec.{Vec}
-use Rattle.principals.specs.ActsFor.{PrincipalHierarchy}
+use Rattle.std.specs.Prelude.{◌≡◌, ℕ, zero, suc, ◌+◌, ◌<◌, ◌≤◌, ◌^◌, List, [], ◌∷◌, ◌++◌, length, Bool, Option, Some, None, IsTrue, slice_index_or, ◌⊎◌}
+use Rattle.principals.specs.ActsFor.{ActsFor, PrincipalHierarchy}
 use Rattle.labels.specs.Row.{has}
-use Rattle.labels.specs.Label.{Covers, Label, ReaderPolicy}
+use Rattle.labels.specs.Label.{Covers, FlowsTo, PolicyAllows, ReaderPolicy}
 use Rattle.labels.specs.LabelTable.{label_at}
-use Rattle.labels.specs.Entries.{IsTable, labels_in, own_at}
+use Rattle.labels.specs.Entries.{IsTable, labels_in, made_of, own_at, own_of}
 use Rattle.labels.specs.declared.entries.Entry.{Entry}
-use Rattle.labels.specs.declared.comparing.Note.{Note}
+use Rattle.labels.specs.declared.comparing.Bits.{Bits}
+use Rattle.labels.specs.declared.comparing.Kept.{Kept}
+use Rattle.labels.specs.declared.comparing.LeftSide.{LeftSide}
+use Rattle.labels.specs.declared.comparing.RightSide.{RightSide}
+use Rattle.labels.specs.declared.comparing.Role.{Role}
+use Rattle.labels.specs.declared.comparing.Role.TheVariants.{Owner, Reader}
 
--- a label covers the policies whose indices are in a row
-abbrev pub CoversThose : PrincipalHierarchy → (to : Label) → (own : List ReaderPolicy) → List Bool → Type 0
-CoversThose h to own row = (k : ℕ) (d : ReaderPolicy) → k < length own → IsTrue (has row k) → Covers h to (slice_index_or own k d)
+-- the own policies of all entries, one entry behind another, and how many stand before those of one
+abbrev pub slots : List Entry → List ReaderPolicy
+slots [] = []
+slots (entry ∷ entries) = own_of entry ++ slots entries
 
--- a note of the own policies of an entry: a label covers those of its row
-pub record IsNote (h : PrincipalHierarchy) (entries : List Entry) (own : List ReaderPolicy) (note : Note) : Type 0 where
-  pub inside : note.label < length entries
-  pub count : length note.covered ≡ length own
-  pub covered : CoversThose h (label_at (labels_in entries) note.label) own note.covered
+abbrev pub start : List Entry → ℕ → ℕ
+start [] n = 0
+start (entry ∷ entries) zero = 0
+start (entry ∷ entries) (suc n) = length (own_of entry) + start entries n
 
-abbrev pub AreNotes : PrincipalHierarchy → List Entry → List ReaderPolicy → List Note → Type 0
-AreNotes h entries own notes = All (IsNote h entries own) notes
+-- a number for each entry and for the end: where its own policies start
+pub record AreStarts (entries : List Entry) (starts : List ℕ) : Type 0 where
+  pub count : length starts ≡ length entries + 1
+  pub each : (n d : ℕ) → n ≤ length entries → slice_index_or starts n d ≡ start entries n
+  pub fits : length (slots entries) < 2 ^ 64
 
--- the notes of all entries
-pub record AreAllNotes (h : PrincipalHierarchy) (entries : List Entry) (notes : List (Vec Note Global)) : Type 0 where
-  pub count : length notes ≡ length entries
-  pub each : (n : ℕ) (d : Vec Note Global) → n < length notes → AreNotes h entries (own_at entries n) (slice_index_or notes n d).items
+-- each policy whose number is in a row has a property
+pub record HaveAll (entries : List Entry) (P : ReaderPolicy → Type 0) (row : List Bool) : Type 0 where
+  pub count : length row ≡ length (slots entries)
+  pub each : (s : ℕ) (d : ReaderPolicy) → IsTrue (has row s) → P (slice_index_or (slots entries) s d)
+
+-- what is asked of a principal and a policy
+abbrev pub Told : PrincipalHierarchy → Role → ℕ → ReaderPolicy → Type 0
+Told h Owner principal policy = ActsFor h.pairs principal policy.owner
+Told h Reader principal policy = PolicyAllows h principal policy
+
+-- each policy whose number is in a new row was in the old one or has a property
+pub record AreOf (entries : List Entry) (P : ReaderPolicy → Type 0) (old new : List Bool) : Type 0 where
+  pub count : length new ≡ length old
+  pub each : (s : ℕ) (d : ReaderPolicy) → IsTrue (has new s) → IsTrue (has old s) ⊎ P (slice_index_or (slots entries) s d)
+
+-- the row that is kept for a number; each has a property; no row is kept that was not; and one more may be
+abbrev pub row_kept : List (Option (List Bool)) → ℕ → Option (List Bool)
+row_kept kept n = slice_index_or kept n None
+
+abbrev pub KeepEach : (ℕ → List Bool → Type 0) → List (Option (List Bool)) → Type 0
+KeepEach Q kept = (n : ℕ) (row : List Bool) → row_kept kept n ≡ Some row → Q n row
+
+abbrev pub IsNoMore : (old new : List (Option (List Bool))) → Type 0
+IsNoMore old new = (n : ℕ) (row : List Bool) → row_kept new n ≡ Some row → row_kept old n ≡ Some row
+
+abbrev pub IsOneMore : (old : List (Option (List Bool))) → (number : ℕ) → List Bool → (new : List (Option (List Bool))) → Type 0
+IsOneMore old number row new = (n : ℕ) (other : List Bool) → row_kept new n ≡ Some other → (row_kept old n ≡ Some other) ⊎ ((n ≡ number) × (other ≡ row))
+
+pub record AreBits (h : PrincipalHierarchy) (entries : List Entry) (bits : Bits) : Type 0 where
+  pub starts_are : AreStarts entries bits.starts.items
+  pub owners_are : KeepEach (λ principal. HaveAll entries (Told h Owner principal)) bits.owners.items
+  pub readers_are : KeepEach (λ principal. HaveAll entries (Told h Reader principal)) bits.readers.items
+  pub wide_are : KeepEach (λ part. HaveAll entries (Covers h (own_at entries part))) bits.wide.items
+
+-- the own policies of an entry are in a row
+abbrev pub HasOwn : List Entry → (part : ℕ) → List Bool → Type 0
+HasOwn entries part row = (k : ℕ) → k < length (own_at entries part) → IsTrue (has row (start entries part + k))
+
+-- all that a label is made of is in a row
+abbrev pub HasParts : List Entry → (label : ℕ) → List Bool → Type 0
+HasParts entries label parts = (part : ℕ) → IsTrue (made_of entries label part) → IsTrue (has parts part)
+
+-- a left side has all that its labels are made of, and the own policies of these
+pub record IsLeftSide (entries : List Entry) (side : LeftSide) : Type 0 where
+  pub labels_count : length side.labels ≡ length entries
+  pub parts_count : length side.parts ≡ length entries
+  pub policies_count : length side.policies ≡ length (slots entries)
+  pub parts_are : (part : ℕ) → IsTrue (has side.parts part) → HasOwn entries part side.policies
+  pub complete : (label : ℕ) → IsTrue (has side.labels label) → HasParts entries label side.parts
+
+-- a label covers the policies of a row
+pub record IsRightSide (h : PrincipalHierarchy) (entries : List Entry) (side : RightSide) : Type 0 where
+  pub inside : side.to < length entries
+  pub covered_are : HaveAll entries (Covers h (label_at (labels_in entries) side.to)) side.covered
+
+-- all labels of a row flow to one
+abbrev pub AllFlow : PrincipalHierarchy → List Entry → List Bool → (to : ℕ) → Type 0
+AllFlow h entries row to = (label : ℕ) → IsTrue (has row label) → FlowsTo h (label_at (labels_in entries) label) (label_at (labels_in entries) to)
 
 -- what is kept of comparisons
-pub record AreComparisons (h : PrincipalHierarchy) (entries : List Entry) (notes : List (Vec Note Global)) : Type 0 where
+pub record IsKept (h : PrincipalHierarchy) (entries : List Entry) (kept : Kept) : Type 0 where
+  pub bits_are : AreBits h entries kept.bits
+  pub left_is : IsLeftSide entries kept.left
+  pub other_is : IsLeftSide entries kept.other
+  pub right_is : IsRightSide h entries kept.right
+
+abbrev pub MayBeKept : PrincipalHierarchy → List Entry → Option Kept → Type 0
+MayBeKept h entries None = Unit {0}
+MayBeKept h entries (Some kept) = IsKept h entries kept
+
+pub record AreComparisons (h : PrincipalHierarchy) (entries : List Entry) (kept : Option Kept) : Type 0 where
   pub table : IsTable entries
-  pub notes_are : AreAllNotes h entries notes
+  pub kept_is : MayBeKept h entries kept

@@ -1,6 +1,6 @@
 -- Sets of numbers in words of 64 bits, and how the words of one are joined into those of another.
 -- Source: our own.
-use Rattle.std.specs.Prelude.{◌≡◌, ◌≢◌, ℕ, zero, suc, ◌+◌, ◌<◌, ◌≤◌, ◌/◌, ◌%◌, ◌^◌, List, [], ◌∷◌, length, Bool, true, false, ◌==◌, slice_index_or, bit_or, IsTrue, Option, Some, None}
+use Rattle.std.specs.Prelude.{◌≡◌, ◌≢◌, ℕ, zero, suc, ◌+◌, ◌<◌, ◌≤◌, ◌/◌, ◌%◌, ◌^◌, List, [], ◌∷◌, length, Bool, true, false, ◌==◌, slice_index_or, bit_and, bit_or, IsTrue, Option, Some, None}
 use Rattle.std.specs.Int.{bit_at}
 use Rattle.labels.specs.declared.rows.Row.TheInside.{Inside}
 
@@ -49,6 +49,12 @@ pub record AreJoined (old others new : List ℕ) (first last : ℕ) (grew : Bool
   pub before : (j : ℕ) → j < first → word new j ≡ word old j
   pub behind : (j : ℕ) → last ≤ j → word new j ≡ word old j
   pub grow : GrowBetween old others first last grew
+
+-- the words below a place keep the bits that others have too, and the other words stay
+pub record AreMet (old others new : List ℕ) (last : ℕ) : Type 0 where
+  pub count : length new ≡ length old
+  pub met : (j : ℕ) → j < last → word new j ≡ bit_and (word old j) (word others j)
+  pub behind : (j : ℕ) → last ≤ j → word new j ≡ word old j
 
 -- each number from one on and below another one whose bit is set here has it set in others too
 abbrev pub NoneNew : (words others : List ℕ) → (from to : ℕ) → Type 0

@@ -241,7 +241,7 @@ impl LabelTable {
         self.find_uncovered(hierarchy, from, to).is_none()
     }
 
-    /// Comparisons of the labels under a hierarchy, which remember what they find: see `flows`.
+    /// Comparisons of the labels under a hierarchy by rows of bits: see `Comparisons::first_above`.
     ///
     /// # Errors
     ///

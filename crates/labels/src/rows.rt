@@ -1,8 +1,10 @@
 //! Sets of numbers below a bound, a bit for each number.
 ghost use Rattle.labels.specs.Row.{FirstBeyond, Includes, has, union};
-ghost use Rattle.std.specs.Prelude.{IfOk, IsTrue, [], false, length, replicate, set, true, ℕ, ◌<◌, ◌||◌, ◌↔◌, ◌≡◌, ◌≢◌, ◌≤◌};
+ghost use Rattle.std.specs.Prelude.{IfOk, IsTrue, [], false, length, replicate, set, true, ℕ, ◌&&◌, ◌<◌, ◌||◌, ◌↔◌, ◌≡◌, ◌≢◌, ◌≤◌};
 
-use crate::words::{covers_words, first_bit, first_new, has_any_bit, has_bit, join_words};
+use crate::words::{
+    covers_words, first_bit, first_new, has_any_bit, has_bit, join_words, meet_words,
+};
 use smallvec::SmallVec;
 use std::alloc::{AllocError, Global};
 use std::marker::Model;
@@ -95,6 +97,15 @@ impl Row {
     {
         let others = other.words.as_slice();
         join_words(self.words.as_mut_slice(), others);
+    }
+
+    /// Keeps the numbers that are in the other set too. Precondition: both have the same bound.
+    pub fn meet(&mut self, other: &Row)
+        requires { length self.old ≡ length other.now }
+        ensures bound { length self.new ≡ length self.old }
+        ensures members { (i : ℕ) → has self.new i ≡ (has self.old i && has other.now i) }
+    {
+        meet_words(self.words.as_mut_slice(), other.words.as_slice());
     }
 
     /// Whether the sets are the same and have the same bound.

@@ -1,5 +1,5 @@
 //! Words of bits: joined and compared four at a time.
-ghost use Rattle.labels.specs.Words.{AreJoined, AreWords, FirstNew, GrowBetween, has_bit, word};
+ghost use Rattle.labels.specs.Words.{AreJoined, AreMet, AreWords, FirstNew, GrowBetween, has_bit, word};
 ghost use Rattle.std.specs.Prelude.{[], length, not, ◌*◌, ◌+◌, ◌/◌, ◌<◌, ◌≡◌, ◌≤◌};
 
 use std::simd::prelude::*;
@@ -53,6 +53,16 @@ fn join_one(words: &mut [u64], others: &[u64], at: usize) -> bool
     let joined = before | others[at];
     words[at] = joined;
     joined != before
+}
+
+/// Keeps the bits that as many other words have too.
+pub(crate) fn meet_words(words: &mut [u64], others: &[u64])
+    requires { length words.old ≡ length others.now }
+    ensures { AreMet words.old others.now words.new (length words.old) }
+{
+    for at in 0..others.len() {
+        words[at] &= others[at];
+    }
 }
 
 /// Whether these words have all bits of other ones.

@@ -9,7 +9,7 @@ use Rattle.modules.specs.Form.{Fits}
 use Rattle.modules.specs.Format.{module_file}
 use Rattle.modules.specs.Targets.{target_of}
 
--- a handler of code with so many instructions: its range is not empty and ends with the code at the latest, and its target is a
+-- a handler of code of a size, in instructions: its range is not empty and ends with the code at the latest, and its target is a
 -- position of the code
 pub record IsHandlerIn (size : ℕ) (handler : Handler) : Type 0 where
   pub not_empty : handler.start < handler.end

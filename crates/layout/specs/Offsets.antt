@@ -8,7 +8,7 @@ use Rattle.modules.specs.Machine.{code_of}
 use Rattle.modules.specs.Targets.{renamed_instruction, renamed_handler}
 
 -- the byte offset of a position: the bytes of the instructions before it. At the end of the code that is how many bytes the code
--- takes, and behind the end it goes on by one
+-- takes, and after the end it goes on by one
 abbrev pub offset : List Instruction → ℕ → ℕ
 offset [] position = position
 offset (instruction ∷ code) zero = 0

@@ -10,7 +10,7 @@ use std::marker::Model;
 /// targets are positions and not byte offsets: the number of an instruction in its procedure's code,
 /// from 0 on. The range and the target of a handler are positions too.
 ///
-/// Each target is a position of the code, no handler's range is empty or ends behind the code, and the
+/// Each target is a position of the code, no handler's range is empty or ends after the code, and the
 /// numbers, names and lists are within the limits of the module file, whose version has each
 /// instruction.
 #[derive(Debug, Drop)]

@@ -1,7 +1,7 @@
 -- What a sink holds while a text goes out piece by piece.
-use Rattle.std.proofs.Common.{◌≡◌, ◌∙◌, ap, arith, subst, refl, sym, ℕ, ◌+◌, ◌<◌, List, [], ◌++◌, append_assoc, drop, get_or, length, Option, Result, Ok, Err, OnErr}
+use Rattle.std.proofs.Common.{◌≡◌, ◌∙◌, ap, arith, refl, sym, ℕ, ◌+◌, ◌<◌, List, [], ◌++◌, append_assoc, drop, get_or, length, Option}
 use Rattle.std.proofs.KnownBytes.{Appends-nil, Appends-trans}
-use Rattle.std.proofs.lemmas.List.{append-nil, at_drop_more}
+use Rattle.std.proofs.lemmas.List.{at_drop_more}
 use Rattle.std.specs.Io.KnownBytes.{Appends}
 use Rattle.std.specs.Prelude.{flat_map}
 use Rattle.modules.specs.Code.{code_length, width_of}
@@ -45,12 +45,6 @@ cut old mid new left piece rest listing next before part = (
 -- nothing more went out
 pub stopped : (old new : Option (List ℕ)) (left listing : List ℕ) → IsListed old new left listing → AppendsPrefix old new listing
 stopped old new left listing before = (before.front, (left, before.split), before.taken)
-
--- everything went out
-pub all_listed : (old new : Option (List ℕ)) (left listing : List ℕ) → left ≡ [] → IsListed old new left listing → Appends old new listing
-all_listed old new left listing none before =
-    subst (λ (text : List ℕ). Appends old new text)
-    (sym (append-nil before.front) ∙ ap (λ text. before.front ++ text) (sym none) ∙ before.split) before.taken
 
 -- ---- what is left, as the next piece and the rest
 

@@ -40,7 +40,7 @@ handler_line handler =
 
 -- ---- texts
 
--- the lines of code whose first byte stands at this offset: each instruction stands behind the bytes of those before it
+-- the lines of code whose first byte stands at this offset: each instruction stands after the bytes of those before it
 abbrev pub code_text : ℕ → List Instruction → List ℕ
 code_text offset [] = []
 code_text offset (instruction ∷ code) = instruction_line offset instruction ++ code_text (offset + width_of instruction) code

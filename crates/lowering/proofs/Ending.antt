@@ -16,7 +16,7 @@ use Rattle.resolved.specs.declared.fault.EndDefect.TheVariants.{OutsideLoop, Unr
 use Rattle.resolved.specs.WellFormed.{has_base, is_exception, statement_fits, block_fits, handlers_fit}
 use Rattle.modules.specs.declared.instruction.Instruction.{Instruction}
 use Rattle.modules.specs.declared.instruction.Instruction.TheVariants as instruction
-use Rattle.verifier.specs.Flow.{goes_on}
+use Rattle.modules.specs.Targets.{goes_on}
 use Rattle.lowering.specs.Expressions.{value_code, branch_size, branch_code}
 use Rattle.lowering.specs.Code.{Loop, statement_falls, block_falls, handlers_fall, jump_size, jump_code, jumps_over, jumps_behind, leave_code, return_code, statement_size, block_size, handlers_size, statement_code, block_code, handlers_code}
 use Rattle.lowering.proofs.Unreached.{statement-none}

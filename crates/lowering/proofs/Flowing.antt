@@ -10,8 +10,8 @@ use Rattle.modules.specs.declared.instruction.Instruction.TheVariants as instruc
 use Rattle.modules.specs.declared.value.Kind.{Kind}
 use Rattle.modules.specs.declared.value.Kind.TheVariants.{Boolean}
 use Rattle.verifier.specs.Fixed.{instruction_defect}
-use Rattle.modules.specs.Targets.{target_of}
-use Rattle.verifier.specs.Flow.{Effect, Leaves, Misses, effect, goes_on}
+use Rattle.modules.specs.Targets.{goes_on, target_of}
+use Rattle.verifier.specs.Flow.{Effect, Leaves, Misses, effect}
 use Rattle.lowering.proofs.CodePieces.{Stands, stands-front, stands-back}
 
 abbrev pub below_top : List Kind → List Kind

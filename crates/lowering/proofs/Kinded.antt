@@ -26,9 +26,10 @@ use Rattle.modules.specs.declared.value.Kind.{Kind}
 use Rattle.modules.specs.declared.value.Kind.TheVariants.{Int, Boolean}
 use Rattle.verifier.specs.declared.fault.CodeDefect.{CodeDefect}
 use Rattle.verifier.specs.declared.fault.CodeDefect.TheVariants.{OperandKind, SlotOrIndex}
-use Rattle.verifier.specs.Fixed.{instruction_defect, is_scalar, is_array, is_input, is_output, unless}
-use Rattle.modules.specs.Targets.{target_of}
-use Rattle.verifier.specs.Flow.{Effect, Leaves, Misses, exchange, exchanged, called, value_kinds, slot_kind, all_popped, and_then, pushed, effect, goes_on}
+use Rattle.verifier.specs.Fixed.{instruction_defect, unless}
+use Rattle.modules.specs.Targets.{goes_on, target_of}
+use Rattle.verifier.specs.Flow.{Effect, Leaves, Misses, exchanged, all_popped, and_then, pushed, effect}
+use Rattle.verifier.specs.Signatures.{called, exchange, is_array, is_input, is_output, is_scalar, slot_kind, value_kinds}
 use Rattle.lowering.specs.Interface.{kind_of_base, declared_slot, slot_contents, returned_kind}
 use Rattle.lowering.specs.Expressions.{load_of, store_of, load_element_of, store_element_of, prefix_instruction, operator_instruction}
 use Rattle.lowering.specs.Graphs.{procedure_contents}
@@ -201,7 +202,7 @@ module _ (m : ModuleContents) (p : ProcedureContents) where
   call-does f callee kinds h =
       let wanted = reverse (header_of callee).parameters in
       going (instruction.Call f) (wanted ++ kinds) (pushed callee.returned kinds)
-      (ap (λ (o : Option ProcedureContents). exchanged (called o) (wanted ++ kinds)) h
+      (ap (λ (o : Option ProcedureContents). if (called o).own then exchanged (called o) (wanted ++ kinds) else Misses OperandKind) h
       ∙ ap (λ (e : Effect). and_then e (λ rest. Leaves (pushed callee.returned rest))) (pops-all wanted kinds))
       refl refl (ap (λ (o : Option ProcedureContents). unless (is_some o) SlotOrIndex) h)
 

@@ -27,7 +27,7 @@ use Rattle.modules.specs.declared.instruction.Instruction.{Instruction}
 use Rattle.modules.specs.declared.instruction.Instruction.TheVariants as instruction
 use Rattle.modules.specs.declared.value.Kind.{Kind}
 use Rattle.modules.specs.declared.value.Kind.TheVariants.{Int}
-use Rattle.verifier.specs.Fixed as fixed
+use Rattle.verifier.specs.Signatures.{is_input, is_output}
 use Rattle.verifier.specs.Flow.{pushed}
 use Rattle.lowering.specs.Interface.{kind_of_base, declared_slot, returned_kind}
 use Rattle.lowering.specs.Expressions.{store_of, store_element_of, value_size, value_code, arguments_size, arguments_code, branch_size, branch_code}
@@ -265,7 +265,7 @@ module _ (program : Program) (procedure : ProcedureEntry) (m : ModuleContents) (
       let parts = and_parts (channel_is (slice_get program.channels channel) Input) (target_by program procedure target (same_base base.Int)) fits in
       flows-both m p whole 1 refl
       (flows-one m p whole (receive-does m p channel []
-      (ap (λ (o : Option Direction). fixed.is_input o) (stated.channels_there channel) ∙ input-is (slice_get program.channels channel) parts.0)))
+      (ap (λ (o : Option Direction). is_input o) (stated.channels_there channel) ∙ input-is (slice_get program.channels channel) parts.0)))
       (flows-one m p whole (kept-does target base.Int (same_base base.Int) (λ b e. sym (same_base_is base.Int b e)) parts.1))
 
   send-flows : (at channel : ℕ) (e : Expression) (mark : ℕ) → statement_fits program procedure (Send mark channel e) ≡ true
@@ -274,7 +274,7 @@ module _ (program : Program) (procedure : ProcedureEntry) (m : ModuleContents) (
       let parts = and_parts (channel_is (slice_get program.channels channel) Output) (has_base program procedure base.Int e) fits in
       flows-both m p whole (value_size e) (value-sized e at) (value-flows program procedure m p whole stated e base.Int at [] parts.1)
       (flows-one m p whole (send-does m p channel []
-      (ap (λ (o : Option Direction). fixed.is_output o) (stated.channels_there channel) ∙ output-is (slice_get program.channels channel) parts.0)))
+      (ap (λ (o : Option Direction). is_output o) (stated.channels_there channel) ∙ output-is (slice_get program.channels channel) parts.0)))
 
   clear-flows : (at k : ℕ) → is_array (variable_type program procedure (Local k)) ≡ true → Flows m p whole at (instruction.Clear k ∷ []) (Unit {0}) [] []
   clear-flows at k fits =

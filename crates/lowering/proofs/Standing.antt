@@ -16,7 +16,7 @@ use Rattle.modules.specs.declared.instruction.Instruction.TheVariants.{Jump, Jum
 use Rattle.modules.specs.declared.value.Kind.{Kind}
 use Rattle.layout.specs.Graph.{IsHandlerIn, HasPositions}
 use Rattle.layout.specs.Offsets.{offset, laid_out_procedure}
-use Rattle.modules.specs.Targets.{target_of, renamed_instruction, renamed_handler}
+use Rattle.modules.specs.Targets.{goes_on, target_of, renamed_instruction, renamed_handler}
 use Rattle.layout.proofs.Fitting.{length-renamed}
 use Rattle.layout.proofs.Offsets.{width-renamed, offset-start, offset-less, fetched, next_at}
 use Rattle.layout.proofs.Starts.{start-at}
@@ -24,7 +24,7 @@ use Rattle.layout.proofs.Tables.{offset-end}
 use Rattle.verifier.specs.declared.fault.CodeDefect.{CodeDefect}
 use Rattle.verifier.specs.declared.fault.CodeDefect.TheVariants as defect
 use Rattle.verifier.specs.Fixed.{unless, is_start, is_end, instruction_defect, handler_defect, refusals_at, instruction_refusals, handler_refusals}
-use Rattle.verifier.specs.Flow.{Edge, next, jumps, caught, Leaves, Misses, effect, goes_on, FlowsWell}
+use Rattle.verifier.specs.Flow.{Edge, next, jumps, caught, Leaves, Misses, effect, FlowsWell}
 use Rattle.verifier.proofs.Laws.{flows_well}
 use Rattle.lowering.proofs.Flowing.{IsSound, EachSound, sound-at, kinds_at, along, onward, following}
 use Rattle.lowering.proofs.Settled.{Catches}

@@ -9,11 +9,11 @@ use Rattle.modules.specs.declared.declaration.Handler.{Handler}
 use Rattle.modules.specs.declared.instruction.Instruction.{Instruction}
 use Rattle.modules.specs.declared.instruction.Instruction.TheVariants.{Jump, JumpIfFalse}
 use Rattle.modules.specs.declared.value.Kind.{Kind}
-use Rattle.modules.specs.Targets.{target_of, renamed_instruction}
+use Rattle.modules.specs.Targets.{goes_on, target_of, renamed_instruction}
 use Rattle.layout.specs.Graph.{HasPositions}
 use Rattle.layout.specs.Offsets.{laid_out_procedure}
 use Rattle.verifier.specs.Fixed.{instruction_defect}
-use Rattle.verifier.specs.Flow.{Leaves, effect, goes_on}
+use Rattle.verifier.specs.Flow.{Leaves, effect}
 use Rattle.lowering.specs.Direct.{jump_of}
 use Rattle.lowering.specs.Threaded.{onward as onward_place, followed, final_place, threaded}
 use Rattle.lowering.proofs.Unthreaded.{threaded_procedure}

@@ -13,7 +13,7 @@ use Rattle.modules.specs.declared.instruction.Instruction.TheVariants as instruc
 use Rattle.modules.specs.declared.declaration.Handler.{Handler}
 use Rattle.lowering.specs.Expressions.{store_of, store_element_of, value_size, value_code, arguments_size, arguments_code, branch_size, branch_code}
 
--- where `break` and `continue` go: behind the loop, and to its test
+-- where `break` and `continue` go: after the loop, and to its test
 pub record Loop : Type 0 where
   pub behind : ℕ
   pub test : ℕ
@@ -66,7 +66,7 @@ abbrev pub kept_code : Option Variable → Instruction
 kept_code None = instruction.Pop
 kept_code (Some x) = store_of x
 
--- behind a call: a procedure without a value leaves nothing to store or drop
+-- after a call: a procedure without a value leaves nothing to store or drop
 abbrev pub result_size : Option ResultEntry → ℕ
 result_size None = 0
 result_size (Some entry) = 1
@@ -91,7 +91,7 @@ abbrev pub return_code : (at : ℕ) → Option Expression → List Instruction
 return_code at None = instruction.Return ∷ []
 return_code at (Some e) = value_code at e ++ instruction.ReturnValue ∷ []
 
--- whether the first block of an `if` jumps over the second one, and that of a `try` or a handler over the handlers behind it
+-- whether the first block of an `if` jumps over the second one, and that of a `try` or a handler over the handlers after it
 abbrev pub jumps_over : Block → Block → Bool
 jumps_over yes_block no_block = block_falls yes_block && not (is_empty no_block)
 
@@ -142,7 +142,7 @@ abbrev pub handlers_place : Program → (place : ℕ) → Block → Handlers →
 handlers_place program place block handlers = place + block_size program block + jump_size (jumps_behind block handlers)
 
 -- ---- code
--- `break` and `continue` go where the innermost loop says; code behind a handler's body, where that ends normally, is at `end`
+-- `break` and `continue` go where the innermost loop says; code after a handler's body, where that ends normally, is at `end`
 abbrev mutual
   pub statement_code : Program → Loop → (place : ℕ) → Statement → List Instruction
   statement_code program loop place (Assign at x e) = value_code place e ++ store_of x ∷ []

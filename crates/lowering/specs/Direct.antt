@@ -3,10 +3,9 @@
 use Rattle.std.specs.Prelude.{◌≡◌, ℕ, List, All, IfSome, Option, Some, None, slice_get, if◌then◌else◌}
 use Rattle.modules.specs.declared.instruction.Instruction.{Instruction}
 use Rattle.modules.specs.Contents.{ProcedureContents}
-use Rattle.modules.specs.Targets.{target_of}
-use Rattle.verifier.specs.Flow.{goes_on}
+use Rattle.modules.specs.Targets.{goes_on, target_of}
 
--- where an unconditional jump goes: it has a target, and control does not go on behind it
+-- where an unconditional jump goes: it has a target, and control does not go on after it
 abbrev pub jump_of : Option Instruction → Option ℕ
 jump_of None = None
 jump_of (Some instruction) = if goes_on instruction then None else target_of instruction

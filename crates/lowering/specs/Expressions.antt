@@ -1,5 +1,5 @@
 -- Private: the code of expressions for a stack machine: code that leaves the value of an expression on the operands, and code of a condition
--- that goes to a place where the condition has the truth that is asked for, and else goes on behind.
+-- that goes to a place where the condition has the truth that is asked for, and else goes on after it.
 -- Places are numbers of instructions in the code of a procedure, from 0 on; code is made for the place at which it is to stand.
 -- Source: our own; jumping code for conditions as textbooks give it.
 use Rattle.common.specs.Functions.{same_truth}
@@ -99,7 +99,7 @@ value_size (Unary prefix e) = value_size e + 1
 value_size (Binary operator d e) = value_size d + (value_size e + 1)
 value_size (Short connective d e) = value_size d + (1 + (value_size e + 2))
 
--- behind the left operand of a connective: where it decides, its value is pushed again; else the right operand's is
+-- after the left operand of a connective: where it decides, its value is pushed again; else the right operand's is
 abbrev pub rest_of_short : Connective → (at : ℕ) → (right_size : ℕ) → ((at : ℕ) → List Instruction) → List Instruction
 rest_of_short And at right_size right =
     JumpIfFalse (at + 1 + right_size + 1) ∷ (right (at + 1) ++ Jump (at + 1 + right_size + 1 + 1) ∷ PushBoolean false ∷ [])
@@ -183,7 +183,7 @@ branch_size wanted (Short connective d e) = branch_size (deciding connective) d 
 abbrev pub test_code : (wanted : Bool) → (at target : ℕ) → Expression → List Instruction
 test_code wanted at target e = value_code at (tested wanted e) ++ JumpIfFalse target ∷ []
 
--- code that goes to a place where the condition has the wanted truth, and else goes on behind. Where the left operand of a connective
+-- code that goes to a place where the condition has the wanted truth, and else goes on after it. Where the left operand of a connective
 -- decides, the whole condition has that truth
 abbrev pub branch_code : (wanted : Bool) → (at target : ℕ) → Expression → List Instruction
 branch_code wanted at target (Integer n) = test_code wanted at target (Integer n)

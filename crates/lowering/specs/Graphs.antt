@@ -10,7 +10,7 @@ use Rattle.lowering.specs.Interface.{module_version, hierarchy_contents, channel
 use Rattle.lowering.specs.Code.{Loop, block_falls, block_code, block_table}
 use Rattle.lowering.specs.Threaded.{threaded}
 
--- a return behind a body that may end normally
+-- a return after a body that may end normally
 abbrev pub end_code : (falls : Bool) → List Instruction
 end_code true = Return ∷ []
 end_code false = []

@@ -11,7 +11,7 @@ abbrev pub onward : (place : ℕ) → (on : ℕ → ℕ) → (jump : Option ℕ)
 onward place on None = place
 onward place on (Some target) = if nat_lt place target then on target else place
 
--- the place to which unconditional jumps that go forward lead from a place: so many are followed at most
+-- the place to which unconditional jumps that go forward lead from a place, with the number of those that are followed at most
 abbrev pub followed : (jumps : ℕ) → List Instruction → (place : ℕ) → ℕ
 followed zero code place = place
 followed (suc jumps) code place = onward place (followed jumps code) (jump_of (slice_get code place))

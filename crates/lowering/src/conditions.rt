@@ -150,7 +150,7 @@ fn inner_target(wanted: bool, decides: bool, target: u32, behind: u32) -> u32
     }
 }
 
-/// Adds code that goes to the target where the condition has the wanted truth. What stands behind that code is given, so that no left
+/// Adds code that goes to the target where the condition has the wanted truth. What stands after that code is given, so that no left
 /// operand is measured again for each connective that it stands in.
 #[tactic(auto, using(crate::proofs::Appending::growing))]
 pub(crate) fn push_branch(

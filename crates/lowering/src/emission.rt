@@ -17,14 +17,14 @@ use resolved::program::Core;
 use resolved::statement::{self, Exit, Statement};
 use std::alloc::AllocError;
 
-/// Where `break` and `continue` go: behind the innermost loop, and to its test.
+/// Where `break` and `continue` go: after the innermost loop, and to its test.
 #[derive(Clone, Copy)]
 pub(crate) struct LoopPlaces {
     pub behind: u32,
     pub test: u32,
 }
 
-/// The block of a `try`, from its first instruction to the place behind its last one, and where code goes behind its handlers.
+/// The block of a `try`, from its first instruction to the place after its last one, and where code goes after its handlers.
 #[derive(Clone, Copy)]
 struct TryPlaces {
     start: u32,

@@ -59,7 +59,7 @@ pub(crate) fn jumps_over(yes_block: &[Statement], no_block: &[Statement]) -> boo
     !no_block.is_empty() && block_falls(yes_block)
 }
 
-/// Whether the block of a `try` or a handler jumps over the handlers behind it.
+/// Whether the block of a `try` or a handler jumps over the handlers after it.
 pub(crate) fn jumps_behind(block: &[Statement], behind: &[Handler]) -> bool
     ensures { result ≡ jumps_behind (block_of block.now) (handlers_of behind.now) }
 {

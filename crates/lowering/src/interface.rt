@@ -16,7 +16,7 @@ use std::alloc::{AllocError, Global};
 pub(crate) fn hierarchy_of(alloc: Global, hierarchy: &Hierarchy) -> Result<Hierarchy, AllocError>
     ensures { IfOk result (λ made. made ≡ hierarchy_contents hierarchy.now) }
 {
-    // It brings that the names are different and few, and that the pairs are of principals that are there.
+    // Its contract says that the names are different and few, and that the pairs are of principals that are there.
     let _kept = hierarchy.count();
     let mut names = Vec::new(alloc);
     for name in hierarchy.names() {
@@ -69,7 +69,7 @@ fn scalar_global(value: Value) -> modules::Global
     }
 }
 
-/// A scalar global that holds a value at first, or an array of so many elements.
+/// A scalar global that holds a value at first, or an array with its number of elements.
 fn declared_global(base: Base, size: Option<u32>, first: Value) -> modules::Global
     ensures exact { result ≡ declared_global base size first }
     ensures short { IsShortValue first }

@@ -64,7 +64,7 @@ pub(crate) fn push_value(
     }
 }
 
-/// Adds the code behind the left operand of `&&`.
+/// Adds the code after the left operand of `&&`.
 #[cycle(value)]
 fn push_rest_of_and(code: &mut Vec<Instruction>, right: &Expression) -> Result<(), AllocError>
     requires { length code.now.items + (1 + (value_size (expression_of right.now) + 2)) < 2 ^ 32 }
@@ -79,7 +79,7 @@ fn push_rest_of_and(code: &mut Vec<Instruction>, right: &Expression) -> Result<(
     push(code, Instruction::PushBoolean(false))
 }
 
-/// Adds the code behind the left operand of `||`.
+/// Adds the code after the left operand of `||`.
 #[cycle(value)]
 fn push_rest_of_or(code: &mut Vec<Instruction>, right: &Expression) -> Result<(), AllocError>
     requires { length code.now.items + (1 + (value_size (expression_of right.now) + 2)) < 2 ^ 32 }

@@ -38,7 +38,7 @@ pub fn lower(alloc: Global, checked: &Checked) -> Result<Graph, AllocError>
     ensures direct { IfOk result (λ graph. All HasDirectJumps graph.procedures) }
 {
     let graph = make_graph(alloc, checked.core())?;
-    // It brings that the graph fits the module file, so that no run of the module is stuck.
+    // Its contract says that the graph fits the module file, so that no run of the module is stuck.
     let _contents = graph.contents();
     Ok(graph)
 }

@@ -7,7 +7,7 @@ ghost use Rattle.std.specs.Prelude.{IfOk, Some, get_or, length, ◌<◌, ◌^◌
 use modules::Instruction;
 use std::alloc::{AllocError, Global};
 
-/// The final place of a place; one behind the code is its own.
+/// The final place of a place; one after the code is its own.
 fn place_in(finals: &[u32], place: u32) -> u32
     ensures { result ≡ get_or finals.now place place }
 {
@@ -18,7 +18,7 @@ fn place_in(finals: &[u32], place: u32) -> u32
     }
 }
 
-/// The final place of the place of an instruction, by those of the places behind it.
+/// The final place of the place of an instruction, by those of the places after it.
 fn place_from(finals: &[u32], place: u32, instruction: Instruction) -> u32
     ensures { result ≡
         onward place (λ target. get_or finals.now target target) (jump_of (Some instruction)) }

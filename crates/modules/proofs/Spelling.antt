@@ -7,61 +7,29 @@ use Rattle.std.proofs.lemmas.List.Elements.{All-nil, All-cons}
 use Rattle.std.proofs.lemmas.Int.{to_z-of_z}
 use Rattle.std.proofs.lemmas.Nat.{from_be_bytes-to_be_bytes_4}
 use Rattle.std.proofs.Math.Facts.{Fits-of_z, Fits-lt-pow}
-use Rattle.modules.specs.declared.instruction.Arithmetic.TheVariants.{Add, Subtract, Multiply, Divide, Remainder, BitAnd, BitOr, BitXor, ShiftLeft, ShiftRight, ShiftRightUnsigned}
-use Rattle.modules.specs.declared.instruction.Comparison.TheVariants.{Less, AtMost, Greater, AtLeast, Equal, NotEqual}
+use Rattle.modules.specs.declared.instruction.Arithmetic.TheVariants.{Add, BitAnd, BitOr, BitXor, ShiftLeft, ShiftRight, ShiftRightUnsigned}
+use Rattle.modules.specs.declared.instruction.Comparison.TheVariants.{Less}
 use Rattle.modules.specs.declared.instruction.Instruction.{Instruction}
-use Rattle.modules.specs.declared.instruction.Instruction.TheVariants.{Push, PushBoolean, Pop, Load, Store, LoadGlobal, StoreGlobal, LoadElement, StoreElement, LoadGlobalElement, StoreGlobalElement, Clear, Compute, Negate, Not, Compare, SameBoolean, OtherBoolean, Jump, JumpIfFalse, Call, Return, ReturnValue, Receive, Send, Throw}
+use Rattle.modules.specs.declared.instruction.Instruction.TheVariants.{Push, PushBoolean, Load, Store, LoadGlobal, StoreGlobal, LoadElement, StoreElement, LoadGlobalElement, StoreGlobalElement, Clear, Compute, Compare, Jump, JumpIfFalse, Call, Receive, Send, Throw}
 use Rattle.modules.specs.Code.{width_of, code_length}
 use Rattle.modules.specs.Form.{IsCoded, spelled_instruction, spelled_code}
-use Rattle.modules.specs.Opcodes.{HasCodeOf, OperandFits, exists_in, has_instruction, row_of, instructions}
+use Rattle.modules.specs.Opcodes.{HasCodeOf, OperandFits, exists_in, has_instruction, instructions, operand_bytes, operand_width, row_of}
+use Rattle.modules.specs.declared.opcode.Operand.{Operand}
+use Rattle.modules.specs.declared.opcode.Operand.TheVariants.{Absent, Boolean, Int, Number}
 use Rattle.modules.specs.declared.version.Version.{Version}
 use Rattle.modules.specs.declared.version.Version.TheVariants.{One, Two}
 
 -- ---- widths
 
+operand-width : (operand : Operand) → length (operand_bytes operand) ≡ operand_width operand
+operand-width Absent = refl
+operand-width (Int n) = refl
+operand-width (Boolean b) = refl
+operand-width (Number n) = refl
+
 pub spelled-width : (version : Version) (x : Instruction) → length (spelled_instruction (instructions version) x) ≡ width_of x
 unfolding instructions
-spelled-width version (Push n) = refl
-spelled-width version (PushBoolean b) = refl
-spelled-width version Pop = refl
-spelled-width version (Load slot) = refl
-spelled-width version (Store slot) = refl
-spelled-width version (LoadGlobal slot) = refl
-spelled-width version (StoreGlobal slot) = refl
-spelled-width version (LoadElement slot) = refl
-spelled-width version (StoreElement slot) = refl
-spelled-width version (LoadGlobalElement slot) = refl
-spelled-width version (StoreGlobalElement slot) = refl
-spelled-width version (Clear slot) = refl
-spelled-width version (Compute Add) = refl
-spelled-width version (Compute Subtract) = refl
-spelled-width version (Compute Multiply) = refl
-spelled-width version (Compute Divide) = refl
-spelled-width version (Compute Remainder) = refl
-spelled-width version (Compute BitAnd) = refl
-spelled-width version (Compute BitOr) = refl
-spelled-width version (Compute BitXor) = refl
-spelled-width version (Compute ShiftLeft) = refl
-spelled-width version (Compute ShiftRight) = refl
-spelled-width version (Compute ShiftRightUnsigned) = refl
-spelled-width version Negate = refl
-spelled-width version Not = refl
-spelled-width version (Compare Less) = refl
-spelled-width version (Compare AtMost) = refl
-spelled-width version (Compare Greater) = refl
-spelled-width version (Compare AtLeast) = refl
-spelled-width version (Compare Equal) = refl
-spelled-width version (Compare NotEqual) = refl
-spelled-width version SameBoolean = refl
-spelled-width version OtherBoolean = refl
-spelled-width version (Jump target) = refl
-spelled-width version (JumpIfFalse target) = refl
-spelled-width version (Call procedure) = refl
-spelled-width version Return = refl
-spelled-width version ReturnValue = refl
-spelled-width version (Receive channel) = refl
-spelled-width version (Send channel) = refl
-spelled-width version (Throw exception) = refl
+spelled-width version x = omega (arith, operand-width (row_of x).operand)
 
 pub spelled-length : (version : Version) (code : List Instruction) → length (spelled_code (instructions version) code) ≡ code_length code
 spelled-length version [] = refl
@@ -84,7 +52,6 @@ unfolding instructions
 is_spelled version (Push n) has fits = record { byte = lit< tt; width = refl; itself = ap (λ k. Some (Push k)) (int-back n fits) }
 is_spelled version (PushBoolean false) has fits = record { byte = lit< tt; width = refl; itself = refl }
 is_spelled version (PushBoolean true) has fits = record { byte = lit< tt; width = refl; itself = refl }
-is_spelled version Pop has fits = record { byte = lit< tt; width = refl; itself = refl }
 is_spelled version (Load slot) has fits = record { byte = lit< tt; width = refl; itself = ap (λ k. Some (Load k)) (number-back slot fits) }
 is_spelled version (Store slot) has fits = record { byte = lit< tt; width = refl; itself = ap (λ k. Some (Store k)) (number-back slot fits) }
 is_spelled version (LoadGlobal slot) has fits = record { byte = lit< tt; width = refl; itself = ap (λ k. Some (LoadGlobal k)) (number-back slot fits) }
@@ -94,41 +61,21 @@ is_spelled version (StoreElement slot) has fits = record { byte = lit< tt; width
 is_spelled version (LoadGlobalElement slot) has fits = record { byte = lit< tt; width = refl; itself = ap (λ k. Some (LoadGlobalElement k)) (number-back slot fits) }
 is_spelled version (StoreGlobalElement slot) has fits = record { byte = lit< tt; width = refl; itself = ap (λ k. Some (StoreGlobalElement k)) (number-back slot fits) }
 is_spelled version (Clear slot) has fits = record { byte = lit< tt; width = refl; itself = ap (λ k. Some (Clear k)) (number-back slot fits) }
-is_spelled version (Compute Add) has fits = record { byte = lit< tt; width = refl; itself = refl }
-is_spelled version (Compute Subtract) has fits = record { byte = lit< tt; width = refl; itself = refl }
-is_spelled version (Compute Multiply) has fits = record { byte = lit< tt; width = refl; itself = refl }
-is_spelled version (Compute Divide) has fits = record { byte = lit< tt; width = refl; itself = refl }
-is_spelled version (Compute Remainder) has fits = record { byte = lit< tt; width = refl; itself = refl }
-is_spelled One (Compute BitAnd) has fits = absurd cc
-is_spelled Two (Compute BitAnd) has fits = record { byte = lit< tt; width = refl; itself = refl }
-is_spelled One (Compute BitOr) has fits = absurd cc
-is_spelled Two (Compute BitOr) has fits = record { byte = lit< tt; width = refl; itself = refl }
-is_spelled One (Compute BitXor) has fits = absurd cc
-is_spelled Two (Compute BitXor) has fits = record { byte = lit< tt; width = refl; itself = refl }
-is_spelled One (Compute ShiftLeft) has fits = absurd cc
-is_spelled Two (Compute ShiftLeft) has fits = record { byte = lit< tt; width = refl; itself = refl }
-is_spelled One (Compute ShiftRight) has fits = absurd cc
-is_spelled Two (Compute ShiftRight) has fits = record { byte = lit< tt; width = refl; itself = refl }
-is_spelled One (Compute ShiftRightUnsigned) has fits = absurd cc
-is_spelled Two (Compute ShiftRightUnsigned) has fits = record { byte = lit< tt; width = refl; itself = refl }
-is_spelled version Negate has fits = record { byte = lit< tt; width = refl; itself = refl }
-is_spelled version Not has fits = record { byte = lit< tt; width = refl; itself = refl }
-is_spelled version (Compare Less) has fits = record { byte = lit< tt; width = refl; itself = refl }
-is_spelled version (Compare AtMost) has fits = record { byte = lit< tt; width = refl; itself = refl }
-is_spelled version (Compare Greater) has fits = record { byte = lit< tt; width = refl; itself = refl }
-is_spelled version (Compare AtLeast) has fits = record { byte = lit< tt; width = refl; itself = refl }
-is_spelled version (Compare Equal) has fits = record { byte = lit< tt; width = refl; itself = refl }
-is_spelled version (Compare NotEqual) has fits = record { byte = lit< tt; width = refl; itself = refl }
-is_spelled version SameBoolean has fits = record { byte = lit< tt; width = refl; itself = refl }
-is_spelled version OtherBoolean has fits = record { byte = lit< tt; width = refl; itself = refl }
 is_spelled version (Jump target) has fits = record { byte = lit< tt; width = refl; itself = ap (λ k. Some (Jump k)) (number-back target fits) }
 is_spelled version (JumpIfFalse target) has fits = record { byte = lit< tt; width = refl; itself = ap (λ k. Some (JumpIfFalse k)) (number-back target fits) }
 is_spelled version (Call procedure) has fits = record { byte = lit< tt; width = refl; itself = ap (λ k. Some (Call k)) (number-back procedure fits) }
-is_spelled version Return has fits = record { byte = lit< tt; width = refl; itself = refl }
-is_spelled version ReturnValue has fits = record { byte = lit< tt; width = refl; itself = refl }
 is_spelled version (Receive channel) has fits = record { byte = lit< tt; width = refl; itself = ap (λ k. Some (Receive k)) (number-back channel fits) }
 is_spelled version (Send channel) has fits = record { byte = lit< tt; width = refl; itself = ap (λ k. Some (Send k)) (number-back channel fits) }
 is_spelled version (Throw exception) has fits = record { byte = lit< tt; width = refl; itself = ap (λ k. Some (Throw k)) (number-back exception fits) }
+is_spelled version (Compute Add) has fits = record { byte = lit< tt; width = refl; itself = refl }
+is_spelled One (Compute BitAnd) has fits = absurd cc
+is_spelled One (Compute BitOr) has fits = absurd cc
+is_spelled One (Compute BitXor) has fits = absurd cc
+is_spelled One (Compute ShiftLeft) has fits = absurd cc
+is_spelled One (Compute ShiftRight) has fits = absurd cc
+is_spelled One (Compute ShiftRightUnsigned) has fits = absurd cc
+is_spelled version (Compare Less) has fits = record { byte = lit< tt; width = refl; itself = refl }
+is_spelled version x has fits = record { byte = lit< tt; width = refl; itself = refl }
 
 -- ---- versions
 

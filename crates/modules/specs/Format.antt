@@ -8,7 +8,7 @@ use Rattle.std.specs.List.{list_any}
 use Rattle.std.specs.Ordering.{nat_cmp, on, then_cmp}
 use Rattle.std.specs.Str.{is_utf8}
 use Rattle.std.specs.declared.cmp.Ordering.{Ordering}
-use Rattle.std.specs.declared.cmp.Ordering.TheVariants.{Less, Equal, Greater}
+use Rattle.std.specs.declared.cmp.Ordering.TheVariants.{Less}
 use Rattle.lexer.specs.Words.{is_name_text}
 use Rattle.principals.specs.ActsFor.{PrincipalHierarchy}
 use Rattle.labels.specs.Label.{ReaderPolicy, Label}
@@ -38,8 +38,7 @@ any n = true
 
 abbrev pub is_less : Ordering → Bool
 is_less Less = true
-is_less Equal = false
-is_less Greater = false
+is_less _ = false
 
 -- an element is above the last of those before it, if there are any
 abbrev pub is_above_last : {A : Type 0} → (A → A → Ordering) → Option A → A → Bool

@@ -126,7 +126,7 @@ fn comparison_row(comparison: Comparison) -> Row
 }
 
 /// The instruction with an opcode that is followed by a number.
-fn numbered_instruction(opcode: u8, number: u32) -> Option<Instruction>
+pub fn numbered_instruction(opcode: u8, number: u32) -> Option<Instruction>
     ensures { result ≡ with_opcode opcode (numbered number) }
 {
     match opcode {

@@ -14,7 +14,7 @@ pub fn write(answer: &mut Vec<u8>, bytes: &[u8]) -> Result<(), LineFault> {
     Ok(())
 }
 
-/// Writes each line of some bytes behind a sign. A last line that has no end is followed by the line `\`.
+/// Writes each line of some bytes after a sign. A last line that has no end is followed by the line `\`.
 pub fn write_lines(answer: &mut Vec<u8>, sign: u8, bytes: &[u8]) -> Result<(), LineFault> {
     let mut is_first = true;
     for byte in bytes {

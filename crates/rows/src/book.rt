@@ -16,7 +16,7 @@ use std::alloc::Global;
 
 // A row: the line that it stands in, what came of it, and what is wanted.
 #[derive(Drop)]
-struct Row {
+struct AskedRow {
     line: usize,
     answer: Vec<u8>,
     wanted: Vec<u8>,
@@ -28,7 +28,7 @@ pub struct Book<'a> {
     path: &'a str,
     texts: Texts,
     stage: Stage,
-    row: Option<Row>,
+    row: Option<AskedRow>,
     counts: Counts,
     report: Vec<u8>,
     alloc: Global,
@@ -112,7 +112,7 @@ impl<'a> Book<'a> {
     fn ask(&mut self, number: usize, line: &str) -> Result<(), LineFault> {
         let mut answer = Vec::new(self.alloc);
         self.answer(line, &mut answer)?;
-        self.row = Some(Row {
+        self.row = Some(AskedRow {
             line: number,
             answer,
             wanted: Vec::new(self.alloc),
@@ -145,7 +145,7 @@ impl<'a> Book<'a> {
         Ok(())
     }
 
-    fn report_row(&mut self, row: &Row) -> Result<(), LineFault> {
+    fn report_row(&mut self, row: &AskedRow) -> Result<(), LineFault> {
         let (path, number) = (self.path, row.line);
         let line = format!(in self.alloc; "{path}:{number}: differs, wanted\n")?;
         write(&mut self.report, line.as_bytes())?;

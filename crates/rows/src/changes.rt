@@ -81,7 +81,7 @@ fn part(bytes: &[u8], from: usize, to: usize) -> Result<&[u8], LineFault> {
     Ok(&bytes[from..to])
 }
 
-// `* TIMES PIECE`: a piece so many times.
+// `* TIMES PIECE`: a piece, repeated.
 fn add_times(bytes: &mut Vec<u8>, rest: &str) -> Result<(), LineFault> {
     let (times, piece) = cut_word(rest);
     for _ in 0..place_of(times)? {

@@ -7,9 +7,9 @@ use std::fmt;
 pub enum LineRefusal {
     /// No line begins so.
     UnknownWord,
-    /// The words behind the first are not those that it takes.
+    /// The words after the first are not those that it takes.
     WrongForm,
-    /// What is wanted stands behind no row.
+    /// What is wanted stands after no row.
     NoRow,
     /// There is no row in the file.
     NoRows,

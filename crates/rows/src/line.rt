@@ -5,7 +5,7 @@ use common::OrNoMemory;
 use hex::FromHexError;
 use std::alloc::Global;
 
-/// The first word of a line, and what stands behind the space that follows it.
+/// The first word of a line, and what stands after the space that follows it.
 pub fn cut_word(line: &str) -> (&str, &str) {
     match line.split_once(' ') {
         Some(split) => split,

@@ -75,6 +75,7 @@ impl Stage {
     ) -> Result<(), LineFault> {
         let (times, words) = cut_word(rest);
         for _ in 1..place_of(times)? {
+            // Only the last answer is wanted.
             let _ = call(&mut self.host, event_of(texts, words)?);
         }
         let answered = call(&mut self.host, event_of(texts, words)?);

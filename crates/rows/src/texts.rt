@@ -5,7 +5,7 @@ use common::OrNoMemory;
 use std::alloc::Global;
 
 #[derive(Drop)]
-struct Text {
+struct NamedText {
     name: String,
     bytes: Vec<u8>,
 }
@@ -13,7 +13,7 @@ struct Text {
 /// The texts that have been named so far, each name once. The newest is the last.
 #[derive(Drop)]
 pub struct Texts {
-    texts: Vec<Text>,
+    texts: Vec<NamedText>,
     alloc: Global,
 }
 
@@ -59,7 +59,7 @@ impl Texts {
     pub fn put(&mut self, name: &str, bytes: Vec<u8>) -> Result<(), LineFault> {
         self.forget(name);
         let name = String::from_str(self.alloc, name)?;
-        self.texts.push(Text { name, bytes })?;
+        self.texts.push(NamedText { name, bytes })?;
         Ok(())
     }
 }

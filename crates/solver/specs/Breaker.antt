@@ -1,8 +1,7 @@
 -- Private: the constraints with a written right side that a written element breaks: by rows of bits, and along edges with a chain.
 -- Source: our own.
-use Rattle.std.specs.Prelude.{◌≡◌, ℕ, ◌<◌, ◌≤◌, List, Bool, true, false, Option, Some, None, IsTrue, length, slice_get, slice_index_or}
+use Rattle.std.specs.Prelude.{◌≡◌, ℕ, ◌<◌, ◌≤◌, List, Bool, false, Option, Some, None, IsTrue, slice_get}
 use Rattle.solver.specs.Reach.{LeadsTo, LeadsOn, ReachesBy}
-use Rattle.labels.specs.Row.{has}
 use Rattle.solver.specs.Rows.{left_has}
 use Rattle.solver.specs.declared.edges.Edges.{Edges}
 use Rattle.solver.specs.declared.constraints.Atom.{Atom}
@@ -36,22 +35,6 @@ pub record BreaksFirst {T : Type 0} (below : ℕ → ℕ → Bool) (count : ℕ)
 abbrev pub IsFirstBreaker : {T : Type 0} → (below : ℕ → ℕ → Bool) → (count : ℕ) → List (List Bool) → List (Constraint T) → Option ℕ → Type 0
 IsFirstBreaker below count rows cs None = (n i : ℕ) → n < count → Breaks below rows cs n i → ⊥
 IsFirstBreaker below count rows cs (Some n) = BreaksFirst below count rows cs n
-
--- members lie below an element; and so it is kept for each element of which something is known
-abbrev pub IsKnown : (below : ℕ → ℕ → Bool) → List Bool → (to : ℕ) → Type 0
-IsKnown below row to = (n : ℕ) → IsTrue (has row n) → below n to ≡ true
-
-pub data IsKnownRow (below : ℕ → ℕ → Bool) (count to : ℕ) : Option (List Bool) → Type 0 where
-  nothing : IsKnownRow below count to None
-  some : (row : List Bool) → length row ≡ count → IsKnown below row to → IsKnownRow below count to (Some row)
-
-abbrev pub AreKnownRows : (below : ℕ → ℕ → Bool) → (count : ℕ) → List (Option (List Bool)) → Type 0
-AreKnownRows below count known = (to : ℕ) (d : Option (List Bool)) → to < length known → IsKnownRow below count to (slice_index_or known to d)
-
--- a member of a row that does not lie below an element, or none where all do
-abbrev pub IsAbove : (below : ℕ → ℕ → Bool) → (count : ℕ) → List Bool → (to : ℕ) → Option ℕ → Type 0
-IsAbove below count row to None = (n : ℕ) → n < count → IsTrue (has row n) → below n to ≡ true
-IsAbove below count row to (Some n) = (n < count) × IsTrue (has row n) × (below n to ≡ false)
 
 -- an element that breaks a constraint with these sides, or none where none does
 abbrev pub IsBreakerOf : (below : ℕ → ℕ → Bool) → (count : ℕ) → List (List Bool) → List Atom → Atom → Option ℕ → Type 0

@@ -1,12 +1,13 @@
 //! The written elements of constraints, by their numbers.
 ghost use Rattle.labels.specs.Canonical.{written_label};
 ghost use Rattle.labels.specs.Constraints.{LatticeLaws, Lattice as LatticeOf, label_lattice};
+ghost use Rattle.labels.specs.Under.{FirstAbove};
 ghost use Rattle.solver.specs.Broken.{is_below};
 ghost use Rattle.solver.specs.Constraints.{AreAlike, values_of};
 ghost use Rattle.std.specs.Prelude.{IfOk, List, length, ◌<◌, ◌≡◌};
 
 use crate::solution::Solution;
-use labels::{Comparisons, Label, LabelLattice, LabelTable, Lattice};
+use labels::{Comparisons, Label, LabelLattice, LabelTable, Lattice, Row};
 use principals::Hierarchy;
 use std::alloc::{AllocError, Global};
 
@@ -15,7 +16,7 @@ pub trait WrittenElements {
     /// What an element is, as a contract sees it.
     type Elem;
 
-    /// Comparisons of the elements, which may remember what they found.
+    /// Comparisons of the elements, which may keep what they find.
     type Comparing: Drop;
 
     /// The order of the lattice that the elements are of.
@@ -38,24 +39,25 @@ pub trait WrittenElements {
         requires to { to < length (elements self.now) }
         ensures { result ≡ is_below (order self.now) (elements self.now) number to };
 
-    /// Comparisons of the elements, which remember nothing yet. It fails only where memory ran out.
+    /// Comparisons of the elements, before the first one. It fails only where memory ran out.
     fn comparing(&self, alloc: Global) -> Result<Self::Comparing, AllocError>
         ensures { IfOk result (compares self.now) };
 
-    /// The same as `leq`, by comparisons that may remember what they find. It fails only where memory ran out, and the comparisons
-    /// can be used further then. Precondition: both elements are there.
-    fn compare(
+    /// The first number in a row whose element does not lie below the one with another number, by comparisons that may keep what they
+    /// find. It fails only where memory ran out, and the comparisons can be used further then. Precondition: the row has a bit for
+    /// each element, and the other element is there.
+    fn first_above(
         &self,
         comparing: &mut Self::Comparing,
-        number: usize,
+        row: &Row,
         to: usize,
-    ) -> Result<bool, AllocError>
-        requires number { number < length (elements self.now) }
+    ) -> Result<Option<usize>, AllocError>
+        requires row { length row.now ≡ length (elements self.now) }
         requires to { to < length (elements self.now) }
         requires comparing { compares self.now comparing.old }
         ensures comparing { compares self.now comparing.new }
-        ensures test { IfOk result (λ below. below
-            ≡ is_below (order self.now) (elements self.now) number to) };
+        ensures first { IfOk result (FirstAbove (λ number.
+            is_below (order self.now) (elements self.now) number to) row.now) };
 
     /// The laws of a lattice hold of the order. It does nothing when it runs.
     fn keep_laws(&self)
@@ -92,8 +94,20 @@ impl<L: Lattice> WrittenElements for ElementsOf<'_, L> {
         Ok(())
     }
 
-    fn compare(&self, _comparing: &mut (), number: usize, to: usize) -> Result<bool, AllocError> {
-        Ok(self.leq(number, to))
+    fn first_above(
+        &self,
+        _comparing: &mut (),
+        row: &Row,
+        to: usize,
+    ) -> Result<Option<usize>, AllocError> {
+        let mut from = 0;
+        while let Some(number) = row.first_from(from) {
+            if !self.leq(number, to) {
+                return Ok(Some(number));
+            }
+            from = number + 1;
+        }
+        Ok(None)
     }
 
     fn keep_laws(&self) {
@@ -134,14 +148,14 @@ impl<'a> WrittenElements for LabelsUnder<'a> {
         self.labels.comparisons(alloc, self.hierarchy)
     }
 
-    fn compare(
+    fn first_above(
         &self,
         comparing: &mut Comparisons<'a>,
-        number: usize,
+        row: &Row,
         to: usize,
-    ) -> Result<bool, AllocError> {
-        prove!(number < self.labels.len() && to < self.labels.len());
-        comparing.flows(number as u32, to as u32)
+    ) -> Result<Option<usize>, AllocError> {
+        prove!(to < self.labels.len());
+        comparing.first_above(row, to as u32)
     }
 
     fn keep_laws(&self) {

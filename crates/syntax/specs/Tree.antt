@@ -249,7 +249,7 @@ expression_tree (declared_expression.Truth at value) = TruthTree at value
 expression_tree (declared_expression.Variable name) = VariableTree (name_tree name)
 expression_tree (declared_expression.Element' array p index) = ElementTree (name_tree array) (expression_tree index)
 expression_tree (declared_expression.Unary' at operator p operand) = UnaryTree at operator (expression_tree operand)
-expression_tree (declared_expression.Binary' at operator p left q right) =
+expression_tree (declared_expression.Binary' at operator p left right) =
     BinaryTree at operator (expression_tree left) (expression_tree right)
 
 abbrev pub optional_expression_tree : Option Expression → Option ExpressionTree

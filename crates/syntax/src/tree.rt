@@ -97,8 +97,7 @@ pub enum Expression<'a> {
     Binary {
         at: usize,
         operator: BinaryOperator,
-        left: Box<Expression<'a>>,
-        right: Box<Expression<'a>>,
+        operands: Box<(Expression<'a>, Expression<'a>)>,
     },
 }
 

@@ -37,7 +37,7 @@ fn knows_names(rt: HostRuntime) {
     }
 }
 
-// The place behind a megabyte of lines.
+// The place after a megabyte of lines.
 #[test]
 fn finds_a_place_far_down(rt: HostRuntime) -> Result<(), std::test::Fail> {
     let size = 1_048_576;

@@ -71,15 +71,21 @@ fn count_of_view(host: &Host, id: Id) -> Result<usize, HostFault> {
     }
 }
 
-// Wherever memory runs out, a call answers out of memory or what it answers undisturbed, and asked again it answers that.
+// Wherever memory runs out, a call answers out of memory or what it answers undisturbed, and asked again it answers that. The other
+// session stays as it was.
 #[test]
 fn a_refused_growth_changes_nothing(rt: HostRuntime) -> Result<(), Fail> {
     let mut host = Host::new(rt.alloc());
-    let id = opened(rt.alloc(), &mut host)?;
-    assert_eq!(rt; id, 0);
-    assert_eq!(rt; turned(&mut host, id)?, (9, Status::Finished));
-    assert_eq!(rt; count_of_view(&host, id), Ok(2));
-    assert_eq!(rt; host.close(id), Ok(()));
+    for id in 0..2 {
+        assert_eq!(rt; opened(rt.alloc(), &mut host)?, id);
+    }
+    for id in [1, 0] {
+        assert_eq!(rt; turned(&mut host, id)?, (9, Status::Finished));
+    }
+    for id in 0..2 {
+        assert_eq!(rt; count_of_view(&host, id), Ok(2));
+        assert_eq!(rt; host.close(id), Ok(()));
+    }
     Ok(())
 }
 

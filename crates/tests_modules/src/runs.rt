@@ -151,10 +151,14 @@ fn counts_its_steps(rt: HostRuntime) -> Result<(), Fail> {
 fn lends_the_values_of_its_frames(rt: HostRuntime) -> Result<(), Fail> {
     let mut machine = machine_of(rt.alloc(), &SENDS).ok_or("no machine")?;
     assert_eq!(rt; machine.slab().len(), 0);
-    assert_eq!(rt; machine.run(1).0, 1);
+    assert_eq!(rt; machine.run(1), (1, Status::Running));
     assert_eq!(rt; machine.slab(), [Cell::Int(7)].as_slice());
     assert_eq!(rt; machine.cells(), 1);
-    assert_eq!(rt; machine.run(2), (2, Status::Finished));
+    // SEND took the operand, and the run goes on.
+    assert_eq!(rt; machine.run(1), (1, Status::Running));
+    assert_eq!(rt; machine.slab().len(), 0);
+    assert_eq!(rt; machine.cells(), 0);
+    assert_eq!(rt; machine.run(1), (1, Status::Finished));
     assert_eq!(rt; machine.cells(), 0);
     Ok(())
 }

@@ -159,5 +159,13 @@ fn a_view_ends_where_its_sink_fails(rt: HostRuntime) -> Result<(), Fail> {
             "room for {room}"
         );
     }
+    // A device without room takes no byte, which is a failure too.
+    let mut device = Device::new(Cursor::new([0u8; 0]));
+    let refused = Err(OrNoMemory::Refused(SinkFault));
+    assert_eq!(rt;
+        write_view(rt.alloc(), &sent, &module, None, &mut device),
+        refused
+    );
+    assert!(rt; device.failed());
     Ok(())
 }

@@ -8,9 +8,9 @@ use std::test::Fail;
 
 // A reader that fails at once.
 #[derive(Drop)]
-struct Broken;
+struct Failing;
 
-impl Read for Broken {
+impl Read for Failing {
     fn read(&mut self, _buffer: &mut [u8]) -> ReadResult<usize> {
         Err(Error::from(ErrorKind::Other))
     }
@@ -18,7 +18,7 @@ impl Read for Broken {
 
 // Whether a text of three bytes whose reader then fails is refused, and the source has failed.
 fn is_refused(alloc: Global) -> bool {
-    let mut feed = Feed::new(repeat(b'x').take(3).chain(Broken));
+    let mut feed = Feed::new(repeat(b'x').take(3).chain(Failing));
     let is_fault = matches!(
         read_text(alloc, &mut feed),
         Err(OrNoMemory::Refused(SourceFault))
@@ -31,7 +31,7 @@ fn a_reader_that_fails_gives_no_text(rt: HostRuntime) {
     assert!(rt; is_refused(rt.alloc()));
 }
 
-// How many bytes are read of a source that has so many.
+// How many bytes are read of a source of a length.
 fn count_of(alloc: Global, length: u64) -> Result<usize, Fail> {
     let mut feed = Feed::new(repeat(b' ').take(length));
     Ok(read_text(alloc, &mut feed)?.len())
@@ -65,7 +65,7 @@ fn is_refused_for_its_length(compiled: &Result<Vec<u8>, Fault>) -> bool {
     }
 }
 
-// Whether so many spaces, as they are read, are refused for their length.
+// Whether a number of spaces, as they are read, is refused for its length.
 fn is_too_long(alloc: Global, length: u64) -> Result<bool, Fail> {
     let mut feed = Feed::new(repeat(b' ').take(length));
     let text = read_text(alloc, &mut feed)?;

@@ -1,6 +1,7 @@
 -- Later points of a body: what stays, and the setting, which is the same.
-use Rattle.std.proofs.Common.{◌≡◌, ◌≤◌, ◌++◌, cond, length, take, drop, map, None, refl, sym, ◌∙◌, ap, arith}
-use Rattle.std.specs.Prelude.{bytes_eq, string_bytes}
+use Rattle.std.proofs.Common.{◌≡◌, ℕ, List, ◌≤◌, ◌++◌, cond, length, take, drop, map, None, refl, sym, ◌∙◌, ap, arith}
+use Rattle.std.specs.Prelude.{bytes_eq}
+use Rattle.std.specs.Borrow.{Bor}
 use Rattle.std.specs.List.{list_any}
 use Rattle.std.proofs.lemmas.List.{take-append-le, drop-append-le, take-append-drop, length-take, map-append}
 use Rattle.std.proofs.Math.Seq.{take-length, drop-length}
@@ -31,7 +32,7 @@ later_through first second third p q =
     let short : n ≤ m = omega (arith, length-take n b, ap length p.declared) in
     let split : b ++ drop m c ≡ c = ap (λ front. front ++ drop m c) (sym q.declared) ∙ take-append-drop m c in
     let since : texts_of (drop n b) ++ texts_of (drop m c) ≡ texts_of (drop n c) =
-    sym (map-append string_bytes (drop n b) (drop m c)) ∙ ap texts_of (sym (drop-append-le n b (drop m c) short)) ∙ ap (λ all. texts_of (drop n all)) split in
+    sym (map-append (λ (name : Bor (List ℕ)). name.now) (drop n b) (drop m c)) ∙ ap texts_of (sym (drop-append-le n b (drop m c) short)) ∙ ap (λ all. texts_of (drop n all)) split in
     record {
       hierarchy = q.hierarchy ∙ p.hierarchy;
       top = q.top ∙ p.top;

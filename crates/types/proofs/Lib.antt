@@ -13,6 +13,7 @@ mod JoinAll
 mod Later
 mod Loops
 mod Passing
+mod Places
 mod Procedures
 mod ShortNames
 mod ReadBodies

@@ -73,7 +73,7 @@ digits_fit name all l = digits_below name 14 all l
 
 -- ---- tables after a change
 
-number_ties : (n m : ℕ) → Decides (is_eq (nat_cmp n m)) (n ≡ m)
+pub number_ties : (n m : ℕ) → Decides (is_eq (nat_cmp n m)) (n ≡ m)
 number_ties n m = (λ t. exact_unsigned n m ((Equal-is (nat_cmp n m)).0 t), λ e. ap is_eq (sym (nat_cmp_is n m Equal e)))
 
 -- names with one number are one name

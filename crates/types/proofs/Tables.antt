@@ -2,6 +2,7 @@
 use Rattle.std.proofs.Common.{◌≡◌, ℕ, ◌+◌, ◌<◌, List, [], ◌∷◌, ◌++◌, length, take, drop, get_or, Bool, true, false, ◌||◌, cond, Option, Some, None, Ok, refl, sym, ◌∙◌, ap}
 use Rattle.std.specs.Prelude.{bytes_eq, string_bytes, String}
 use Rattle.std.specs.BTreeMap.{BTreeMap, is_at}
+use Rattle.std.specs.Borrow.{Bor}
 use Rattle.std.specs.Cmp.Lexicographic.{slice_cmp}
 use Rattle.std.specs.List.{list_any}
 use Rattle.std.specs.Map.{lookup}
@@ -53,12 +54,12 @@ without_one text names other = by (bytes_eq text other)
     by false = refl
 
 -- one more of a list
-pub without_more : (gone : List (String Global)) (i : ℕ) (next : String Global) (text : List ℕ) (names : Environment) → i < length gone → next ≡ get_or gone i next
-    → text ≡ string_bytes next → (other : List ℕ)
+pub without_more : (gone : List (Bor (List ℕ))) (i : ℕ) (next : Bor (List ℕ)) (text : List ℕ) (names : Environment) → i < length gone → next ≡ get_or gone i next
+    → text ≡ next.now → (other : List ℕ)
     → cond (bytes_eq text other) None (without (texts_of (take i gone)) names other) ≡ without (texts_of (take (i + 1) gone)) names other
 without_more gone i next text names within is same other =
     let more : texts_of (take (i + 1) gone) ≡ texts_of (take i gone) ++ text ∷ [] =
-    ap texts_of (take_more gone i next within ∙ ap (λ one. take i gone ++ one ∷ []) (sym is)) ∙ map_push string_bytes (take i gone) next
+    ap texts_of (take_more gone i next within ∙ ap (λ one. take i gone ++ one ∷ []) (sym is)) ∙ map_push (λ name. name.now) (take i gone) next
     ∙ ap (λ one. texts_of (take i gone) ++ one ∷ []) (sym same) in
     by (bytes_eq text other) (list_any (λ one. bytes_eq one other) (texts_of (take i gone)))
     ∙ ap (λ found. cond found None (names other)) (sym (ap (list_any (λ one. bytes_eq one other)) more ∙ list_any-append (λ one. bytes_eq one other) (texts_of (take i gone)) (text ∷ [])))
@@ -79,8 +80,8 @@ without_declared name meaning names fresh other = by (bytes_eq name other) ((byt
     by false same = refl
 
 -- the one that was put behind a list and into a table in which it was not
-pub without_last : (gone : List (String Global)) (all : List (String Global)) (last : String Global) (text : List ℕ) (meaning : Meaning) (names found : Environment)
-    → all ≡ gone ++ last ∷ [] → string_bytes last ≡ text → names text ≡ None → give (declaring text meaning names) ≡ give found → (other : List ℕ)
+pub without_last : (gone : List (Bor (List ℕ))) (all : List (Bor (List ℕ))) (last : Bor (List ℕ)) (text : List ℕ) (meaning : Meaning) (names found : Environment)
+    → all ≡ gone ++ last ∷ [] → last.now ≡ text → names text ≡ None → give (declaring text meaning names) ≡ give found → (other : List ℕ)
     → names other ≡ without (texts_of (drop (length gone) all)) found other
 without_last gone all last text meaning names found behind same fresh put other =
     without_declared text meaning names fresh other

@@ -8,6 +8,7 @@ pub mod Expressions
 pub mod Statements
 pub mod Resolution
 pub mod ShortNames
+pub mod Places
 pub mod VariableEntries
 pub mod Views
 pub mod Laws

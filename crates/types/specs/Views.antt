@@ -6,6 +6,7 @@ use Rattle.std.specs.declared.alloc.Global.{Global}
 use Rattle.std.specs.BTreeMap.{BTreeMap, get, get_by_text}
 use Rattle.std.specs.Ordering.{nat_cmp}
 use Rattle.std.specs.List.{list_any}
+use Rattle.std.specs.Borrow.{Bor}
 use Rattle.std.specs.String.{string_bytes}
 use Rattle.resolved.specs.declared.expression.Expression.{Expression as CodeExpression}
 use Rattle.resolved.specs.declared.statement.Statement.{Statement as CodeStatement}
@@ -63,10 +64,10 @@ found_at short long name None = get_by_text long name
 
 -- what a table of names says of a name
 abbrev pub found_in : Names → Environment
-found_in table name = found_at table.short table.long name (number_of name)
+found_in table name = found_at table.short.meanings table.long name (number_of name)
 
-abbrev pub texts_of : List (String Global) → List (List ℕ)
-texts_of names = map string_bytes names
+abbrev pub texts_of : List (Bor (List ℕ)) → List (List ℕ)
+texts_of names = map (λ name. name.now) names
 
 -- the same where some names stand for nothing
 abbrev pub without : List (List ℕ) → Environment → Environment

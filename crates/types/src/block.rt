@@ -16,7 +16,7 @@ use resolved::expression::Base;
 use resolved::statement::{Exit, Handler, Statement};
 use syntax::{Block, Catch};
 
-impl<'a> Body<'a> {
+impl<'a, 'n> Body<'a, 'n> {
     /// Resolves a block. Its locals are in scope to its end and keep their slots; behind it the names from before it are in scope
     /// again. Precondition: slots and loops stay within the most nodes of a program.
     ///
@@ -25,7 +25,7 @@ impl<'a> Body<'a> {
     /// The first fault of its statements: 301 to 303, 401 to 403 or 703; or out of memory.
     #[cycle(block)]
     #[tactic(auto, unfolding(crate::specs::Statements::block_finding))]
-    pub fn resolve_block(&mut self, written: &Block<'_>) -> Result<Vec<Statement>, TypeFault>
+    pub fn resolve_block(&mut self, written: &Block<'n>) -> Result<Vec<Statement>, TypeFault>
         requires room { taken self.old + block_nodes (block_tree written.now) < most_nodes }
         ensures made { Resolves (at_point self.new block_view) result
             (block_finding (setting_of self.old) (point_of self.old) (block_tree written.now)) }
@@ -44,7 +44,7 @@ impl<'a> Body<'a> {
     #[cycle(block)]
     fn resolve_statements(
         &mut self,
-        written: &[syntax::Statement<'_>],
+        written: &[syntax::Statement<'n>],
     ) -> Result<Vec<Statement>, TypeFault>
         requires room { taken self.old +
             statements_nodes (statements_of (map statement_tree written.now)) < most_nodes }
@@ -64,7 +64,7 @@ impl<'a> Body<'a> {
 
     /// The handlers of a `try`.
     #[cycle(block)]
-    fn resolve_catches(&mut self, written: &[Catch<'_>]) -> Result<Vec<Handler>, TypeFault>
+    fn resolve_catches(&mut self, written: &[Catch<'n>]) -> Result<Vec<Handler>, TypeFault>
         requires room { taken self.old + catches_nodes (catches_of (map catch_tree written.now)) <
             most_nodes }
         ensures made { Resolves (at_point self.new handlers_view) result
@@ -91,7 +91,7 @@ impl<'a> Body<'a> {
     /// A statement. The function is longer than others, since it is one match over all statements.
     #[cycle(block)]
     #[tactic(auto, unfolding(crate::specs::Statements::statement_finding))]
-    fn resolve_statement(&mut self, written: &syntax::Statement<'_>) -> Result<Statement, TypeFault>
+    fn resolve_statement(&mut self, written: &syntax::Statement<'n>) -> Result<Statement, TypeFault>
         requires room { taken self.old + statement_nodes (statement_tree written.now) < most_nodes }
         ensures made { Resolves (at_point self.new statement_of) result
             (statement_finding (setting_of self.old) (point_of self.old)
@@ -152,8 +152,8 @@ impl<'a> Body<'a> {
         &mut self,
         at: usize,
         condition: &syntax::Expression<'_>,
-        accepted: &Block<'_>,
-        otherwise: &Option<Block<'_>>,
+        accepted: &Block<'n>,
+        otherwise: &Option<Block<'n>>,
     ) -> Result<Statement, TypeFault>
         requires room { taken self.old + statement_nodes (if_tree at
             (expression_tree condition.now) (block_tree accepted.now)
@@ -185,7 +185,7 @@ impl<'a> Body<'a> {
         &mut self,
         at: usize,
         condition: &syntax::Expression<'_>,
-        body: &Block<'_>,
+        body: &Block<'n>,
     ) -> Result<Statement, TypeFault>
         requires room { taken self.old + statement_nodes (WhileTree at
             (expression_tree condition.now) (block_tree body.now)) < most_nodes }
@@ -209,8 +209,8 @@ impl<'a> Body<'a> {
     fn resolve_try(
         &mut self,
         at: usize,
-        body: &Block<'_>,
-        catches: &[Catch<'_>],
+        body: &Block<'n>,
+        catches: &[Catch<'n>],
     ) -> Result<Statement, TypeFault>
         requires room { taken self.old + statement_nodes (TryTree at (block_tree body.now)
             (catches_of (map catch_tree catches.now))) < most_nodes }
@@ -229,7 +229,7 @@ impl<'a> Body<'a> {
 
     /// A block among statements.
     #[cycle(block)]
-    fn resolve_nested(&mut self, block: &Block<'_>) -> Result<Statement, TypeFault>
+    fn resolve_nested(&mut self, block: &Block<'n>) -> Result<Statement, TypeFault>
         requires room { taken self.old + statement_nodes (NestedTree (block_tree block.now)) <
             most_nodes }
         ensures made { Resolves (at_point self.new statement_of) result

@@ -21,20 +21,24 @@ use syntax::Name;
 /// and locals have taken, also those of blocks that have ended, the parameters and locals in scope, in a table and again in the
 /// order in which they were declared, and how many loops have begun.
 #[derive(Drop)]
-pub struct Body<'a> {
+pub struct Body<'a, 'n> {
     pub alloc: Global,
     pub hierarchy: &'a Hierarchy,
     pub top: &'a TopNames,
     pub variables: DeclaredVariables,
     pub result: Option<Base>,
     pub locals: Names,
-    pub declared: Vec<String>,
+    pub declared: Vec<&'n str>,
     pub loops: u32,
 }
 
-impl<'a> Body<'a> {
+impl<'a, 'n> Body<'a, 'n> {
     /// The point before the first parameter.
-    pub fn new(place: &ItemPlace<'a>, variables: DeclaredVariables, value: Option<Base>) -> Body<'a>
+    pub fn new(
+        place: &ItemPlace<'a>,
+        variables: DeclaredVariables,
+        value: Option<Base>,
+    ) -> Body<'a, 'n>
         ensures setting { setting_of result ≡
             record {
               hierarchy = place.now.hierarchy.now;
@@ -97,10 +101,16 @@ impl<'a> Body<'a> {
         place.label_place(&self.variables)
     }
 
-    /// Declares a parameter or local, which takes the next slot. Precondition: there are fewer labels than a program may have nodes.
-    pub fn declare(&mut self, slot: NewSlot, meaning: Meaning) -> Result<(), TypeFault>
-        requires fresh { names_of self.old (new_slot_entry self.old.variables.labels slot).name ≡
-            None }
+    /// Declares a parameter or local of this name, which takes the next slot. Precondition: it is the name of the slot, and there are
+    /// fewer labels than a program may have nodes.
+    pub fn declare(
+        &mut self,
+        name: &'n str,
+        slot: NewSlot,
+        meaning: Meaning,
+    ) -> Result<(), TypeFault>
+        requires named { (new_slot_entry self.old.variables.labels slot).name ≡ name.now }
+        requires fresh { names_of self.old name.now ≡ None }
         requires room { length self.old.variables.labels < most_nodes }
         ensures made { Resolves (λ _. point_of self.new) result
             (give (with_local (point_of self.old) (new_slot_entry self.old.variables.labels slot)
@@ -108,8 +118,7 @@ impl<'a> Body<'a> {
         ensures later { OnOk result (IsLater self.old self.new) }
         ensures grows { OnOk result (taken self.new ≤ taken self.old + 2) }
     {
-        insert(self.alloc, &mut self.locals, slot.name.as_str(), meaning)?;
-        let name = String::from_str(self.alloc, slot.name.as_str())?;
+        insert(self.alloc, &mut self.locals, name, meaning)?;
         self.declared.push(name)?;
         self.variables.declare(slot)?;
         Ok(())

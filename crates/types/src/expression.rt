@@ -36,6 +36,7 @@ impl TypedExpression {
     /// # Errors
     ///
     /// 401 where they have another one.
+    #[inline(always)]
     #[tactic(auto, unfolding(crate::specs::Expressions::of_base))]
     pub fn require_base(self, base: Base, at: usize) -> Result<Expression, TypeFault>
         ensures { Resolves expression_of result (of_base base at (typed_view self)) }
@@ -51,7 +52,7 @@ impl TypedExpression {
     }
 }
 
-impl<'a> Body<'a> {
+impl<'a, 'n> Body<'a, 'n> {
     /// Resolves an expression, and finds the type of its values. Operands are resolved from the left.
     ///
     /// # Errors
@@ -86,10 +87,9 @@ impl<'a> Body<'a> {
             } => self.resolve_unary(*operator, operand),
             syntax::Expression::Binary {
                 operator,
-                left,
-                right,
+                operands,
                 ..
-            } => self.resolve_binary(*operator, left, right),
+            } => self.resolve_binary(*operator, &operands.0, &operands.1),
         }
     }
 

@@ -14,6 +14,7 @@ mod operator;
 mod procedure;
 mod program;
 mod scope;
+mod short_names;
 mod statement;
 mod top;
 mod variables;

@@ -55,9 +55,9 @@ fn resolve_result(
     }
 }
 
-impl<'a> Body<'a> {
+impl<'a, 'n> Body<'a, 'n> {
     /// Declares the next parameter.
-    fn declare_parameter(&mut self, written: &Parameter<'_>) -> Result<(), TypeFault>
+    fn declare_parameter(&mut self, written: &Parameter<'n>) -> Result<(), TypeFault>
         requires room { taken self.old < most_nodes }
         ensures made { Resolves (λ _. point_of self.new) result
             (next_parameter (item_scope_of self.old) (point_of self.old)
@@ -70,12 +70,12 @@ impl<'a> Body<'a> {
         let base = base_of(written.base);
         let variable = Variable::Local(self.variables.slots().len() as u32);
         let slot = self.make_slot(written.at, base, None, Some(label), &written.name)?;
-        self.declare(slot, Meaning::Scalar(variable, base))?;
+        self.declare(written.name.text, slot, Meaning::Scalar(variable, base))?;
         Ok(())
     }
 
     /// Declares parameters.
-    fn declare_parameters(&mut self, written: &[Parameter<'_>]) -> Result<(), TypeFault>
+    fn declare_parameters(&mut self, written: &[Parameter<'n>]) -> Result<(), TypeFault>
         requires room { taken self.old + 2 * length written.now < most_nodes }
         ensures made { Resolves (λ _. point_of self.new) result
             (along (next_parameter (item_scope_of self.old)) (point_of self.old)

@@ -8,6 +8,7 @@ ghost use Rattle.types.specs.ShortNames as spec;
 ghost use Rattle.std.specs.Prelude.{OnOk, List, [], ◌∷◌, ◌≡◌, None, ℕ};
 
 use crate::fault::{TypeDefect, TypeFault, TypeRefusal};
+use crate::short_names::ShortNames;
 use common::OrNoMemory;
 use resolved::expression::{Base, Variable};
 use std::alloc::Global;
@@ -45,11 +46,11 @@ pub struct FoundArray {
     pub size: u32,
 }
 
-/// What names stand for. The names are a stranger's, so the tables are ordered: no choice of names makes looking them up slow, as
-/// colliding hashes would. A short name is looked up by its number, which is compared at once, and any other one by its text.
+/// What names stand for. A short name is looked up by its number, which is compared at once, and any other one by its text, in an
+/// ordered table.
 #[derive(Drop)]
 pub struct Names {
-    pub short: BTreeMap<u128, Meaning>,
+    pub short: ShortNames,
     pub long: BTreeMap<String, Meaning>,
 }
 
@@ -59,7 +60,7 @@ impl Names {
         ensures { found_in result ≡ nothing_declared }
     {
         Names {
-            short: BTreeMap::new(alloc),
+            short: ShortNames::new(alloc),
             long: BTreeMap::new(alloc),
         }
     }
@@ -86,7 +87,7 @@ pub fn find(table: &Names, name: &str) -> Option<Meaning>
     ensures { result ≡ found_in table.now name.now }
 {
     match number_of(name.as_bytes()) {
-        Some(number) => table.short.get(&number).copied(),
+        Some(number) => table.short.find(number),
         None => table.long.get(name).copied(),
     }
 }
@@ -103,7 +104,7 @@ pub fn insert(
 {
     match number_of(name.as_bytes()) {
         Some(number) => {
-            table.short.insert(number, meaning)?;
+            table.short.insert(alloc, number, meaning)?;
         }
         None => {
             table.long.insert(String::from_str(alloc, name)?, meaning)?;
@@ -119,7 +120,7 @@ fn remove(table: &mut Names, name: &str)
 {
     match number_of(name.as_bytes()) {
         Some(number) => {
-            table.short.remove(&number);
+            table.short.remove(number);
         }
         None => {
             table.long.remove(name);
@@ -128,12 +129,12 @@ fn remove(table: &mut Names, name: &str)
 }
 
 /// Takes names out of a table.
-pub fn remove_all(table: &mut Names, names: &[String])
+pub fn remove_all(table: &mut Names, names: &[&str])
     ensures { (other : List ℕ) → found_in table.new other ≡
         without (texts_of names.now) (found_in table.old) other }
 {
     for name in names {
-        remove(table, name.as_str());
+        remove(table, name);
     }
 }
 

@@ -51,7 +51,7 @@ pub fn resolve_size(size: Size) -> Result<u32, TypeFault>
     }
 }
 
-impl<'a> Body<'a> {
+impl<'a, 'n> Body<'a, 'n> {
     /// The arguments of a call, at places that want the types of the parameters.
     #[tactic(auto, unfolding(crate::specs::Statements::arguments_finding))]
     fn resolve_arguments(
@@ -186,7 +186,7 @@ impl<'a> Body<'a> {
         at: usize,
         base: Base,
         label: &Option<WrittenLabel<'_>>,
-        name: &Name<'_>,
+        name: &Name<'n>,
         value: &RightSide<'_>,
     ) -> Result<Statement, TypeFault>
         requires room { taken self.old < most_nodes }
@@ -201,7 +201,7 @@ impl<'a> Body<'a> {
         let variable = Variable::Local(self.variables.slots().len() as u32);
         let statement = self.resolve_right_side(at, variable, base, value)?;
         let slot = self.make_slot(at, base, None, written, name)?;
-        self.declare(slot, Meaning::Scalar(variable, base))?;
+        self.declare(name.text, slot, Meaning::Scalar(variable, base))?;
         Ok(statement)
     }
 
@@ -218,7 +218,7 @@ impl<'a> Body<'a> {
         at: usize,
         base: Base,
         written: &Option<WrittenLabel<'_>>,
-        name: &Name<'_>,
+        name: &Name<'n>,
         size: Size,
     ) -> Result<Statement, TypeFault>
         requires room { taken self.old < most_nodes }
@@ -233,7 +233,11 @@ impl<'a> Body<'a> {
         let length = resolve_size(size)?;
         let number = self.variables.slots().len() as u32;
         let slot = self.make_slot(at, base, Some(length), label, name)?;
-        self.declare(slot, Meaning::Array(Variable::Local(number), base, length))?;
+        self.declare(
+            name.text,
+            slot,
+            Meaning::Array(Variable::Local(number), base, length),
+        )?;
         Ok(Statement::Clear(at, number))
     }
 

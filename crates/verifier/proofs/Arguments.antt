@@ -6,7 +6,8 @@ use Rattle.modules.specs.declared.value.Kind.{Kind}
 use Rattle.modules.specs.declared.value.Kind.TheVariants.{Int}
 use Rattle.modules.specs.declared.declaration.Slot.{Slot}
 use Rattle.modules.specs.declared.declaration.Slot.TheVariants.{Scalar, Array}
-use Rattle.verifier.specs.Flow.{Effect, Leaves, Misses, all_popped, and_then, popped, slot_kind}
+use Rattle.verifier.specs.Flow.{Effect, Leaves, Misses, all_popped, and_then, popped}
+use Rattle.verifier.specs.Signatures.{slot_kind}
 use Rattle.verifier.specs.Operands.{bit, packed, blocks, full_blocks}
 use Rattle.verifier.specs.declared.fault.CodeDefect.{CodeDefect}
 use Rattle.verifier.proofs.Packing.{blocks_more, drop_drop, length-blocks}

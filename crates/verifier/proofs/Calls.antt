@@ -11,7 +11,8 @@ use Rattle.modules.specs.declared.instruction.Instruction.TheVariants.{Call, Ret
 use Rattle.modules.specs.declared.value.Kind.{Kind}
 use Rattle.modules.specs.declared.value.Cell.{Cell}
 use Rattle.verifier.specs.Refusals.{HasNoDefect}
-use Rattle.verifier.specs.Flow.{Effect, Leaves, Misses, and_then, all_popped, effect, exchanged, called, pushed, value_kinds}
+use Rattle.verifier.specs.Flow.{Effect, Leaves, Misses, and_then, all_popped, effect, exchanged, pushed}
+use Rattle.verifier.specs.Signatures.{called, value_kinds}
 use Rattle.verifier.specs.declared.fault.CodeDefect.TheVariants.{OperandKind}
 use Rattle.verifier.proofs.Holds.{same_of, holds_first}
 use Rattle.verifier.proofs.Laws.{start_in_flow}
@@ -100,7 +101,7 @@ module _ (m : ModuleContents) (free : HasNoDefect m) (p : ProcedureContents) (s 
   calls_good number callee after st there e =
       let kinds = map kind_of s.frame.operands in
       let parameters = (header_of callee).parameters in
-      let own : exchanged (called (Some callee)) kinds ≡ Leaves after = ap (λ o. exchanged (called o) kinds) (sym there) ∙ e in
+      let own : exchanged (called (Some callee)) kinds ≡ Leaves after = ap (λ o. if (called o).own then exchanged (called o) kinds else Misses OperandKind) (sym there) ∙ e in
       let popped_first = and_then_leaves (all_popped (map (λ kind. Some kind) (reverse parameters)) kinds) (λ rest. Leaves (pushed callee.returned rest)) after own in
       let all = pops (reverse parameters) [] s.frame.operands popped_first.0 popped_first.1.0 in
       let arguments_are : map kind_of all.arguments ≡ parameters = all.kinds_are ∙ append-nil (reverse (reverse parameters)) ∙ reverse-reverse parameters in

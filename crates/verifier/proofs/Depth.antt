@@ -10,7 +10,9 @@ use Rattle.modules.specs.declared.instruction.Instruction.TheVariants.{Push, Pus
 use Rattle.modules.specs.declared.value.Kind.{Kind}
 use Rattle.modules.specs.declared.value.Kind.TheVariants.{Int}
 use Rattle.verifier.specs.Depth.{IsMet, IsGreatestDepth, found, left}
-use Rattle.verifier.specs.Flow.{Effect, Leaves, Misses, OperandEffect, all_popped, and_then, exchanged, goes_on, is_own, next, pushed, signature}
+use Rattle.verifier.specs.Flow.{Effect, Leaves, Misses, all_popped, and_then, exchanged, next, pushed}
+use Rattle.verifier.specs.Signatures.{Signature, signature}
+use Rattle.modules.specs.Targets.{goes_on}
 use Rattle.verifier.specs.Operands.{greatest, list_of, IsShared}
 use Rattle.verifier.specs.Search.{row, table, IsSearching, HaveLongest}
 use Rattle.verifier.specs.declared.fault.CodeDefect.TheVariants.{OperandKind}
@@ -73,7 +75,7 @@ popped_less (Some w ∷ wanted) (kind ∷ kinds) rest e = split (λ more. popped
     split less true e = omega (arith, less e)
     split less false e = absurd (cc)
 
-left_less : (b : Bool) (s : OperandEffect) (kinds after : List Kind) → (if b then exchanged s kinds else Misses OperandKind) ≡ Leaves after → s.pushes ≡ None → length after ≤ length kinds
+left_less : (b : Bool) (s : Signature) (kinds after : List Kind) → (if b then exchanged s kinds else Misses OperandKind) ≡ Leaves after → s.pushes ≡ None → length after ≤ length kinds
 left_less false s kinds after e none = absurd (cc)
 left_less true s kinds after e none = split (all_popped s.pops kinds) refl e
   where
@@ -129,7 +131,7 @@ run_longest m p s g empty = record { met = g.met; longest = along }
         let here = flow_within m p (table s) flowing finished f at kinds has in
         elim (settles m p i) [
           | inl goes ↦ in_table (at + width_of i) after (finished.keeps at kinds (at + width_of i) after here (next i (at + width_of i) after is e goes refl))
-          | inr none ↦ let r = in_table at kinds here in (r.0, (r.1.0, omega (arith, r.1.1, left_less (is_own p i) (signature m p i) kinds after e none)))
+          | inr none ↦ let r = in_table at kinds here in (r.0, (r.1.0, omega (arith, r.1.1, left_less (signature m p i).own (signature m p i) kinds after e none)))
         ]
 
 pub is_greatest : (m : ModuleContents) (p : ProcedureContents) (lists : List (List Kind)) (depth : ℕ) → HaveLongest m p lists → ((k : ℕ) → k < length lists → length (list_of lists k) ≤ depth) → (k : ℕ) × ((k < length lists) × (length (list_of lists k) ≡ depth)) → IsGreatestDepth m p depth

@@ -12,7 +12,7 @@ use Rattle.modules.specs.declared.declaration.Slot.{Slot}
 use Rattle.modules.specs.declared.declaration.Slot.TheVariants as slot
 use Rattle.modules.specs.declared.declaration.Global.{Global}
 use Rattle.modules.specs.declared.declaration.Global.TheVariants as global
-use Rattle.verifier.specs.Flow.{slot_kind}
+use Rattle.verifier.specs.Signatures.{slot_kind}
 
 abbrev pub AllOf : Kind → List Cell → Type 0
 AllOf kind [] = Unit {0}

@@ -15,8 +15,9 @@ use Rattle.modules.specs.declared.value.Cell.{Cell}
 use Rattle.modules.specs.declared.value.Cell.TheVariants as cell
 use Rattle.modules.specs.declared.declaration.Slot.{Slot}
 use Rattle.verifier.specs.Refusals.{HasNoDefect}
-use Rattle.verifier.specs.Fixed.{instruction_defect, is_scalar, is_array, is_input, is_output}
-use Rattle.verifier.specs.Flow.{Edge, next, jumps, caught, Flow, starts, grows, nowhere, Effect, Leaves, Misses, and_then, effect, slot_kind}
+use Rattle.verifier.specs.Fixed.{instruction_defect}
+use Rattle.verifier.specs.Flow.{Edge, next, jumps, caught, Flow, starts, grows, nowhere, Effect, Leaves, Misses, and_then, effect}
+use Rattle.verifier.specs.Signatures.{is_array, is_input, is_output, is_scalar, slot_kind}
 use Rattle.verifier.specs.Safety.{HasRow, IsNeverStuck}
 use Rattle.verifier.specs.Boundaries.{IsBoundary, KeepsBoundaries}
 use Rattle.verifier.specs.declared.fault.CodeDefect.TheVariants.{SlotOrIndex}

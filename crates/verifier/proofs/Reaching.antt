@@ -13,8 +13,9 @@ use Rattle.modules.specs.declared.value.Kind.{Kind}
 use Rattle.modules.specs.declared.declaration.Handler.{Handler}
 use Rattle.modules.specs.declared.instruction.Instruction.{Instruction}
 use Rattle.verifier.specs.declared.fault.CodeDefect.{CodeDefect}
-use Rattle.modules.specs.Targets.{target_of}
-use Rattle.verifier.specs.Flow.{Edge, next, jumps, caught, Flow, starts, nowhere, grows, misses, meets, falls, IsOperandDefect, FlowsWell, between, effect, all_popped, pushed, exchanged, signature, is_own, and_then, Leaves, Misses, goes_on}
+use Rattle.modules.specs.Targets.{goes_on, target_of}
+use Rattle.verifier.specs.Flow.{Edge, next, jumps, caught, Flow, starts, nowhere, grows, misses, meets, falls, IsOperandDefect, FlowsWell, between, effect, all_popped, pushed, exchanged, and_then, Leaves, Misses}
+use Rattle.verifier.specs.Signatures.{signature}
 use Rattle.verifier.specs.Operands.{list_of, IsLonger}
 use Rattle.verifier.specs.Boundaries.{IsBoundary, KeepsBoundaries}
 use Rattle.verifier.specs.Coverage.{IsCoverage, Waits}
@@ -292,19 +293,19 @@ pub edge_caught : (m : ModuleContents) (p : ProcedureContents) (s : Search) (at 
 edge_caught m p s at kinds i h has is inside low high = record { kinds = kinds; has = has; edge = caught i h is inside low high }
 
 -- what an instruction of this procedure makes of kinds
-effect_own : (m : ModuleContents) (p : ProcedureContents) (i : Instruction) (kinds : List Kind) → is_own p i ≡ true → effect m p i kinds ≡ exchanged (signature m p i) kinds
+effect_own : (m : ModuleContents) (p : ProcedureContents) (i : Instruction) (kinds : List Kind) → (signature m p i).own ≡ true → effect m p i kinds ≡ exchanged (signature m p i) kinds
 effect_own m p i kinds own = ap (λ (b : Bool). if b then exchanged (signature m p i) kinds else Misses OperandKind) own
 
-pub misses_at : (m : ModuleContents) (p : ProcedureContents) (s : Search) (busy : List ℕ) (at : ℕ) (kinds : List Kind) (i : Instruction) (wrong : CodeDefect) → IsSearching m p s busy → table s at ≡ Some kinds → instruction_at p.code at ≡ Some i → is_own p i ≡ true → all_popped (signature m p i).pops kinds ≡ Misses wrong → IsOperandDefect m p at wrong
+pub misses_at : (m : ModuleContents) (p : ProcedureContents) (s : Search) (busy : List ℕ) (at : ℕ) (kinds : List Kind) (i : Instruction) (wrong : CodeDefect) → IsSearching m p s busy → table s at ≡ Some kinds → instruction_at p.code at ≡ Some i → (signature m p i).own ≡ true → all_popped (signature m p i).pops kinds ≡ Misses wrong → IsOperandDefect m p at wrong
 misses_at m p s busy at kinds i wrong g has is own e =
     misses (table s) at kinds i wrong g.flow has is (effect_own m p i kinds own ∙ ap (λ o. and_then o (λ rest. Leaves (pushed (signature m p i).pushes rest))) e)
 
-pub misses_own : (m : ModuleContents) (p : ProcedureContents) (s : Search) (busy : List ℕ) (at : ℕ) (kinds : List Kind) (i : Instruction) → IsSearching m p s busy → table s at ≡ Some kinds → instruction_at p.code at ≡ Some i → is_own p i ≡ false → IsOperandDefect m p at OperandKind
+pub misses_own : (m : ModuleContents) (p : ProcedureContents) (s : Search) (busy : List ℕ) (at : ℕ) (kinds : List Kind) (i : Instruction) → IsSearching m p s busy → table s at ≡ Some kinds → instruction_at p.code at ≡ Some i → (signature m p i).own ≡ false → IsOperandDefect m p at OperandKind
 misses_own m p s busy at kinds i g has is own =
     misses (table s) at kinds i OperandKind g.flow has is (ap (λ (b : Bool). if b then exchanged (signature m p i) kinds else Misses OperandKind) own)
 
 -- what an instruction pushes is met, and where it pushes nothing there is no new list
-pub pushed_met : (m : ModuleContents) (p : ProcedureContents) (s : Search) (busy : List ℕ) (more : List (List Kind)) (at : ℕ) (kinds rest after : List Kind) (i : Instruction) → IsSearching m p s busy → table s at ≡ Some kinds → instruction_at p.code at ≡ Some i → is_own p i ≡ true → all_popped (signature m p i).pops kinds ≡ Leaves rest → pushed (signature m p i).pushes rest ≡ after → ((k : ℕ) → length s.operands ≤ k → k < length more → list_of more k ≡ after) → (k : ℕ) → length s.operands ≤ k → k < length more → IsMet m p (list_of more k)
+pub pushed_met : (m : ModuleContents) (p : ProcedureContents) (s : Search) (busy : List ℕ) (more : List (List Kind)) (at : ℕ) (kinds rest after : List Kind) (i : Instruction) → IsSearching m p s busy → table s at ≡ Some kinds → instruction_at p.code at ≡ Some i → (signature m p i).own ≡ true → all_popped (signature m p i).pops kinds ≡ Leaves rest → pushed (signature m p i).pushes rest ≡ after → ((k : ℕ) → length s.operands ≤ k → k < length more → list_of more k ≡ after) → (k : ℕ) → length s.operands ≤ k → k < length more → IsMet m p (list_of more k)
 pushed_met m p s busy more at kinds rest after i g has is own e is_after new k low high =
     subst (IsMet m p) (sym (new k low high))
     (Depth.left (table s) at kinds i after g.flow has is (effect_own m p i kinds own ∙ ap (λ o. and_then o (λ rest. Leaves (pushed (signature m p i).pushes rest))) e ∙ ap Leaves is_after))
@@ -321,7 +322,7 @@ applied m p s new at g longer few shapes work met = record {
   left = omega (arith, same_left m p s new (at ∷ []) g longer shapes work met);
 }
 
-pub has_effect : (m : ModuleContents) (p : ProcedureContents) (s new : Search) (at : ℕ) (kinds rest after : List Kind) (i : Instruction) → IsApplied m p s new at → table s at ≡ Some kinds → instruction_at p.code at ≡ Some i → is_own p i ≡ true → all_popped (signature m p i).pops kinds ≡ Leaves rest → pushed (signature m p i).pushes rest ≡ after → HasEffect m p new at i after
+pub has_effect : (m : ModuleContents) (p : ProcedureContents) (s new : Search) (at : ℕ) (kinds rest after : List Kind) (i : Instruction) → IsApplied m p s new at → table s at ≡ Some kinds → instruction_at p.code at ≡ Some i → (signature m p i).own ≡ true → all_popped (signature m p i).pops kinds ≡ Leaves rest → pushed (signature m p i).pushes rest ≡ after → HasEffect m p new at i after
 has_effect m p s new at kinds rest after i a has is own e is_after = record {
   there = is;
   kinds = kinds;

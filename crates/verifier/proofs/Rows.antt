@@ -18,9 +18,9 @@ use Rattle.modules.specs.declared.declaration.Slot.TheVariants as slot
 use Rattle.common.specs.declared.direction.Direction.{Direction}
 use Rattle.common.specs.declared.direction.Direction.TheVariants.{Input, Output}
 use Rattle.verifier.specs.Refusals.{HasNoDefect}
-use Rattle.verifier.specs.Fixed.{is_scalar, is_array, is_input, is_output}
-use Rattle.modules.specs.Targets.{target_of}
-use Rattle.verifier.specs.Flow.{Effect, Leaves, Misses, and_then, all_popped, effect, goes_on, pushed, slot_kind}
+use Rattle.modules.specs.Targets.{goes_on, target_of}
+use Rattle.verifier.specs.Flow.{Effect, Leaves, Misses, and_then, all_popped, effect, pushed}
+use Rattle.verifier.specs.Signatures.{is_array, is_input, is_output, is_scalar, slot_kind}
 use Rattle.verifier.specs.declared.fault.CodeDefect.TheVariants.{OperandKind}
 use Rattle.verifier.proofs.Holds.{AllOf, same_of, all_zero, element_kind, with_element_kind, scalar_kind}
 use Rattle.verifier.proofs.Runs.{Stands, Good, leaves_same, next_good, jump_good, raised_good}

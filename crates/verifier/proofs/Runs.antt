@@ -16,8 +16,8 @@ use Rattle.modules.specs.declared.value.Kind.{Kind}
 use Rattle.modules.specs.declared.value.Cell.{Cell}
 use Rattle.modules.specs.declared.declaration.Handler.{Handler}
 use Rattle.verifier.specs.Refusals.{HasNoDefect}
-use Rattle.modules.specs.Targets.{target_of}
-use Rattle.verifier.specs.Flow.{next, jumps, caught, Leaves, effect, goes_on, pushed, FlowsWell}
+use Rattle.modules.specs.Targets.{goes_on, target_of}
+use Rattle.verifier.specs.Flow.{next, jumps, caught, Leaves, effect, pushed, FlowsWell}
 use Rattle.verifier.proofs.Holds.{Holds}
 use Rattle.verifier.proofs.Laws.{IsInFlow, along_in_flow}
 

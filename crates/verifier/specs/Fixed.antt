@@ -1,17 +1,15 @@
 -- The defects that an instruction or a handler of a module has by itself, and the refusals for them, in the order in which the
 -- first is reported: the fixed refusals of the module.
 -- Source: our own; the rules are those of a bytecode verifier, as that of the Java virtual machine.
-use Rattle.std.specs.Prelude.{ℕ, ◌+◌, ◌==◌, nat_lt, Bool, true, false, ◌&&◌, ◌||◌, if◌then◌else◌, List, [], ◌∷◌, ◌++◌, slice_get, Option, Some, None, is_some}
+use Rattle.std.specs.Prelude.{ℕ, ◌+◌, ◌==◌, nat_lt, Bool, true, ◌&&◌, ◌||◌, if◌then◌else◌, List, [], ◌∷◌, ◌++◌, Option, Some, None, is_some}
+use Rattle.std.specs.List.{flat_map}
 use Rattle.modules.specs.Contents.{ProcedureContents, ModuleContents}
 use Rattle.modules.specs.Code.{width_of, code_length, instruction_at}
 use Rattle.modules.specs.Machine.{machine_code}
 use Rattle.modules.specs.declared.instruction.Instruction.{Instruction}
-use Rattle.modules.specs.declared.instruction.Instruction.TheVariants.{Push, PushBoolean, Pop, Load, Store, LoadGlobal, StoreGlobal, LoadElement, StoreElement, LoadGlobalElement, StoreGlobalElement, Clear, Compute, Negate, Not, Compare, SameBoolean, OtherBoolean, Jump, JumpIfFalse, Call, Return, ReturnValue, Receive, Send, Throw}
-use Rattle.modules.specs.declared.declaration.Slot.{Slot}
-use Rattle.modules.specs.declared.declaration.Slot.TheVariants as slot
 use Rattle.modules.specs.declared.declaration.Handler.{Handler}
-use Rattle.common.specs.declared.direction.Direction.{Direction}
-use Rattle.common.specs.declared.direction.Direction.TheVariants.{Input, Output}
+use Rattle.modules.specs.Targets.{target_of}
+use Rattle.verifier.specs.Signatures.{signature}
 use Rattle.verifier.specs.declared.fault.CodeDefect.{CodeDefect}
 use Rattle.verifier.specs.declared.fault.CodeDefect.TheVariants as defect
 use Rattle.verifier.specs.declared.fault.CodeRefusal.{CodeRefusal}
@@ -20,60 +18,21 @@ use Rattle.verifier.specs.declared.fault.CodeRefusal.{CodeRefusal}
 abbrev pub is_start : ProcedureContents → ℕ → Bool
 is_start procedure offset = is_some (instruction_at procedure.code offset)
 
--- whether a slot or a global is there and a scalar, or an array
-abbrev pub is_scalar : Option Slot → Bool
-is_scalar None = false
-is_scalar (Some (slot.Scalar kind)) = true
-is_scalar (Some (slot.Array kind count)) = false
-
-abbrev pub is_array : Option Slot → Bool
-is_array None = false
-is_array (Some (slot.Scalar kind)) = false
-is_array (Some (slot.Array kind count)) = true
-
--- whether a channel is there and an input, or an output
-abbrev pub is_input : Option Direction → Bool
-is_input None = false
-is_input (Some Input) = true
-is_input (Some Output) = false
-
-abbrev pub is_output : Option Direction → Bool
-is_output None = false
-is_output (Some Input) = false
-is_output (Some Output) = true
-
 abbrev pub unless : Bool → CodeDefect → Option CodeDefect
 unless right wrong = if right then None else Some wrong
+
+-- whether a target is an instruction's first byte, where there is one
+abbrev pub is_right_target : ProcedureContents → Option ℕ → Bool
+is_right_target procedure None = true
+is_right_target procedure (Some target) = is_start procedure target
 
 -- what is wrong with an instruction by itself: a target that is no instruction's first byte, or a slot, global, array,
 -- procedure, channel or exception that is not there or of another sort
 abbrev pub instruction_defect : ModuleContents → ProcedureContents → Instruction → Option CodeDefect
-instruction_defect m procedure (Load k) = unless (is_scalar (slice_get procedure.slots k)) defect.SlotOrIndex
-instruction_defect m procedure (Store k) = unless (is_scalar (slice_get procedure.slots k)) defect.SlotOrIndex
-instruction_defect m procedure (LoadGlobal k) = unless (is_scalar (slice_get (machine_code m).globals k)) defect.SlotOrIndex
-instruction_defect m procedure (StoreGlobal k) = unless (is_scalar (slice_get (machine_code m).globals k)) defect.SlotOrIndex
-instruction_defect m procedure (LoadElement k) = unless (is_array (slice_get procedure.slots k)) defect.SlotOrIndex
-instruction_defect m procedure (StoreElement k) = unless (is_array (slice_get procedure.slots k)) defect.SlotOrIndex
-instruction_defect m procedure (LoadGlobalElement k) = unless (is_array (slice_get (machine_code m).globals k)) defect.SlotOrIndex
-instruction_defect m procedure (StoreGlobalElement k) = unless (is_array (slice_get (machine_code m).globals k)) defect.SlotOrIndex
-instruction_defect m procedure (Clear k) = unless (is_array (slice_get procedure.slots k)) defect.SlotOrIndex
-instruction_defect m procedure (Jump target) = unless (is_start procedure target) defect.Jump
-instruction_defect m procedure (JumpIfFalse target) = unless (is_start procedure target) defect.Jump
-instruction_defect m procedure (Call callee) = unless (is_some (slice_get m.procedures callee)) defect.SlotOrIndex
-instruction_defect m procedure (Receive channel) = unless (is_input (slice_get (machine_code m).directions channel)) defect.SlotOrIndex
-instruction_defect m procedure (Send channel) = unless (is_output (slice_get (machine_code m).directions channel)) defect.SlotOrIndex
-instruction_defect m procedure (Throw exception) = unless (nat_lt exception (machine_code m).exceptions) defect.SlotOrIndex
-instruction_defect m procedure (Push n) = None
-instruction_defect m procedure (PushBoolean b) = None
-instruction_defect m procedure Pop = None
-instruction_defect m procedure (Compute operator) = None
-instruction_defect m procedure Negate = None
-instruction_defect m procedure Not = None
-instruction_defect m procedure (Compare comparison) = None
-instruction_defect m procedure SameBoolean = None
-instruction_defect m procedure OtherBoolean = None
-instruction_defect m procedure Return = None
-instruction_defect m procedure ReturnValue = None
+instruction_defect m procedure instruction =
+    if is_right_target procedure (target_of instruction)
+    then unless (signature m procedure instruction).there defect.SlotOrIndex
+    else Some defect.Jump
 
 -- whether a range may end at an offset: at an instruction's first byte or at the end of the code
 abbrev pub is_end : ProcedureContents → ℕ → Bool
@@ -107,9 +66,8 @@ instruction_refusals m number procedure offset (instruction ∷ code) =
 
 -- the refusals of handlers, each at its start
 abbrev pub handler_refusals : ModuleContents → ℕ → ProcedureContents → List Handler → List CodeRefusal
-handler_refusals m number procedure [] = []
-handler_refusals m number procedure (handler ∷ handlers) =
-    refusals_at number handler.start (handler_defect m procedure handler) ++ handler_refusals m number procedure handlers
+handler_refusals m number procedure handlers =
+    flat_map (λ handler. refusals_at number handler.start (handler_defect m procedure handler)) handlers
 
 -- the fixed refusals of procedures that are numbered from a number on
 abbrev pub procedure_refusals : ModuleContents → ℕ → List ProcedureContents → List CodeRefusal

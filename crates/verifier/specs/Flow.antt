@@ -1,110 +1,21 @@
--- The flow of operands through a procedure: what each instruction pops and pushes, where control goes from it, the kinds of
--- the operands with which control reaches an offset, and the defects of that flow.
+-- The flow of operands through a procedure: what becomes of their kinds at each instruction, where control goes from it, the kinds
+-- with which control reaches an offset, and the defects of that flow.
 -- Source: our own; the rules are those of a bytecode verifier, as that of the Java virtual machine.
 use Rattle.common.specs.Functions.{updated}
-use Rattle.std.specs.Prelude.{◌≡◌, ◌≢◌, ℕ, ◌+◌, ◌≤◌, ◌<◌, ◌==◌, Bool, true, false, if◌then◌else◌, List, [], ◌∷◌, length, map, reverse, slice_get, Option, Some, None, is_none, is_some}
+use Rattle.std.specs.Prelude.{◌≡◌, ◌≢◌, ℕ, ◌+◌, ◌≤◌, ◌<◌, ◌==◌, true, if◌then◌else◌, List, [], ◌∷◌, length, Option, Some, None}
 use Rattle.std.specs.List.{Contains}
 use Rattle.modules.specs.Contents.{ProcedureContents, ModuleContents}
 use Rattle.modules.specs.Code.{width_of, code_length, instruction_at}
-use Rattle.modules.specs.Targets.{target_of}
-use Rattle.modules.specs.Machine.{header_of, machine_code}
-use Rattle.modules.specs.Values.{is_same_kind, kind_of_slot}
+use Rattle.modules.specs.Targets.{goes_on, target_of}
+use Rattle.modules.specs.Values.{is_same_kind}
 use Rattle.modules.specs.declared.instruction.Instruction.{Instruction}
-use Rattle.modules.specs.declared.instruction.Instruction.TheVariants.{Push, PushBoolean, Pop, Load, Store, LoadGlobal, StoreGlobal, LoadElement, StoreElement, LoadGlobalElement, StoreGlobalElement, Clear, Compute, Negate, Not, Compare, SameBoolean, OtherBoolean, Jump, JumpIfFalse, Call, Return, ReturnValue, Receive, Send, Throw}
 use Rattle.modules.specs.declared.value.Kind.{Kind}
-use Rattle.modules.specs.declared.value.Kind.TheVariants.{Int, Boolean}
-use Rattle.modules.specs.declared.declaration.Slot.{Slot}
 use Rattle.modules.specs.declared.declaration.Handler.{Handler}
+use Rattle.verifier.specs.Signatures.{Signature, signature}
 use Rattle.verifier.specs.declared.fault.CodeDefect.{CodeDefect}
 use Rattle.verifier.specs.declared.fault.CodeDefect.TheVariants.{OperandKind, OperandDepth, FallsOffEnd}
 
--- ---- what an instruction pops and pushes
-
--- the kinds that an instruction pops, the first one from the top, where none is any kind; and the kind that it then pushes
-pub record OperandEffect : Type 0 where
-  pub pops : List (Option Kind)
-  pub pushes : Option Kind
-
-abbrev pub exchange : List Kind → Option Kind → OperandEffect
-exchange kinds pushes = record { pops = map (λ kind. Some kind) kinds; pushes = pushes }
-
--- the kind of a slot or a global
-abbrev pub slot_kind : Option Slot → Kind
-slot_kind None = Int
-slot_kind (Some slot) = kind_of_slot slot
-
-abbrev pub kind_in : ProcedureContents → ℕ → Kind
-kind_in procedure k = slot_kind (slice_get procedure.slots k)
-
-abbrev pub global_kind : ModuleContents → ℕ → Kind
-global_kind m k = slot_kind (slice_get (machine_code m).globals k)
-
--- a call pops the arguments, the last one first, and its return pushes the value, if there is one
-abbrev pub called : Option ProcedureContents → OperandEffect
-called None = exchange [] None
-called (Some callee) = exchange (reverse (header_of callee).parameters) callee.returned
-
--- a return pops the value that is due
-abbrev pub value_kinds : Option Kind → List Kind
-value_kinds None = []
-value_kinds (Some kind) = kind ∷ []
-
-abbrev pub signature : ModuleContents → ProcedureContents → Instruction → OperandEffect
-signature m procedure (Push n) = exchange [] (Some Int)
-signature m procedure (PushBoolean b) = exchange [] (Some Boolean)
-signature m procedure Pop = record { pops = None ∷ []; pushes = None }
-signature m procedure (Load k) = exchange [] (Some (kind_in procedure k))
-signature m procedure (Store k) = exchange (kind_in procedure k ∷ []) None
-signature m procedure (LoadGlobal k) = exchange [] (Some (global_kind m k))
-signature m procedure (StoreGlobal k) = exchange (global_kind m k ∷ []) None
-signature m procedure (LoadElement k) = exchange (Int ∷ []) (Some (kind_in procedure k))
-signature m procedure (StoreElement k) = exchange (kind_in procedure k ∷ Int ∷ []) None
-signature m procedure (LoadGlobalElement k) = exchange (Int ∷ []) (Some (global_kind m k))
-signature m procedure (StoreGlobalElement k) = exchange (global_kind m k ∷ Int ∷ []) None
-signature m procedure (Clear k) = exchange [] None
-signature m procedure (Compute operator) = exchange (Int ∷ Int ∷ []) (Some Int)
-signature m procedure Negate = exchange (Int ∷ []) (Some Int)
-signature m procedure Not = exchange (Boolean ∷ []) (Some Boolean)
-signature m procedure (Compare comparison) = exchange (Int ∷ Int ∷ []) (Some Boolean)
-signature m procedure SameBoolean = exchange (Boolean ∷ Boolean ∷ []) (Some Boolean)
-signature m procedure OtherBoolean = exchange (Boolean ∷ Boolean ∷ []) (Some Boolean)
-signature m procedure (Jump target) = exchange [] None
-signature m procedure (JumpIfFalse target) = exchange (Boolean ∷ []) None
-signature m procedure (Call callee) = called (slice_get m.procedures callee)
-signature m procedure Return = exchange [] None
-signature m procedure ReturnValue = exchange (value_kinds procedure.returned) None
-signature m procedure (Receive channel) = exchange [] (Some Int)
-signature m procedure (Send channel) = exchange (Int ∷ []) None
-signature m procedure (Throw exception) = exchange [] None
-
--- whether an instruction is one of this procedure: a return has a value exactly where one is due
-abbrev pub is_own : ProcedureContents → Instruction → Bool
-is_own procedure (Push n) = true
-is_own procedure (PushBoolean b) = true
-is_own procedure Pop = true
-is_own procedure (Load k) = true
-is_own procedure (Store k) = true
-is_own procedure (LoadGlobal k) = true
-is_own procedure (StoreGlobal k) = true
-is_own procedure (LoadElement k) = true
-is_own procedure (StoreElement k) = true
-is_own procedure (LoadGlobalElement k) = true
-is_own procedure (StoreGlobalElement k) = true
-is_own procedure (Clear k) = true
-is_own procedure (Compute operator) = true
-is_own procedure Negate = true
-is_own procedure Not = true
-is_own procedure (Compare comparison) = true
-is_own procedure SameBoolean = true
-is_own procedure OtherBoolean = true
-is_own procedure (Jump target) = true
-is_own procedure (JumpIfFalse target) = true
-is_own procedure (Call callee) = true
-is_own procedure Return = is_none procedure.returned
-is_own procedure ReturnValue = is_some procedure.returned
-is_own procedure (Receive channel) = true
-is_own procedure (Send channel) = true
-is_own procedure (Throw exception) = true
+-- ---- what an instruction makes of the operands
 
 -- what becomes of the kinds of the operands, the top first: other kinds, or a defect
 pub data Effect : Type 0 where
@@ -130,44 +41,15 @@ pushed None kinds = kinds
 pushed (Some kind) kinds = kind ∷ kinds
 
 -- pop, then push
-abbrev pub exchanged : OperandEffect → List Kind → Effect
+abbrev pub exchanged : Signature → List Kind → Effect
 exchanged s kinds = and_then (all_popped s.pops kinds) (λ rest. Leaves (pushed s.pushes rest))
 
 -- what an instruction makes of the kinds of the operands
 abbrev pub effect : ModuleContents → ProcedureContents → Instruction → List Kind → Effect
 effect m procedure instruction kinds =
-    if is_own procedure instruction then exchanged (signature m procedure instruction) kinds else Misses OperandKind
+    if (signature m procedure instruction).own then exchanged (signature m procedure instruction) kinds else Misses OperandKind
 
 -- ---- where control goes
-
--- whether control may go on to the next instruction
-abbrev pub goes_on : Instruction → Bool
-goes_on (Push n) = true
-goes_on (PushBoolean b) = true
-goes_on Pop = true
-goes_on (Load k) = true
-goes_on (Store k) = true
-goes_on (LoadGlobal k) = true
-goes_on (StoreGlobal k) = true
-goes_on (LoadElement k) = true
-goes_on (StoreElement k) = true
-goes_on (LoadGlobalElement k) = true
-goes_on (StoreGlobalElement k) = true
-goes_on (Clear k) = true
-goes_on (Compute operator) = true
-goes_on Negate = true
-goes_on Not = true
-goes_on (Compare comparison) = true
-goes_on SameBoolean = true
-goes_on OtherBoolean = true
-goes_on (Jump target) = false
-goes_on (JumpIfFalse target) = true
-goes_on (Call callee) = true
-goes_on Return = false
-goes_on ReturnValue = false
-goes_on (Receive channel) = true
-goes_on (Send channel) = true
-goes_on (Throw exception) = false
 
 -- control may go from an offset with operands of some kinds to another offset with operands of others: to the next instruction,
 -- to a target, or without operands to a handler whose range holds the offset, whatever the instruction there finds

@@ -9,6 +9,7 @@ pub mod Loaded
 pub mod Numbers
 pub mod Operands
 pub mod Safety
+pub mod Signatures
 pub mod Search
 pub mod Starts
 pub mod Verified

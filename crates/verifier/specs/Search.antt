@@ -7,8 +7,8 @@ use Rattle.modules.specs.Code.{width_of, code_length, instruction_at, offset_at}
 use Rattle.modules.specs.declared.instruction.Instruction.{Instruction}
 use Rattle.modules.specs.declared.value.Kind.{Kind}
 use Rattle.modules.specs.declared.declaration.Handler.{Handler}
-use Rattle.modules.specs.Targets.{target_of}
-use Rattle.verifier.specs.Flow.{Edge, Flow, Leaves, effect, goes_on, IsOperandDefect}
+use Rattle.modules.specs.Targets.{goes_on, target_of}
+use Rattle.verifier.specs.Flow.{Edge, Flow, Leaves, effect, IsOperandDefect}
 use Rattle.verifier.specs.Coverage.{IsCoverage, Waits}
 use Rattle.verifier.specs.Depth.{IsMet}
 use Rattle.verifier.specs.Index.{index_of}

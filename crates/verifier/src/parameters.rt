@@ -5,7 +5,6 @@ ghost use Rattle.modules.specs.Form.{Fits};
 ghost use Rattle.modules.specs.Format.{module_file};
 ghost use Rattle.modules.specs.Machine.{kinds_of};
 ghost use Rattle.std.specs.Prelude.{Some, ◌<◌, ◌≤◌, ◌≡◌, IfOk, length, map, reverse, slice_get, string_bytes, take};
-ghost use Rattle.verifier.specs.Flow as flow;
 ghost use Rattle.verifier.specs.Operands.{packed};
 ghost use Rattle.verifier.specs.Parameters.{parameter_blocks};
 

@@ -9,7 +9,6 @@ ghost use Rattle.common.specs.declared.fault.OrNoMemory.TheVariants.{Refused};
 ghost use Rattle.std.specs.List.{Contains};
 ghost use Rattle.std.specs.Prelude.{List, Some, false, true, ℕ, [], ◌≡◌, ◌+◌, ◌<◌, ◌≤◌, ◌^◌, ◌∷◌, IfErr, IfOk, OnOk, length};
 ghost use Rattle.modules.specs.Targets as targets;
-ghost use Rattle.verifier.specs.Flow as flow;
 ghost use Rattle.verifier.specs.Flow.{FlowsWell};
 ghost use Rattle.verifier.specs.Depth.{IsGreatestDepth};
 ghost use Rattle.verifier.specs.Operands.{list_of};
@@ -18,7 +17,7 @@ ghost use Rattle.verifier.specs.Search.{Flowed, HasEffect, HaveLongest, HasInstr
 
 use crate::body::Body;
 use crate::coverage::Coverage;
-use crate::effects::{goes_on, is_own, pops, pushes, target_of};
+use crate::effects::{exchange, is_own};
 use crate::fault::CodeDefect;
 use crate::numbers::Numbers;
 use crate::operands::Operands;
@@ -151,10 +150,10 @@ impl Search {
         ensures rejected { IfErr result (IfRefused
             (IsOperandFlowRefusal body.now.program.now body.now.procedure.now)) }
     {
-        if is_own(body.procedure, instruction) {
-            match pops(&self.operands, body, instruction, list) {
+        if is_own(body, instruction) {
+            match exchange(&self.operands, body, instruction, list) {
                 Err(defect) => Err(refuse(defect, at)),
-                Ok(rest) => match pushes(body, instruction) {
+                Ok((rest, pushes)) => match pushes {
                     None => Ok(rest),
                     Some(kind) => Ok(self.operands.push(rest, kind)?),
                 },
@@ -186,7 +185,7 @@ impl Search {
         ensures rejected { IfErr result (IfRefused
             (IsOperandFlowRefusal body.now.program.now body.now.procedure.now)) }
     {
-        match target_of(instruction) {
+        match instruction.target() {
             Some(to) => self.reach(body, at, to, list),
             None => Ok(()),
         }
@@ -246,7 +245,7 @@ impl Search {
         ensures rejected { IfErr result (IfRefused
             (IsOperandFlowRefusal body.now.program.now body.now.procedure.now)) }
     {
-        if !goes_on(instruction) {
+        if !instruction.goes_on() {
             return Ok(None);
         }
         let to = at + instruction.width() as u32;
@@ -340,7 +339,9 @@ impl Search {
         Place { at, number, list }
     }
 
-    // Looks at an offset that has a list, and at those to which control goes straight on from there.
+    // Looks at an offset that has a list, and at those to which control goes straight on from there. It is not inlined, so that the
+    // loop has all registers for itself.
+    #[inline(never)]
     fn follow(&mut self, body: &Body, coverage: &mut Coverage, at: u32) -> Result<(), FlowFault>
         requires searching { IsSearching body.now.program.now body.now.procedure.now self.old
             (at ∷ []) }

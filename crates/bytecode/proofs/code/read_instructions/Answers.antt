@@ -5,7 +5,7 @@ use Rattle.bytecode.proofs.code.read_instructions.Goals as goal
 
 pub returns-in_err-next : goal.returns-in_err-next
 returns-in_err-next c =
-    let p = err_from_is_err_and c.from_residual.result c.from_residual.ensures.1 in
+    let p = err_from_is_err_and c.from_residual-in_err-next.result c.from_residual-in_err-next.ensures.1 in
     rw (p.1, p.2) (code_fails c.args.version c.in_err-next.field-0.0 c.args.size c.loop-room.room c.loop-room.code.items c.loop-room.rest.now _ c.loop-room-test.true c.loop-room.invariant.few c.in_err-next.ensures.gives c.loop-room.invariant.goes_on)
 
 pub loop-room-preserved : goal.loop-room-preserved

@@ -60,5 +60,5 @@ returns-clause-few c =
     let table = c.in_ok-table.table in
     let progress = c.in_ok-progress.progress in
     let begun : Made = record { number = progress.number; constraints = progress.constraints } in
-    subst (λ (k : Core). c.spread_calls.new.made.number ≤ 6 * program_nodes (program_of k)) c.in_ok-table.ensures
+    subst (λ (k : Core). c.spread_calls.new.made.number ≤ 4 * program_nodes (program_of k)) c.in_ok-table.ensures
     (all-few table.core.now table.core.now.labels progress begun c.spread_calls.new.made c.in_ok-progress.ensures.added c.in_ok-spread_calls.ensures c.in_ok-progress.ensures.number refl)

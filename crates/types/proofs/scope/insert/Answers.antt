@@ -11,8 +11,8 @@ returns-in_ok-insert-in-Some c =
     let name = c.args.name.now in
     let old = c.args.table.now in
     let numbered : number_of name ≡ Some c.in-Some.number = ap number_of (sym c.as_bytes.ensures.value) ∙ cc (c.number_of.ensures, c.in-Some.is) in
-    let updated : (other : List ℕ) → found_at c.insert.new.self old.long other (number_of other) ≡ declaring name c.args.meaning (found_in old) other =
-    λ other. updates_short name c.in-Some.number (Some c.args.meaning) old.short c.insert.new.self old.long numbered c.in_ok-insert-in-Some.ensures.updates other (number_of other) refl in
+    let updated : (other : List ℕ) → found_at c.insert.new.self.meanings old.long other (number_of other) ≡ declaring name c.args.meaning (found_in old) other =
+    λ other. updates_short name c.in-Some.number (Some c.args.meaning) old.short.meanings c.insert.new.self.meanings old.long numbered c.in_ok-insert-in-Some.ensures other (number_of other) refl in
     λ i. Ok (λ other. sym (updated other) i)
 
 pub returns-in_ok-insert-in-None : goal.returns-in_ok-insert-in-None
@@ -22,7 +22,7 @@ returns-in_ok-insert-in-None c =
     let text : string_bytes c.in_ok-from_str-in-None.field-0 ≡ name = c.in_ok-from_str-in-None.ensures.ok in
     let numbered : number_of (string_bytes c.in_ok-from_str-in-None.field-0) ≡ None =
     ap number_of text ∙ ap number_of (sym c.as_bytes.ensures.value) ∙ cc (c.number_of.ensures, c.in-None.is) in
-    let updated : (other : List ℕ) → found_at old.short c.insert-in-None.new.self other (number_of other) ≡ declaring name c.args.meaning (found_in old) other =
-    λ other. updates_long (string_bytes c.in_ok-from_str-in-None.field-0) (Some c.args.meaning) old.short old.long c.insert-in-None.new.self numbered c.in_ok-insert-in-None.ensures.updates other (number_of other) refl
+    let updated : (other : List ℕ) → found_at old.short.meanings c.insert-in-None.new.self other (number_of other) ≡ declaring name c.args.meaning (found_in old) other =
+    λ other. updates_long (string_bytes c.in_ok-from_str-in-None.field-0) (Some c.args.meaning) old.short.meanings old.long c.insert-in-None.new.self numbered c.in_ok-insert-in-None.ensures.updates other (number_of other) refl
     ∙ ap (λ bytes. declaring bytes c.args.meaning (found_in old) other) text in
     λ i. Ok (λ other. sym (updated other) i)

@@ -14,7 +14,7 @@ pub resolve_expression-returns-in-Binary : goal.resolve_expression-returns-in-Bi
 resolve_expression-returns-in-Binary t c =
     let operator = c.in-Binary.operator in
     subst (λ one. Resolves typed_view c.resolve_binary.result (expression_finding (names_of c.args.self.now) one))
-    (ap (λ e. BinaryTree c.in-Binary.at operator (expression_tree e) (expression_tree c.deref-in-Binary-2.result.now)) c.deref-in-Binary.ensures
-    ∙ ap (λ e. BinaryTree c.in-Binary.at operator (expression_tree c.in-Binary.left.value) (expression_tree e)) c.deref-in-Binary-2.ensures
+    (ap (λ pair. BinaryTree c.in-Binary.at operator (expression_tree pair.0) (expression_tree c.deref-in-Binary-2.result.now.1)) c.deref-in-Binary.ensures
+    ∙ ap (λ pair. BinaryTree c.in-Binary.at operator (expression_tree c.in-Binary.operands.value.0) (expression_tree pair.1)) c.deref-in-Binary-2.ensures
     ∙ sym (ap expression_tree c.in-Binary.is))
     (c.resolve_binary.ensures c.in-Binary.at)

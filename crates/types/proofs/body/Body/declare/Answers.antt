@@ -10,7 +10,7 @@ pub returns-clause-made : goal.returns-clause-made
 returns-clause-made c =
     let before = c.args.self.now in
     let named : declaring (string_bytes c.args.slot.name) c.args.meaning (names_of before) ≡ (λ other. or_else (found_in c.insert.new.table other) (found_in before.top.now.names other)) =
-    ap (λ name. declaring name c.args.meaning (names_of before)) (sym c.as_str.ensures.value)
+    ap (λ name. declaring name c.args.meaning (names_of before)) c.requires.named
     ∙ inner_named (λ other. found_in before.locals other) (λ other. found_in before.top.now.names other) _ _ _ c.in_ok-insert.ensures in
     let all = sym c.in_ok-declare.ensures.slots in
     λ i. Ok (record { names = named i; slots = all i; loops = before.loops })
@@ -19,8 +19,7 @@ pub returns-clause-later : goal.returns-clause-later
 returns-clause-later c =
     let before = c.args.self.now in
     let declared = before.declared.items in
-    let fresh : found_in before.locals c.as_str.result.now ≡ None = ap (found_in before.locals) c.as_str.ensures.value ∙ inner_none _ (found_in before.top.now.names (string_bytes c.args.slot.name)) c.requires.fresh in
-    let same : string_bytes c.in_ok-name.name ≡ c.as_str.result.now = c.in_ok-name.ensures.ok ∙ c.as_str-2.ensures.value ∙ sym c.as_str.ensures.value in
+    let fresh : found_in before.locals c.args.name.now ≡ None = inner_none _ (found_in before.top.now.names c.args.name.now) c.requires.fresh in
     record {
       hierarchy = refl;
       top = refl;
@@ -28,7 +27,7 @@ returns-clause-later c =
       labels = c.in_ok-declare.ensures.extended;
       result = refl;
       declared = ap (take (length declared)) c.in_ok-push.ensures.items ∙ take-append_seam declared _;
-      locals = without_last declared _ _ _ c.args.meaning (found_in before.locals) (found_in c.insert.new.table) c.in_ok-push.ensures.items same fresh c.in_ok-insert.ensures;
+      locals = without_last declared _ _ _ c.args.meaning (found_in before.locals) (found_in c.insert.new.table) c.in_ok-push.ensures.items refl fresh c.in_ok-insert.ensures;
     }
 
 pub returns-clause-grows : goal.returns-clause-grows

@@ -3,4 +3,4 @@ use Rattle.types.proofs.Tables.{empty_finds}
 use Rattle.types.proofs.scope.Names.new.Goals as goal
 
 pub returns : goal.returns
-returns c = λ i other. empty_finds c.new.result c.new-2.result c.new.ensures.empty c.new-2.ensures.empty other (number_of other) i
+returns c = λ i other. empty_finds c.new.result.meanings c.new-2.result c.new.ensures c.new-2.ensures.empty other (number_of other) i

@@ -14,11 +14,11 @@ returns-else-is_own-clause-rejected c =
 
 pub returns-in_ok-push-in-Some-clause-accepted : goal.returns-in_ok-push-in-Some-clause-accepted
 returns-in_ok-push-in-Some-clause-accepted c =
-    applied c.args.body.now.program.now c.args.body.now.procedure.now c.args.self.now _ c.args.at c.requires.searching c.in_ok-push-in-Some.ensures.longer c.in_ok-push-in-Some.ensures.few refl refl (pushed_met c.args.body.now.program.now c.args.body.now.procedure.now c.args.self.now (c.args.at ∷ []) _ c.args.at (list_of c.args.self.now.operands c.args.list) (list_of c.args.self.now.operands c.in-Ok.rest) _ c.args.instruction c.requires.searching c.requires.shape c.requires.instruction (sym c.is_own.ensures ∙ c.if-is_own.true) c.in-Ok.ensures.accepted (ap (λ o. pushed o (list_of c.args.self.now.operands c.in-Ok.rest)) (sym c.pushes.ensures ∙ c.in-Some.is)) c.in_ok-push-in-Some.ensures.alone)
+    applied c.args.body.now.program.now c.args.body.now.procedure.now c.args.self.now _ c.args.at c.requires.searching c.in_ok-push-in-Some.ensures.longer c.in_ok-push-in-Some.ensures.few refl refl (pushed_met c.args.body.now.program.now c.args.body.now.procedure.now c.args.self.now (c.args.at ∷ []) _ c.args.at (list_of c.args.self.now.operands c.args.list) (list_of c.args.self.now.operands c.in-Ok.rest) _ c.args.instruction c.requires.searching c.requires.shape c.requires.instruction (sym c.is_own.ensures ∙ c.if-is_own.true) c.in-Ok.ensures.accepted (ap (λ o. pushed o (list_of c.args.self.now.operands c.in-Ok.rest)) (sym c.in-Ok.ensures.pushes ∙ c.in-Some.is)) c.in_ok-push-in-Some.ensures.alone)
 
 pub returns-in_ok-push-in-Some-clause-effect : goal.returns-in_ok-push-in-Some-clause-effect
 returns-in_ok-push-in-Some-clause-effect c =
     has_effect c.args.body.now.program.now c.args.body.now.procedure.now c.args.self.now _ c.args.at (list_of c.args.self.now.operands c.args.list) (list_of c.args.self.now.operands c.in-Ok.rest) _ c.args.instruction
-    (applied c.args.body.now.program.now c.args.body.now.procedure.now c.args.self.now _ c.args.at c.requires.searching c.in_ok-push-in-Some.ensures.longer c.in_ok-push-in-Some.ensures.few refl refl (pushed_met c.args.body.now.program.now c.args.body.now.procedure.now c.args.self.now (c.args.at ∷ []) _ c.args.at (list_of c.args.self.now.operands c.args.list) (list_of c.args.self.now.operands c.in-Ok.rest) _ c.args.instruction c.requires.searching c.requires.shape c.requires.instruction (sym c.is_own.ensures ∙ c.if-is_own.true) c.in-Ok.ensures.accepted (ap (λ o. pushed o (list_of c.args.self.now.operands c.in-Ok.rest)) (sym c.pushes.ensures ∙ c.in-Some.is)) c.in_ok-push-in-Some.ensures.alone))
+    (applied c.args.body.now.program.now c.args.body.now.procedure.now c.args.self.now _ c.args.at c.requires.searching c.in_ok-push-in-Some.ensures.longer c.in_ok-push-in-Some.ensures.few refl refl (pushed_met c.args.body.now.program.now c.args.body.now.procedure.now c.args.self.now (c.args.at ∷ []) _ c.args.at (list_of c.args.self.now.operands c.args.list) (list_of c.args.self.now.operands c.in-Ok.rest) _ c.args.instruction c.requires.searching c.requires.shape c.requires.instruction (sym c.is_own.ensures ∙ c.if-is_own.true) c.in-Ok.ensures.accepted (ap (λ o. pushed o (list_of c.args.self.now.operands c.in-Ok.rest)) (sym c.in-Ok.ensures.pushes ∙ c.in-Some.is)) c.in_ok-push-in-Some.ensures.alone))
     c.requires.shape c.requires.instruction (sym c.is_own.ensures ∙ c.if-is_own.true) c.in-Ok.ensures.accepted
-    (ap (λ o. pushed o (list_of c.args.self.now.operands c.in-Ok.rest)) (sym c.pushes.ensures ∙ c.in-Some.is) ∙ sym c.in_ok-push-in-Some.ensures.made)
+    (ap (λ o. pushed o (list_of c.args.self.now.operands c.in-Ok.rest)) (sym c.in-Ok.ensures.pushes ∙ c.in-Some.is) ∙ sym c.in_ok-push-in-Some.ensures.made)

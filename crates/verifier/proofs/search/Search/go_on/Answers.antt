@@ -1,6 +1,6 @@
 use Rattle.std.proofs.Common.{◌≡◌, ◌+◌, ◌<◌, Some, length, true, false, refl, ap, sym, subst, arith, ℕ, ◌∙◌}
 use Rattle.verifier.specs.Boundaries.{IsBoundary}
-use Rattle.verifier.specs.Flow.{goes_on}
+use Rattle.modules.specs.Targets.{goes_on}
 use Rattle.verifier.specs.Operands.{list_of}
 use Rattle.verifier.specs.Search.{table, waiting}
 use Rattle.verifier.proofs.Indices.{next_offset, number_inside, number_is}

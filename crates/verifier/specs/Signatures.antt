@@ -1,0 +1,104 @@
+-- The signature of an instruction in a procedure: whether what it names is there, whether the procedure may have it, and what it pops
+-- and pushes; one row for each.
+-- Source: our own; the rules are those of a bytecode verifier, as that of the Java virtual machine.
+use Rattle.std.specs.Prelude.{nat_lt, Bool, true, false, List, [], ◌∷◌, map, reverse, slice_get, Option, Some, None, is_none, is_some}
+use Rattle.modules.specs.Contents.{ProcedureContents, ModuleContents}
+use Rattle.modules.specs.Machine.{header_of, machine_code}
+use Rattle.modules.specs.Values.{kind_of_slot}
+use Rattle.modules.specs.declared.instruction.Instruction.{Instruction}
+use Rattle.modules.specs.declared.instruction.Instruction.TheVariants.{Push, PushBoolean, Pop, Load, Store, LoadGlobal, StoreGlobal, LoadElement, StoreElement, LoadGlobalElement, StoreGlobalElement, Clear, Compute, Negate, Not, Compare, SameBoolean, OtherBoolean, Jump, JumpIfFalse, Call, Return, ReturnValue, Receive, Send, Throw}
+use Rattle.modules.specs.declared.value.Kind.{Kind}
+use Rattle.modules.specs.declared.value.Kind.TheVariants.{Int, Boolean}
+use Rattle.modules.specs.declared.declaration.Slot.{Slot}
+use Rattle.modules.specs.declared.declaration.Slot.TheVariants as slot
+use Rattle.common.specs.declared.direction.Direction.{Direction}
+use Rattle.common.specs.declared.direction.Direction.TheVariants.{Input, Output}
+
+-- whether the slot, global, array, procedure, channel or exception that the instruction names is there and of the right sort, where
+-- it names one; whether it is one of its procedure, as a return has a value exactly where one is due; the kinds that it pops, the first
+-- one from the top, where none is any kind; and the kind that it then pushes
+pub record Signature : Type 0 where
+  pub there : Bool
+  pub own : Bool
+  pub pops : List (Option Kind)
+  pub pushes : Option Kind
+
+-- ---- the pieces of a row
+
+-- pop these kinds, and push one
+abbrev pub exchange : List Kind → Option Kind → Signature
+exchange kinds pushes = record { there = true; own = true; pops = map (λ kind. Some kind) kinds; pushes = pushes }
+
+-- the same, of what is there or not
+abbrev pub naming : Bool → Signature → Signature
+naming there signature = record signature { there = there }
+
+-- whether a slot or a global is there and a scalar, or an array
+abbrev pub is_scalar : Option Slot → Bool
+is_scalar (Some (slot.Scalar kind)) = true
+is_scalar _ = false
+
+abbrev pub is_array : Option Slot → Bool
+is_array (Some (slot.Array kind count)) = true
+is_array _ = false
+
+-- whether a channel is there and an input, or an output
+abbrev pub is_input : Option Direction → Bool
+is_input (Some Input) = true
+is_input _ = false
+
+abbrev pub is_output : Option Direction → Bool
+is_output (Some Output) = true
+is_output _ = false
+
+-- the kind of a slot or a global
+abbrev pub slot_kind : Option Slot → Kind
+slot_kind None = Int
+slot_kind (Some slot) = kind_of_slot slot
+
+-- what goes by the kind of a scalar, or of an array
+abbrev scalar : Option Slot → (Kind → Signature) → Signature
+scalar slot signature = naming (is_scalar slot) (signature (slot_kind slot))
+
+abbrev array : Option Slot → (Kind → Signature) → Signature
+array slot signature = naming (is_array slot) (signature (slot_kind slot))
+
+-- a call pops the arguments, the last one first, and its return pushes the value, if there is one
+abbrev pub called : Option ProcedureContents → Signature
+called None = exchange [] None
+called (Some callee) = exchange (reverse (header_of callee).parameters) callee.returned
+
+-- a return pops the value that is due
+abbrev pub value_kinds : Option Kind → List Kind
+value_kinds None = []
+value_kinds (Some kind) = kind ∷ []
+
+-- ---- the rows
+
+abbrev pub signature : ModuleContents → ProcedureContents → Instruction → Signature
+signature m procedure (Push n) = exchange [] (Some Int)
+signature m procedure (PushBoolean b) = exchange [] (Some Boolean)
+signature m procedure Pop = record (exchange [] None) { pops = None ∷ [] }
+signature m procedure (Load k) = scalar (slice_get procedure.slots k) (λ kind. exchange [] (Some kind))
+signature m procedure (Store k) = scalar (slice_get procedure.slots k) (λ kind. exchange (kind ∷ []) None)
+signature m procedure (LoadGlobal k) = scalar (slice_get (machine_code m).globals k) (λ kind. exchange [] (Some kind))
+signature m procedure (StoreGlobal k) = scalar (slice_get (machine_code m).globals k) (λ kind. exchange (kind ∷ []) None)
+signature m procedure (LoadElement k) = array (slice_get procedure.slots k) (λ kind. exchange (Int ∷ []) (Some kind))
+signature m procedure (StoreElement k) = array (slice_get procedure.slots k) (λ kind. exchange (kind ∷ Int ∷ []) None)
+signature m procedure (LoadGlobalElement k) = array (slice_get (machine_code m).globals k) (λ kind. exchange (Int ∷ []) (Some kind))
+signature m procedure (StoreGlobalElement k) = array (slice_get (machine_code m).globals k) (λ kind. exchange (kind ∷ Int ∷ []) None)
+signature m procedure (Clear k) = array (slice_get procedure.slots k) (λ kind. exchange [] None)
+signature m procedure (Compute operator) = exchange (Int ∷ Int ∷ []) (Some Int)
+signature m procedure Negate = exchange (Int ∷ []) (Some Int)
+signature m procedure Not = exchange (Boolean ∷ []) (Some Boolean)
+signature m procedure (Compare comparison) = exchange (Int ∷ Int ∷ []) (Some Boolean)
+signature m procedure SameBoolean = exchange (Boolean ∷ Boolean ∷ []) (Some Boolean)
+signature m procedure OtherBoolean = exchange (Boolean ∷ Boolean ∷ []) (Some Boolean)
+signature m procedure (Jump target) = exchange [] None
+signature m procedure (JumpIfFalse target) = exchange (Boolean ∷ []) None
+signature m procedure (Call callee) = naming (is_some (slice_get m.procedures callee)) (called (slice_get m.procedures callee))
+signature m procedure Return = record (exchange [] None) { own = is_none procedure.returned }
+signature m procedure ReturnValue = record (exchange (value_kinds procedure.returned) None) { own = is_some procedure.returned }
+signature m procedure (Receive channel) = naming (is_input (slice_get (machine_code m).directions channel)) (exchange [] (Some Int))
+signature m procedure (Send channel) = naming (is_output (slice_get (machine_code m).directions channel)) (exchange (Int ∷ []) None)
+signature m procedure (Throw exception) = naming (nat_lt exception (machine_code m).exceptions) (exchange [] None)
