@@ -12,6 +12,7 @@ counts, and a run is cut off after 120 seconds. Behind a shape that takes more t
 
 import itertools
 import os
+import random
 import subprocess
 import sys
 import tempfile
@@ -390,21 +391,28 @@ def exceptions_handed_on(size):
     return flat(2), first + joined(rest) + "void main() { }\n"
 
 
-def callees_in_tries(size, declares):
-    """As many procedures as exceptions, which declare those by a test, all called in tries that each catch half of the exceptions."""
-    count = int((size / 12) ** 0.5)
-    names = [f"e{n}" for n in range(count)]
+def callees_in_tries(size, declares, call="{}();", reorder=None, each=12):
+    """Procedures and as many exceptions, which those declare by a test, and tries that each call all of them and catch half of the
+    exceptions. Calls stand in the order of the procedures, or in what is made of it for each try. About so many bytes of the source go
+    to each pair of a procedure and an exception."""
+    count = int((size / each) ** 0.5)
+    names, order = [f"e{n}" for n in range(count)], list(range(count))
 
     def thrown(number):
         return ", ".join(f"{name}{{}}" for n, name in enumerate(names) if declares(number, n))
 
+    everything = ", ".join(f"{name}{{}}" for name in names)
     head = "".join(f"exception {name};\n" for name in names)
     head += "".join(f"void f{n}() throws ({thrown(n)}) {{ }}\n" for n in range(count))
-    calls = " ".join(f"f{n}();" for n in range(count))
+    head += f"void main() throws ({everything}) {{\nint x = 1;\n"
     caught = " ".join(f"catch ({name}) {{ }}" for name in names[::2])
-    tries = f"try {{ {calls} }} {caught}\n" * (count // 4)
-    everything = ", ".join(f"{name}{{}}" for name in names)
-    return flat(2), head + f"void main() throws ({everything}) {{\n{tries}}}\n"
+
+    def one_try(_):
+        if reorder:
+            reorder(order)
+        return (f"try {{ {' '.join(call.format(f'f{n}') for n in order)} }} {caught}\n",)
+
+    return flat(2), head + joined(pieces(size - len(head) - 2, one_try)) + "}\n"
 
 
 def exceptions_of_many_callees(size):
@@ -415,6 +423,27 @@ def exceptions_of_many_callees(size):
 def exceptions_of_uneven_callees(size):
     """The same where each procedure leaves out one exception, so that no two exceptions come from the same procedures."""
     return callees_in_tries(size, lambda procedure, exception: procedure != exception)
+
+
+def exceptions_of_callees_in_any_order(size):
+    """The same with the calls of each try in an order of its own."""
+    return callees_in_tries(size, lambda procedure, exception: procedure != exception, reorder=random.Random(1).shuffle)
+
+
+def exceptions_of_callees_by_halves(size):
+    """The same where each procedure declares a half of the exceptions by chance."""
+    chance = random.Random(1)
+    return callees_in_tries(size, lambda procedure, exception: chance.random() < 0.5, reorder=chance.shuffle, each=9)
+
+
+def exceptions_of_callees_called_twice(size):
+    """The same with two calls of each procedure in each try."""
+    return callees_in_tries(size, lambda procedure, exception: procedure != exception, call="{0}(); {0}();", each=14)
+
+
+def exceptions_of_calls_that_return(size):
+    """The same with each call in a branch that returns, so that no call's label flows on to that of another one."""
+    return callees_in_tries(size, lambda procedure, exception: procedure != exception, call="if (x > 0) {{ {}(); return; }}", each=20)
 
 
 # Each shape, with the most that it may take of the benign source's time at 1 MiB, and the most bytes of memory that it may take for
@@ -456,8 +485,12 @@ SHAPES = [
     (exceptions_of_calls_at_many_labels, 20, 400),
     (exceptions_of_calls_in_tries, 20, 400),
     (exceptions_handed_on, 20, 400),
-    (exceptions_of_many_callees, 20, 400),
-    (exceptions_of_uneven_callees, 20, 400),
+    (exceptions_of_many_callees, 20, 20),
+    (exceptions_of_uneven_callees, 20, 20),
+    (exceptions_of_callees_in_any_order, 20, 20),
+    (exceptions_of_callees_by_halves, 20, 50),
+    (exceptions_of_callees_called_twice, 20, 80),
+    (exceptions_of_calls_that_return, 20, 120),
 ]
 
 

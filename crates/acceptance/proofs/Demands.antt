@@ -2,11 +2,12 @@
 use Rattle.std.proofs.Common.{◌≡◌, refl, sym, ap, ◌∙◌, Bool, not, List, [], ◌∷◌, ◌&&◌, inl}
 use Rattle.std.specs.Prelude.{IsTrue, Contains, Some, find, if◌then◌else◌}
 use Rattle.labels.specs.Label.{ReaderPolicy, Label}
-use Rattle.labels.specs.Constraints.{Atom, Written, Unknown, is_written, holds, value, join_of, label_lattice}
-use Rattle.labels.proofs.Constraints.{join_of-above, join_of-least}
+use Rattle.lattices.specs.Constraints.{Atom, Written, Unknown, is_written, holds, value, join_of}
+use Rattle.labels.specs.LabelLattice.{label_lattice}
+use Rattle.lattices.proofs.Constraints.{join_of-above, join_of-least}
 use Rattle.labels.proofs.FlowTests.{IsLattice-flows}
-use Rattle.principals.proofs.Closure.{Contains-later, Contains-first}
-use Rattle.labels.proofs.Gathered.{same-tests}
+use Rattle.common.proofs.Elements.{Contains-later, Contains-first}
+use Rattle.lattices.proofs.Gathered.{same-tests}
 use Rattle.resolved.specs.Program.{Program}
 use Rattle.resolved.specs.Labelled.{Unwritten, Demand, program_demands}
 use Rattle.resolved.specs.Flow.{AreLeast, IsProgramRefused}

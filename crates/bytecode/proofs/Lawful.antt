@@ -9,8 +9,8 @@ use Rattle.modules.specs.declared.instruction.Instruction.{Instruction}
 use Rattle.modules.specs.declared.instruction.Instruction.TheVariants.{PushBoolean}
 use Rattle.modules.specs.declared.version.Version.{Version}
 use Rattle.modules.specs.declared.version.Version.TheVariants.{One, Two}
-use Rattle.modules.specs.declared.value.Kind.{Kind}
-use Rattle.modules.specs.declared.value.Kind.TheVariants as kind
+use Rattle.modules.specs.declared.value.ValueKind.{ValueKind}
+use Rattle.modules.specs.declared.value.ValueKind.TheVariants as kind
 use Rattle.modules.specs.declared.declaration.Slot.TheVariants as slot
 use Rattle.modules.specs.declared.declaration.Global.TheVariants as global
 use Rattle.modules.specs.declared.fault.FormatDefect.TheVariants.{BadValue}
@@ -169,11 +169,11 @@ of_scalar-coherent : (b : Bool) (form : Form ℕ) → Coherent form → Coherent
 of_scalar-coherent true form h = h
 of_scalar-coherent false form h = tt
 
-first_value-coherent : (kind : Kind) (size : ℕ) → Coherent (first_value kind size)
+first_value-coherent : (kind : ValueKind) (size : ℕ) → Coherent (first_value kind size)
 first_value-coherent kind.Int size = of_scalar-coherent (eqb size 0) _ tt
 first_value-coherent kind.Boolean size = of_scalar-coherent (eqb size 0) _ tt
 
-abbrev global_fields_are : Kind → ℕ → ℕ → Kind × (ℕ × ℕ)
+abbrev global_fields_are : ValueKind → ℕ → ℕ → ValueKind × (ℕ × ℕ)
 global_fields_are kind size first = (kind, (size, first))
 
 int_back : (size first : ℕ) (b : Bool) → eqb size 0 ≡ b → Fits (of_scalar b Number) first → global_fields (cond b (global.Int (cast_signed w32 first)) (global.Array kind.Int size)) ≡ (kind.Int, (size, first))
@@ -191,7 +191,7 @@ boolean_back size first true h fits =
     ap (made 0) (boolean-back first fits.1) ∙ ap (λ (s : ℕ). made s first) (sym (eqb-true size 0 h))
 boolean_back size first false h fits = ap (global_fields_are kind.Boolean size) (sym fits)
 
-global-back : (kind : Kind) (size first : ℕ) → Fits (first_value kind size) first → global_fields (global_of (kind, (size, first))) ≡ (kind, (size, first))
+global-back : (kind : ValueKind) (size first : ℕ) → Fits (first_value kind size) first → global_fields (global_of (kind, (size, first))) ≡ (kind, (size, first))
 global-back kind.Int size first fits = int_back size first (eqb size 0) refl fits
 global-back kind.Boolean size first fits = boolean_back size first (eqb size 0) refl fits
 
@@ -199,10 +199,10 @@ pub globals-coherent : Coherent globals
 unfolding globals global_after variable_kind
 globals-coherent = λ before. (((tt, λ byte fits. kind-back byte fits.1), λ kind. (tt, λ size. first_value-coherent kind size)), λ fields fits. global-back fields.0 fields.1.0 fields.1.1 fits.1.1)
 
-abbrev slot_fields_are : Kind → ℕ → Kind × ℕ
+abbrev slot_fields_are : ValueKind → ℕ → ValueKind × ℕ
 slot_fields_are kind size = (kind, size)
 
-slot-back : (kind : Kind) (size : ℕ) (b : Bool) → eqb size 0 ≡ b → slot_fields (cond b (slot.Scalar kind) (slot.Array kind size)) ≡ (kind, size)
+slot-back : (kind : ValueKind) (size : ℕ) (b : Bool) → eqb size 0 ≡ b → slot_fields (cond b (slot.Scalar kind) (slot.Array kind size)) ≡ (kind, size)
 slot-back kind size true h = ap (slot_fields_are kind) (sym (eqb-true size 0 h))
 slot-back kind size false h = refl
 

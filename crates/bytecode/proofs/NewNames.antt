@@ -128,15 +128,6 @@ channels_fail e principals taken now count i before bytes total lt holds found s
     let P : Read ChannelContents → Type 0 = λ r. ReadingFails e r in
     each_fails e (one_channel principals taken) count i before bytes total lt (subst P (same_channel principals taken now before bytes holds) found) so_far
 
-abbrev of_texts : List (List ℕ) → BTreeSet (String Global) → Type 0
-of_texts names set = (q : List ℕ) → contains_text set q ≡ is_among names q
-
--- a set with three names
-pub three_taken : (a b c : List ℕ) (none one two three : List ℕ → Bool) → ((q : List ℕ) → none q ≡ false) → ((q : List ℕ) → one q ≡ (none q || bytes_eq a q)) → ((q : List ℕ) → two q ≡ (one q || bytes_eq b q)) → ((q : List ℕ) → three q ≡ (two q || bytes_eq c q))
-    → (q : List ℕ) → three q ≡ is_among (a ∷ b ∷ c ∷ []) q
-three_taken a b c none one two three n o t r q =
-    rw (r q, t q, o q, n q) (or_assoc (bytes_eq a q) (bytes_eq b q) (bytes_eq c q) ∙ ap (λ (x : Bool). bytes_eq a q || (bytes_eq b q || x)) (sym (or-false (bytes_eq c q))))
-
 -- ---- exceptions, and then channels
 
 abbrev counted_channels : ℕ → (List ℕ → Bool) → List ℕ → Read (List ChannelContents)

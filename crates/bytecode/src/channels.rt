@@ -8,7 +8,7 @@ ghost use Rattle.std.specs.Prelude.{[], length};
 
 use crate::hierarchy::read_label;
 use crate::names::{read_exceptions, read_name, take, take_built_in};
-use crate::reading::{ReadFault, read_byte, read_number, refuse};
+use crate::reading::{FieldFault, read_byte, read_number, refuse};
 use common::Direction;
 use modules::FormatDefect;
 use modules::channel::Channel;
@@ -18,7 +18,7 @@ use std::collections::BTreeSet;
 
 /// The direction of a channel.
 #[tactic(auto, unfolding(modules::specs::Format::direction))]
-fn read_direction(bytes: &[u8]) -> Result<(Direction, &[u8]), ReadFault>
+fn read_direction(bytes: &[u8]) -> Result<(Direction, &[u8]), FieldFault>
     ensures { Decodes (λ x. (x.0, x.1.now)) result (read direction bytes.now) }
 {
     let (direction, rest) = read_byte(bytes)?;
@@ -36,7 +36,7 @@ fn read_channel<'a>(
     principals: u32,
     taken: &BTreeSet<String>,
     bytes: &'a [u8],
-) -> Result<(Channel, &'a [u8]), ReadFault>
+) -> Result<(Channel, &'a [u8]), FieldFault>
     ensures { Decodes (λ x. (x.0, x.1.now)) result
         (read (channel_after principals (contains_text taken.now) []) bytes.now) }
 {
@@ -53,7 +53,7 @@ fn read_channels(
     mut taken: BTreeSet<String>,
     count: u32,
     bytes: &[u8],
-) -> Result<(Vec<Channel>, &[u8]), ReadFault>
+) -> Result<(Vec<Channel>, &[u8]), FieldFault>
     ensures { Decodes (λ x. (x.0.items, x.1.now)) result
         (each_at (λ before rest. read (channel_after principals (contains_text taken) before) rest)
         count [] bytes.now) }
@@ -76,7 +76,7 @@ fn read_counted_channels(
     principals: u32,
     taken: BTreeSet<String>,
     bytes: &[u8],
-) -> Result<(Vec<Channel>, &[u8]), ReadFault>
+) -> Result<(Vec<Channel>, &[u8]), FieldFault>
     ensures { Decodes (λ x. (x.0.items, x.1.now)) result
         (read (Counted any (channel_after principals (contains_text taken))) bytes.now) }
 {
@@ -90,7 +90,7 @@ pub(crate) fn read_declared<'a>(
     alloc: Global,
     hierarchy: &Hierarchy,
     bytes: &'a [u8],
-) -> Result<(Vec<String>, Vec<Channel>, &'a [u8]), ReadFault>
+) -> Result<(Vec<String>, Vec<Channel>, &'a [u8]), FieldFault>
     ensures { Decodes (λ x. ((texts x.0.items, x.1.items), x.2.now)) result
         (read (declared (length hierarchy.now.names)) bytes.now) }
 {

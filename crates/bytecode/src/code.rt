@@ -7,7 +7,7 @@ ghost use Rattle.bytecode.specs.Reading.{Decodes};
 ghost use Rattle.modules.specs.declared.version.Version.{Version};
 ghost use Rattle.std.specs.Prelude.{[], IfOk, IfSome, Ok, ◌≡◌, ◌≤◌};
 
-use crate::reading::{ReadFault, read_byte, read_number, read_text, refuse};
+use crate::reading::{FieldFault, read_byte, read_number, read_text, refuse};
 use modules::instruction::Instruction;
 use modules::opcode::{instruction_of, numbered_instruction, width_after};
 use modules::{FormatDefect, Version};
@@ -40,7 +40,7 @@ fn read_instruction(
     version: Version,
     room: u32,
     bytes: &[u8],
-) -> Result<(Instruction, &[u8]), ReadFault>
+) -> Result<(Instruction, &[u8]), FieldFault>
     ensures gives { Decodes (λ x. (x.0, x.1.now)) result (instruction_in (instructions version) room
         bytes.now) }
     ensures inside { IfOk result (λ x. width_of x.0 ≤ room) }
@@ -73,7 +73,7 @@ fn read_instructions(
     version: Version,
     size: u32,
     bytes: &[u8],
-) -> Result<(Vec<Instruction>, &[u8]), ReadFault>
+) -> Result<(Vec<Instruction>, &[u8]), FieldFault>
     ensures { Decodes (λ x. (x.0.items, x.1.now)) result (code_at (instructions version) size size []
         bytes.now) }
 {
@@ -95,7 +95,7 @@ pub(crate) fn read_code(
     alloc: Global,
     version: Version,
     bytes: &[u8],
-) -> Result<(Vec<Instruction>, &[u8]), ReadFault>
+) -> Result<(Vec<Instruction>, &[u8]), FieldFault>
     ensures { Decodes (λ x. (x.0.items, x.1.now)) result (read (Code (instructions version)) bytes.now) }
 {
     let (size, rest) = read_number(bytes)?;

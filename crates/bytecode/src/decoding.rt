@@ -14,7 +14,7 @@ use crate::fault::{FormatFault, FormatRefusal};
 use crate::globals::read_globals;
 use crate::hierarchy::read_hierarchy;
 use crate::procedures::read_procedures;
-use crate::reading::{ReadFault, read_number, refuse};
+use crate::reading::{FieldFault, read_number, refuse};
 use common::OrNoMemory;
 use modules::contents::Contents;
 use modules::declaration::Global as Variable;
@@ -28,7 +28,7 @@ pub(crate) const MAGIC: u32 = 0x464c_4f42;
 
 /// What runs of a module that was read.
 #[derive(Drop)]
-struct Program {
+struct CodeSections {
     globals: Vec<Variable>,
     procedures: Vec<Procedure>,
     main: u32,
@@ -36,7 +36,7 @@ struct Program {
 
 /// The number of a procedure without parameters that returns no value.
 #[tactic(auto, unfolding(modules::specs::Format::main))]
-fn read_main<'a>(procedures: &[Procedure], bytes: &'a [u8]) -> Result<(u32, &'a [u8]), ReadFault>
+fn read_main<'a>(procedures: &[Procedure], bytes: &'a [u8]) -> Result<(u32, &'a [u8]), FieldFault>
     ensures { Decodes (λ x. (x.0, x.1.now)) result (read (main procedures.now) bytes.now) }
 {
     let (number, rest) = read_number(bytes)?;
@@ -54,14 +54,14 @@ fn read_program(
     alloc: Global,
     version: Version,
     bytes: &[u8],
-) -> Result<(Program, &[u8]), ReadFault>
+) -> Result<(CodeSections, &[u8]), FieldFault>
     ensures { Decodes (λ x. ((x.0.globals.items, (x.0.procedures.items, x.0.main)), x.1.now)) result
         (read (program version) bytes.now) }
 {
     let (globals, rest) = read_globals(alloc, bytes)?;
     let (procedures, rest) = read_procedures(alloc, version, rest)?;
     let (main, rest) = read_main(&procedures, rest)?;
-    let program = Program {
+    let program = CodeSections {
         globals,
         procedures,
         main,
@@ -75,7 +75,7 @@ fn read_contents(
     alloc: Global,
     version: Version,
     bytes: &[u8],
-) -> Result<(Contents, &[u8]), ReadFault>
+) -> Result<(Contents, &[u8]), FieldFault>
     ensures reads { Decodes (λ x. (fields_of x.0, x.1.now)) result
         (read (contents version) bytes.now) }
     ensures version { IfOk result (λ x. x.0.version ≡ version) }
@@ -97,7 +97,7 @@ fn read_contents(
 
 /// The version of the file.
 #[tactic(auto, unfolding(modules::specs::Format::version))]
-fn read_version(bytes: &[u8]) -> Result<(Version, &[u8]), ReadFault>
+fn read_version(bytes: &[u8]) -> Result<(Version, &[u8]), FieldFault>
     ensures { Decodes (λ x. (x.0, x.1.now)) result (read version bytes.now) }
 {
     let (number, rest) = read_number(bytes)?;
@@ -110,7 +110,7 @@ fn read_version(bytes: &[u8]) -> Result<(Version, &[u8]), ReadFault>
 
 /// The contents of a module behind magic and version, which are tested.
 #[tactic(auto, unfolding(modules::specs::Format::module_file))]
-fn read_file(alloc: Global, bytes: &[u8]) -> Result<(Contents, &[u8]), ReadFault>
+fn read_file(alloc: Global, bytes: &[u8]) -> Result<(Contents, &[u8]), FieldFault>
     ensures { Decodes (λ x. (contents_of x.0, x.1.now)) result (read module_file bytes.now) }
 {
     let (magic, rest) = read_number(bytes)?;
@@ -122,7 +122,7 @@ fn read_file(alloc: Global, bytes: &[u8]) -> Result<(Contents, &[u8]), ReadFault
 }
 
 /// The contents of a module that all of the bytes are.
-fn read_all_of_file(alloc: Global, bytes: &[u8]) -> Result<Contents, ReadFault>
+fn read_all_of_file(alloc: Global, bytes: &[u8]) -> Result<Contents, FieldFault>
     ensures { Decodes contents_of result (read_all module_file bytes.now) }
 {
     let (contents, rest) = read_file(alloc, bytes)?;

@@ -12,7 +12,7 @@ use modules::code_length;
 use modules::instruction::Instruction;
 use modules::module::Module;
 use modules::procedure::Procedure;
-use modules::value::Kind;
+use modules::value::ValueKind;
 use principals::Hierarchy;
 use std::alloc::{AllocError, Global};
 
@@ -38,8 +38,8 @@ impl Field for Procedure {
     fn put(&self, out: &mut Vec<u8>) -> Result<(), AllocError> {
         let returned = match self.returned() {
             None => 0,
-            Some(Kind::Int) => 1,
-            Some(Kind::Boolean) => 2,
+            Some(ValueKind::Int) => 1,
+            Some(ValueKind::Boolean) => 2,
         };
         out.push(returned)?;
         put_number(out, self.parameters())?;

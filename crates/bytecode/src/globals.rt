@@ -7,27 +7,27 @@ ghost use Rattle.bytecode.specs.Reading.{Decodes};
 ghost use Rattle.std.specs.Prelude.{◌<◌, ◌≡◌, ◌≤◌};
 
 use crate::limit::{cells_of_size, is_size};
-use crate::reading::{Element, ReadFault, read_byte, read_each, read_number, refuse};
+use crate::reading::{Element, FieldFault, read_byte, read_each, read_number, refuse};
 use modules::FormatDefect;
 use modules::declaration::Global as Variable;
-use modules::value::Kind;
+use modules::value::ValueKind;
 use std::alloc::Global;
 
 /// The kind of a global or of a slot.
 #[tactic(auto, unfolding(modules::specs::Format::variable_kind))]
-pub(crate) fn read_kind(bytes: &[u8]) -> Result<(Kind, &[u8]), ReadFault>
+pub(crate) fn read_kind(bytes: &[u8]) -> Result<(ValueKind, &[u8]), FieldFault>
     ensures { Decodes (λ x. (x.0, x.1.now)) result (read variable_kind bytes.now) }
 {
     let (kind, rest) = read_byte(bytes)?;
     match kind {
-        0 => Ok((Kind::Int, rest)),
-        1 => Ok((Kind::Boolean, rest)),
+        0 => Ok((ValueKind::Int, rest)),
+        1 => Ok((ValueKind::Boolean, rest)),
         _ => Err(refuse(FormatDefect::BadValue, bytes)),
     }
 }
 
 /// The first value of a scalar, and 0 for an array, which has none.
-fn read_first_value(kind: Kind, size: u32, bytes: &[u8]) -> Result<(u32, &[u8]), ReadFault>
+fn read_first_value(kind: ValueKind, size: u32, bytes: &[u8]) -> Result<(u32, &[u8]), FieldFault>
     ensures { Decodes (λ x. (x.0, x.1.now)) result (read (first_value kind size) bytes.now) }
 {
     if size != 0 {
@@ -35,8 +35,8 @@ fn read_first_value(kind: Kind, size: u32, bytes: &[u8]) -> Result<(u32, &[u8]),
     }
     let (value, rest) = read_number(bytes)?;
     match kind {
-        Kind::Int => Ok((value, rest)),
-        Kind::Boolean => {
+        ValueKind::Int => Ok((value, rest)),
+        ValueKind::Boolean => {
             if value > 1 {
                 return Err(refuse(FormatDefect::BadValue, bytes));
             }
@@ -45,15 +45,15 @@ fn read_first_value(kind: Kind, size: u32, bytes: &[u8]) -> Result<(u32, &[u8]),
     }
 }
 
-fn global_of(kind: Kind, size: u32, first: u32) -> Variable
+fn global_of(kind: ValueKind, size: u32, first: u32) -> Variable
     ensures { result ≡ global_of (kind, (size, first)) }
 {
     if size != 0 {
         return Variable::Array(kind, size);
     }
     match kind {
-        Kind::Int => Variable::Int(first.cast_signed()),
-        Kind::Boolean => Variable::Boolean(first == 1),
+        ValueKind::Int => Variable::Int(first.cast_signed()),
+        ValueKind::Boolean => Variable::Boolean(first == 1),
     }
 }
 
@@ -76,7 +76,7 @@ impl Element for GlobalField {
         cells: &mut u32,
         _before: &[Variable],
         bytes: &'a [u8],
-    ) -> Result<(Variable, &'a [u8]), ReadFault> {
+    ) -> Result<(Variable, &'a [u8]), FieldFault> {
         let (kind, rest) = read_kind(bytes)?;
         let (size, after) = read_number(rest)?;
         if !is_size(*cells, size) {
@@ -90,7 +90,10 @@ impl Element for GlobalField {
 
 /// The globals behind their count.
 #[tactic(auto, unfolding(modules::specs::Format::globals))]
-pub(crate) fn read_globals(alloc: Global, bytes: &[u8]) -> Result<(Vec<Variable>, &[u8]), ReadFault>
+pub(crate) fn read_globals(
+    alloc: Global,
+    bytes: &[u8],
+) -> Result<(Vec<Variable>, &[u8]), FieldFault>
     ensures { Decodes (λ x. (x.0.items, x.1.now)) result (read globals bytes.now) }
 {
     let (count, rest) = read_number(bytes)?;

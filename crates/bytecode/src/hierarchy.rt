@@ -5,7 +5,7 @@ ghost use Rattle.modules.specs.Format.{any, hierarchy, label, number_below, pair
 ghost use Rattle.bytecode.specs.Reading.{Decodes, texts};
 
 use crate::names::read_first_names;
-use crate::reading::{Element, ReadFault, read_each, read_number, refuse};
+use crate::reading::{Element, FieldFault, read_each, read_number, refuse};
 use common::limits::MAX_PRINCIPALS;
 use labels::{Label, Policy};
 use modules::FormatDefect;
@@ -14,7 +14,7 @@ use std::alloc::Global;
 
 /// The number of one of so many things.
 #[tactic(auto, unfolding(modules::specs::Format::number_below))]
-fn read_number_below(count: u32, bytes: &[u8]) -> Result<(u32, &[u8]), ReadFault>
+fn read_number_below(count: u32, bytes: &[u8]) -> Result<(u32, &[u8]), FieldFault>
     ensures { Decodes (λ x. (x.0, x.1.now)) result (read (number_below count) bytes.now) }
 {
     let (number, rest) = read_number(bytes)?;
@@ -26,7 +26,7 @@ fn read_number_below(count: u32, bytes: &[u8]) -> Result<(u32, &[u8]), ReadFault
 
 /// The names of the principals behind their count.
 #[tactic(auto, unfolding(modules::specs::Format::principals))]
-fn read_principals(alloc: Global, bytes: &[u8]) -> Result<(Vec<String>, &[u8]), ReadFault>
+fn read_principals(alloc: Global, bytes: &[u8]) -> Result<(Vec<String>, &[u8]), FieldFault>
     ensures { Decodes (λ x. (texts x.0.items, x.1.now)) result (read principals bytes.now) }
 {
     let (count, rest) = read_number(bytes)?;
@@ -58,7 +58,7 @@ impl Element for PairField {
         _state: &mut (),
         before: &[(u32, u32)],
         bytes: &'a [u8],
-    ) -> Result<((u32, u32), &'a [u8]), ReadFault> {
+    ) -> Result<((u32, u32), &'a [u8]), FieldFault> {
         let (first, rest) = read_number_below(self.principals, bytes)?;
         let (second, rest) = read_number_below(self.principals, rest)?;
         let pair = (first, second);
@@ -95,7 +95,7 @@ impl Element for ReaderField {
         _state: &mut (),
         before: &[u32],
         bytes: &'a [u8],
-    ) -> Result<(u32, &'a [u8]), ReadFault> {
+    ) -> Result<(u32, &'a [u8]), FieldFault> {
         let (reader, rest) = read_number_below(self.principals, bytes)?;
         if reader == self.owner {
             return Err(refuse(FormatDefect::NotCanonical, bytes));
@@ -131,7 +131,7 @@ impl Element for PolicyField {
         _state: &mut (),
         before: &[Policy],
         bytes: &'a [u8],
-    ) -> Result<(Policy, &'a [u8]), ReadFault> {
+    ) -> Result<(Policy, &'a [u8]), FieldFault> {
         let principals = self.principals;
         let (owner, rest) = read_number_below(principals, bytes)?;
         let (readers, rest) = read_readers(alloc, principals, owner, rest)?;
@@ -151,7 +151,7 @@ fn read_readers(
     principals: u32,
     owner: u32,
     bytes: &[u8],
-) -> Result<(Vec<u32>, &[u8]), ReadFault>
+) -> Result<(Vec<u32>, &[u8]), FieldFault>
     ensures { Decodes (λ x. (x.0.items, x.1.now)) result
         (read (Counted any (reader_after principals owner)) bytes.now) }
 {
@@ -165,7 +165,7 @@ fn read_policies(
     alloc: Global,
     principals: u32,
     bytes: &[u8],
-) -> Result<(Vec<Policy>, &[u8]), ReadFault>
+) -> Result<(Vec<Policy>, &[u8]), FieldFault>
     ensures { Decodes (λ x. (x.0.items, x.1.now)) result (read (label principals) bytes.now) }
 {
     let (count, rest) = read_number(bytes)?;
@@ -177,7 +177,7 @@ pub(crate) fn read_label(
     alloc: Global,
     principals: u32,
     bytes: &[u8],
-) -> Result<(Label, &[u8]), ReadFault>
+) -> Result<(Label, &[u8]), FieldFault>
     ensures { Decodes (λ x. (x.0, x.1.now)) result (read (label principals) bytes.now) }
 {
     let (policies, rest) = read_policies(alloc, principals, bytes)?;
@@ -189,7 +189,7 @@ fn read_pairs(
     alloc: Global,
     principals: u32,
     bytes: &[u8],
-) -> Result<(Vec<(u32, u32)>, &[u8]), ReadFault>
+) -> Result<(Vec<(u32, u32)>, &[u8]), FieldFault>
     ensures { Decodes (λ x. (x.0.items, x.1.now)) result (read (Counted any (pair_after principals))
         bytes.now) }
 {
@@ -199,7 +199,7 @@ fn read_pairs(
 
 /// The hierarchy.
 #[tactic(auto, unfolding(modules::specs::Format::hierarchy))]
-pub(crate) fn read_hierarchy(alloc: Global, bytes: &[u8]) -> Result<(Hierarchy, &[u8]), ReadFault>
+pub(crate) fn read_hierarchy(alloc: Global, bytes: &[u8]) -> Result<(Hierarchy, &[u8]), FieldFault>
     ensures { Decodes (λ x. (x.0, x.1.now)) result (read hierarchy bytes.now) }
 {
     let (names, rest) = read_principals(alloc, bytes)?;

@@ -7,7 +7,7 @@ ghost use Rattle.std.specs.BTreeSet.{contains_text};
 ghost use Rattle.std.specs.Prelude.{[], bytes_eq, false, IfOk, List, MatchOption, OnOk, true, ℕ, ◌||◌, ◌≡◌};
 ghost use Rattle.std.specs.String.{string_bytes};
 
-use crate::reading::{ReadFault, read_number, read_text, refuse};
+use crate::reading::{FieldFault, read_number, read_text, refuse};
 use common::exceptions::{ARITH_NAME, BOUNDS_NAME, END_NAME};
 use lexer::is_name;
 use modules::FormatDefect;
@@ -36,7 +36,7 @@ pub(crate) fn read_name<'a>(
     alloc: Global,
     taken: &BTreeSet<String>,
     bytes: &'a [u8],
-) -> Result<(String, &'a [u8]), ReadFault>
+) -> Result<(String, &'a [u8]), FieldFault>
     ensures { Decodes (λ x. (string_bytes x.0, x.1.now)) result
         (read (name_after (contains_text taken.now) []) bytes.now) }
 {
@@ -67,7 +67,7 @@ pub(crate) fn read_names<'a>(
     taken: &mut BTreeSet<String>,
     count: u32,
     bytes: &'a [u8],
-) -> Result<(Vec<String>, &'a [u8]), ReadFault>
+) -> Result<(Vec<String>, &'a [u8]), FieldFault>
     ensures gives { Decodes (λ x. (texts x.0.items, x.1.now)) result
         (each_at (λ before rest. read (name_after (contains_text taken.old) before) rest) count []
         bytes.now) }
@@ -91,7 +91,7 @@ pub(crate) fn read_first_names(
     alloc: Global,
     count: u32,
     bytes: &[u8],
-) -> Result<(Vec<String>, &[u8]), ReadFault>
+) -> Result<(Vec<String>, &[u8]), FieldFault>
     ensures { Decodes (λ x. (texts x.0.items, x.1.now)) result
         (each_at (λ before rest. read (name_after (λ _. false) before) rest) count [] bytes.now) }
 {
@@ -116,7 +116,7 @@ pub(crate) fn read_exceptions<'a>(
     alloc: Global,
     taken: &mut BTreeSet<String>,
     bytes: &'a [u8],
-) -> Result<(Vec<String>, &'a [u8]), ReadFault>
+) -> Result<(Vec<String>, &'a [u8]), FieldFault>
     requires { (q : List ℕ) → contains_text taken.old q ≡ is_built_in q }
     ensures gives { Decodes (λ x. (texts x.0.items, x.1.now)) result (read exceptions bytes.now) }
     ensures taken { IfOk result (λ x. (q : List ℕ) → contains_text taken.new q

@@ -9,10 +9,10 @@ ghost use Rattle.std.specs.Prelude.{◌≡◌, ◌≤◌};
 use crate::code::read_code;
 use crate::globals::read_kind;
 use crate::limit::{cells_of_size, is_size};
-use crate::reading::{Element, ReadFault, read_byte, read_each, read_number, refuse};
+use crate::reading::{Element, FieldFault, read_byte, read_each, read_number, refuse};
 use modules::declaration::{Handler, Slot};
 use modules::procedure::Procedure;
-use modules::value::Kind;
+use modules::value::ValueKind;
 use modules::{FormatDefect, Version};
 use std::alloc::Global;
 
@@ -35,7 +35,7 @@ impl Element for HandlerField {
         _state: &mut (),
         _before: &[Handler],
         bytes: &'a [u8],
-    ) -> Result<(Handler, &'a [u8]), ReadFault> {
+    ) -> Result<(Handler, &'a [u8]), FieldFault> {
         let (start, rest) = read_number(bytes)?;
         let (end, rest) = read_number(rest)?;
         let (exception, rest) = read_number(rest)?;
@@ -52,14 +52,14 @@ impl Element for HandlerField {
 
 /// The handlers behind their count.
 #[tactic(auto, unfolding(modules::specs::Format::handlers))]
-fn read_handlers(alloc: Global, bytes: &[u8]) -> Result<(Vec<Handler>, &[u8]), ReadFault>
+fn read_handlers(alloc: Global, bytes: &[u8]) -> Result<(Vec<Handler>, &[u8]), FieldFault>
     ensures { Decodes (λ x. (x.0.items, x.1.now)) result (read handlers bytes.now) }
 {
     let (count, rest) = read_number(bytes)?;
     read_each(alloc, &HandlerField, (), count, rest)
 }
 
-fn slot_of(kind: Kind, size: u32) -> Slot
+fn slot_of(kind: ValueKind, size: u32) -> Slot
     ensures { result ≡ slot_of (kind, size) }
 {
     if size == 0 {
@@ -91,7 +91,7 @@ impl Element for SlotField {
         cells: &mut u32,
         before: &[Slot],
         bytes: &'a [u8],
-    ) -> Result<(Slot, &'a [u8]), ReadFault> {
+    ) -> Result<(Slot, &'a [u8]), FieldFault> {
         let (kind, rest) = read_kind(bytes)?;
         let (size, after) = read_number(rest)?;
         let may_be_array = self.parameters as usize <= before.len();
@@ -105,7 +105,11 @@ impl Element for SlotField {
 
 /// The slots behind their count, the first of which are parameters.
 #[tactic(auto, unfolding(modules::specs::Format::slots))]
-fn read_slots(alloc: Global, parameters: u32, bytes: &[u8]) -> Result<(Vec<Slot>, &[u8]), ReadFault>
+fn read_slots(
+    alloc: Global,
+    parameters: u32,
+    bytes: &[u8],
+) -> Result<(Vec<Slot>, &[u8]), FieldFault>
     ensures { Decodes (λ x. (x.0.items, x.1.now)) result (read (slots parameters) bytes.now) }
 {
     let (count, rest) = read_number(bytes)?;
@@ -117,14 +121,14 @@ fn read_slots(alloc: Global, parameters: u32, bytes: &[u8]) -> Result<(Vec<Slot>
 
 /// The kind of value that a procedure returns, if any.
 #[tactic(auto, unfolding(modules::specs::Format::returned))]
-fn read_returned(bytes: &[u8]) -> Result<(Option<Kind>, &[u8]), ReadFault>
+fn read_returned(bytes: &[u8]) -> Result<(Option<ValueKind>, &[u8]), FieldFault>
     ensures { Decodes (λ x. (x.0, x.1.now)) result (read returned bytes.now) }
 {
     let (kind, rest) = read_byte(bytes)?;
     match kind {
         0 => Ok((None, rest)),
-        1 => Ok((Some(Kind::Int), rest)),
-        2 => Ok((Some(Kind::Boolean), rest)),
+        1 => Ok((Some(ValueKind::Int), rest)),
+        2 => Ok((Some(ValueKind::Boolean), rest)),
         _ => Err(refuse(FormatDefect::BadValue, bytes)),
     }
 }
@@ -151,7 +155,7 @@ impl Element for ProcedureField {
         _state: &mut (),
         _before: &[Procedure],
         bytes: &'a [u8],
-    ) -> Result<(Procedure, &'a [u8]), ReadFault> {
+    ) -> Result<(Procedure, &'a [u8]), FieldFault> {
         let (returned, rest) = read_returned(bytes)?;
         let (parameters, rest) = read_number(rest)?;
         let (slots, rest) = read_slots(alloc, parameters, rest)?;
@@ -168,7 +172,7 @@ pub(crate) fn read_procedures(
     alloc: Global,
     version: Version,
     bytes: &[u8],
-) -> Result<(Vec<Procedure>, &[u8]), ReadFault>
+) -> Result<(Vec<Procedure>, &[u8]), FieldFault>
     ensures { Decodes (λ x. (x.0.items, x.1.now)) result (read (procedures version) bytes.now) }
 {
     let (count, rest) = read_number(bytes)?;

@@ -11,10 +11,10 @@ use modules::fault::{FormatDefect, ReadRefusal};
 use std::alloc::Global;
 
 /// Why a field was not read.
-pub(crate) type ReadFault = OrNoMemory<ReadRefusal>;
+pub(crate) type FieldFault = OrNoMemory<ReadRefusal>;
 
 /// The refusal of the field that `bytes` begin with.
-pub(crate) fn refuse(defect: FormatDefect, bytes: &[u8]) -> ReadFault
+pub(crate) fn refuse(defect: FormatDefect, bytes: &[u8]) -> FieldFault
     ensures { result ≡ Refused (stop_at defect bytes.now) }
 {
     OrNoMemory::Refused(ReadRefusal {
@@ -30,7 +30,7 @@ pub(crate) const SHORT: ReadRefusal = ReadRefusal {
 };
 
 /// One byte.
-pub(crate) fn read_byte(bytes: &[u8]) -> Result<(u8, &[u8]), ReadFault>
+pub(crate) fn read_byte(bytes: &[u8]) -> Result<(u8, &[u8]), FieldFault>
     ensures { Decodes (λ x. (x.0, x.1.now)) result (byte_at bytes.now) }
 {
     match bytes {
@@ -40,7 +40,7 @@ pub(crate) fn read_byte(bytes: &[u8]) -> Result<(u8, &[u8]), ReadFault>
 }
 
 /// A number in four bytes.
-pub(crate) fn read_number(bytes: &[u8]) -> Result<(u32, &[u8]), ReadFault>
+pub(crate) fn read_number(bytes: &[u8]) -> Result<(u32, &[u8]), FieldFault>
     ensures { Decodes (λ x. (x.0, x.1.now)) result (number_at bytes.now) }
 {
     if bytes.len() < 4 {
@@ -51,7 +51,7 @@ pub(crate) fn read_number(bytes: &[u8]) -> Result<(u32, &[u8]), ReadFault>
 }
 
 /// So many bytes.
-pub(crate) fn read_text(count: usize, bytes: &[u8]) -> Result<(&[u8], &[u8]), ReadFault>
+pub(crate) fn read_text(count: usize, bytes: &[u8]) -> Result<(&[u8], &[u8]), FieldFault>
     ensures { Decodes (λ x. (x.0.now, x.1.now)) result (bytes_at count bytes.now) }
 {
     if bytes.len() < count {
@@ -76,7 +76,7 @@ pub(crate) trait Element {
         state: &mut Self::State,
         before: &[Self::Item],
         bytes: &'a [u8],
-    ) -> Result<(Self::Item, &'a [u8]), ReadFault>
+    ) -> Result<(Self::Item, &'a [u8]), FieldFault>
         requires { holds self.now state.old before.now }
         ensures gives { Decodes (λ x. (x.0, x.1.now)) result (reads self.now before.now bytes.now) }
         ensures holds { IfOk result (λ x. holds self.now state.new (before.now ++ x.0 ∷ [])) };
@@ -89,7 +89,7 @@ pub(crate) fn read_each<'a, E: Element>(
     mut state: E::State,
     count: u32,
     bytes: &'a [u8],
-) -> Result<(Vec<E::Item>, &'a [u8]), ReadFault>
+) -> Result<(Vec<E::Item>, &'a [u8]), FieldFault>
 where
     E::Item: Drop,
     E::State: Drop,

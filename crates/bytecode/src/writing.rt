@@ -13,7 +13,7 @@ use modules::channel::Channel;
 use modules::declaration::{Global as Variable, Handler, Slot};
 use modules::instruction::Instruction;
 use modules::opcode::{Operand, row_of};
-use modules::value::Kind;
+use modules::value::ValueKind;
 use std::alloc::AllocError;
 
 /// Writes a number in four bytes.
@@ -119,12 +119,12 @@ impl Field for Channel {
 }
 
 /// Writes a kind as a byte.
-fn put_kind(out: &mut Vec<u8>, kind: Kind) -> Result<(), AllocError>
+fn put_kind(out: &mut Vec<u8>, kind: ValueKind) -> Result<(), AllocError>
     ensures { OnOk result (out.new.items ≡ out.old.items ++ kind_byte kind ∷ []) }
 {
     let byte = match kind {
-        Kind::Int => 0,
-        Kind::Boolean => 1,
+        ValueKind::Int => 0,
+        ValueKind::Boolean => 1,
     };
     out.push(byte)?;
     Ok(())
@@ -138,12 +138,12 @@ impl Field for Variable {
     fn put(&self, out: &mut Vec<u8>) -> Result<(), AllocError> {
         match *self {
             Variable::Int(first) => {
-                put_kind(out, Kind::Int)?;
+                put_kind(out, ValueKind::Int)?;
                 put_number(out, 0)?;
                 put_number(out, first.cast_unsigned())
             }
             Variable::Boolean(first) => {
-                put_kind(out, Kind::Boolean)?;
+                put_kind(out, ValueKind::Boolean)?;
                 put_number(out, 0)?;
                 put_number(out, if first { 1 } else { 0 })
             }

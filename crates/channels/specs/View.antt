@@ -6,7 +6,7 @@ use Rattle.std.specs.Io.KnownBytes.{Appends}
 use Rattle.principals.specs.ActsFor.{PrincipalHierarchy}
 use Rattle.labels.specs.Carried.{carried_label, label_under, numbered}
 use Rattle.labels.specs.Label.{Label, may_read}
-use Rattle.labels.specs.declared.sent.Pair.{Pair}
+use Rattle.common.specs.declared.sent.Pair.{Pair}
 use Rattle.modules.specs.Contents.{ModuleContents, ChannelContents}
 use Rattle.modules.specs.Isolated.{channel_label, channel_label_under, module_view}
 use Rattle.channels.specs.Sink.{AppendsPrefix}

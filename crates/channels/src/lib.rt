@@ -10,8 +10,8 @@ mod world_read;
 mod world_table;
 mod world_text;
 
+pub use common::Pair;
 pub use defect::{WorldDefect, WorldFault, WorldRefusal};
-pub use labels::Pair;
 pub use sent::Sent;
 pub use sink::{Device, Sink, SinkFault, write_all};
 pub use view::{ViewFault, pairs_for, pairs_for_under, write_view, write_view_under};

@@ -1,6 +1,6 @@
 ghost use Rattle.std.specs.Prelude.{◌≡◌, ◌∷◌, ◌++◌, [], OnErr, OnOk};
 
-use labels::Pair;
+use common::Pair;
 use std::alloc::{AllocError, Global};
 use std::marker::Model;
 
@@ -11,7 +11,7 @@ pub struct Sent {
 }
 
 impl Model for Sent {
-    ghost use Rattle.labels.specs.declared.sent.Pair.{Pair};
+    ghost use Rattle.common.specs.declared.sent.Pair.{Pair};
     ghost use Rattle.std.specs.Prelude.{List};
 
     ghost Value = { List Pair };

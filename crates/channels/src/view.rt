@@ -12,8 +12,8 @@ ghost use Rattle.std.specs.String.{string_bytes};
 
 use crate::sent::Sent;
 use crate::sink::{Sink, SinkFault, write_all};
-use common::OrNoMemory;
-use labels::{Label, Pair, Renumbering, may_read, may_read_under};
+use common::{OrNoMemory, Pair};
+use labels::{Label, Renumbering, may_read, may_read_under};
 use modules::Module;
 use modules::laws::labels_are_those_written;
 use principals::Hierarchy;

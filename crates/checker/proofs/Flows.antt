@@ -10,8 +10,10 @@ use Rattle.std.proofs.lemmas.Option.{slice_get_read, slice_get_within, same_Some
 use Rattle.principals.specs.ActsFor.{PrincipalHierarchy}
 use Rattle.labels.specs.Label.{ReaderPolicy, Label, Covers, flows}
 use Rattle.labels.specs.LabelTable.{label_at}
-use Rattle.labels.specs.Constraints.{Lattice, Linked, label_lattice, report_some, reported_gathered, reported_steps}
-use Rattle.labels.specs.Constraints as formal
+use Rattle.lattices.specs.Lattice.{Lattice}
+use Rattle.lattices.specs.Constraints.{Linked, report_some, reported_gathered, reported_steps}
+use Rattle.labels.specs.LabelLattice.{label_lattice}
+use Rattle.lattices.specs.Constraints as formal
 use Rattle.resolved.specs.declared.target.Target.{Target}
 use Rattle.resolved.specs.declared.program.Core.{Core}
 use Rattle.resolved.specs.CoreOf.{program_of}
@@ -64,18 +66,6 @@ picked-reported {V} l table constraints (i ∷ indices) (c ∷ chain) picks =
     ap report_of found.1 ∙ ap (λ (d : formal.Constraint (Option Target) ℕ V). report_some reported_step d.at d.rule d.target) found.2 in
     ap (λ steps. steps ++ flat_map (report_at constraints) indices) here
     ∙ ap (λ steps. report_some reported_step c.at c.rule c.target ++ steps) (picked-reported l table constraints indices chain picks.1)
-
--- one more index of a chain
-pub steps-next : (constraints : List (Constraint (Option Target))) (chain : List ℕ) (k index : ℕ) (steps : List Step) (found : Option Step) →
-    k < length chain → index ≡ get_or chain k 0 → reported_of found ≡ report_at constraints index →
-    map reported_by steps ≡ flat_map (report_at constraints) (take k chain) →
-    map reported_by steps ++ reported_of found ≡ flat_map (report_at constraints) (take (k + 1) chain)
-steps-next constraints chain k index steps found inside is reported before =
-    let f = report_at constraints in
-    let i = get_or chain k 0 in
-    ap (λ done. done ++ reported_of found) before
-    ∙ (ap (λ more. flat_map f (take k chain) ++ more) (reported ∙ (ap f is ∙ sym (append-nil (f i))))
-    ∙ (sym (flat_map-append f (take k chain) (i ∷ [])) ∙ ap (flat_map f) (sym (take_more chain k 0 inside))))
 
 -- a label that does not flow somewhere is one of the table
 pub from-inside : (h : PrincipalHierarchy) (table : List Label) (n : ℕ) (to : Label) → IsFalse (flows h (slice_index_or table n []) to) → n < length table

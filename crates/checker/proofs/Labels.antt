@@ -1,9 +1,10 @@
 -- What the solver's values for the constraints that were gathered from a program are for the program.
 use Rattle.std.proofs.Common.{◌≡◌, ℕ, ◌==◌, subst, List, arith}
 use Rattle.labels.specs.Label.{Label}
-use Rattle.labels.specs.Constraints.{FitsAll, IsLeast, label_lattice}
+use Rattle.lattices.specs.Constraints.{FitsAll, IsLeast}
+use Rattle.labels.specs.LabelLattice.{label_lattice}
 use Rattle.labels.proofs.FlowTests.{IsLattice-flows}
-use Rattle.labels.proofs.Gathered.{least-same}
+use Rattle.lattices.proofs.Gathered.{least-same}
 use Rattle.resolved.specs.Program.{Program}
 use Rattle.resolved.specs.Flow.{AreGathered, AreLeast, Gathered}
 use Rattle.resolved.specs.Labelled.{Labelled, Unwritten, program_demands}

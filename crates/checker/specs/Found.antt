@@ -8,25 +8,25 @@ use Rattle.types.specs.declared.fault.TypeRefusal.{TypeRefusal}
 use Rattle.resolved.specs.declared.fault.EndRefusal.{EndRefusal}
 use Rattle.acceptance.specs.Refused.{IsSourceRefused}
 use Rattle.acceptance.specs.declared.cause.Cause.TheVariants as causes
-use Rattle.checker.specs.declared.found.Found.{Found}
+use Rattle.checker.specs.declared.found.PhaseRefusal.{PhaseRefusal}
 
 -- what the phases refuse
-abbrev pub of_lex : LexRefusal → Found
+abbrev pub of_lex : LexRefusal → PhaseRefusal
 of_lex refusal = record { cause = causes.Lex refusal.defect; at = refusal.at }
 
-abbrev pub of_parse : ParseRefusal → Found
+abbrev pub of_parse : ParseRefusal → PhaseRefusal
 of_parse refusal = record { cause = causes.Parse refusal.defect; at = refusal.at }
 
-abbrev pub of_name : TypeRefusal → Found
+abbrev pub of_name : TypeRefusal → PhaseRefusal
 of_name refusal = record { cause = causes.Name refusal.defect; at = refusal.at }
 
-abbrev pub of_end : EndRefusal → Found
+abbrev pub of_end : EndRefusal → PhaseRefusal
 of_end refusal = record { cause = causes.End refusal.defect; at = refusal.at }
 
 -- the source is refused so
-abbrev pub IsFound : PrincipalHierarchy → (source : List ℕ) → Found → Type 0
+abbrev pub IsFound : PrincipalHierarchy → (source : List ℕ) → PhaseRefusal → Type 0
 IsFound h source found = IsSourceRefused h source found.cause found.at
 
 -- the source is refused before its labels are looked at: for another cause than that a flow is not allowed
-abbrev pub IsBeforeLabels : Found → Type 0
+abbrev pub IsBeforeLabels : PhaseRefusal → Type 0
 IsBeforeLabels found = found.cause ≢ causes.FlowNotAllowed

@@ -8,7 +8,7 @@ use Rattle.resolved.specs.Program.{Program}
 use Rattle.resolved.specs.EndFaults.{end_faults}
 use Rattle.resolved.specs.Labelled.{Demand}
 use Rattle.resolved.specs.Flow.{IsProgramRefused, ReportedStep, reported_step}
-use Rattle.labels.specs.Constraints.{reported_steps}
+use Rattle.lattices.specs.Constraints.{reported_steps}
 use Rattle.acceptance.specs.Accepted.{HasHierarchy, IsAccepted, IsResolvedFrom, StandFor}
 use Rattle.acceptance.specs.Refused.{AreTextsRefusedAt, IsHierarchyRefused, IsSourceRefused}
 use Rattle.acceptance.specs.declared.cause.Cause.{Cause}
@@ -16,6 +16,7 @@ use Rattle.acceptance.specs.declared.cause.Cause.TheVariants as causes
 use Rattle.acceptance.specs.declared.cause.Text.{Text}
 use Rattle.acceptance.specs.declared.cause.Text.TheVariants as texts
 use Rattle.lexer.specs.Position.{place_at}
+use Rattle.solver.specs.Rule.{rule_number}
 use Rattle.checker.specs.declared.fault.RefusedFlow.{RefusedFlow}
 use Rattle.checker.specs.declared.fault.Refusal.{Refusal}
 use Rattle.checker.specs.declared.fault.Step.{Step}
@@ -32,7 +33,7 @@ HasFlow refusal = (refusal.cause ≡ causes.FlowNotAllowed) ↔ IsSome refusal.f
 
 -- a step, as one of the definitions
 abbrev pub reported_by : Step → ReportedStep
-reported_by step = record { at = step.at; rule = step.rule; target = step.target }
+reported_by step = record { at = step.at; rule = rule_number step.rule; target = step.target }
 
 -- a program is refused: its policy, byte and steps are those of a chain to the first demand that no labels meet
 pub record ReportsFlow (flow : RefusedFlow) : Type 0 where

@@ -10,7 +10,7 @@ ghost use Rattle.resolved.specs.EndFaults.{end_faults};
 ghost use Rattle.std.specs.Prelude.{IfErr, IfOk, [], ◌≡◌};
 ghost use Rattle.syntax.specs.Tree.{program_tree};
 
-use crate::found::Found;
+use crate::found::PhaseRefusal;
 use acceptance::Cause;
 use common::OrNoMemory;
 use common::limits::MAX_TEXT;
@@ -35,7 +35,7 @@ pub(crate) fn analyse(
     alloc: Global,
     hierarchy: &Hierarchy,
     source: &str,
-) -> Result<Analysed, OrNoMemory<Found>>
+) -> Result<Analysed, OrNoMemory<PhaseRefusal>>
     // The program is the one that the source stands for, and has no fault of its ends.
     ensures resolved { IfOk result (λ analysed.
         IsResolvedFrom hierarchy.now source.now (program_of analysed.core)) }
@@ -50,7 +50,7 @@ pub(crate) fn analyse(
     ensures before_labels { IfErr result (IfRefused IsBeforeLabels) }
 {
     if source.len() > MAX_TEXT {
-        return Err(OrNoMemory::Refused(Found {
+        return Err(OrNoMemory::Refused(PhaseRefusal {
             cause: Cause::TextTooLong,
             at: 0,
         }));
@@ -62,7 +62,7 @@ pub(crate) fn analyse(
 }
 
 // The tree that a source spells, whose names are slices of it.
-fn read(alloc: Global, source: &str) -> Result<syntax::Program<'_>, OrNoMemory<Found>>
+fn read(alloc: Global, source: &str) -> Result<syntax::Program<'_>, OrNoMemory<PhaseRefusal>>
     requires text { IsText source.now }
     ensures spelled { IfOk result (λ tree. IsTreeOf source.now (program_tree tree)) }
     ensures first_fault { (h : PrincipalHierarchy) → IfErr result (IfRefused

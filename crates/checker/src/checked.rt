@@ -1,7 +1,7 @@
 //! An accepted program with its least labels.
 ghost use Rattle.checker.specs.Checked.{IsChecked, IsLabelOfLocal, IsLocalOf, least_value};
 ghost use Rattle.gathering.specs.Names.{unknowns_before};
-ghost use Rattle.labels.specs.Constraints.{label_lattice};
+ghost use Rattle.labels.specs.LabelLattice.{label_lattice};
 ghost use Rattle.resolved.specs.CoreOf.{program_of};
 ghost use Rattle.solver.specs.Constraints.{AreAlike};
 ghost use Rattle.std.specs.Prelude.{IfOk, IfSome, IsSome, length, ◌<◌, ◌≡◌, ◌↔◌};

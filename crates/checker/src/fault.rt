@@ -10,6 +10,7 @@ use labels::Policy;
 use lexer::{Place, place};
 use resolved::program::Core;
 use resolved::target::Target;
+use solver::Rule;
 use std::error::Error;
 use std::fmt;
 
@@ -18,8 +19,8 @@ use std::fmt;
 pub struct Step {
     /// The byte of what asks for it.
     pub at: usize,
-    /// The number of the rule of labels that asks for it.
-    pub rule: u8,
+    /// The rule of labels that asks for it.
+    pub rule: Rule,
     /// What its value flows to.
     pub target: Target,
 }

@@ -1,10 +1,11 @@
 //! What is reported of a program whose constraints the solver refuses: the policy, and the steps of the chain.
 ghost use Rattle.checker.specs.Reported.{ReportsFlow, reported_by};
 ghost use Rattle.checker.specs.Steps.{report_at, reported_of};
-ghost use Rattle.labels.specs.Constraints.{label_lattice};
+ghost use Rattle.labels.specs.LabelLattice.{label_lattice};
 ghost use Rattle.resolved.specs.CoreOf.{program_of};
 ghost use Rattle.resolved.specs.Flow.{AreGathered, reported_step};
 ghost use Rattle.solver.specs.Links.{InRange};
+ghost use Rattle.solver.specs.Rule.{rule_number};
 ghost use Rattle.solver.specs.Constraints.{IsSolveRefusal, constraints_of};
 ghost use Rattle.std.specs.Prelude.{IfOk, flat_map, length, map, ◌≡◌};
 
@@ -12,7 +13,7 @@ use crate::fault::{RefusedFlow, Step};
 use constraints::LabelConstraints;
 use resolved::program::Core;
 use resolved::target::Target;
-use solver::{Atom, Constraint, SolveRefusal};
+use solver::{Atom, Constraint, Rule, SolveRefusal};
 use std::alloc::{AllocError, Global};
 
 /// The flow for which a program is refused.
@@ -81,8 +82,8 @@ fn step_at(constraints: &[Constraint<Option<Target>>], index: usize) -> Option<S
 }
 
 // What is reported of a step to a target: nothing of one to the label of a loop, which has no name.
-fn step_to(at: usize, rule: u8, target: Target) -> Option<Step>
-    ensures { reported_of result ≡ reported_step at rule target }
+fn step_to(at: usize, rule: Rule, target: Target) -> Option<Step>
+    ensures { reported_of result ≡ reported_step at (rule_number rule) target }
 {
     let step = Step { at, rule, target };
     match target {

@@ -11,49 +11,49 @@ use types::TypeRefusal;
 
 /// Why a phase refuses a source, and the byte at which that stands.
 #[derive(Clone, Copy)]
-pub(crate) struct Found {
+pub(crate) struct PhaseRefusal {
     pub cause: Cause,
     pub at: usize,
 }
 
-impl From<LexRefusal> for Found {
+impl From<LexRefusal> for PhaseRefusal {
     ghost from_gives = { λ refusal given. given ≡ of_lex refusal };
 
-    fn from(refusal: LexRefusal) -> Found {
-        Found {
+    fn from(refusal: LexRefusal) -> PhaseRefusal {
+        PhaseRefusal {
             cause: Cause::Lex(refusal.defect),
             at: refusal.at,
         }
     }
 }
 
-impl From<ParseRefusal> for Found {
+impl From<ParseRefusal> for PhaseRefusal {
     ghost from_gives = { λ refusal given. given ≡ of_parse refusal };
 
-    fn from(refusal: ParseRefusal) -> Found {
-        Found {
+    fn from(refusal: ParseRefusal) -> PhaseRefusal {
+        PhaseRefusal {
             cause: Cause::Parse(refusal.defect),
             at: refusal.at,
         }
     }
 }
 
-impl From<TypeRefusal> for Found {
+impl From<TypeRefusal> for PhaseRefusal {
     ghost from_gives = { λ refusal given. given ≡ of_name refusal };
 
-    fn from(refusal: TypeRefusal) -> Found {
-        Found {
+    fn from(refusal: TypeRefusal) -> PhaseRefusal {
+        PhaseRefusal {
             cause: Cause::Name(refusal.defect),
             at: refusal.at,
         }
     }
 }
 
-impl From<EndRefusal> for Found {
+impl From<EndRefusal> for PhaseRefusal {
     ghost from_gives = { λ refusal given. given ≡ of_end refusal };
 
-    fn from(refusal: EndRefusal) -> Found {
-        Found {
+    fn from(refusal: EndRefusal) -> PhaseRefusal {
+        PhaseRefusal {
             cause: Cause::End(refusal.defect),
             at: refusal.at,
         }

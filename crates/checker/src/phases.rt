@@ -17,7 +17,7 @@ use crate::analysing::{Analysed, analyse};
 use crate::checked::Checked;
 use crate::fault::{Fault, RefusedFlow, refusal_at};
 use crate::flow::flow_of;
-use crate::found::Found;
+use crate::found::PhaseRefusal;
 use acceptance::laws::resolved_programs_have_names;
 use acceptance::{Cause, Text};
 use common::OrNoMemory;
@@ -61,7 +61,7 @@ pub fn check(alloc: Global, hierarchy: &Hierarchy, source: &str) -> Result<Check
     let analysed = match analyse(alloc, hierarchy, source) {
         Ok(analysed) => analysed,
         Err(OrNoMemory::NoMemory) => return Err(OrNoMemory::NoMemory),
-        Err(OrNoMemory::Refused(Found { cause, at })) => {
+        Err(OrNoMemory::Refused(PhaseRefusal { cause, at })) => {
             let bytes = source.as_bytes();
             let refusal = refusal_at(Text::Source, bytes, cause, at, None);
             return Err(OrNoMemory::Refused(refusal));

@@ -1,2 +1,3 @@
 pub mod Cases
 pub mod Casting
+pub mod Elements

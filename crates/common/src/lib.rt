@@ -1,5 +1,5 @@
-//! What several crates share, and what knows none of them: the directions of channels, limits, the built-in exceptions, and the
-//! shape of faults.
+//! What several crates share, and what knows none of them: the directions of channels, what was sent on one, limits, the
+//! built-in exceptions, and the shape of faults.
 #![tactic(auto)]
 
 pub mod direction;
@@ -7,8 +7,10 @@ pub mod exceptions;
 pub mod fault;
 pub mod laws;
 pub mod limits;
+pub mod sent;
 pub mod version;
 
 pub use direction::Direction;
 pub use fault::OrNoMemory;
+pub use sent::Pair;
 pub use version::VERSION;

@@ -4,10 +4,8 @@ use Rattle.principals.specs.ActsFor.{ActsFor, PrincipalHierarchy}
 use Rattle.isolation.specs.Larger.{IsolatedUnderLarger}
 use Rattle.resolved.specs.Program.{Program}
 use Rattle.modules.specs.Contents.{ModuleContents}
-use Rattle.bytecode.specs.Decoded.{refusal_of}
 use Rattle.modules.specs.Form.{Spells}
 use Rattle.modules.specs.Format.{module_file}
-use Rattle.bytecode.proofs.Both.{module_again}
 use Rattle.layout.specs.Offsets.{laid_out}
 use Rattle.layout.specs.Runs.{graph_after_steps}
 use Rattle.layout.specs.SameRuns.{SameInterface, SameRuns}
@@ -35,7 +33,6 @@ module _ (program : Program) (graph m : ModuleContents) (interface : HasInterfac
   code_of_module code is runs kept no_defect never_stuck spelled isolated =
       let meaning = layout-keeps program graph m kept runs in
       record {
-        not_refused = ap (refusal_of code) (module_again code m spelled);
         contents = m;
         spelled = spelled;
         no_defect = subst HasNoDefect (sym is) no_defect;

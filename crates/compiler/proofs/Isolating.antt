@@ -1,7 +1,7 @@
 -- A module that keeps the meaning of a program that is isolated under every larger hierarchy stays isolated.
 use Rattle.labels.specs.Sent.{OneIsPrefix}
 use Rattle.std.proofs.Common.{List, sym, subst}
-use Rattle.labels.specs.declared.sent.Pair.{Pair}
+use Rattle.common.specs.declared.sent.Pair.{Pair}
 use Rattle.labels.proofs.Prefixes.{prefixes-of-two, seen-prefix}
 use Rattle.isolation.specs.Larger.{IsolatedUnderLarger}
 use Rattle.resolved.specs.Meaning.{sent_by}

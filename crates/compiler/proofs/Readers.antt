@@ -2,7 +2,7 @@
 use Rattle.std.proofs.Common.{◌≡◌, ℕ, zero, suc, ◌<◌, List, [], ◌∷◌, length, map, filter, slice_get, slice_index_or, Option, Some, refl, sym, ap, subst, ◌∙◌, arith}
 use Rattle.std.specs.Prelude.{Contains, option_and_then, unwrap_or}
 use Rattle.principals.specs.ActsFor.{PrincipalHierarchy, ContainsHierarchy, number_of}
-use Rattle.labels.specs.declared.sent.Pair.{Pair}
+use Rattle.common.specs.declared.sent.Pair.{Pair}
 use Rattle.labels.specs.Carried.{carried_label, label_under}
 use Rattle.labels.specs.Label.{may_read}
 use Rattle.labels.specs.Sent.{pairs_for}

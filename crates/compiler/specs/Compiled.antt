@@ -1,10 +1,9 @@
 -- What bytes are to the program and to the two texts that they were compiled from.
 -- Source: our own; the correctness of a compiler, and isolation carried to what a machine sends (noninterference after Volpano,
 -- Smith and Irvine 1996).
-use Rattle.std.specs.Prelude.{◌≡◌, ℕ, List, None}
+use Rattle.std.specs.Prelude.{ℕ, List}
 use Rattle.resolved.specs.Program.{Program}
 use Rattle.modules.specs.Contents.{ModuleContents}
-use Rattle.bytecode.specs.Decoded.{first_refusal}
 use Rattle.modules.specs.Form.{Spells}
 use Rattle.modules.specs.Format.{module_file}
 use Rattle.modules.specs.Isolated.{StaysIsolated}
@@ -15,11 +14,10 @@ use Rattle.lowering.specs.Interface.{HasInterfaceOf}
 use Rattle.lowering.specs.SameMeaning.{SameMeaning}
 use Rattle.acceptance.specs.Accepted.{StandFor}
 
--- bytes are code of a program: no decoder refuses them, and they spell a module; no verifier refuses it, and no run of it is ever
--- stuck; it has the version of the program, and its principals, channels and exceptions; on every world it sends what the program
--- sends, and ends as the program ends; and it is isolated under every hierarchy that contains its own
+-- bytes are code of a program: they spell a module, so that no decoder refuses them; no verifier refuses it, and no run of it is
+-- ever stuck; it has the version of the program, and its principals, channels and exceptions; on every world it sends what the
+-- program sends, and ends as the program ends; and it is isolated under every hierarchy that contains its own
 pub record IsCodeOf (program : Program) (code : List ℕ) : Type 0 where
-  pub not_refused : first_refusal code ≡ None
   pub contents : ModuleContents
   pub spelled : Spells module_file contents code
   pub no_defect : HasNoDefect contents

@@ -13,6 +13,7 @@ use Rattle.gathering.specs.Walk.{flow, flows, raised_flows, raised_once}
 use Rattle.path_map.specs.declared.raises.Raises.{Raises}
 use Rattle.path_map.specs.Exceptions.{AreRaised, is_one_of, raised_list}
 use Rattle.solver.specs.declared.constraints.Atom.{Atom}
+use Rattle.solver.specs.Rule.{rule_number}
 use Rattle.constraints.specs.LeftSides.{part, left_parts}
 use Rattle.constraints.specs.Added.{AreAdded, IsLeft, IsPart, PartConstraint, Stored, flow_if, stand_for, stands_for, wanted_constraint}
 
@@ -20,7 +21,7 @@ pub added-none : (core : Core) (table : List Label) (old : List Stored) → AreA
 added-none core table old = sym (append-nil (stand_for table old))
 
 -- one more
-pub stands-made : (table : List Label) (c : Stored) (wanted : PartConstraint) → c.at ≡ wanted.at → c.rule ≡ wanted.rule → left_parts table c.left.items ≡ wanted.left
+pub stands-made : (table : List Label) (c : Stored) (wanted : PartConstraint) → c.at ≡ wanted.at → rule_number c.rule ≡ wanted.rule → left_parts table c.left.items ≡ wanted.left
     → c.target ≡ wanted.target → part table c.right ≡ wanted.right → stands_for table c ≡ wanted
 stands-made table c wanted at rule left target right = rw (at, rule, left, target, right) refl
 

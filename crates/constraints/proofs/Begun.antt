@@ -22,7 +22,7 @@ use Rattle.constraints.specs.Takers.{AreLevelled, entry_in_try, no_entry, takers
 use Rattle.constraints.specs.Walked.{IsTried, IsWalked}
 use Rattle.constraints.specs.declared.pieces.Tried.{Tried}
 use Rattle.constraints.specs.declared.progress.Progress.{Progress}
-use Rattle.constraints.specs.declared.takers.Entry.{Entry}
+use Rattle.constraints.specs.declared.takers.Taker.{Taker}
 use Rattle.constraints.specs.declared.takers.Takers.{Takers}
 use Rattle.constraints.proofs.Added.{added-none, added-same}
 use Rattle.constraints.proofs.Noted.{handled-ones, noted-journal, unhandled-stay}
@@ -34,7 +34,7 @@ use Rattle.constraints.proofs.Taken.{numbers-same, try-levels, try-takers}
 
 module _ (core : Core) (table : List Label) (entries : List Exits) where
   -- the entry of a block or statement, and the flow of its pc
-  pub begun : (pc : Atom) (takers : Takers) (exits : Exits) (thrown : List Entry) (ends : List Exit) (old middle new : Progress)
+  pub begun : (pc : Atom) (takers : Takers) (exits : Exits) (thrown : List Taker) (ends : List Exit) (old middle new : Progress)
       → drop old.index entries ≡ exits ∷ drop middle.index entries → middle ≡ record old { index = middle.index } → thrown ≡ middle.thrown.items
       → new.index ≡ middle.index → new.number ≡ middle.number → new.thrown.items ≡ middle.thrown.items → new.journal ≡ middle.journal
       → (exits ≡ exits_of ends → IsGatheredAt core table pc (λ named. single (one_end ends) named (takers_of takers thrown) ends) middle.constraints.items new.constraints.items)
@@ -55,7 +55,7 @@ module _ (core : Core) (table : List Label) (entries : List Exits) where
       })
 
   -- what is gathered with inner unknowns that are made for it
-  pub made-thinned : (pc : Atom) (takers : Takers) (thrown : List Entry) (k first : ℕ) (gathered : List Entry → ℕ → NamedAtom → List NamedConstraint) (old middle new : Progress)
+  pub made-thinned : (pc : Atom) (takers : Takers) (thrown : List Taker) (k first : ℕ) (gathered : List Taker → ℕ → NamedAtom → List NamedConstraint) (old middle new : Progress)
       → middle ≡ record old { number = old.number + k } → first ≡ old.number → thrown ≡ middle.thrown.items
       → new.index ≡ middle.index → new.number ≡ middle.number → new.thrown.items ≡ middle.thrown.items
       → IsThinnedAt core table pc (gathered thrown first) middle new
@@ -72,7 +72,7 @@ module _ (core : Core) (table : List Label) (entries : List Exits) where
         thrown_is = thrown_is ∙ ap (λ (p : Progress). p.thrown.items) made;
       })
 
-  pub made-walked : (pc : Atom) (takers : Takers) (thrown : List Entry) (k first : ℕ) (gathered : List Entry → ℕ → NamedAtom → List NamedConstraint) (old middle new : Progress)
+  pub made-walked : (pc : Atom) (takers : Takers) (thrown : List Taker) (k first : ℕ) (gathered : List Taker → ℕ → NamedAtom → List NamedConstraint) (old middle new : Progress)
       → middle ≡ record old { number = old.number + k } → first ≡ old.number → thrown ≡ middle.thrown.items
       → new.index ≡ middle.index → new.number ≡ middle.number → new.thrown.items ≡ middle.thrown.items → new.journal ≡ middle.journal
       → IsGatheredAt core table pc (gathered thrown first) middle.constraints.items new.constraints.items
@@ -100,7 +100,7 @@ module _ (core : Core) (table : List Label) (entries : List Exits) where
       (ap (λ b. block_constraints (scope_of core procedure) b named (takers_of takers old.thrown.items) n Empty) is) (added named stands))
 
 -- handlers that took their exceptions
-pub try-begun : (takers : Takers) (handlers : List Handler) (thrown noting : List Entry) (first level : ℕ) (old middle new : Progress) (tried : Tried)
+pub try-begun : (takers : Takers) (handlers : List Handler) (thrown noting : List Taker) (first level : ℕ) (old middle new : Progress) (tried : Tried)
     → middle ≡ record old { number = old.number + length handlers } → first ≡ old.number
     → tried.takers ≡ record takers { level = takers.level + 1 } → level ≡ takers.level + 1
     → undone tried.saved.items new.thrown.items ≡ middle.thrown.items

@@ -1,14 +1,14 @@
 -- Walks past procedures, one after the other.
 use Rattle.std.proofs.Common.{◌≡◌, refl, sym, ap, ◌∙◌, subst, ℕ, zero, suc, ◌+◌, ◌<◌, ◌≤◌, List, [], ◌∷◌, ◌++◌, map, take, drop, length, get_or, replicate, flat_map, Bool, true, false, arith, append_assoc, append-nil, add-one}
 use Rattle.std.specs.Prelude.{Contains, if◌then◌else◌, string_bytes, sum_by}
-use Rattle.principals.proofs.Closure.{none_in_nil}
+use Rattle.common.proofs.Elements.{none_in_nil}
 use Rattle.std.proofs.lemmas.List.{get_or-map, length-map, length-replicate, length-take-le, map-append, take-map, take_all}
 use Rattle.std.proofs.lemmas.List.Sums.{AllPass-from_list_all, sum_by-cons}
 use Rattle.common.proofs.Cases.{map_next}
 use Rattle.common.specs.declared.exceptions.TheConstants.{BUILT_IN}
 use Rattle.common.specs.declared.limits.TheConstants.{MAX_TEXT}
 use Rattle.labels.specs.Label.{Label}
-use Rattle.labels.specs.Constraints.{renamed}
+use Rattle.lattices.specs.Constraints.{renamed}
 use Rattle.resolved.specs.CoreOf.{program_of}
 use Rattle.resolved.specs.Labelled.{Scope, here, label_of}
 use Rattle.resolved.specs.Program.{ProcedureEntry, Program, ThrownEntry}
@@ -23,9 +23,8 @@ use Rattle.resolved.specs.declared.statement.Statement as S
 use Rattle.resolved.specs.declared.tables.Procedure.{Procedure}
 use Rattle.resolved.specs.declared.tables.Thrown.{Thrown}
 use Rattle.resolved.specs.declared.target.Target.TheVariants.{ToBegin, ToEnd}
-use Rattle.path_map.specs.Exits.{exits_of}
+use Rattle.path_map.specs.Exits.{exits_of, Exits}
 use Rattle.path_map.specs.Paths.{block_paths, program_paths}
-use Rattle.path_map.specs.Exits.{Exits}
 use Rattle.path_map.proofs.Procedures.{next-procedure}
 use Rattle.gathering.specs.Names.{NamedAtom, NamedConstraint, Real, real_unknowns}
 use Rattle.gathering.specs.Walk.{at_end, constraints_from, declares, end_constraints, end_takers, has_one_end, inner_atom, inner_block, made_by_block, made_by_procedure, made_from, nowhere, procedure_constraints, program_constraints, rule_constraint, thrown_constraints, thrown_number, unknown_count}
@@ -41,7 +40,7 @@ use Rattle.constraints.specs.Journals.{AreOrdered, AreUpTo, IsUpToDate, entry_fr
 use Rattle.constraints.specs.declared.journal.Journal.{Journal}
 use Rattle.constraints.specs.Walked.{HasPassed, IsBlockWalked}
 use Rattle.constraints.specs.declared.progress.Progress.{Progress}
-use Rattle.constraints.specs.declared.takers.Entry.{Entry}
+use Rattle.constraints.specs.declared.takers.Taker.{Taker}
 use Rattle.constraints.specs.declared.takers.Takers.{Takers}
 use Rattle.constraints.proofs.Added.{added-none, added-same, added-then}
 use Rattle.constraints.proofs.Noted.{declared-ones, noted-journal, undeclared-stay}
@@ -51,7 +50,7 @@ use Rattle.constraints.proofs.Small.{program-small}
 use Rattle.constraints.proofs.Declared.{taken-within, takers-at-end, thrown-numbers}
 
 -- ---- a procedure
-levelled : (n barrier : ℕ) (only : Bool) (thrown : List Entry) → AreWithin (suc barrier) thrown
+levelled : (n barrier : ℕ) (only : Bool) (thrown : List Taker) → AreWithin (suc barrier) thrown
     → AreLevelled (end_takers_of n barrier (suc barrier) only) thrown
 levelled n barrier true thrown within = record { barrier_is_within = omega arith; entries_are_within = within }
 levelled n barrier false thrown within = record { barrier_is_within = omega arith; entries_are_within = within }
@@ -69,7 +68,7 @@ ends-none core table f n only constraints is one =
     (ap (λ b. if b then [] else own_end_constraints scope n (λ x. thrown_number (here scope).throws (suc n) x)) (sym is ∙ one))
     (added-none core table constraints)
 
-pub ends-added : (core : Core) (table : List Label) (f n level : ℕ) (only : Bool) (procedure : Procedure) (throws : List Thrown) (had taken given : List Entry) (old middle new : List Stored)
+pub ends-added : (core : Core) (table : List Label) (f n level : ℕ) (only : Bool) (procedure : Procedure) (throws : List Thrown) (had taken given : List Taker) (old middle new : List Stored)
     → IsOf core f procedure → only ≡ has_one_end (scope_of core f) → only ≡ false
     → AreDeclaredTakers (here (scope_of core f)).throws (suc n) level had taken → throws ≡ procedure.throws.items → given ≡ taken
     → AreAdded core table (rule_constraint (scope_of core f) procedure.at 13 (inner_atom n ∷ []) (ToEnd f)) old middle
@@ -90,7 +89,7 @@ ends-added core table f n level only procedure throws had taken given old middle
     ∙ ap (λ at. end at ++ thrown_constraints scope (number_in given) (map (thrown_entry core.labels) throws)) (sym at_is)))))
     (added-then core table (end procedure.at) (thrown_constraints scope (number_in given) (map (thrown_entry core.labels) throws)) old middle new first (second at_is))
 
-pub procedure-passed : (core : Core) (table : List Label) (entries : List Exits) (f barrier level start count : ℕ) (procedure : Procedure) (throws noted : List Thrown) (noting : List Entry) (block : List S.Statement) (pc : Atom) (takers : Takers) (only : Bool) (left : List Exits) (old middle walked new : Progress)
+pub procedure-passed : (core : Core) (table : List Label) (entries : List Exits) (f barrier level start count : ℕ) (procedure : Procedure) (throws noted : List Thrown) (noting : List Taker) (block : List S.Statement) (pc : Atom) (takers : Takers) (only : Bool) (left : List Exits) (old middle walked new : Progress)
     → IsOf core f procedure
     → drop old.index entries ≡ map exits_of (block_paths (program_of core) (here (scope_of core f)).body) ++ left
     → AreWithin barrier old.thrown.items
@@ -108,7 +107,7 @@ pub procedure-passed : (core : Core) (table : List Label) (entries : List Exits)
     → ((b : ℕ) → b < level → AreWithin b old.thrown.items → AreDeclaredTakers (map (thrown_entry core.labels) throws) start level old.thrown.items middle.thrown.items)
     → IsBlockWalked core table entries f pc takers (block_of block) middle walked
     → StaysInPlace walked new
-    → ((l : ℕ) (had : List Entry) → IsOf core f procedure → only ≡ has_one_end (scope_of core f)
+    → ((l : ℕ) (had : List Taker) → IsOf core f procedure → only ≡ has_one_end (scope_of core f)
     → AreDeclaredTakers (here (scope_of core f)).throws (suc old.number) l had walked.thrown.items
     → AreAdded core table (end_constraints (scope_of core f) old.number) walked.constraints.items new.constraints.items)
     → HasPassedProcedure core table entries f (suc barrier) left old new
@@ -304,7 +303,7 @@ replicate-read (suc n) zero = refl
 replicate-read (suc n) (suc x) = replicate-read n x
 
 -- the next call of a walk before which nothing was noted
-none-noted : (journal : Journal) (thrown : List Entry) (n : ℕ)
+none-noted : (journal : Journal) (thrown : List Taker) (n : ℕ)
     → journal.calls.items ≡ [] → ((x : ℕ) → moments_at journal.moments.items x ≡ []) → length journal.moments.items ≡ n → thrown ≡ replicate n no_entry
     → IsUpToDate journal thrown
 none-noted journal thrown n calls moments rows thrown_are = record {
@@ -331,7 +330,7 @@ passed-none core table entries n progress mapped index number constraints thrown
   entries_left = ap (λ k. drop k entries) index ∙ mapped;
   number_is = omega (arith, number);
   low = omega arith;
-  within = λ x. subst (λ (e : Entry). e.level ≤ 0) (sym (ap (λ list. get_or list x no_entry) thrown ∙ replicate-read n x)) (omega arith);
+  within = λ x. subst (λ (e : Taker). e.level ≤ 0) (sym (ap (λ list. get_or list x no_entry) thrown ∙ replicate-read n x)) (omega arith);
   wide =
       let width : length progress.thrown.items ≡ n = ap length thrown ∙ length-replicate n no_entry in
       omega (arith, width, count, length-map core.exceptions.items string_bytes);

@@ -6,7 +6,7 @@ use Rattle.std.specs.Global.{Global}
 use Rattle.std.proofs.lemmas.Bool.{cases_eq}
 use Rattle.std.proofs.lemmas.List.{length-append, length-set, take_more}
 use Rattle.std.proofs.lemmas.List.Elements.{Contains-append_cases, Contains-append_left, Contains-append_right}
-use Rattle.principals.proofs.Closure.{none_in_nil, Contains-cons_cases, Contains-first}
+use Rattle.common.proofs.Elements.{none_in_nil, Contains-cons_cases, Contains-first}
 use Rattle.constraints.specs.Spreading.{AreCallsOf, AreRowsOf, all_calls, calls_at}
 use Rattle.constraints.specs.declared.journal.Called.{Called}
 

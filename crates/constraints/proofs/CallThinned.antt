@@ -6,9 +6,9 @@ use Rattle.std.specs.declared.vec.Vec.{Vec}
 use Rattle.std.proofs.lemmas.Bool.{le-leb}
 use Rattle.std.proofs.lemmas.List.Elements.{Contains-append_cases, Contains-append_left, Contains-append_right}
 use Rattle.common.proofs.Cases.{contained_map, contained_map_only}
-use Rattle.principals.proofs.Closure.{none_in_nil, Contains-cons_cases, Contains-first, Contains-later}
+use Rattle.common.proofs.Elements.{none_in_nil, Contains-cons_cases, Contains-first, Contains-later}
 use Rattle.labels.specs.Label.{Label}
-use Rattle.labels.specs.Constraints.{is_inner, outer}
+use Rattle.lattices.specs.Constraints.{is_inner, outer}
 use Rattle.resolved.specs.declared.expression.Variable.{Variable}
 use Rattle.resolved.specs.declared.program.Core.{Core}
 use Rattle.resolved.specs.declared.statement.Exit.TheVariants.{Normal, Throw}
@@ -34,7 +34,7 @@ use Rattle.constraints.specs.declared.journal.Called.{Called}
 use Rattle.constraints.specs.declared.journal.Journal.{Journal}
 use Rattle.constraints.specs.declared.journal.Moment.{Moment}
 use Rattle.constraints.specs.declared.progress.Progress.{Progress}
-use Rattle.constraints.specs.declared.takers.Entry.{Entry}
+use Rattle.constraints.specs.declared.takers.Taker.{Taker}
 use Rattle.constraints.specs.declared.takers.Takers.{Takers}
 use Rattle.constraints.proofs.Called.{flows-append}
 use Rattle.constraints.proofs.Thinned.{raised-by}
@@ -117,7 +117,7 @@ call-splits scope pc takers n at callee arguments target =
     ap (λ x. a ++ (b ++ (c ++ (d ++ x)))) ends ∙ append-five a b c d e f
 
 -- ---- the entries at the next call
-from-upto : (ms : List Moment) (last call : ℕ) (old : Entry) → AreUpTo last ms → last ≤ call → entry_from ms call old ≡ entry_from ms last old
+from-upto : (ms : List Moment) (last call : ℕ) (old : Taker) → AreUpTo last ms → last ≤ call → entry_from ms call old ≡ entry_from ms last old
 from-upto [] last call old upto least = refl
 from-upto (m ∷ ms) last call old upto least =
     let first : m.call ≤ last = upto m (Contains-first m ms) in
@@ -127,7 +127,7 @@ from-upto (m ∷ ms) last call old upto least =
     ∙ from-upto ms last call m.entry (λ y k. upto y (Contains-later m ms y k)) least
     ∙ sym (ap (λ b. entry_from ms last (if b then m.entry else old)) there)
 
-module _ (core : Core) (table : List Label) (procedure : ℕ) (pc : NamedAtom) (takers : Takers) (thrown : List Entry) (number at callee : ℕ) (arguments : List Expression) (target : Option Variable) where
+module _ (core : Core) (table : List Label) (procedure : ℕ) (pc : NamedAtom) (takers : Takers) (thrown : List Taker) (number at callee : ℕ) (arguments : List Expression) (target : Option Variable) where
   abbrev called_at : (call : ℕ) → Called
   called_at call = record { callee = callee; barrier = takers.ends.raised; own = number; call = call }
 

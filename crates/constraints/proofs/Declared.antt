@@ -19,14 +19,14 @@ use Rattle.constraints.specs.Added.{AreAdded, Stored}
 use Rattle.constraints.specs.LeftSides.{scope_of}
 use Rattle.constraints.specs.Procedures.{AreDeclaredTakers, declared_entry, end_takers_of, number_in}
 use Rattle.constraints.specs.Takers.{AreWithin, entry_after, no_entry, taker_of, takers_of}
-use Rattle.constraints.specs.declared.takers.Entry.{Entry}
+use Rattle.constraints.specs.declared.takers.Taker.{Taker}
 use Rattle.constraints.proofs.Added.{added-same, added-then}
 
-abbrev entry_at : (n level : ℕ) → Entry
+abbrev entry_at : (n level : ℕ) → Taker
 entry_at n level = record { number = n; level = level }
 
 -- ---- one more
-declared-append : (xs : List ThrownEntry) (x : ThrownEntry) (n level e : ℕ) (old : Entry) → (old.level == level) ≡ false
+declared-append : (xs : List ThrownEntry) (x : ThrownEntry) (n level e : ℕ) (old : Taker) → (old.level == level) ≡ false
     → declared_entry (xs ++ x ∷ []) n level e old ≡ entry_after x.exception (entry_at (n + length xs) level) e (declared_entry xs n level e old)
 declared-append [] x n level e old free =
     let same : n + 0 ≡ n = omega arith in
@@ -57,7 +57,7 @@ declared-append (y ∷ xs) x n level e old free =
     go true rest = taken (e == x.exception)
     go false rest = rest ∙ ap (λ k. entry_after x.exception (entry_at k level) e (declared_entry xs (suc n) level e old)) total
 
-pub declared-next : (labels : List Label) (throws : List Thrown) (i : ℕ) (x : Thrown) (n number level e : ℕ) (before after old : Entry)
+pub declared-next : (labels : List Label) (throws : List Thrown) (i : ℕ) (x : Thrown) (n number level e : ℕ) (before after old : Taker)
     → i < length throws → x ≡ get_or throws i x → number ≡ n + i → (old.level == level) ≡ false
     → before ≡ declared_entry (map (thrown_entry labels) (take i throws)) n level e old
     → after ≡ entry_after x.exception (entry_at number level) e before
@@ -72,7 +72,7 @@ declared-next labels throws i x n number level e before after old inside is coun
     ∙ ap (λ list. declared_entry list n level e old) (sym (map_next (thrown_entry labels) throws i x inside is)))))
 
 -- a level that no entry has
-pub level-free : (barrier level : ℕ) (old : Entry) → barrier < level → old.level ≤ barrier → (old.level == level) ≡ false
+pub level-free : (barrier level : ℕ) (old : Taker) → barrier < level → old.level ≤ barrier → (old.level == level) ≡ false
 level-free barrier level old below within = go (old.level == level) refl
   where
     go : (b : Bool) → (old.level == level) ≡ b → b ≡ false
@@ -80,7 +80,7 @@ level-free barrier level old below within = go (old.level == level) refl
     go false is = refl
 
 -- ---- the takers of a procedure's ends
-declared-taker : (throws : List ThrownEntry) (n barrier level e : ℕ) (old : Entry) → barrier < level → old.level ≤ barrier
+declared-taker : (throws : List ThrownEntry) (n barrier level e : ℕ) (old : Taker) → barrier < level → old.level ≤ barrier
     → taker_of barrier (declared_entry throws n level e old) ≡ (if declares throws e then Some (thrown_number throws n e) else None)
 declared-taker [] n barrier level e old below within = ap (λ b. if b then Some old.number else None) (le-ltb barrier old.level within)
 declared-taker (x ∷ xs) n barrier level e old below within =
@@ -93,7 +93,7 @@ declared-taker (x ∷ xs) n barrier level e old below within =
     go true rest = ap (λ b. if b then Some n else None) (lt-ltb barrier level below)
     go false rest = rest
 
-pub takers-at-end : (throws : List ThrownEntry) (n barrier level : ℕ) (only : Bool) (old new : List Entry) → barrier < level → AreWithin barrier old
+pub takers-at-end : (throws : List ThrownEntry) (n barrier level : ℕ) (only : Bool) (old new : List Taker) → barrier < level → AreWithin barrier old
     → AreWithin level new → AreDeclaredTakers throws (suc n) level old new
     → takers_of (end_takers_of n barrier level only) new ≡ (if only then nowhere else at_end n throws)
 takers-at-end throws n barrier level true old new below within levelled taken = λ i exit. each exit i
@@ -104,7 +104,7 @@ takers-at-end throws n barrier level true old new below within levelled taken = 
     each Break = refl
     each Continue = refl
     each (Throw e) =
-        let entry : Entry = get_or new e no_entry in
+        let entry : Taker = get_or new e no_entry in
         ap (λ b. if b then Some entry.number else None) (le-ltb level entry.level (levelled e))
 takers-at-end throws n barrier level false old new below within levelled taken = λ i exit. each exit i
   where
@@ -117,7 +117,7 @@ takers-at-end throws n barrier level false old new below within levelled taken =
         ap (taker_of barrier) (taken e) ∙ declared-taker throws (suc n) barrier level e (get_or old e no_entry) below (within e)
 
 -- no level is above that of the procedure
-declared-within : (throws : List ThrownEntry) (n level e : ℕ) (old : Entry) → old.level ≤ level → (declared_entry throws n level e old).level ≤ level
+declared-within : (throws : List ThrownEntry) (n level e : ℕ) (old : Taker) → old.level ≤ level → (declared_entry throws n level e old).level ≤ level
 declared-within [] n level e old within = within
 declared-within (x ∷ xs) n level e old within = go (e == x.exception) (declared-within xs (suc n) level e old within)
   where
@@ -125,14 +125,14 @@ declared-within (x ∷ xs) n level e old within = go (e == x.exception) (declare
     go true rest = omega arith
     go false rest = rest
 
-pub taken-within : (throws : List ThrownEntry) (n barrier level : ℕ) (old new : List Entry) → barrier ≤ level → AreWithin barrier old
+pub taken-within : (throws : List ThrownEntry) (n barrier level : ℕ) (old new : List Taker) → barrier ≤ level → AreWithin barrier old
     → AreDeclaredTakers throws n level old new → AreWithin level new
 taken-within throws n barrier level old new below within taken = λ e.
     let had : (get_or old e no_entry).level ≤ barrier = within e in
-    subst (λ (entry : Entry). entry.level ≤ level) (sym (taken e)) (declared-within throws n level e (get_or old e no_entry) (omega (arith, had, below)))
+    subst (λ (entry : Taker). entry.level ≤ level) (sym (taken e)) (declared-within throws n level e (get_or old e no_entry) (omega (arith, had, below)))
 
 -- ---- the demands on declared exceptions
-declared-number : (throws : List ThrownEntry) (n level e : ℕ) (old : Entry) → declares throws e ≡ true
+declared-number : (throws : List ThrownEntry) (n level e : ℕ) (old : Taker) → declares throws e ≡ true
     → (declared_entry throws n level e old).number ≡ thrown_number throws n e
 declared-number [] n level e old is = absurd (cc)
 declared-number (x ∷ xs) n level e old is = go (e == x.exception) (declared-number xs (suc n) level e old) is
@@ -151,11 +151,11 @@ thrown-same scope f g (x ∷ xs) same =
     ∙ ap (λ cs. rule_constraint scope (here scope).at 13 (inner_atom (g x.exception) ∷ []) (ToThrown scope.number x.exception) ++ cs)
     (thrown-same scope f g xs (λ e has. same e (or_right (e == x.exception) (declares xs e) has)))
 
-pub thrown-numbers : (scope : Scope) (throws : List ThrownEntry) (n level : ℕ) (old new : List Entry) → AreDeclaredTakers throws n level old new
+pub thrown-numbers : (scope : Scope) (throws : List ThrownEntry) (n level : ℕ) (old new : List Taker) → AreDeclaredTakers throws n level old new
     → thrown_constraints scope (number_in new) throws ≡ thrown_constraints scope (λ x. thrown_number throws n x) throws
 thrown-numbers scope throws n level old new taken =
     thrown-same scope (number_in new) (λ x. thrown_number throws n x) throws
-    (λ e has. ap (λ (entry : Entry). entry.number) (taken e) ∙ declared-number throws n level e (get_or old e no_entry) has)
+    (λ e has. ap (λ (entry : Taker). entry.number) (taken e) ∙ declared-number throws n level e (get_or old e no_entry) has)
 
 thrown-append : (scope : Scope) (f : ℕ → ℕ) (xs : List ThrownEntry) (x : ThrownEntry)
     → thrown_constraints scope f (xs ++ x ∷ [])

@@ -3,7 +3,7 @@ use Rattle.std.proofs.Common.{◌≡◌, refl, sym, ap, ◌∙◌, subst, ℕ, �
 use Rattle.std.specs.Prelude.{Contains, Option, None, Some}
 use Rattle.std.proofs.lemmas.List.{take_more}
 use Rattle.std.proofs.lemmas.List.Elements.{Contains-append_cases, Contains-append_left, Contains-append_right}
-use Rattle.principals.proofs.Closure.{none_in_nil, Contains-cons_cases, Contains-first}
+use Rattle.common.proofs.Elements.{none_in_nil, Contains-cons_cases, Contains-first}
 use Rattle.labels.specs.Label.{Label}
 use Rattle.resolved.specs.declared.program.Core.{Core}
 use Rattle.resolved.specs.declared.statement.Exit.TheVariants.{Throw}
@@ -19,7 +19,7 @@ use Rattle.constraints.specs.Takers.{taker_of}
 use Rattle.constraints.specs.declared.journal.Called.{Called}
 use Rattle.constraints.specs.declared.journal.Journal.{Journal}
 use Rattle.constraints.specs.declared.rows.ThrownLabel.{ThrownLabel}
-use Rattle.constraints.specs.declared.takers.Entry.{Entry}
+use Rattle.constraints.specs.declared.takers.Taker.{Taker}
 use Rattle.constraints.proofs.Added.{added-same, added-then}
 
 -- to the taker of one exception
@@ -78,7 +78,7 @@ module _ (program : Program) (journal : Journal) (called : Called) (callee node 
 
 -- one more was added
 pub fixed-next : (core : Core) (table : List Label) (journal : Journal) (called : Called) (callee number : ℕ) (labels : List ThrownLabel) (i : ℕ) (x : ThrownLabel)
-    (node : Atom) (entry : Entry) (taker : Option ℕ) (old middle new : List Stored)
+    (node : Atom) (entry : Taker) (taker : Option ℕ) (old middle new : List Stored)
     → i < length labels → ((d : ThrownLabel) → get_or labels i d ≡ x) → IsPart core table (inner_atom number) node → AreLabelsOf core table callee labels
     → entry ≡ entry_at journal x.exception called.call → taker ≡ taker_of called.barrier entry
     → AreAdded core table (fixed_flows (program_of core) journal called callee number (take i labels)) old middle

@@ -2,7 +2,7 @@
 use Rattle.std.proofs.Common.{◌≡◌, refl, sym, ap, ◌∙◌, subst, ℕ, suc, ◌+◌, List, [], ◌∷◌, ◌++◌, map, drop, arith, append_assoc, append-nil, Bool, true}
 use Rattle.std.specs.Prelude.{Some, None, false, length, slice_index_or}
 use Rattle.labels.specs.Label.{Label}
-use Rattle.labels.specs.Constraints.{renamed}
+use Rattle.lattices.specs.Constraints.{renamed}
 use Rattle.resolved.specs.CoreOf.{program_of}
 use Rattle.resolved.specs.declared.program.Core.{Core}
 use Rattle.resolved.specs.declared.statement.Exit.{Exit}
@@ -15,8 +15,7 @@ use Rattle.resolved.specs.Labelled.{Scope, label_of, value_label}
 use Rattle.resolved.specs.Tree.{Expression, Statement, If, While, Try, Block, Handlers}
 use Rattle.resolved.specs.TreeOf.{handlers_of, statement_of}
 use Rattle.resolved.specs.Ends.{block_ends, handles, one_end, raises, statement_ends}
-use Rattle.path_map.specs.Exits.{Exits}
-use Rattle.path_map.specs.Exits.{exits_of}
+use Rattle.path_map.specs.Exits.{Exits, exits_of}
 use Rattle.path_map.specs.Paths.{block_paths, handlers_paths, inner_paths, rest_paths}
 use Rattle.gathering.specs.Names.{NamedAtom, NamedConstraint, Real, named_atoms}
 use Rattle.gathering.specs.Walk as walk
@@ -32,7 +31,7 @@ use Rattle.constraints.specs.Walked.{AreHandlersWalked, AreStatementsWalked, Has
 use Rattle.constraints.specs.declared.around.Around.{Around}
 use Rattle.constraints.specs.declared.pieces.Tried.{Tried}
 use Rattle.constraints.specs.declared.progress.Progress.{Progress}
-use Rattle.constraints.specs.declared.takers.Entry.{Entry}
+use Rattle.constraints.specs.declared.takers.Taker.{Taker}
 use Rattle.constraints.specs.declared.takers.Takers.{Takers}
 use Rattle.constraints.proofs.InContext.{gathered-around}
 use Rattle.constraints.proofs.Noted.{handled-ones, noted-journal}
@@ -47,7 +46,7 @@ append-four a b c d e =
 
 module _ (core : Core) (table : List Label) (entries : List Exits) (procedure : ℕ) where
   -- a block that is reached at a pc of its own, or at this one
-  pub block-at : (pc own : Atom) (named : NamedAtom) (takers : Takers) (meant : walk.Takers) (block : Block) (left : List Exits) (old new : Progress) (thrown : List Entry) (number : ℕ)
+  pub block-at : (pc own : Atom) (named : NamedAtom) (takers : Takers) (meant : walk.Takers) (block : Block) (left : List Exits) (old new : Progress) (thrown : List Taker) (number : ℕ)
       → IsPart core table named own → old.thrown.items ≡ thrown → old.number ≡ number → AreLevelled takers thrown → takers_of takers thrown ≡ meant
       → drop old.index entries ≡ map exits_of (block_paths (program_of core) block) ++ left
       → IsBlockWalked core table entries procedure own takers block old new
@@ -60,7 +59,7 @@ module _ (core : Core) (table : List Label) (entries : List Exits) (procedure : 
       (walked-on core table entries own takers (block_paths (program_of core) block)
       (λ t k other. inner_block (scope_of core procedure) other (takers_of takers t) k block) (made_by_block block) left old new thrown number thrown_is number_is levelled before walked))
 
-  pub block-on : (pc : Atom) (takers : Takers) (meant : walk.Takers) (block : Block) (left : List Exits) (old new : Progress) (thrown : List Entry) (number : ℕ)
+  pub block-on : (pc : Atom) (takers : Takers) (meant : walk.Takers) (block : Block) (left : List Exits) (old new : Progress) (thrown : List Taker) (number : ℕ)
       → old.thrown.items ≡ thrown → old.number ≡ number → AreLevelled takers thrown → takers_of takers thrown ≡ meant
       → drop old.index entries ≡ map exits_of (block_paths (program_of core) block) ++ left
       → IsBlockWalked core table entries procedure pc takers block old new
@@ -105,8 +104,8 @@ module _ (core : Core) (table : List Label) (entries : List Exits) (procedure : 
 
   pub while-walked : (at loop : ℕ) (e : Expression) (body : Block) (pc inside : Atom) (takers inner : Takers) (number back : ℕ) (old begun middle new : Progress)
       → number ≡ old.number → back ≡ old.number + 1 → IsPart core table (inner_atom number) inside
-      → ((thrown : List Entry) → takers_of inner thrown ≡ in_loop back (takers_of takers thrown))
-      → ((thrown : List Entry) → AreLevelled takers thrown → AreLevelled inner thrown)
+      → ((thrown : List Taker) → takers_of inner thrown ≡ in_loop back (takers_of takers thrown))
+      → ((thrown : List Taker) → AreLevelled takers thrown → AreLevelled inner thrown)
       → IsWalked core table entries pc takers [] (λ named. loop_head_constraints (scope_of core procedure) named (takers_of takers old.thrown.items) old.number at loop e) 2 old begun
       → IsBlockWalked core table entries procedure inside inner body begun middle
       → ((other : Atom) (any : Takers) → IsWalked core table entries other any [] (λ named. rule_constraint (scope_of core procedure) at 8 (inner_atom back ∷ []) (ToLoop procedure loop)) 0 middle new)
@@ -139,7 +138,7 @@ module _ (core : Core) (table : List Label) (entries : List Exits) (procedure : 
       (passed-then core table entries pc opening (λ named. inside_it ++ turning (suc n)) 2 (made_by_block body + 0) (map exits_of (block_paths program body) ++ left) left old begun new one
       (passed-then core table entries pc (λ named. inside_it) (λ named. turning (suc n)) (made_by_block body) 0 left left begun middle new two three))
 
-  pub try-walked : (at : ℕ) (block : Block) (handlers : List Handler) (pc : Atom) (takers : Takers) (tried : Tried) (noting : List Entry) (old begun middle after new : Progress)
+  pub try-walked : (at : ℕ) (block : Block) (handlers : List Handler) (pc : Atom) (takers : Takers) (tried : Tried) (noting : List Taker) (old begun middle after new : Progress)
       → IsTried takers handlers old begun tried
       → IsBlockWalked core table entries procedure pc tried.takers block begun middle
       → after.index ≡ middle.index → after.number ≡ middle.number → after.constraints.items ≡ middle.constraints.items
@@ -192,7 +191,7 @@ module _ (core : Core) (table : List Label) (entries : List Exits) (procedure : 
       (passed-then core table entries pc trying (λ named. handling) (count + made_by_block block) (made_by_handlers handlers) rest left old after new one two)
 
   -- a statement without inner unknowns, which takes no entry of the path map but its own
-  pub simple-walked : (tree : Statement) (pc : Atom) (takers : Takers) (around : Around) (thrown : List Entry) (old new : Progress)
+  pub simple-walked : (tree : Statement) (pc : Atom) (takers : Takers) (around : Around) (thrown : List Taker) (old new : Progress)
       → inner_paths (program_of core) tree ≡ [] → made_by_statement tree ≡ 0 → thrown ≡ old.thrown.items
       → new.index ≡ old.index → new.number ≡ old.number → new.thrown.items ≡ old.thrown.items → new.journal ≡ old.journal
       → around.pc ≡ pc → takers_around around ≡ takers_of takers thrown
@@ -215,8 +214,8 @@ module _ (core : Core) (table : List Label) (entries : List Exits) (procedure : 
       → ((first : Exits) (left : List Exits) → drop old.index entries ≡ first ∷ left → exits ≡ first)
       → ((ends : List Exit) → IsWalked core table entries pc takers (ends ∷ []) (λ named. single (one_end ends) named (takers_of takers old.thrown.items) ends) 0 old begun)
       → ((ends : List Exit) → exits ≡ exits_of ends → only ≡ one_end ends)
-      → ((thrown : List Entry) → AreLevelled takers thrown → AreLevelled inner thrown)
-      → ((thrown : List Entry) → AreWithin takers.level thrown → takers_of inner thrown ≡ within_single only (takers_of takers thrown))
+      → ((thrown : List Taker) → AreLevelled takers thrown → AreLevelled inner thrown)
+      → ((thrown : List Taker) → AreWithin takers.level thrown → takers_of inner thrown ≡ within_single only (takers_of takers thrown))
       → AreStatementsWalked core table entries procedure pc inner block begun new
       → IsBlockWalked core table entries procedure pc takers block old new
   block-walked block pc takers inner exits only old begun new exits_are begins only_is levels_are takers_are walked = λ left before levelled.
@@ -242,12 +241,12 @@ module _ (core : Core) (table : List Label) (entries : List Exits) (procedure : 
       → ((first : Exits) (left : List Exits) → drop old.index entries ≡ first ∷ left → exits ≡ first)
       → ((ends : List Exit) → IsWalked core table entries pc none (ends ∷ []) (λ named. single (one_end ends) named (takers_of none old.thrown.items) ends) 0 old begun)
       → ((ends : List Exit) → exits ≡ exits_of ends → only ≡ one_end ends)
-      → ((thrown : List Entry) → AreLevelled takers thrown → AreLevelled none thrown)
-      → ((thrown : List Entry) → takers_of none thrown ≡ with_normal None (takers_of takers thrown))
-      → ((thrown : List Entry) → AreLevelled takers thrown → AreLevelled some thrown)
-      → ((thrown : List Entry) → takers_of some thrown ≡ with_normal (Some number) (takers_of takers thrown))
-      → ((thrown : List Entry) → AreLevelled some thrown → AreLevelled inner thrown)
-      → ((thrown : List Entry) → AreWithin some.level thrown → takers_of inner thrown ≡ within_single only (takers_of some thrown))
+      → ((thrown : List Taker) → AreLevelled takers thrown → AreLevelled none thrown)
+      → ((thrown : List Taker) → takers_of none thrown ≡ with_normal None (takers_of takers thrown))
+      → ((thrown : List Taker) → AreLevelled takers thrown → AreLevelled some thrown)
+      → ((thrown : List Taker) → takers_of some thrown ≡ with_normal (Some number) (takers_of takers thrown))
+      → ((thrown : List Taker) → AreLevelled some thrown → AreLevelled inner thrown)
+      → ((thrown : List Taker) → AreWithin some.level thrown → takers_of inner thrown ≡ within_single only (takers_of some thrown))
       → IsFormWalked core table entries procedure pc inner tree begun new
       → IsStatementWalked core table entries procedure pc takers number tree old new
   statement-walked tree pc takers none some inner exits only number old begun new exits_are begins only_is none_levels none_is some_levels some_is levels_are takers_are walked = λ left before levelled.
@@ -255,7 +254,7 @@ module _ (core : Core) (table : List Label) (entries : List Exits) (procedure : 
       let scope : Scope = scope_of core procedure in
       let ends : List Exit = statement_ends program tree in
       let behind : List Exits = map exits_of (inner_paths program tree) ++ left in
-      let start : List Entry = old.thrown.items in
+      let start : List Taker = old.thrown.items in
       let t : walk.Takers = takers_of takers start in
       let some_levelled : AreLevelled some start = some_levels start levelled in
       let meant : takers_of inner start ≡ within_single (one_end ends) (with_normal (Some number) t) =

@@ -5,11 +5,12 @@ use Rattle.std.proofs.lemmas.Bool.{le-leb}
 use Rattle.std.proofs.lemmas.List.{map-append}
 use Rattle.std.proofs.lemmas.List.Elements.{All-cons, All-nil, Contains-append_cases, Contains-append_left, Contains-append_right}
 use Rattle.labels.proofs.Elements.{All-from_each, each_from_All}
-use Rattle.principals.proofs.Closure.{Contains-first, Contains-later}
+use Rattle.common.proofs.Elements.{Contains-first, Contains-later}
 use Rattle.std.proofs.lemmas.Option.{get_or_from_slice_get, slice_get_within}
 use Rattle.labels.specs.Label.{Label}
-use Rattle.labels.specs.Constraints.{Lattice, label_lattice}
-use Rattle.labels.specs.Constraints as formal
+use Rattle.lattices.specs.Lattice.{Lattice}
+use Rattle.labels.specs.LabelLattice.{label_lattice}
+use Rattle.lattices.specs.Constraints as formal
 use Rattle.resolved.specs.Flow.{Gathered}
 use Rattle.resolved.specs.declared.program.Core.{Core}
 use Rattle.resolved.specs.CoreOf.{program_of}
@@ -28,9 +29,10 @@ use Rattle.solver.specs.Links.{AreBelow, InRange, IsBelow}
 use Rattle.solver.specs.Constraints.{atom_of, constraint_of}
 use Rattle.solver.specs.declared.constraints.Atom.{Atom}
 use Rattle.solver.specs.declared.constraints.Atom.TheVariants as stored
+use Rattle.solver.specs.Rule.{rule_number}
 use Rattle.constraints.specs.LeftSides.{part, left_parts}
 use Rattle.constraints.specs.Added.{AreAdded, Stored, stand_for, stands_for, wanted_constraint}
-use Rattle.constraints.specs.Merging.{AreSpreadShared}
+use Rattle.constraints.specs.Merging.{AreSpreadShared, IsFollowed}
 use Rattle.constraints.specs.Thinned.{ThinnedWhole}
 use Rattle.constraints.specs.declared.progress.Progress.{Progress}
 use Rattle.constraints.specs.declared.spreading.Made.{Made}
@@ -59,7 +61,7 @@ module _ (l : Lattice Label) (table : List Label) where
   constraint-is : (c : Stored) (g : Gathered) → stands_for table c ≡ wanted_of g → constraint_of l table c ≡ g
   constraint-is c g is =
       let at : c.at ≡ g.at = ap (λ x. x.at) is in
-      let rule : c.rule ≡ g.rule = ap (λ x. x.rule) is in
+      let rule : rule_number c.rule ≡ g.rule = ap (λ x. x.rule) is in
       let left : left_parts table c.left.items ≡ map wanted g.left = ap (λ x. x.left) is in
       let target : c.target ≡ g.target = ap (λ x. x.target) is in
       let right : part table c.right ≡ wanted g.right = ap (λ x. x.right) is in
@@ -147,7 +149,7 @@ module _ (core : Core) (table : List Label) (walked : Progress) (old new : Made)
       subst (AreConstraintsOf (program_of core))
       (sym (ap (map (constraint_of l table)) made.shared_is ∙ map-append (constraint_of l table) old.constraints.items made.shared))
       (rerouted-constraints (program_of core) core.well_formed ended base (map (constraint_of l table) made.shared)
-      (meant-rerouted l table (λ k. nat_le (real_unknowns (program_of core)) k) (λ k. nat_le (unknown_count (program_of core)) k) (gathered_constraints (program_of core)) base
+      (meant-rerouted l table (real_unknowns (program_of core)) (λ k. nat_le (unknown_count (program_of core)) k) (gathered_constraints (program_of core)) old.constraints.items
       made.spread made.shared made.next new.number made.are_shared (λ c h. all-spread c (Contains-append_right old.constraints.items made.spread c h))
       (λ u past. le-leb (unknown_count (program_of core)) u (omega (arith, past, first, made.are_spread.number_is))) rerouted))
     where
@@ -177,7 +179,7 @@ module _ (core : Core) (table : List Label) (walked : Progress) (old new : Made)
       (All-from_each (FitsIn (length table) new.number) (old.constraints.items ++ made.shared)
       (λ c h. ⊎_elim
       (λ k. fits-more (length table) made.next new.number c made.least (all-spread c (Contains-append_left old.constraints.items made.spread c k)))
-      (λ k. shared-in-range (length table) made.next new.number made.spread made.shared made.least made.are_shared
+      (λ k. shared-in-range (IsFollowed (real_unknowns (program_of core)) old.constraints.items) (length table) made.next new.number made.spread made.shared made.least made.are_shared
       (λ d there. all-spread d (Contains-append_right old.constraints.items made.spread d there)) c k)
       (Contains-append_cases old.constraints.items made.shared c h)))
 

@@ -33,9 +33,6 @@ joined-then core table a b old middle new first second =
     ∙ (append_assoc (left_parts table old) (joined program a) (joined program b)
     ∙ ap (λ xs. left_parts table old ++ xs) (sym (joined-append program a b))))
 
-pub joined-none : (core : Core) (table : List Label) (old : List Atom) → IsJoined core table [] old old
-joined-none core table old = sym (append-nil (left_parts table old))
-
 pub joined-same : (core : Core) (table : List Label) (a b : Join) (old new : List Atom) → a ≡ b → IsJoined core table b old new → IsJoined core table a old new
 joined-same core table a b old new same is = is ∙ ap (λ join. left_parts table old ++ joined (program_of core) join) (sym same)
 
@@ -90,10 +87,6 @@ binary-either operator d e first second result is left right joined-is =
 pub short-true : (connective : Connective) (d e : Expression) → any_of (raises e) ≡ true → true ≡ any_of (raises (Short connective d e))
 short-true connective d e is =
     sym (any-append (raises d) (raises e) ∙ (ap (λ b. any_of (raises d) || b) is ∙ or-true (any_of (raises d))))
-
-pub short-left : (connective : Connective) (d e : Expression) → any_of (raises e) ≡ false → any_of (raises d) ≡ any_of (raises (Short connective d e))
-short-left connective d e is =
-    sym (any-append (raises d) (raises e) ∙ (ap (λ b. any_of (raises d) || b) is ∙ or-false (any_of (raises d))))
 
 -- one more of several expressions
 all-append : (scope : Scope) (xs : List Expression) (x : Expression) → raise_atoms_all scope (xs ++ x ∷ []) ≡ raise_atoms_all scope xs ++ raise_atoms scope x

@@ -4,14 +4,16 @@ use Rattle.std.specs.Prelude.{Contains, IsTrue, Option, None, Some, if◌then◌
 use Rattle.std.proofs.lemmas.Bool.{cases_eq, eq-eqb, ltb-false, ltb-true, ne_eqb}
 use Rattle.std.proofs.lemmas.List.{append_assoc, append-nil, get_or_append_left, get_or_at, get_or_past, length_push}
 use Rattle.std.proofs.lemmas.List.Elements.{Contains-append_cases, Contains-append_left, Contains-append_right}
-use Rattle.principals.proofs.Closure.{none_in_nil, Contains-cons_cases, Contains-first, Contains-later}
+use Rattle.common.proofs.Elements.{none_in_nil, Contains-cons_cases, Contains-first, Contains-later}
 use Rattle.common.proofs.Cases.{by_test}
 use Rattle.labels.specs.Label.{Label}
 use Rattle.resolved.specs.declared.program.Core.{Core}
+use Rattle.resolved.specs.CoreOf.{program_of}
+use Rattle.gathering.specs.Names.{real_unknowns}
 use Rattle.solver.specs.declared.constraints.Atom.{Atom}
 use Rattle.solver.specs.declared.constraints.Atom.TheVariants.{Unknown}
 use Rattle.constraints.specs.Added.{Stored}
-use Rattle.constraints.specs.Merging.{AreLaidOut, AreLaidSoFar, AreShared, AreSpreadShared, AreSpreadSoFar, AreTaken, ComesOf, Flows, FlowsOn, IsHeld, IsInnerWithPart, IsKept, IsLaidOut, IsRepeated, Row, parts_at, unknowns_at}
+use Rattle.constraints.specs.Merging.{AreLaidOut, AreLaidSoFar, AreShared, AreSpreadShared, AreSpreadSoFar, AreTaken, ComesOf, Flows, FlowsOn, IsFollowed, IsHeld, IsInnerWithPart, IsKept, IsLaidOut, IsRepeated, Row, itself, parts_at, unknowns_at}
 use Rattle.constraints.specs.declared.journal.Called.{Called}
 use Rattle.constraints.specs.declared.journal.Journal.{Journal}
 use Rattle.constraints.specs.declared.spreading.Made.{Made}
@@ -210,40 +212,51 @@ laid-open rows i first next unknowns old middle new is repeats before row = reco
     in-row p h = unknown-part rows i p (subst (λ list. Contains list p) (sym is) h)
 
 -- ---- all of them are those that were taken
-kept-flows : (spread between : List Stored) (start rows : List Row) (old : List Stored) → ((k : ℕ) → parts_at start k ≡ []) → AreTaken spread start rows old between
+kept-flows : (Over : Atom → Atom → Type 0) (spread between : List Stored) (start rows : List Row) (old : List Stored) → ((k : ℕ) → parts_at start k ≡ []) → AreTaken Over spread start rows old between
     → (part to : Atom) → IsKept rows part to → Flows spread part to
-kept-flows spread between start rows old none taken part to kept = ⊎_elim
+kept-flows Over spread between start rows old none taken part to kept = ⊎_elim
     (λ had. absurd (none_in_nil part (subst (λ list. Contains list part) (none kept.0) had)))
     (λ (came : Flows spread part (Unknown kept.0)). subst (Flows spread part) (sym kept.1) came)
     (taken.came kept.0 part kept.2)
 
-all-shared : (spread between new : List Stored) (start rows : List Row) (old : List Stored) (first next : ℕ)
-    → ((k : ℕ) → parts_at start k ≡ []) → (taken : AreTaken spread start rows old between) → (are : AreLaidOut rows (length rows) first next between new)
-    → AreShared first next spread (taken.rest ++ are.laid)
-all-shared spread between new start rows old first next none taken are =
+all-shared : (Over Others : Atom → Atom → Type 0) (others : (a b : Atom) → Over a b → Others a b) (same : (a : Atom) → Others a a) (spread between new : List Stored) (start rows : List Row) (old : List Stored) (first next : ℕ)
+    → ((k : ℕ) → parts_at start k ≡ []) → (taken : AreTaken Over spread start rows old between) → (are : AreLaidOut rows (length rows) first next between new)
+    → AreShared Others first next spread (taken.rest ++ are.laid)
+all-shared Over Others others same spread between new start rows old first next none taken are =
     let shared : List Stored = taken.rest ++ are.laid in
     record {
       stands = are.stands;
       goes = λ p to flow. ⊎_elim
-          (λ (stays : Flows taken.rest p to). inl (flows-more taken.rest shared p to (Contains-append_left taken.rest are.laid) stays))
-          (λ kept. subst (FlowsOn shared p) (sym kept.1)
-          (on-more are.laid shared p (Unknown kept.0) (Contains-append_right taken.rest are.laid) (are.goes kept.0 (parts-inside rows kept.0 p kept.2) p kept.2)))
+          (λ (stays : Flows taken.rest p to). record {
+            by = p;
+            over = same p;
+            goes = inl (flows-more taken.rest shared p to (Contains-append_left taken.rest are.laid) stays);
+          })
+          (λ kept.
+          let covered = kept.2 in record {
+            by = covered.by;
+            over = others p covered.by covered.over;
+            goes = subst (FlowsOn shared covered.by) (sym kept.1)
+                (on-more are.laid shared covered.by (Unknown kept.0) (Contains-append_right taken.rest are.laid)
+                (are.goes kept.0 (parts-inside rows kept.0 covered.by covered.among) covered.by covered.among));
+          })
           (taken.goes p to flow);
       came = λ p to flow. ⊎_elim
           (λ h. inl (record { by = flow.by; among = taken.only flow.by h; starts = flow.starts; ends = flow.ends }))
-          (λ h. comes-more (IsKept rows) (Flows spread) first next next are.stands are.stands p to (kept-flows spread between start rows old none taken) (omega arith) (λ u below. refl)
+          (λ h. comes-more (IsKept rows) (Flows spread) first next next are.stands are.stands p to (kept-flows Over spread between start rows old none taken) (omega arith) (λ u below. refl)
           (are.came p to (record { by = flow.by; among = h; starts = flow.starts; ends = flow.ends })))
           (Contains-append_cases taken.rest are.laid flow.by flow.among);
       inner = λ c h. ⊎_elim (λ k. inl (taken.only c k)) (λ k. inr (are.inner c k)) (Contains-append_cases taken.rest are.laid c h);
     }
 
-pub shared-all : (core : Core) (table : List Label) (journal : Journal) (calls : List Called) (start rows : List Row) (wide : ℕ) (old between new : Made)
+pub shared-all : (Over : Atom → Atom → Type 0) (core : Core) (table : List Label) (journal : Journal) (calls : List Called) (start rows : List Row) (wide : ℕ) (old between new : Made)
+    → ((a b : Atom) → Over a b → IsFollowed (real_unknowns (program_of core)) old.constraints.items a b)
     → ((k : ℕ) → parts_at start k ≡ []) → length rows ≡ wide → wide ≡ old.number
-    → (so_far : AreSpreadSoFar core table journal calls start rows old between)
+    → (so_far : AreSpreadSoFar Over core table journal calls start rows old between)
     → AreLaidOut rows wide between.number new.number between.constraints.items new.constraints.items
     → 2 * new.number ≤ 2 * between.number + wide + 1
     → AreSpreadShared core table journal calls old new
-shared-all core table journal calls start rows wide old between new none same count so_far all few =
+shared-all Over core table journal calls start rows wide old between new others none same count so_far all few =
     let laid : AreLaidOut rows (length rows) between.number new.number between.constraints.items new.constraints.items =
     subst (λ n. AreLaidOut rows n between.number new.number between.constraints.items new.constraints.items) (sym same) all in
     record {
@@ -254,7 +267,7 @@ shared-all core table journal calls start rows wide old between new none same co
       are_spread = so_far.are_spread;
       shared = so_far.are_taken.rest ++ laid.laid;
       shared_is = laid.laid_is ∙ (ap (λ xs. xs ++ laid.laid) so_far.are_taken.rest_is ∙ append_assoc old.constraints.items so_far.are_taken.rest laid.laid);
-      are_shared = all-shared so_far.spread between.constraints.items new.constraints.items start rows old.constraints.items between.number new.number none so_far.are_taken laid;
+      are_shared = all-shared Over (IsFollowed (real_unknowns (program_of core)) old.constraints.items) others (λ a. itself a refl) so_far.spread between.constraints.items new.constraints.items start rows old.constraints.items between.number new.number none so_far.are_taken laid;
     }
 
 -- ---- for the functions that lay rows out

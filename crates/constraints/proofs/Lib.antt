@@ -23,7 +23,7 @@ pub mod Moments
 pub mod OneTaker
 pub mod FixedFlows
 pub mod Spread
-pub mod ListRows
+pub mod Paths
 pub mod PartRows
 pub mod KeptRows
 pub mod LaidRows

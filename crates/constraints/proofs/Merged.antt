@@ -4,35 +4,43 @@ use Rattle.std.specs.Prelude.{Contains, IsTrue, IsFalse, None, Option, if◌then
 use Rattle.std.proofs.lemmas.Bool.{le-leb, leb-true, lt-leb}
 use Rattle.std.proofs.lemmas.List.Elements.{Contains-append_cases, Contains-append_left, Contains-append_right}
 use Rattle.common.proofs.Cases.{by_test, contained_map, contained_map_only}
-use Rattle.principals.proofs.Closure.{none_in_nil, Contains-cons_cases, Contains-first, Contains-later}
+use Rattle.common.proofs.Elements.{none_in_nil, Contains-cons_cases, Contains-first, Contains-later}
 use Rattle.labels.proofs.Elements.{All-from_each, each_from_All}
 use Rattle.labels.specs.Label.{Label}
-use Rattle.labels.specs.Constraints.{Atom, Constraint, Lattice, Unknown, Written, is_inner}
+use Rattle.lattices.specs.Constraints.{Atom, Constraint, Unknown, Written, is_inner}
+use Rattle.lattices.specs.Lattice.{Lattice}
 use Rattle.resolved.specs.Flow.{Gathered}
-use Rattle.gathering.specs.Rerouted.{Brings, IsAdded, IsRerouted, Leads, Links, arrived, itself, onward, others}
+use Rattle.gathering.specs.Rerouted.{Brings, IsAdded, IsRerouted, LeadsInside, Links, ended, itself, led, others}
 use Rattle.solver.specs.Links.{AreBelow, IsBelow}
 use Rattle.solver.specs.Constraints.{atom_of, constraint_of}
 use Rattle.solver.specs.declared.constraints.Atom.{Atom as StoredAtom}
 use Rattle.solver.specs.declared.constraints.Atom.TheVariants as stored
 use Rattle.constraints.specs.Added.{Stored}
-use Rattle.constraints.specs.Merging.{AreShared, ComesOf, Flows, FlowsOn}
+use Rattle.constraints.specs.Merging.{AreShared, ComesOf, Flows, FlowsOn, FlowsOver, IsFollowed, followed}
+use Rattle.constraints.specs.Merging as following
 
 not-both : (b : Bool) → b ≡ true → b ≡ false → ⊥
 not-both true e f = let i : true ≡ false = f in absurd (cc)
 not-both false e f = let i : false ≡ true = e in absurd (cc)
 
+leads-then : {N U V : Type 0} (inner : U → Bool) (cs : List (Constraint N U V)) (from middle to : Atom U V) → LeadsInside inner cs from middle → LeadsInside inner cs middle to
+    → LeadsInside inner cs from to
+leads-then inner cs from middle to first (ended _ same) = subst (LeadsInside inner cs from) same first
+leads-then inner cs from middle to first (led next _ leads link e) = led next to (leads-then inner cs from middle next first leads) link e
+
 -- ---- what was rerouted, once more by some of the further unknowns
 module _ {N U V : Type 0} (inner further new : U → Bool) (cs base added shared : List (Constraint (Option N) U V)) (stands : U → List (Atom U V))
-    (within : (u : U) → IsTrue (new u) → IsTrue (further u)) (goes : (part to : Atom U V) → Links added part to → Leads shared part to)
+    (within : (u : U) → IsTrue (new u) → IsTrue (further u)) (goes : (part to : Atom U V) → Links added part to → LeadsInside inner (base ++ shared) part to)
     (each : (c : Constraint (Option N) U V) → Contains shared c → IsAdded inner new stands added c)
     (old : IsRerouted inner further cs base added) where
-  leads-then : (from middle to : Atom U V) → Leads shared from middle → Leads shared middle to → Leads shared from to
-  leads-then from middle to first (arrived _ same) = subst (Leads shared from) same first
-  leads-then from middle to first (onward next _ leads link) = onward next to (leads-then from middle next first leads) link
-
-  leads-shared : (from to : Atom U V) → Leads added from to → Leads shared from to
-  leads-shared from to (arrived _ same) = arrived to same
-  leads-shared from to (onward middle _ leads link) = leads-then from middle to (leads-shared from middle leads) (goes middle to link)
+  leads-shared : (from to : Atom U V) → LeadsInside inner (base ++ added) from to → LeadsInside inner (base ++ shared) from to
+  leads-shared from to (ended _ same) = ended to same
+  leads-shared from to (led middle _ leads link e) = ⊎_elim
+      (λ stays. led middle to (leads-shared from middle leads)
+      (record { by = link.by; among = Contains-append_left base shared link.by stays; starts = link.starts; ends = link.ends }) e)
+      (λ more. leads-then inner (base ++ shared) from middle to (leads-shared from middle leads)
+      (goes middle to (record { by = link.by; among = more; starts = link.starts; ends = link.ends })))
+      (Contains-append_cases base added link.by link.among)
 
   same-unknown : (u w : U) → ◌≡◌ {A = Atom U V} (Unknown u) (Unknown w) → u ≡ w
   same-unknown u w e = cc
@@ -155,25 +163,18 @@ module _ (l : Lattice Label) (table : List Label) where
     ends = ap (atom_of l table) flow.ends;
   }
 
-  leads-meant : (xs : List Stored) (part to : StoredAtom) → FlowsOn xs part to → Leads (map (constraint_of l table) xs) (atom_of l table part) (atom_of l table to)
-  leads-meant xs part to (inl flow) = onward (atom_of l table part) (atom_of l table to) (arrived (atom_of l table part) refl) (link-meant xs part to flow)
-  leads-meant xs part to (inr by) =
-      onward (atom_of l table (stored.Unknown by.0)) (atom_of l table to)
-      (onward (atom_of l table part) (atom_of l table (stored.Unknown by.0)) (arrived (atom_of l table part) refl) (link-meant xs part (stored.Unknown by.0) by.1))
-      (link-meant xs (stored.Unknown by.0) to by.2)
-
-  links-shared : (xs ys : List Stored) → ((part to : StoredAtom) → Flows xs part to → FlowsOn ys part to)
-      → (part to : Atom ℕ Label) → Links (map (constraint_of l table) xs) part to → Leads (map (constraint_of l table) ys) part to
-  links-shared xs ys goes part to link =
-      let by = contained_map_only (constraint_of l table) xs link.by link.among in
-      let from = contained_map_only (atom_of l table) by.0.left.items part (subst (λ (g : Gathered). Contains g.left part) (sym by.2) link.starts) in
-      let ends : atom_of l table by.0.right ≡ to = ap (λ (g : Gathered). g.right) by.2 ∙ link.ends in
-      subst (λ a. Leads (map (constraint_of l table) ys) a to) from.2 (subst (Leads (map (constraint_of l table) ys) (atom_of l table from.0)) ends
-      (leads-meant ys from.0 by.0.right (goes from.0 by.0.right (record { by = by.0; among = by.1; starts = from.1; ends = refl }))))
-
-  module _ (inner further : ℕ → Bool) (cs base : List Gathered) (spread shared : List Stored) (first next : ℕ) (are : AreShared first next spread shared)
+  module _ (real : ℕ) (further : ℕ → Bool) (cs : List Gathered) (walked spread shared : List Stored) (first next : ℕ) (are : AreShared (IsFollowed real walked) first next spread shared)
       (below : (c : Stored) → Contains spread c → FitsIn (length table) first c) (from_first : (u : ℕ) → first ≤ u → IsTrue (further u))
-      (old : IsRerouted inner further cs base (map (constraint_of l table) spread)) where
+      (old : IsRerouted (λ k. nat_le real k) further cs (map (constraint_of l table) walked) (map (constraint_of l table) spread)) where
+    abbrev inner : ℕ → Bool
+    inner k = nat_le real k
+
+    abbrev base : List Gathered
+    base = map (constraint_of l table) walked
+
+    abbrev together : List Gathered
+    together = base ++ map (constraint_of l table) shared
+
     abbrev meanings : ℕ → List (Atom ℕ Label)
     meanings u = map (atom_of l table) (are.stands u)
 
@@ -265,10 +266,47 @@ module _ (l : Lattice Label) (table : List Label) where
               (subst (λ a. Brings (λ u. nat_le first u) meanings a from) (sym one.2) brings);
         }
 
+    -- a path of stored constraints, and one that goes on by shared ones
+    path-meant : (part to : StoredAtom) → IsFollowed real walked part to → LeadsInside inner together (atom_of l table part) (atom_of l table to)
+    path-meant part to (following.itself _ same) = ended (atom_of l table to) (ap (atom_of l table) same)
+    path-meant part to (followed middle u on least flow) =
+        let link = link-meant walked middle (stored.Unknown u) flow in
+        led (atom_of l table middle) (Unknown u) (path-meant part middle on)
+        (record { by = link.by; among = Contains-append_left base (map (constraint_of l table) shared) link.by link.among; starts = link.starts; ends = link.ends })
+        (le-leb real u least)
+
+    shared-meant : (from : Atom ℕ Label) (part to : StoredAtom) → LeadsInside inner together from (atom_of l table part) → Flows shared part to
+        → LeadsInside inner together from (atom_of l table to)
+    shared-meant from part to leads flow =
+        let link = link-meant shared part to flow in
+        let is = inward flow.by flow.among in
+        let right : atom_of l table to ≡ Unknown is.to = ap (atom_of l table) (sym flow.ends) ∙ is.right_is in
+        led (atom_of l table part) (atom_of l table to) leads
+        (record { by = link.by; among = Contains-append_right base (map (constraint_of l table) shared) link.by link.among; starts = link.starts; ends = link.ends })
+        (subst (λ a. IsTrue (is_inner inner a)) (sym right) is.inner_is)
+
+    over-meant : (part to : StoredAtom) → FlowsOver (IsFollowed real walked) shared part to → LeadsInside inner together (atom_of l table part) (atom_of l table to)
+    over-meant part to flows = go flows.goes
+      where
+        path : LeadsInside inner together (atom_of l table part) (atom_of l table flows.by)
+        path = path-meant part flows.by flows.over
+
+        go : FlowsOn shared flows.by to → LeadsInside inner together (atom_of l table part) (atom_of l table to)
+        go (inl flow) = shared-meant (atom_of l table part) flows.by to path flow
+        go (inr by) = shared-meant (atom_of l table part) (stored.Unknown by.0) to (shared-meant (atom_of l table part) flows.by (stored.Unknown by.0) path by.1) by.2
+
+    links-shared : (part to : Atom ℕ Label) → Links (map (constraint_of l table) spread) part to → LeadsInside inner together part to
+    links-shared part to link =
+        let by = contained_map_only (constraint_of l table) spread link.by link.among in
+        let from = contained_map_only (atom_of l table) by.0.left.items part (subst (λ (g : Gathered). Contains g.left part) (sym by.2) link.starts) in
+        let ends : atom_of l table by.0.right ≡ to = ap (λ (g : Gathered). g.right) by.2 ∙ link.ends in
+        subst (λ a. LeadsInside inner together a to) from.2 (subst (LeadsInside inner together (atom_of l table from.0)) ends
+        (over-meant from.0 by.0.right (are.goes from.0 by.0.right (record { by = by.0; among = by.1; starts = from.1; ends = refl }))))
+
     pub meant-rerouted : IsRerouted inner further cs base (map (constraint_of l table) shared)
     meant-rerouted =
         rerouted-twice inner further (λ u. nat_le first u) cs base (map (constraint_of l table) spread) (map (constraint_of l table) shared) meanings
-        (λ u n. from_first u (leb-true first u n)) (links-shared spread shared are.goes)
+        (λ u n. from_first u (leb-true first u n)) links-shared
         (λ c h.
         let found = contained_map_only (constraint_of l table) shared c h in
         subst (IsAdded inner (λ u. nat_le first u) meanings (map (constraint_of l table) spread)) found.2 (each-stored found.0 found.1)) old
@@ -284,9 +322,9 @@ fits-more written unknowns more c most fits = (
   below-more written unknowns more c.right most fits.1,
 )
 
-pub shared-in-range : (written first next : ℕ) (spread shared : List Stored) → first ≤ next → AreShared first next spread shared
+pub shared-in-range : (Over : StoredAtom → StoredAtom → Type 0) (written first next : ℕ) (spread shared : List Stored) → first ≤ next → AreShared Over first next spread shared
     → ((c : Stored) → Contains spread c → FitsIn written first c) → (c : Stored) → Contains shared c → FitsIn written next c
-shared-in-range written first next spread shared most are all c h = ⊎_elim
+shared-in-range Over written first next spread shared most are all c h = ⊎_elim
     (λ there. fits-more written first next c most (all c there))
     (λ made. (
       All-from_each (IsBelow written next) c.left.items (λ part starts. (both part (came part starts)).0),

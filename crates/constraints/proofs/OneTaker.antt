@@ -3,7 +3,7 @@ use Rattle.std.proofs.Common.{◌≡◌, refl, sym, subst, ℕ, ◌+◌, ◌<◌
 use Rattle.std.specs.Prelude.{Contains, if◌then◌else◌, nat_lt}
 use Rattle.std.proofs.lemmas.Bool.{ltb-true, ltb-false}
 use Rattle.std.proofs.lemmas.List.Elements.{Contains-append_cases, Contains-append_left, Contains-append_right}
-use Rattle.principals.proofs.Closure.{none_in_nil, Contains-cons_cases, Contains-first}
+use Rattle.common.proofs.Elements.{none_in_nil, Contains-cons_cases, Contains-first}
 use Rattle.common.proofs.Cases.{by_test}
 use Rattle.constraints.specs.declared.rows.ThrownLabel.{ThrownLabel}
 

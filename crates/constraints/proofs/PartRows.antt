@@ -4,13 +4,13 @@ use Rattle.std.specs.Prelude.{Contains, None, OnOk, Result, Ok, Err}
 use Rattle.std.proofs.lemmas.Bool.{cases_eq}
 use Rattle.std.proofs.lemmas.List.{append_assoc, append-nil}
 use Rattle.std.proofs.lemmas.List.Elements.{Contains-append_cases, Contains-append_left, Contains-append_right}
-use Rattle.principals.proofs.Closure.{none_in_nil, Contains-cons_cases, Contains-first}
+use Rattle.common.proofs.Elements.{none_in_nil, Contains-cons_cases, Contains-first}
 use Rattle.labels.specs.Label.{Label}
 use Rattle.resolved.specs.declared.program.Core.{Core}
 use Rattle.solver.specs.declared.constraints.Atom.{Atom}
 use Rattle.solver.specs.declared.constraints.Atom.TheVariants.{Unknown}
 use Rattle.constraints.specs.Added.{Stored}
-use Rattle.constraints.specs.Merging.{AreSpreadSoFar, AreTaken, Flows, HasMore, IsInnerWithPart, IsLaidOut, Row, parts_at, parts_of, unknowns_at}
+use Rattle.constraints.specs.Merging.{AreSpreadSoFar, AreTaken, Flows, HasMore, IsCovered, IsInnerWithPart, IsLaidOut, Row, parts_at, unknowns_at}
 use Rattle.constraints.specs.Spreading.{Declares, IsSpreadWhole}
 use Rattle.constraints.specs.declared.journal.Called.{Called}
 use Rattle.constraints.specs.declared.journal.Journal.{Journal}
@@ -20,37 +20,89 @@ pub on-ok : {T E A B : Type 0} (result : Result T E) → (A → B) → OnOk resu
 on-ok (Ok x) f h = f h
 on-ok (Err e) f h = tt
 
--- ---- more parts
-pub more-both : (a b old middle new : List Atom) → HasMore a old middle → HasMore b middle new → HasMore (a ++ b) old new
-more-both a b old middle new first second = record {
-  stays = λ p h. second.stays p (first.stays p h);
-  goes = λ p h. ⊎_elim (λ k. second.stays p (first.goes p k)) (λ k. second.goes p k) (Contains-append_cases a b p h);
-  came = λ p h. ⊎_elim
-      (λ k. ⊎_elim (λ o. inl o) (λ n. inr (Contains-append_left a b p n)) (first.came p k))
-      (λ n. inr (Contains-append_right a b p n)) (second.came p h);
-}
+-- ---- more parts, of which one covers another
+module _ (Over : Atom → Atom → Type 0) (same : (a : Atom) → Over a a) (then : (a b c : Atom) → Over a b → Over b c → Over a c) where
+  pub itself-covered : (parts : List Atom) (part : Atom) → Contains parts part → IsCovered Over parts part
+  itself-covered parts part h = record { by = part; over = same part; among = h }
 
-pub more-front : (more old new rest : List Atom) → HasMore more old new → HasMore more (old ++ rest) (new ++ rest)
-more-front more old new rest has = record {
-  stays = λ p h. ⊎_elim (λ k. Contains-append_left new rest p (has.stays p k)) (λ k. Contains-append_right new rest p k) (Contains-append_cases old rest p h);
-  goes = λ p h. Contains-append_left new rest p (has.goes p h);
-  came = λ p h. ⊎_elim
-      (λ k. ⊎_elim (λ o. inl (Contains-append_left old rest p o)) (λ n. inr n) (has.came p k))
-      (λ k. inl (Contains-append_right old rest p k)) (Contains-append_cases new rest p h);
-}
+  covered-more : (parts more : List Atom) (part : Atom) → ((p : Atom) → Contains parts p → Contains more p) → IsCovered Over parts part → IsCovered Over more part
+  covered-more parts more part all covered = record { by = covered.by; over = covered.over; among = all covered.by covered.among }
 
-pub more-back : (more old new first : List Atom) → HasMore more old new → HasMore more (first ++ old) (first ++ new)
-more-back more old new first has = record {
-  stays = λ p h. ⊎_elim (λ k. Contains-append_left first new p k) (λ k. Contains-append_right first new p (has.stays p k)) (Contains-append_cases first old p h);
-  goes = λ p h. Contains-append_right first new p (has.goes p h);
-  came = λ p h. ⊎_elim (λ k. inl (Contains-append_left first old p k))
-      (λ k. ⊎_elim (λ o. inl (Contains-append_right first old p o)) (λ n. inr n) (has.came p k)) (Contains-append_cases first new p h);
-}
+  pub covered-then : (parts more : List Atom) (part : Atom) → ((p : Atom) → Contains parts p → IsCovered Over more p) → IsCovered Over parts part → IsCovered Over more part
+  covered-then parts more part all covered =
+      let on = all covered.by covered.among in
+      record { by = on.by; over = then part covered.by on.by covered.over on.over; among = on.among }
+
+  pub more-both : (a b old middle new : List Atom) → HasMore Over a old middle → HasMore Over b middle new → HasMore Over (a ++ b) old new
+  more-both a b old middle new first second = record {
+    stays = λ p h. covered-then middle new p second.stays (first.stays p h);
+    goes = λ p h. ⊎_elim (λ k. covered-then middle new p second.stays (first.goes p k)) (λ k. second.goes p k) (Contains-append_cases a b p h);
+    came = λ p h. ⊎_elim
+        (λ k. ⊎_elim (λ o. inl o) (λ n. inr (Contains-append_left a b p n)) (first.came p k))
+        (λ n. inr (Contains-append_right a b p n)) (second.came p h);
+  }
+
+  pub more-front : (more old new rest : List Atom) → HasMore Over more old new → HasMore Over more (old ++ rest) (new ++ rest)
+  more-front more old new rest has = record {
+    stays = λ p h. ⊎_elim (λ k. covered-more new (new ++ rest) p (Contains-append_left new rest) (has.stays p k))
+        (λ k. itself-covered (new ++ rest) p (Contains-append_right new rest p k)) (Contains-append_cases old rest p h);
+    goes = λ p h. covered-more new (new ++ rest) p (Contains-append_left new rest) (has.goes p h);
+    came = λ p h. ⊎_elim
+        (λ k. ⊎_elim (λ o. inl (Contains-append_left old rest p o)) (λ n. inr n) (has.came p k))
+        (λ k. inl (Contains-append_right old rest p k)) (Contains-append_cases new rest p h);
+  }
+
+  pub more-back : (more old new first : List Atom) → HasMore Over more old new → HasMore Over more (first ++ old) (first ++ new)
+  more-back more old new first has = record {
+    stays = λ p h. ⊎_elim (λ k. itself-covered (first ++ new) p (Contains-append_left first new p k))
+        (λ k. covered-more new (first ++ new) p (Contains-append_right first new) (has.stays p k)) (Contains-append_cases first old p h);
+    goes = λ p h. covered-more new (first ++ new) p (Contains-append_right first new) (has.goes p h);
+    came = λ p h. ⊎_elim (λ k. inl (Contains-append_left first old p k))
+        (λ k. ⊎_elim (λ o. inl (Contains-append_right first old p o)) (λ n. inr n) (has.came p k)) (Contains-append_cases first new p h);
+  }
+
+  -- a part is there already, or is pushed
+  pub more-none : (parts : List Atom) → HasMore Over [] parts parts
+  more-none parts = record {
+    stays = itself-covered parts;
+    goes = λ p h. absurd (none_in_nil p h);
+    came = λ p h. inl h;
+  }
+
+  pub more-pushed : (part : Atom) (parts : List Atom) → HasMore Over (part ∷ []) parts (parts ++ part ∷ [])
+  more-pushed part parts = record {
+    stays = λ p h. itself-covered (parts ++ part ∷ []) p (Contains-append_left parts (part ∷ []) p h);
+    goes = λ p h. itself-covered (parts ++ part ∷ []) p (Contains-append_right parts (part ∷ []) p h);
+    came = λ p h. Contains-append_cases parts (part ∷ []) p h;
+  }
+
+  one-part : (part p : Atom) → Contains (part ∷ []) p → part ≡ p
+  one-part part p h = ⊎_elim (λ is. is) (λ none. absurd (none_in_nil p none)) (Contains-cons_cases part [] p h)
+
+  -- it flows on to the last part
+  pub more-covered : (part last : Atom) (front : List Atom) → Over part last → HasMore Over (part ∷ []) (front ++ last ∷ []) (front ++ last ∷ [])
+  more-covered part last front over = record {
+    stays = itself-covered (front ++ last ∷ []);
+    goes = λ p h. subst (IsCovered Over (front ++ last ∷ [])) (one-part part p h)
+        (record { by = last; over = over; among = Contains-append_right front (last ∷ []) last (Contains-first last []) });
+    came = λ p h. inl h;
+  }
+
+  -- the last part flows on to it, and is left out
+  pub more-replaced : (part last : Atom) (front : List Atom) → Over last part → HasMore Over (part ∷ []) (front ++ last ∷ []) (front ++ part ∷ [])
+  more-replaced part last front over = record {
+    stays = λ p h. ⊎_elim (λ k. itself-covered (front ++ part ∷ []) p (Contains-append_left front (part ∷ []) p k))
+        (λ k. subst (IsCovered Over (front ++ part ∷ [])) (one-part last p k)
+        (record { by = part; over = over; among = Contains-append_right front (part ∷ []) part (Contains-first part []) }))
+        (Contains-append_cases front (last ∷ []) p h);
+    goes = λ p h. itself-covered (front ++ part ∷ []) p (Contains-append_right front (part ∷ []) p h);
+    came = λ p h. ⊎_elim (λ k. inl (Contains-append_left front (last ∷ []) p k)) (λ k. inr k) (Contains-append_cases front (part ∷ []) p h);
+  }
 
 -- ---- rows of parts
-pub parts-here : (rows : List Row) (k : ℕ) (parts none : Row) → k < length rows → parts ≡ get_or rows k none → parts_at rows k ≡ parts_of parts
+pub parts-here : (rows : List Row) (k : ℕ) (parts none : Row) → k < length rows → parts ≡ get_or rows k none → parts_at rows k ≡ parts.unknowns ++ parts.written
 parts-here [] k parts none inside is = absurd (omega (arith, inside))
-parts-here (row ∷ rows) zero parts none inside is = ap parts_of (sym is)
+parts-here (row ∷ rows) zero parts none inside is = ap (λ (r : Row). r.unknowns ++ r.written) (sym is)
 parts-here (row ∷ rows) (suc k) parts none inside is = parts-here rows k parts none (omega (arith, inside)) is
 
 pub unknowns-here : (rows : List Row) (k : ℕ) (parts none : Row) → k < length rows → parts ≡ get_or rows k none → unknowns_at rows k ≡ parts.unknowns
@@ -58,7 +110,7 @@ unknowns-here [] k parts none inside is = absurd (omega (arith, inside))
 unknowns-here (row ∷ rows) zero parts none inside is = ap (λ (p : Row). p.unknowns) (sym is)
 unknowns-here (row ∷ rows) (suc k) parts none inside is = unknowns-here rows k parts none (omega (arith, inside)) is
 
-pub parts-set : (rows : List Row) (k : ℕ) (parts : Row) → k < length rows → parts_at (set rows k parts) k ≡ parts_of parts
+pub parts-set : (rows : List Row) (k : ℕ) (parts : Row) → k < length rows → parts_at (set rows k parts) k ≡ parts.unknowns ++ parts.written
 parts-set [] k parts inside = absurd (omega (arith, inside))
 parts-set (row ∷ rows) zero parts inside = refl
 parts-set (row ∷ rows) (suc k) parts inside = parts-set rows k parts (omega (arith, inside))
@@ -70,7 +122,7 @@ parts-others (row ∷ rows) zero parts (suc j) differs = refl
 parts-others (row ∷ rows) (suc k) parts zero differs = refl
 parts-others (row ∷ rows) (suc k) parts (suc j) differs = parts-others rows k parts j (λ same. differs (ap suc same))
 
-pub parts-push : (rows : List Row) (parts : Row) → parts_of parts ≡ [] → ((k : ℕ) → parts_at rows k ≡ []) → (k : ℕ) → parts_at (rows ++ parts ∷ []) k ≡ []
+pub parts-push : (rows : List Row) (parts : Row) → parts.unknowns ++ parts.written ≡ [] → ((k : ℕ) → parts_at rows k ≡ []) → (k : ℕ) → parts_at (rows ++ parts ∷ []) k ≡ []
 parts-push [] parts none all zero = none
 parts-push [] parts none all (suc k) = refl
 parts-push (row ∷ rows) parts none all zero = all zero
@@ -89,35 +141,35 @@ one-only : (c d : Stored) → Contains (c ∷ []) d → c ≡ d
 one-only c d h = ⊎_elim (λ same. same) (λ none. absurd (none_in_nil d none)) (Contains-cons_cases c [] d h)
 
 -- ---- constraints that are taken
-pub taken-none : (rows : List Row) (rest : List Stored) → AreTaken [] rows rows rest rest
-taken-none rows rest = record {
+pub taken-none : (Over : Atom → Atom → Type 0) (same : (a : Atom) → Over a a) (rows : List Row) (rest : List Stored) → AreTaken Over [] rows rows rest rest
+taken-none Over same rows rest = record {
   rest = [];
   rest_is = sym (append-nil rest);
   only = λ c h. h;
-  stays = λ k p h. h;
+  stays = λ k p h. record { by = p; over = same p; among = h };
   goes = λ p to flow. absurd (none_in_nil flow.by flow.among);
   came = λ k p h. inl h;
 }
 
-pub taken-stays : (c : Stored) (rows : List Row) (rest new : List Stored) → new ≡ rest ++ c ∷ [] → AreTaken (c ∷ []) rows rows rest new
-taken-stays c rows rest new is = record {
+pub taken-stays : (Over : Atom → Atom → Type 0) (same : (a : Atom) → Over a a) (c : Stored) (rows : List Row) (rest new : List Stored) → new ≡ rest ++ c ∷ [] → AreTaken Over (c ∷ []) rows rows rest new
+taken-stays Over same c rows rest new is = record {
   rest = c ∷ [];
   rest_is = is;
   only = λ d h. h;
-  stays = λ k p h. h;
+  stays = λ k p h. record { by = p; over = same p; among = h };
   goes = λ p to flow. inl flow;
   came = λ k p h. inl h;
 }
 
-pub taken-kept : (c : Stored) (k : ℕ) (old new : List Row) (rest : List Stored) → c.right ≡ Unknown k
-    → HasMore c.left.items (parts_at old k) (parts_at new k) → ((j : ℕ) → j ≢ k → parts_at new j ≡ parts_at old j) → AreTaken (c ∷ []) old new rest rest
-taken-kept c k old new rest is has others = record {
+pub taken-kept : (Over : Atom → Atom → Type 0) (same : (a : Atom) → Over a a) (c : Stored) (k : ℕ) (old new : List Row) (rest : List Stored) → c.right ≡ Unknown k
+    → HasMore Over c.left.items (parts_at old k) (parts_at new k) → ((j : ℕ) → j ≢ k → parts_at new j ≡ parts_at old j) → AreTaken Over (c ∷ []) old new rest rest
+taken-kept Over reflexive c k old new rest is has others = record {
   rest = [];
   rest_is = sym (append-nil rest);
   only = λ d h. absurd (none_in_nil d h);
   stays = λ j p h. ⊎_elim
-      (λ (same : j ≡ k). subst (λ i. Contains (parts_at new i) p) (sym same) (has.stays p (subst (λ i. Contains (parts_at old i) p) same h)))
-      (λ (differs : j ≢ k). subst (λ list. Contains list p) (sym (others j differs)) h) (cases_eq j k);
+      (λ (same : j ≡ k). subst (λ i. IsCovered Over (parts_at new i) p) (sym same) (has.stays p (subst (λ i. Contains (parts_at old i) p) same h)))
+      (λ (differs : j ≢ k). record { by = p; over = reflexive p; among = subst (λ list. Contains list p) (sym (others j differs)) h }) (cases_eq j k);
   goes = λ p to flow.
       let same : c ≡ flow.by = one-only c flow.by flow.among in
       inr (k, sym flow.ends ∙ (ap (λ (d : Stored). d.right) (sym same) ∙ is), has.goes p (subst (λ (d : Stored). Contains d.left.items p) (sym same) flow.starts));
@@ -129,17 +181,17 @@ taken-kept c k old new rest is has others = record {
       (λ (differs : j ≢ k). inl (subst (λ list. Contains list p) (others j differs) h)) (cases_eq j k);
 }
 
-pub taken-both : (a b : List Stored) (old middle new : List Row) (before between after : List Stored)
-    → AreTaken a old middle before between → AreTaken b middle new between after → AreTaken (a ++ b) old new before after
-taken-both a b old middle new before between after first second = record {
+pub taken-both : (Over : Atom → Atom → Type 0) (same : (a : Atom) → Over a a) (then : (a b c : Atom) → Over a b → Over b c → Over a c) (a b : List Stored) (old middle new : List Row) (before between after : List Stored)
+    → AreTaken Over a old middle before between → AreTaken Over b middle new between after → AreTaken Over (a ++ b) old new before after
+taken-both Over same then a b old middle new before between after first second = record {
   rest = first.rest ++ second.rest;
   rest_is = second.rest_is ∙ (ap (λ xs. xs ++ second.rest) first.rest_is ∙ append_assoc before first.rest second.rest);
   only = λ c h. ⊎_elim (λ k. Contains-append_left a b c (first.only c k)) (λ k. Contains-append_right a b c (second.only c k)) (Contains-append_cases first.rest second.rest c h);
-  stays = λ k p h. second.stays k p (first.stays k p h);
+  stays = λ k p h. covered-then Over same then (parts_at middle k) (parts_at new k) p (second.stays k) (first.stays k p h);
   goes = λ p to flow. ⊎_elim
       (λ in_a. ⊎_elim
       (λ (stays : Flows first.rest p to). inl (flows-more first.rest (first.rest ++ second.rest) p to (Contains-append_left first.rest second.rest) stays))
-      (λ kept. inr (kept.0, kept.1, second.stays kept.0 p kept.2))
+      (λ kept. inr (kept.0, kept.1, covered-then Over same then (parts_at middle kept.0) (parts_at new kept.0) p (second.stays kept.0) kept.2))
       (first.goes p to (record { by = flow.by; among = in_a; starts = flow.starts; ends = flow.ends })))
       (λ in_b. ⊎_elim
       (λ (stays : Flows second.rest p to). inl (flows-more second.rest (first.rest ++ second.rest) p to (Contains-append_right first.rest second.rest) stays))
@@ -182,12 +234,12 @@ laid-one k parts c old new is left right target some = record {
 }
 
 -- ---- so far
-pub so-far-next : (core : Core) (table : List Label) (journal : Journal) (calls more : List Called) (start middle rows : List Row) (taken : List Stored) (old between new : Made)
-    → (so_far : AreSpreadSoFar core table journal calls start middle old between)
+pub so-far-next : (Over : Atom → Atom → Type 0) (same : (a : Atom) → Over a a) (then : (a b c : Atom) → Over a b → Over b c → Over a c) (core : Core) (table : List Label) (journal : Journal) (calls more : List Called) (start middle rows : List Row) (taken : List Stored) (old between new : Made)
+    → (so_far : AreSpreadSoFar Over core table journal calls start middle old between)
     → IsSpreadWhole core table journal (Declares core) more old.number new.number (so_far.spread ++ taken)
-    → AreTaken taken middle rows between.constraints.items new.constraints.items → AreSpreadSoFar core table journal more start rows old new
-so-far-next core table journal calls more start middle rows taken old between new so_far spread are_taken = record {
+    → AreTaken Over taken middle rows between.constraints.items new.constraints.items → AreSpreadSoFar Over core table journal more start rows old new
+so-far-next Over same then core table journal calls more start middle rows taken old between new so_far spread are_taken = record {
   spread = so_far.spread ++ taken;
   are_spread = spread;
-  are_taken = taken-both so_far.spread taken start middle rows old.constraints.items between.constraints.items new.constraints.items so_far.are_taken are_taken;
+  are_taken = taken-both Over same then so_far.spread taken start middle rows old.constraints.items between.constraints.items new.constraints.items so_far.are_taken are_taken;
 }

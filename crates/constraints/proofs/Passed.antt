@@ -12,7 +12,7 @@ use Rattle.constraints.specs.Added.{IsGatheredAt, IsPart}
 use Rattle.constraints.specs.Takers.{AreLevelled}
 use Rattle.constraints.specs.Walked.{HasPassed, IsWalked}
 use Rattle.constraints.specs.declared.progress.Progress.{Progress}
-use Rattle.constraints.specs.declared.takers.Entry.{Entry}
+use Rattle.constraints.specs.declared.takers.Taker.{Taker}
 use Rattle.constraints.specs.declared.takers.Takers.{Takers}
 use Rattle.constraints.proofs.Thinned.{walks-exact, walks-same, walks-then}
 
@@ -22,7 +22,7 @@ pub paths-then : (first second : List (List Exit)) (found left : List Exits) →
 paths-then first second found left is =
     is ∙ ap (λ list. list ++ left) (map-append exits_of first second) ∙ append_assoc (map exits_of first) (map exits_of second) left
 
-pub levels-same : (takers : Takers) (old new : List Entry) → new ≡ old → AreLevelled takers old → AreLevelled takers new
+pub levels-same : (takers : Takers) (old new : List Taker) → new ≡ old → AreLevelled takers old → AreLevelled takers new
 levels-same takers old new same levelled = subst (AreLevelled takers) (sym same) levelled
 
 module _ (core : Core) (table : List Label) (entries : List Exits) where
@@ -77,8 +77,8 @@ module _ (core : Core) (table : List Label) (entries : List Exits) where
   }
 
   -- a piece whose takers and numbers are known
-  pub walked-on : (own : Atom) (takers : Takers) (paths : List (List Exit)) (gathered : List Entry → ℕ → NamedAtom → List NamedConstraint) (m : ℕ) (left : List Exits)
-      (old new : Progress) (thrown : List Entry) (number : ℕ)
+  pub walked-on : (own : Atom) (takers : Takers) (paths : List (List Exit)) (gathered : List Taker → ℕ → NamedAtom → List NamedConstraint) (m : ℕ) (left : List Exits)
+      (old new : Progress) (thrown : List Taker) (number : ℕ)
       → old.thrown.items ≡ thrown → old.number ≡ number → AreLevelled takers thrown → drop old.index entries ≡ map exits_of paths ++ left
       → IsWalked core table entries own takers paths (gathered old.thrown.items old.number) m old new
       → HasPassed core table entries own (gathered thrown number) m left old new

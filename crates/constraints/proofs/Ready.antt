@@ -34,7 +34,7 @@ use Rattle.constraints.specs.LeftSides.{scope_of}
 use Rattle.constraints.specs.Walked.{HasPassed, IsBlockWalked, IsStatementWalked, IsTried, IsWalked, step_constraints}
 use Rattle.constraints.specs.declared.pieces.Tried.{Tried}
 use Rattle.constraints.specs.declared.progress.Progress.{Progress}
-use Rattle.constraints.specs.declared.takers.Entry.{Entry}
+use Rattle.constraints.specs.declared.takers.Taker.{Taker}
 use Rattle.constraints.specs.declared.takers.Takers.{Takers}
 use Rattle.constraints.proofs.Passed.{levels-same, paths-then}
 use Rattle.constraints.proofs.SavedEntries.{undone-length}
@@ -163,7 +163,7 @@ module _ (core : Core) (table : List Label) (entries : List Exits) (procedure : 
   pub block-goes : (block : Block) (pc : Atom) (takers inner : Takers) (old begun : Progress)
       → IsBlockReady core entries procedure takers block old
       → ((ends : List Exit) → IsWalked core table entries pc takers (ends ∷ []) (λ named. single (one_end ends) named (takers_of takers old.thrown.items) ends) 0 old begun)
-      → ((thrown : List Entry) → AreLevelled takers thrown → AreLevelled inner thrown) → inner.level ≡ takers.level
+      → ((thrown : List Taker) → AreLevelled takers thrown → AreLevelled inner thrown) → inner.level ≡ takers.level
       → AreStatementsReady core entries procedure inner block begun
   block-goes block pc takers inner old begun ready begins levels_are level_is =
       let ends : List Exit = block_ends (program_of core) block in
@@ -174,9 +174,9 @@ module _ (core : Core) (table : List Label) (entries : List Exits) (procedure : 
   pub statement-goes : (tree : Statement) (pc : Atom) (takers none some inner : Takers) (old begun : Progress)
       → IsStatementReady core entries procedure takers tree old
       → ((ends : List Exit) → IsWalked core table entries pc none (ends ∷ []) (λ named. single (one_end ends) named (takers_of none old.thrown.items) ends) 0 old begun)
-      → ((thrown : List Entry) → AreLevelled takers thrown → AreLevelled none thrown)
-      → ((thrown : List Entry) → AreLevelled takers thrown → AreLevelled some thrown)
-      → ((thrown : List Entry) → AreLevelled some thrown → AreLevelled inner thrown) → some.level ≡ takers.level → inner.level ≡ some.level
+      → ((thrown : List Taker) → AreLevelled takers thrown → AreLevelled none thrown)
+      → ((thrown : List Taker) → AreLevelled takers thrown → AreLevelled some thrown)
+      → ((thrown : List Taker) → AreLevelled some thrown → AreLevelled inner thrown) → some.level ≡ takers.level → inner.level ≡ some.level
       → IsFormReady core entries procedure inner tree begun
   statement-goes tree pc takers none some inner old begun ready begins none_levels some_levels levels_are some_level inner_level =
       let ends : List Exit = statement_ends (program_of core) tree in
@@ -229,7 +229,7 @@ module _ (core : Core) (table : List Label) (entries : List Exits) (procedure : 
   pub while-goes : (at loop : ℕ) (e : Expression) (body : Block) (pc : Atom) (takers inner : Takers) (gathered : NamedAtom → List NamedConstraint) (old begun : Progress)
       → IsFormReady core entries procedure takers (While at loop e body) old
       → IsWalked core table entries pc takers [] gathered 2 old begun
-      → ((thrown : List Entry) → AreLevelled takers thrown → AreLevelled inner thrown) → inner.level ≡ takers.level
+      → ((thrown : List Taker) → AreLevelled takers thrown → AreLevelled inner thrown) → inner.level ≡ takers.level
       → IsBlockReady core entries procedure inner body begun
   while-goes at loop e body pc takers inner gathered old begun ready walked levels_are level_is =
       ready-then core entries table pc takers takers inner [] (block_paths (program_of core) body) gathered 2

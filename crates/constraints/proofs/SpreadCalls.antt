@@ -1,21 +1,20 @@
 -- What a walk kept, with the flows of the calls that it noted spread over further unknowns, is what is gathered with some flows rerouted.
-use Rattle.std.proofs.Common.{◌≡◌, refl, sym, ap, ◌∙◌, subst, ℕ, zero, suc, ◌+◌, ◌-◌, ◌*◌, ◌<◌, ◌≤◌, length, List, [], ◌∷◌, ◌++◌, map, Bool, true, false, arith, inl, inr, ⊎_elim}
-use Rattle.std.specs.Prelude.{◌⊎◌, Contains, nat_le, nat_lt, if◌then◌else◌}
+use Rattle.std.proofs.Common.{◌≡◌, refl, sym, ap, ◌∙◌, subst, ℕ, zero, suc, ◌+◌, ◌-◌, ◌<◌, ◌≤◌, length, List, [], ◌∷◌, ◌++◌, map, Bool, true, false, arith, inl, inr, ⊎_elim}
+use Rattle.std.specs.Prelude.{◌⊎◌, Contains, IsTrue, nat_le, nat_lt, if◌then◌else◌}
 use Rattle.std.proofs.lemmas.Bool.{le-leb, le-ltb, leb-true, lt-leb, lt-ltb}
-use Rattle.std.proofs.lemmas.List.Elements.{Contains-append_cases}
+use Rattle.std.proofs.lemmas.List.Elements.{Contains-append_cases, Contains-append_right}
 use Rattle.common.proofs.Cases.{contained_map, contained_map_only}
-use Rattle.principals.proofs.Closure.{none_in_nil, Contains-cons_cases, Contains-first, Contains-later}
+use Rattle.common.proofs.Elements.{none_in_nil, Contains-cons_cases, Contains-first, Contains-later}
 use Rattle.labels.specs.Label.{Label}
-use Rattle.labels.specs.Constraints as formal
-use Rattle.labels.specs.Constraints.{Unknown, Written, is_inner, outer, renamed}
+use Rattle.lattices.specs.Constraints as formal
+use Rattle.lattices.specs.Constraints.{Unknown, Written, is_inner, outer, renamed}
 use Rattle.resolved.specs.declared.program.Core.{Core}
 use Rattle.resolved.specs.declared.statement.Exit.TheVariants.{Throw}
 use Rattle.resolved.specs.CoreOf.{program_of}
 use Rattle.resolved.specs.Flow.{Gathered}
 use Rattle.resolved.specs.Program.{Program, ThrownEntry, procedure_at}
-use Rattle.resolved.specs.WellFormed.{program_nodes}
 use Rattle.gathering.specs.Names.{NamedAtom, NamedConstraint, is_inner_name, named_atoms, numbered, numbered_atom, real_unknowns}
-use Rattle.gathering.specs.Rerouted.{Brings, IsAdded, IsRerouted, Leads, Links, arrived, itself, onward, others}
+use Rattle.gathering.specs.Rerouted.{Brings, IsAdded, IsRerouted, Leads, LeadsInside, Links, arrived, ended, itself, led, onward, others}
 use Rattle.gathering.specs.Walk as walk
 use Rattle.gathering.specs.Size.{begins}
 use Rattle.gathering.specs.Walk.{call_atoms, gathered_constraints, inner_atom, program_constraints, unknown_count}
@@ -49,6 +48,15 @@ stand-where stands (m ∷ ms) n each =
 not-both : (b : Bool) → b ≡ true → b ≡ false → ⊥
 not-both true e f = let i : true ≡ false = f in absurd (cc)
 not-both false e f = let i : false ≡ true = e in absurd (cc)
+
+-- a path of added constraints, whose right sides are inner unknowns
+leads-inside : {N U V : Type 0} (inner : U → Bool) (base added : List (formal.Constraint N U V)) → ((c : formal.Constraint N U V) → Contains added c → IsTrue (is_inner inner c.right))
+    → (from to : formal.Atom U V) → Leads added from to → LeadsInside inner (base ++ added) from to
+leads-inside inner base added each from to (arrived _ same) = ended to same
+leads-inside inner base added each from to (onward middle _ leads link) =
+    led middle to (leads-inside inner base added each from middle leads)
+    (record { by = link.by; among = Contains-append_right base added link.by link.among; starts = link.starts; ends = link.ends })
+    (subst (λ a. IsTrue (is_inner inner a)) link.ends (each link.by link.among))
 
 module _ (program : Program) where
   -- constraints with numbers
@@ -288,6 +296,13 @@ module _ (core : Core) (table : List Label) (walked : Progress) (from_number nex
       (leads-numbered (program_of core) spread.added named.0 c.right (subst (λ a. Leads spread.added named.0 a) ends leads))))
       (whole.now.rest c h)
 
+  each-added : (c : Gathered) → Contains (map (numbered (program_of core)) spread.added) c
+      → IsAdded (inner_number (program_of core)) (further (program_of core)) meanings (gathered_constraints (program_of core)) c
+  each-added c h =
+      let found = contained_map_only (numbered (program_of core)) spread.added c h in
+      subst (IsAdded (inner_number (program_of core)) (further (program_of core)) meanings (gathered_constraints (program_of core))) found.2
+      (⊎_elim (join-added found.0) (raise-added found.0) (each found.0 found.1))
+
   pub calls-rerouted : IsRerouted (λ k. nat_le (real_unknowns (program_of core)) k) (λ k. nat_le (unknown_count (program_of core)) k) (gathered_constraints (program_of core))
       (map (numbered (program_of core)) whole.now.kept) (map (numbered (program_of core)) spread.added)
   calls-rerouted = record {
@@ -304,11 +319,12 @@ module _ (core : Core) (table : List Label) (walked : Progress) (from_number nex
     goes = λ c h e.
         let found = contained_map_only (numbered (program_of core)) constraints c h in
         subst (λ (z : Gathered). Contains (map (numbered (program_of core)) whole.now.kept) z
-        ⊎ ((part : formal.Atom ℕ Label) → Contains z.left part → Leads (map (numbered (program_of core)) spread.added) part z.right)) found.2 (goes found.0 found.1);
-    each = λ c h.
-        let found = contained_map_only (numbered (program_of core)) spread.added c h in
-        subst (IsAdded (inner_number (program_of core)) (further (program_of core)) meanings (gathered_constraints (program_of core))) found.2
-        (⊎_elim (join-added found.0) (raise-added found.0) (each found.0 found.1));
+        ⊎ ((part : formal.Atom ℕ Label) → Contains z.left part
+        → LeadsInside (inner_number (program_of core)) (map (numbered (program_of core)) whole.now.kept ++ map (numbered (program_of core)) spread.added) part z.right)) found.2
+        (⊎_elim (λ k. inl k) (λ k. inr (λ part there. leads-inside (inner_number (program_of core)) (map (numbered (program_of core)) whole.now.kept)
+        (map (numbered (program_of core)) spread.added) (λ d among. let is = each-added d among in subst (λ a. IsTrue (is_inner (inner_number (program_of core)) a)) (sym is.right_is) is.inner_is)
+        part (numbered_atom (program_of core) found.0.right) (k part there))) (goes found.0 found.1));
+    each = each-added;
   }
 
   -- ---- numbers

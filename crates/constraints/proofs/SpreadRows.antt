@@ -6,7 +6,7 @@ use Rattle.std.specs.declared.vec.Vec.{Vec}
 use Rattle.std.specs.Global.{Global}
 use Rattle.std.proofs.lemmas.Bool.{and_parts, eq-eqb, eqb-true, false_from_ne_true, ltb-false, ltb-true, not-true, or_parts}
 use Rattle.std.proofs.lemmas.List.{length-map, take_all}
-use Rattle.principals.proofs.Closure.{none_in_nil, Contains-cons_cases}
+use Rattle.common.proofs.Elements.{none_in_nil, Contains-cons_cases}
 use Rattle.common.proofs.Cases.{by_test, contained_map}
 use Rattle.labels.specs.Label.{Label}
 use Rattle.resolved.specs.declared.program.Core.{Core}

@@ -8,8 +8,8 @@ use Rattle.std.proofs.lemmas.List.Sums.{sum_by-cons}
 use Rattle.common.proofs.Cases.{by_test, map_next}
 use Rattle.labels.specs.Label.{Label}
 use Rattle.labels.specs.LabelTable.{label_at}
-use Rattle.labels.specs.Constraints.{renamed}
-use Rattle.labels.specs.Constraints as formal
+use Rattle.lattices.specs.Constraints.{renamed}
+use Rattle.lattices.specs.Constraints as formal
 use Rattle.resolved.specs.Program.{Program, ProcedureEntry, SlotEntry, ThrownEntry, procedure_at, slot_at}
 use Rattle.resolved.specs.ProgramOf.{procedure_entry, result_entry, slot_entry, thrown_entry}
 use Rattle.resolved.specs.CoreOf.{program_of}

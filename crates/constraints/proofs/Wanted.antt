@@ -2,9 +2,9 @@
 use Rattle.std.proofs.Common.{◌≡◌, refl, ap, ◌∙◌, ℕ, List, [], ◌∷◌, map, length, true}
 use Rattle.std.specs.Prelude.{Contains, if◌then◌else◌, nat_lt}
 use Rattle.std.proofs.lemmas.Bool.{lt-ltb}
-use Rattle.principals.proofs.Closure.{Contains-first, Contains-later}
+use Rattle.common.proofs.Elements.{Contains-first, Contains-later}
 use Rattle.labels.specs.Label.{Label}
-use Rattle.labels.specs.Constraints as formal
+use Rattle.lattices.specs.Constraints as formal
 use Rattle.resolved.specs.Flow.{Gathered}
 use Rattle.resolved.specs.Labelled.{OfLocal, OfLoop, Unwritten}
 use Rattle.resolved.specs.Program.{Program, procedure_at}

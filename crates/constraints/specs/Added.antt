@@ -2,7 +2,7 @@
 -- Source: our own.
 use Rattle.std.specs.Prelude.{◌≡◌, ℕ, List, [], ◌∷◌, ◌++◌, map, Bool, Option, if◌then◌else◌}
 use Rattle.labels.specs.Label.{Label}
-use Rattle.labels.specs.Constraints as formal
+use Rattle.lattices.specs.Constraints as formal
 use Rattle.resolved.specs.declared.program.Core.{Core}
 use Rattle.resolved.specs.declared.target.Target.{Target}
 use Rattle.resolved.specs.CoreOf.{program_of}
@@ -10,6 +10,7 @@ use Rattle.resolved.specs.Labelled.{Join}
 use Rattle.resolved.specs.Program.{Program}
 use Rattle.gathering.specs.Names.{NamedAtom, NamedConstraint, named_atoms}
 use Rattle.gathering.specs.Walk.{flow}
+use Rattle.solver.specs.Rule.{rule_number}
 use Rattle.solver.specs.declared.constraints.Atom.{Atom}
 use Rattle.solver.specs.declared.constraints.Constraint.{Constraint}
 use Rattle.constraints.specs.LeftSides.{part, left_parts, wanted_part}
@@ -25,7 +26,7 @@ PartConstraint = formal.Constraint (Option Target) ℕ (Option Label)
 abbrev pub stands_for : (table : List Label) → Stored → PartConstraint
 stands_for table c = record {
   at = c.at;
-  rule = c.rule;
+  rule = rule_number c.rule;
   left = left_parts table c.left.items;
   target = c.target;
   right = part table c.right;

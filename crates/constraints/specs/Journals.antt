@@ -14,7 +14,7 @@ use Rattle.constraints.specs.Takers.{no_entry, taker_of}
 use Rattle.constraints.specs.declared.journal.Called.{Called}
 use Rattle.constraints.specs.declared.journal.Journal.{Journal}
 use Rattle.constraints.specs.declared.journal.Moment.{Moment}
-use Rattle.constraints.specs.declared.takers.Entry.{Entry}
+use Rattle.constraints.specs.declared.takers.Taker.{Taker}
 
 -- the moments of an exception
 abbrev pub moments_at : List (Vec Moment Global) → (exception : ℕ) → List Moment
@@ -28,11 +28,11 @@ noted count exception moment x moments =
     if (x == exception) && nat_lt exception count then moments ++ moment ∷ [] else moments
 
 -- the entry at a call: that of the last moment up to it, or else this
-abbrev pub entry_from : List Moment → (call : ℕ) → Entry → Entry
+abbrev pub entry_from : List Moment → (call : ℕ) → Taker → Taker
 entry_from [] call old = old
 entry_from (moment ∷ rest) call old = entry_from rest call (if nat_le moment.call call then moment.entry else old)
 
-abbrev pub entry_at : Journal → (exception call : ℕ) → Entry
+abbrev pub entry_at : Journal → (exception call : ℕ) → Taker
 entry_at journal x call = entry_from (moments_at journal.moments.items x) call no_entry
 
 -- moments in the order of their calls, none of them behind a call
@@ -53,7 +53,7 @@ AreUpToCall call moments count =
     IsPartitionPoint (λ (moment : Moment). nat_le moment.call call ≡ true) (λ (moment : Moment). nat_le moment.call call ≡ false) moments count
 
 -- the moments of exceptions after some of them were noted at a call with the entries that they have
-abbrev pub noted_all : (count call : ℕ) → (thrown : List Entry) → (exceptions : List ℕ) → (x : ℕ) → List Moment → List Moment
+abbrev pub noted_all : (count call : ℕ) → (thrown : List Taker) → (exceptions : List ℕ) → (x : ℕ) → List Moment → List Moment
 noted_all count call thrown [] x moments = moments
 noted_all count call thrown (exception ∷ rest) x moments =
     noted_all count call thrown rest x (noted count exception (record { call = call; entry = slice_index_or thrown exception no_entry }) x moments)
@@ -89,7 +89,7 @@ pub record IsRaised (core : Core) (journal : Journal) (c : NamedConstraint) : Ty
   pub is : c ≡ raised_flow (program_of core) called.callee called.own entry.exception taker
 
 -- the next call finds the entries that exceptions have
-pub record IsUpToDate (journal : Journal) (thrown : List Entry) : Type 0 where
+pub record IsUpToDate (journal : Journal) (thrown : List Taker) : Type 0 where
   pub now : (x : ℕ) → entry_at journal x (length journal.calls.items) ≡ slice_index_or thrown x no_entry
   pub past : (called : Called) → Contains journal.calls.items called → called.call < length journal.calls.items
   pub upto : (x : ℕ) → AreUpTo (length journal.calls.items) (moments_at journal.moments.items x)

@@ -3,8 +3,8 @@
 -- Source: our own.
 use Rattle.std.specs.Prelude.{◌≡◌, ℕ, List, [], ◌++◌, length, map, nat_lt, Option, Some, slice_get, if◌then◌else◌}
 use Rattle.labels.specs.Label.{Label}
-use Rattle.labels.specs.Constraints.{renamed}
-use Rattle.labels.specs.Constraints as formal
+use Rattle.lattices.specs.Constraints.{renamed}
+use Rattle.lattices.specs.Constraints as formal
 use Rattle.resolved.specs.declared.program.Core.{Core}
 use Rattle.resolved.specs.declared.target.Target.{Target}
 use Rattle.resolved.specs.CoreOf.{program_of}

@@ -9,5 +9,5 @@ pub mod Ready
 pub mod Journals
 pub mod Thinned
 pub mod Spreading
-pub mod Lists
 pub mod Merging
+pub mod Following

@@ -1,19 +1,17 @@
 -- Private: inner constraints with one right side, put together to one whose left side has all of their parts; and one further unknown for
 -- parts that flow to several.
 -- Source: our own.
-use Rattle.std.specs.Prelude.{◌≡◌, ◌≢◌, ◌⊎◌, ℕ, zero, suc, ◌+◌, ◌*◌, ◌<◌, ◌≤◌, List, [], ◌∷◌, ◌++◌, Contains, get_or, length, map, take, Option, None, Some}
-use Rattle.std.specs.declared.vec.Vec.{Vec}
-use Rattle.std.specs.Global.{Global}
+use Rattle.std.specs.Prelude.{◌≡◌, ◌⊎◌, ℕ, zero, suc, ◌+◌, ◌*◌, ◌<◌, ◌≤◌, List, [], ◌∷◌, ◌++◌, Contains, length, map, Option, None, Some}
 use Rattle.labels.specs.Label.{Label}
 use Rattle.resolved.specs.declared.program.Core.{Core}
+use Rattle.resolved.specs.CoreOf.{program_of}
+use Rattle.gathering.specs.Names.{real_unknowns}
 use Rattle.solver.specs.declared.constraints.Atom.{Atom}
 use Rattle.solver.specs.declared.constraints.Atom.TheVariants.{Unknown}
 use Rattle.constraints.specs.Added.{Stored}
-use Rattle.constraints.specs.Lists.{IsForked, IsInside, list_at}
 use Rattle.constraints.specs.Spreading.{Declares, IsSpreadWhole}
 use Rattle.constraints.specs.declared.journal.Called.{Called}
 use Rattle.constraints.specs.declared.journal.Journal.{Journal}
-use Rattle.constraints.specs.declared.merging.Kept.{Kept}
 use Rattle.constraints.specs.declared.merging.Parts.{Parts}
 use Rattle.constraints.specs.declared.spreading.Made.{Made}
 
@@ -24,17 +22,19 @@ pub record Flows (cs : List Stored) (part to : Atom) : Type 0 where
   pub starts : Contains by.left.items part
   pub ends : by.right ≡ to
 
+-- a path of flows to inner unknowns, which are those from a number on
+pub data IsFollowed (real : ℕ) (base : List Stored) (from : Atom) : Atom → Type 0 where
+  itself : (to : Atom) → from ≡ to → IsFollowed real base from to
+  followed : (middle : Atom) (u : ℕ) → IsFollowed real base from middle → real ≤ u → Flows base middle (Unknown u) → IsFollowed real base from (Unknown u)
+
 -- ---- the parts that are kept for each unknown
 pub record Row : Type 0 where
   pub unknowns : List Atom
   pub written : List Atom
 
-abbrev pub parts_of : Row → List Atom
-parts_of row = row.unknowns ++ row.written
-
 abbrev pub parts_at : List Row → (to : ℕ) → List Atom
 parts_at [] to = []
-parts_at (row ∷ rows) zero = parts_of row
+parts_at (row ∷ rows) zero = row.unknowns ++ row.written
 parts_at (row ∷ rows) (suc to) = parts_at rows to
 
 abbrev pub unknowns_at : List Row → (to : ℕ) → List Atom
@@ -42,40 +42,34 @@ unknowns_at [] to = []
 unknowns_at (row ∷ rows) zero = row.unknowns
 unknowns_at (row ∷ rows) (suc to) = unknowns_at rows to
 
--- the rows of which parts of lists are kept
-abbrev pub row_of : List (Vec Atom Global) → Parts → Row
-row_of lists parts = record { unknowns = take parts.count (list_at lists parts.list); written = parts.written.items }
+abbrev pub row_of : Parts → Row
+row_of parts = record { unknowns = parts.unknowns.items; written = parts.written.items }
 
-abbrev pub rows_of : Kept → List Row
-rows_of kept = map (row_of kept.lists.lists.items) kept.rows.items
+abbrev pub parts_of : Parts → List Atom
+parts_of parts = parts.unknowns.items ++ parts.written.items
 
--- each row has so many parts of a list as there are
-abbrev pub AreInside : List (Vec Atom Global) → List Parts → Type 0
-AreInside lists rows = (k : ℕ) (parts : Parts) → k < length rows → parts ≡ get_or rows k parts → IsInside lists parts.list parts.count
+abbrev pub rows_of : List Parts → List Row
+rows_of kept = map row_of kept
 
-abbrev pub IsSound : Kept → Type 0
-IsSound kept = AreInside kept.lists.lists.items kept.rows.items × IsForked kept.lists
+-- a part is there, or another one to which it flows on
+pub record IsCovered (Over : Atom → Atom → Type 0) (parts : List Atom) (part : Atom) : Type 0 where
+  pub by : Atom
+  pub over : Over part by
+  pub among : Contains parts by
 
--- parts with some more of them
-pub record HasMore (more old new : List Atom) : Type 0 where
-  pub stays : (part : Atom) → Contains old part → Contains new part
-  pub goes : (part : Atom) → Contains more part → Contains new part
+-- parts with some more of them, of which one covers another
+pub record HasMore (Over : Atom → Atom → Type 0) (more old new : List Atom) : Type 0 where
+  pub stays : (part : Atom) → Contains old part → IsCovered Over new part
+  pub goes : (part : Atom) → Contains more part → IsCovered Over new part
   pub came : (part : Atom) → Contains new part → Contains old part ⊎ Contains more part
 
--- of one row, while the others stay
-pub record HasMoreAt (at : ℕ) (more : List Atom) (old new : Kept) : Type 0 where
-  pub row : HasMore more (parts_at (rows_of old) at) (parts_at (rows_of new) at)
-  pub others : (k : ℕ) → k ≢ at → parts_at (rows_of new) k ≡ parts_at (rows_of old) k
-  pub count : length new.rows.items ≡ length old.rows.items
-  pub sound : IsSound new
-
 -- constraints were taken: some stay as they are, and the parts of the others are kept for their right sides
-pub record AreTaken (taken : List Stored) (old_rows rows : List Row) (old new : List Stored) : Type 0 where
+pub record AreTaken (Over : Atom → Atom → Type 0) (taken : List Stored) (old_rows rows : List Row) (old new : List Stored) : Type 0 where
   pub rest : List Stored
   pub rest_is : new ≡ old ++ rest
   pub only : (c : Stored) → Contains rest c → Contains taken c
-  pub stays : (k : ℕ) (part : Atom) → Contains (parts_at old_rows k) part → Contains (parts_at rows k) part
-  pub goes : (part to : Atom) → Flows taken part to → Flows rest part to ⊎ ((k : ℕ) × (to ≡ Unknown k) × Contains (parts_at rows k) part)
+  pub stays : (k : ℕ) (part : Atom) → Contains (parts_at old_rows k) part → IsCovered Over (parts_at rows k) part
+  pub goes : (part to : Atom) → Flows taken part to → Flows rest part to ⊎ ((k : ℕ) × (to ≡ Unknown k) × IsCovered Over (parts_at rows k) part)
   pub came : (k : ℕ) (part : Atom) → Contains (parts_at rows k) part → Contains (parts_at old_rows k) part ⊎ Flows taken part (Unknown k)
 
 -- an inner constraint with some part
@@ -153,18 +147,24 @@ abbrev pub held_count : Option ℕ → ℕ
 held_count None = 0
 held_count (Some u) = 1
 
--- constraints by which the same flows as by others, straight or by further unknowns
-pub record AreShared (first next : ℕ) (others shared : List Stored) : Type 0 where
+-- a part flows on, or what it flows on to
+pub record FlowsOver (Over : Atom → Atom → Type 0) (cs : List Stored) (part to : Atom) : Type 0 where
+  pub by : Atom
+  pub over : Over part by
+  pub goes : FlowsOn cs by to
+
+-- constraints by which the same flows as by others, straight or by further unknowns, but for what flows there anyway
+pub record AreShared (Over : Atom → Atom → Type 0) (first next : ℕ) (others shared : List Stored) : Type 0 where
   pub stands : ℕ → List Atom
-  pub goes : (part to : Atom) → Flows others part to → FlowsOn shared part to
+  pub goes : (part to : Atom) → Flows others part to → FlowsOver Over shared part to
   pub came : (part to : Atom) → Flows shared part to → ComesOf (Flows others) first next stands part to
   pub inner : (c : Stored) → Contains shared c → Contains others c ⊎ IsInnerWithPart c
 
 -- the flows of the exceptions of calls were spread and taken
-pub record AreSpreadSoFar (core : Core) (table : List Label) (journal : Journal) (calls : List Called) (start rows : List Row) (old new : Made) : Type 0 where
+pub record AreSpreadSoFar (Over : Atom → Atom → Type 0) (core : Core) (table : List Label) (journal : Journal) (calls : List Called) (start rows : List Row) (old new : Made) : Type 0 where
   pub spread : List Stored
   pub are_spread : IsSpreadWhole core table journal (Declares core) calls old.number new.number spread
-  pub are_taken : AreTaken spread start rows old.constraints.items new.constraints.items
+  pub are_taken : AreTaken Over spread start rows old.constraints.items new.constraints.items
 
 -- the flows of the exceptions of calls were added, put together by their right sides, and those that go together by further unknowns
 pub record AreSpreadShared (core : Core) (table : List Label) (journal : Journal) (calls : List Called) (old new : Made) : Type 0 where
@@ -175,4 +175,4 @@ pub record AreSpreadShared (core : Core) (table : List Label) (journal : Journal
   pub are_spread : IsSpreadWhole core table journal (Declares core) calls old.number next spread
   pub shared : List Stored
   pub shared_is : new.constraints.items ≡ old.constraints.items ++ shared
-  pub are_shared : AreShared next new.number spread shared
+  pub are_shared : AreShared (IsFollowed (real_unknowns (program_of core)) old.constraints.items) next new.number spread shared

@@ -16,21 +16,21 @@ use Rattle.constraints.specs.LeftSides.{scope_of}
 use Rattle.constraints.specs.Takers.{AreWithin, no_entry}
 use Rattle.constraints.specs.Thinned.{Thinned}
 use Rattle.constraints.specs.declared.progress.Progress.{Progress}
-use Rattle.constraints.specs.declared.takers.Entry.{Entry}
+use Rattle.constraints.specs.declared.takers.Taker.{Taker}
 use Rattle.constraints.specs.declared.takers.Takers.{Takers}
 
 -- the entry of an exception, after declared exceptions were given the numbers from n on, the first of each exception counting
-abbrev pub declared_entry : List ThrownEntry → (n level : ℕ) → (exception : ℕ) → (old : Entry) → Entry
+abbrev pub declared_entry : List ThrownEntry → (n level : ℕ) → (exception : ℕ) → (old : Taker) → Taker
 declared_entry [] n level x old = old
 declared_entry (entry ∷ rest) n level x old =
     if x == entry.exception then (record { number = n; level = level }) else declared_entry rest (suc n) level x old
 
-abbrev pub AreDeclaredTakers : List ThrownEntry → (n level : ℕ) → (old new : List Entry) → Type 0
+abbrev pub AreDeclaredTakers : List ThrownEntry → (n level : ℕ) → (old new : List Taker) → Type 0
 AreDeclaredTakers throws n level old new =
     (x : ℕ) → slice_index_or new x no_entry ≡ declared_entry throws n level x (slice_index_or old x no_entry)
 
 -- the number of the taker of an exception
-abbrev pub number_in : List Entry → (exception : ℕ) → ℕ
+abbrev pub number_in : List Taker → (exception : ℕ) → ℕ
 number_in thrown x = (slice_index_or thrown x no_entry).number
 
 -- the takers of a procedure's ends, where its end has number n; none where there is one end only

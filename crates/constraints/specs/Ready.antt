@@ -21,7 +21,7 @@ use Rattle.constraints.specs.LeftSides.{scope_of}
 use Rattle.constraints.specs.Procedures.{IsOf}
 use Rattle.constraints.specs.Takers.{AreLevelled, AreWithin}
 use Rattle.constraints.specs.declared.progress.Progress.{Progress}
-use Rattle.constraints.specs.declared.takers.Entry.{Entry}
+use Rattle.constraints.specs.declared.takers.Taker.{Taker}
 use Rattle.constraints.specs.declared.takers.Takers.{Takers}
 
 -- how many exceptions there are, built in and declared
@@ -41,10 +41,10 @@ abbrev pub HasRoom : (made : ℕ) → (now : Progress) → Type 0
 HasRoom made now = now.number + made ≤ most_unknowns
 
 -- exceptions that have entries
-abbrev pub AreHandledInside : List Handler → (thrown : List Entry) → Type 0
+abbrev pub AreHandledInside : List Handler → (thrown : List Taker) → Type 0
 AreHandledInside handlers thrown = All (λ (handler : Handler). handler.exception < length thrown) handlers
 
-abbrev pub AreThrownInside : List Thrown → (thrown : List Entry) → Type 0
+abbrev pub AreThrownInside : List Thrown → (thrown : List Taker) → Type 0
 AreThrownInside throws thrown = All (λ (declared : Thrown). declared.exception < length thrown) throws
 
 -- the path map goes on with these paths, no level is above that of the takers, each exception has an entry, what is walked fits the

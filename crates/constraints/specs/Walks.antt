@@ -2,7 +2,7 @@
 -- Source: our own.
 use Rattle.std.specs.Prelude.{ℕ, List, [], ◌∷◌, ◌++◌, Option}
 use Rattle.labels.specs.Label.{Label}
-use Rattle.labels.specs.Constraints.{renamed}
+use Rattle.lattices.specs.Constraints.{renamed}
 use Rattle.resolved.specs.declared.expression.Variable.{Variable}
 use Rattle.resolved.specs.declared.program.Core.{Core}
 use Rattle.resolved.specs.declared.statement.Exit.{Exit}

@@ -1,19 +1,21 @@
 //! How a constraint is added: one that stands for a demand, or an inner one.
-ghost use Rattle.constraints.specs.Added.{AreAdded, IsLeft, flow_if};
+ghost use Rattle.constraints.specs.Added.{AreAdded, IsGatheredAt, IsLeft, flow_if};
 ghost use Rattle.constraints.specs.Takers.{takers_around};
 ghost use Rattle.path_map.specs.Exceptions.{AreRaised};
 ghost use Rattle.constraints.specs.LeftSides.{scope_of};
 ghost use Rattle.gathering.specs.Names.{NamedAtom};
 ghost use Rattle.gathering.specs.Walk.{flow, inner_constraint, raised_flows, rule_constraint};
-ghost use Rattle.std.specs.Prelude.{List, OnOk, ℕ};
+ghost use Rattle.solver.specs.Rule.{rule_number};
+ghost use Rattle.std.specs.Prelude.{List, OnOk, [], ◌∷◌, ℕ};
 
 use crate::around::Around;
+use crate::lefts::left_of_pc;
 use crate::table::Table;
 use common::exceptions::{ARITH, BOUNDS};
 use path_map::Raises;
 use resolved::statement::Exit;
 use resolved::target::Target;
-use solver::{Atom, Constraint, Left};
+use solver::{Atom, Constraint, Left, Rule};
 use std::alloc::{AllocError, Global};
 
 impl<'a> Table<'a> {
@@ -21,7 +23,7 @@ impl<'a> Table<'a> {
     pub fn add_rule(
         &self,
         at: usize,
-        rule: u8,
+        rule: Rule,
         left: Left,
         target: Target,
         constraints: &mut Vec<Constraint<Option<Target>>>,
@@ -29,7 +31,7 @@ impl<'a> Table<'a> {
         ensures { OnOk result ((procedure : ℕ) (atoms : List NamedAtom) →
             IsLeft self.now.core.now self.now.core.now.labels atoms left.items →
             AreAdded self.now.core.now self.now.core.now.labels
-            (rule_constraint (scope_of self.now.core.now procedure) at rule atoms target)
+            (rule_constraint (scope_of self.now.core.now procedure) at (rule_number rule) atoms target)
             constraints.old.items constraints.new.items) }
     {
         let right = self.part(target);
@@ -58,12 +60,30 @@ impl<'a> Table<'a> {
         let right = Atom::Unknown(number);
         constraints.push(Constraint {
             at: 0,
-            rule: 0,
+            rule: Rule::Between,
             left,
             target: None,
             right,
         })?;
         Ok(())
+    }
+
+    /// Adds the flow of the pc alone to a taker, where there is one.
+    pub fn add_pc_flow(
+        &self,
+        alloc: Global,
+        pc: Atom,
+        taker: Option<u32>,
+        constraints: &mut Vec<Constraint<Option<Target>>>,
+    ) -> Result<(), AllocError>
+        ensures { OnOk result (IsGatheredAt self.now.core.now self.now.core.now.labels pc
+            (λ (named : NamedAtom). flow (named ∷ []) taker)
+            constraints.old.items constraints.new.items) }
+    {
+        match taker {
+            None => Ok(()),
+            Some(number) => self.add_inner(left_of_pc(alloc, pc)?, number, constraints),
+        }
     }
 
     /// Adds the flow to a taker, where there is one.

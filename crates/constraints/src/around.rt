@@ -2,7 +2,7 @@
 ghost use Rattle.constraints.specs.Takers.{takers_around, takers_of};
 ghost use Rattle.std.specs.Prelude.{◌≡◌};
 
-use crate::takers::{Entry, Takers};
+use crate::takers::{Taker, Takers};
 use resolved::statement::Exit;
 use solver::Atom;
 
@@ -16,7 +16,7 @@ pub struct Context {
 
 impl Context {
     /// What stands around a statement of this context, where exceptions have these entries.
-    pub fn around(self, thrown: &[Entry]) -> Around<'_>
+    pub fn around(self, thrown: &[Taker]) -> Around<'_>
         ensures pc { result.pc ≡ self.pc }
         ensures takers { takers_around result ≡ takers_of self.takers thrown.now }
     {
@@ -33,7 +33,7 @@ impl Context {
 pub struct Around<'a> {
     pub pc: Atom,
     pub takers: Takers,
-    pub thrown: &'a [Entry],
+    pub thrown: &'a [Taker],
 }
 
 impl<'a> Around<'a> {

@@ -18,16 +18,16 @@ ghost use Rattle.std.specs.Prelude.{List, OnOk, [], drop, ◌∷◌, ◌≡◌};
 use crate::around::Around;
 use crate::forms::LoopSite;
 use crate::lefts::left_of_pc;
-use crate::statements::Walk;
+use crate::statements::ProcedureWalk;
 use path_map::raises::raises_of;
 use path_map::{Exits, Raised};
 use resolved::expression::Expression;
 use resolved::statement::Exit;
 use resolved::target::Target;
-use solver::{Atom, Constraint};
+use solver::{Atom, Constraint, Rule};
 use std::alloc::AllocError;
 
-impl<'a> Walk<'a> {
+impl<'a> ProcedureWalk<'a> {
     /// The possible ends that the path map has under this number.
     pub fn exits_at(&self, number: usize) -> Exits
         ensures { (exits : Exits) (rest : List Exits) →
@@ -56,9 +56,9 @@ impl<'a> Walk<'a> {
         match exits.single() {
             None => Ok(()),
             Some(exit) => {
-                let left = left_of_pc(self.alloc, around.pc)?;
                 let taker = around.taker(exit);
-                self.table.add_flow(self.alloc, &left, taker, constraints)?;
+                self.table
+                    .add_pc_flow(self.alloc, around.pc, taker, constraints)?;
                 Ok(())
             }
         }
@@ -127,7 +127,8 @@ impl<'a> Walk<'a> {
     {
         let left = left_of_pc(self.alloc, pc)?;
         let target = Target::ToLoop(self.procedure, number);
-        self.table.add_rule(at, 8, left, target, constraints)?;
+        self.table
+            .add_rule(at, Rule::While, left, target, constraints)?;
         Ok(())
     }
 
@@ -151,9 +152,9 @@ impl<'a> Walk<'a> {
         let turn = self.table.part(Target::ToLoop(self.procedure, site.number));
         self.add_branch(condition, inner, turn, constraints)?;
         let body = Atom::Unknown(inner);
-        let left = left_of_pc(self.alloc, body)?;
         let taker = around.taker(Exit::Normal);
-        self.table.add_flow(self.alloc, &left, taker, constraints)?;
+        self.table
+            .add_pc_flow(self.alloc, body, taker, constraints)?;
         let tested = Around {
             pc: turn,
             ..*around

@@ -18,16 +18,16 @@ ghost use Rattle.std.specs.Prelude.{IfOk, List, OnOk, map, ℕ, ◌++◌, ◌∷
 use crate::around::Around;
 use crate::forms::CallSite;
 use crate::lefts::left_of_pc;
-use crate::statements::Walk;
+use crate::statements::ProcedureWalk;
 use common::exceptions::{ARITH, BOUNDS};
 use path_map::raises::{Raises, raises_of_all};
 use resolved::expression::Expression;
 use resolved::statement::Exit;
 use resolved::target::Target;
-use solver::{Atom, Constraint, Left};
+use solver::{Atom, Constraint, Left, Rule};
 use std::alloc::AllocError;
 
-impl<'a> Walk<'a> {
+impl<'a> ProcedureWalk<'a> {
     // Whether a procedure declares exceptions.
     fn throws_any(&self, callee: u32) -> bool
         ensures { result ≡ any_of
@@ -85,7 +85,8 @@ impl<'a> Walk<'a> {
                 .table
                 .left_of_value(self.alloc, own, self.procedure, argument)?;
             let target = Target::ToParameter(callee, parameter);
-            self.table.add_rule(at, 6, left, target, constraints)?;
+            self.table
+                .add_rule(at, Rule::Call, left, target, constraints)?;
         }
         Ok(())
     }
@@ -211,10 +212,16 @@ impl<'a> Walk<'a> {
         table.add_inner(raised, number, constraints)?;
         let own = Atom::Unknown(number);
         let begin = left_of_pc(self.alloc, own)?;
-        table.add_rule(site.at, 6, begin, Target::ToBegin(site.callee), constraints)?;
+        table.add_rule(
+            site.at,
+            Rule::Call,
+            begin,
+            Target::ToBegin(site.callee),
+            constraints,
+        )?;
         self.add_arguments(site.at, own, site.callee, arguments, constraints)?;
         let received = self.left_of_result(own, site.callee)?;
-        self.add_target(site.at, 6, received, site.target, constraints)?;
+        self.add_target(site.at, Rule::Call, received, site.target, constraints)?;
         let ends = Around { pc: own, ..*around };
         self.add_call_ends(site.callee, arguments, &ends, constraints)?;
         Ok(())

@@ -3,12 +3,13 @@ ghost use Rattle.std.specs.Prelude.{◌≡◌};
 
 use resolved::expression::Variable;
 use resolved::target::Target;
+use solver::Rule;
 
 /// What a rule demands at a byte: that a label flows to that of the target.
 #[derive(Clone, Copy, Debug)]
 pub struct Demand {
     pub at: usize,
-    pub rule: u8,
+    pub rule: Rule,
     pub target: Target,
 }
 

@@ -5,7 +5,7 @@ ghost use Rattle.resolved.specs.declared.statement.Handler.{Handler};
 ghost use Rattle.resolved.specs.declared.tables.Thrown.{Thrown};
 ghost use Rattle.std.specs.Prelude.{IfOk, IsTrue, OnOk, [], length, map, ℕ, ◌++◌, ◌<◌, ◌∷◌, ◌≡◌, ◌≢◌, ◌≤◌};
 
-use crate::takers::{Entry, entry_in};
+use crate::takers::{Taker, entry_in};
 use resolved::statement::Handler;
 use resolved::tables::Thrown;
 use std::alloc::{AllocError, Global};
@@ -24,7 +24,7 @@ pub struct Called {
 #[derive(Clone, Copy, Debug, PartialEq, Eq, Drop)]
 pub struct Moment {
     pub call: usize,
-    pub entry: Entry,
+    pub entry: Taker,
 }
 
 /// The calls so far, and the entries of each exception, in their order.
@@ -95,7 +95,7 @@ impl Journal {
     }
 
     // Notes the entry that an exception has from the next call on.
-    fn note(&mut self, exception: u32, entry: Entry) -> Result<(), AllocError>
+    fn note(&mut self, exception: u32, entry: Taker) -> Result<(), AllocError>
         ensures calls { OnOk result (self.new.calls ≡ self.old.calls) }
         ensures moments { OnOk result ((x : ℕ) → moments_at self.new.moments.items x
             ≡ noted (length self.old.moments.items) exception
@@ -113,7 +113,7 @@ impl Journal {
     }
 
     /// Notes the entries that the exceptions of handlers have from the next call on.
-    pub fn note_handled(&mut self, handlers: &[Handler], thrown: &[Entry]) -> Result<(), AllocError>
+    pub fn note_handled(&mut self, handlers: &[Handler], thrown: &[Taker]) -> Result<(), AllocError>
         ensures calls { OnOk result (self.new.calls ≡ self.old.calls) }
         ensures moments { OnOk result ((x : ℕ) → moments_at self.new.moments.items x
             ≡ noted_all (length self.old.moments.items) (length self.old.calls.items) thrown.now
@@ -130,7 +130,7 @@ impl Journal {
     }
 
     /// Notes the entries that declared exceptions have from the next call on.
-    pub fn note_declared(&mut self, throws: &[Thrown], thrown: &[Entry]) -> Result<(), AllocError>
+    pub fn note_declared(&mut self, throws: &[Thrown], thrown: &[Taker]) -> Result<(), AllocError>
         ensures calls { OnOk result (self.new.calls ≡ self.old.calls) }
         ensures moments { OnOk result ((x : ℕ) → moments_at self.new.moments.items x
             ≡ noted_all (length self.old.moments.items) (length self.old.calls.items) thrown.now
@@ -167,7 +167,7 @@ impl Journal {
     }
 
     /// The entry of an exception, whose moments are in order, at a call.
-    pub fn entry(&self, exception: u32, call: usize) -> Entry
+    pub fn entry(&self, exception: u32, call: usize) -> Taker
         requires { AreOrdered (moments_at self.now.moments.items exception) }
         ensures { result ≡ entry_at self.now exception call }
     {
@@ -185,12 +185,12 @@ fn count(moments: &[Moment], call: usize) -> usize
 }
 
 // The entry of the last moment up to a call.
-fn last_of(moments: &[Moment], call: usize) -> Entry
+fn last_of(moments: &[Moment], call: usize) -> Taker
     requires { AreOrdered moments.now }
     ensures { result ≡ entry_from moments.now call no_entry }
 {
     let Some(last) = count(moments, call).checked_sub(1) else {
-        return Entry {
+        return Taker {
             number: 0,
             level: 0,
         };

@@ -18,9 +18,8 @@ ghost use Rattle.std.specs.Prelude.{IfOk, List, OnOk, [], drop, length, map, ℕ
 
 use crate::around::Context;
 use crate::forms::{CallSite, LoopSite};
-use crate::lefts::left_of_pc;
 use crate::progress::Progress;
-use crate::statements::Walk;
+use crate::statements::ProcedureWalk;
 use crate::takers::{Saved, Takers, numbers_of, take_handled};
 use path_map::Exits;
 use resolved::expression::Expression;
@@ -36,7 +35,7 @@ pub(crate) struct Tried {
     pub saved: Vec<Saved>,
 }
 
-impl<'a> Walk<'a> {
+impl<'a> ProcedureWalk<'a> {
     // The possible ends of the next block or statement.
     fn next_exits(&self, progress: &mut Progress) -> Exits
         requires { progress.old.index < length (entries_of self.now.map.now) }
@@ -105,10 +104,9 @@ impl<'a> Walk<'a> {
         if !reached {
             return Ok(());
         }
-        let left = left_of_pc(self.alloc, context.pc)?;
         let taker = context.takers.at(&progress.thrown, Exit::Normal);
         self.table
-            .add_flow(self.alloc, &left, taker, &mut progress.constraints)?;
+            .add_pc_flow(self.alloc, context.pc, taker, &mut progress.constraints)?;
         Ok(())
     }
 

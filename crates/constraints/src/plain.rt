@@ -8,12 +8,12 @@ ghost use Rattle.std.specs.Prelude.{OnOk};
 use crate::around::Context;
 use crate::forms::ArrayStore;
 use crate::progress::Progress;
-use crate::statements::Walk;
+use crate::statements::ProcedureWalk;
 use resolved::expression::{Expression, Variable};
 use resolved::statement::Exit;
 use std::alloc::AllocError;
 
-impl<'a> Walk<'a> {
+impl<'a> ProcedureWalk<'a> {
     // Walks past an assignment.
     pub(crate) fn walk_assign(
         &self,

@@ -12,21 +12,21 @@ ghost use Rattle.resolved.specs.CoreOf.{program_of};
 ghost use Rattle.resolved.specs.ProgramOf.{thrown_entry};
 ghost use Rattle.resolved.specs.Labelled.{here};
 ghost use Rattle.std.specs.Prelude.{IfOk, List, OnOk, length, map, suc, ℕ, ◌+◌, ◌<◌, ◌≡◌, ◌≤◌};
-ghost use Rattle.constraints.specs.declared.takers.Entry.{Entry};
+ghost use Rattle.constraints.specs.declared.takers.Taker.{Taker};
 
 use crate::around::Context;
 use crate::journal::Journal;
 use crate::lefts::left_of_pc;
 use crate::progress::Progress;
-use crate::statements::Walk;
+use crate::statements::ProcedureWalk;
 use crate::table::Table;
-use crate::takers::{Entry, Takers, entry_in, take};
+use crate::takers::{Taker, Takers, entry_in, take};
 use crate::walking::walk_block;
 use common::exceptions::BUILT_IN;
 use path_map::{Ends, PathMap};
 use resolved::tables::{Procedure, Thrown};
 use resolved::target::Target;
-use solver::{Atom, Constraint};
+use solver::{Atom, Constraint, Rule};
 use std::alloc::{AllocError, Global};
 
 // Gives takers to declared exceptions, which have the numbers from this on, at a level that no entry has.
@@ -35,7 +35,7 @@ fn take_declared(
     throws: &[Thrown],
     number: u32,
     level: u32,
-    thrown: &mut Vec<Entry>,
+    thrown: &mut Vec<Taker>,
 ) -> Result<(), AllocError>
     requires inside { AreThrownInside throws.now thrown.old.items }
     requires room { number + length throws.now ≤ most_unknowns }
@@ -48,7 +48,7 @@ fn take_declared(
     // What was there is not put back: its level is not above the barrier of this procedure.
     let mut saved = Vec::new(alloc);
     for (i, declared) in throws.iter().enumerate() {
-        let entry = Entry {
+        let entry = Taker {
             number: number + i as u32,
             level,
         };
@@ -57,13 +57,13 @@ fn take_declared(
     Ok(())
 }
 
-impl<'a> Walk<'a> {
+impl<'a> ProcedureWalk<'a> {
     // Adds the demands on the labels of declared exceptions.
     fn add_declared_demands(
         &self,
         at: usize,
         throws: &[Thrown],
-        thrown: &[Entry],
+        thrown: &[Taker],
         constraints: &mut Vec<Constraint<Option<Target>>>,
     ) -> Result<(), AllocError>
         ensures { OnOk result (
@@ -79,7 +79,8 @@ impl<'a> Walk<'a> {
             let taker = Atom::Unknown(entry_in(thrown, exception).number);
             let left = left_of_pc(self.alloc, taker)?;
             let target = Target::ToThrown(self.procedure, exception);
-            self.table.add_rule(at, 13, left, target, constraints)?;
+            self.table
+                .add_rule(at, Rule::ProcedureEnds, left, target, constraints)?;
         }
         Ok(())
     }
@@ -93,7 +94,7 @@ impl<'a> Walk<'a> {
         progress: &mut Progress,
     ) -> Result<(), AllocError>
         ensures unchanged { OnOk result (StaysInPlace progress.old progress.new) }
-        ensures added { OnOk result ((level : ℕ) (had : List Entry) →
+        ensures added { OnOk result ((level : ℕ) (had : List Taker) →
             IsOf self.now.table.now.core.now self.now.procedure procedure.now →
             only ≡ has_one_end (scope_of self.now.table.now.core.now self.now.procedure) →
             AreDeclaredTakers (here (scope_of self.now.table.now.core.now
@@ -107,8 +108,13 @@ impl<'a> Walk<'a> {
         }
         let left = left_of_pc(self.alloc, Atom::Unknown(number))?;
         let target = Target::ToEnd(self.procedure);
-        self.table
-            .add_rule(procedure.at, 13, left, target, &mut progress.constraints)?;
+        self.table.add_rule(
+            procedure.at,
+            Rule::ProcedureEnds,
+            left,
+            target,
+            &mut progress.constraints,
+        )?;
         self.add_declared_demands(
             procedure.at,
             &procedure.throws,
@@ -190,7 +196,7 @@ pub(crate) fn walk_procedures(
         ≡ unknown_count (program_of table.now.core.now)) }
 {
     // The exceptions that are declared come after those that are built in.
-    let none = Entry {
+    let none = Taker {
         number: 0,
         level: 0,
     };
@@ -198,13 +204,14 @@ pub(crate) fn walk_procedures(
     let mut progress = Progress {
         index: 0,
         number: table.unknowns,
-        constraints: Vec::new(alloc),
+        // There is about one for each statement and block.
+        constraints: Vec::with_capacity(alloc, ends.len())?,
         thrown: vec![in alloc; none; exceptions]?,
         journal: Journal::new(alloc, exceptions)?,
     };
     for (i, procedure) in table.core.procedures.iter().enumerate() {
         let number = i as u32;
-        let walk = Walk {
+        let walk = ProcedureWalk {
             alloc,
             table,
             map: ends,

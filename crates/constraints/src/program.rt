@@ -1,6 +1,6 @@
 //! The constraints of a program.
 ghost use Rattle.gathering.specs.Gathered.{AreConstraintsOf, FitsConstraints};
-ghost use Rattle.labels.specs.Constraints.{label_lattice};
+ghost use Rattle.labels.specs.LabelLattice.{label_lattice};
 ghost use Rattle.path_map.specs.EndsOf.{AreEndsOf};
 ghost use Rattle.resolved.specs.CoreOf.{program_of};
 ghost use Rattle.resolved.specs.EndFaults.{end_faults};

@@ -3,7 +3,7 @@ ghost use Rattle.constraints.specs.Ready.{HasRoom};
 ghost use Rattle.std.specs.Prelude.{◌+◌, ◌≡◌};
 
 use crate::journal::Journal;
-use crate::takers::Entry;
+use crate::takers::Taker;
 use resolved::target::Target;
 use solver::Constraint;
 
@@ -14,7 +14,7 @@ pub struct Progress {
     pub index: usize,
     pub number: u32,
     pub constraints: Vec<Constraint<Option<Target>>>,
-    pub thrown: Vec<Entry>,
+    pub thrown: Vec<Taker>,
     pub journal: Journal,
 }
 

@@ -12,6 +12,7 @@ ghost use Rattle.resolved.specs.CoreOf.{program_of};
 ghost use Rattle.std.specs.List.{All};
 ghost use Rattle.std.specs.Prelude.{Contains, IfOk, IsTrue, List, OnOk, [], if◌then◌else◌, length, map, ℕ, ◌+◌, ◌++◌, ◌<◌, ◌∷◌, ◌≡◌, ◌≤◌, ◌⊎◌};
 
+use crate::following::Following;
 use crate::journal::{Called, Journal};
 use crate::merging::{lay_out, no_parts, take_all};
 use crate::rows::ThrownLabel;
@@ -363,6 +364,8 @@ pub(crate) fn spread_calls<'a>(
     };
     let rows = rows_of(alloc, table.core.procedures.len(), &journal.calls)?;
     let mut kept = no_parts(alloc, made.number as usize)?;
+    let real = table.unknowns;
+    let following = Following::of(alloc, real, made.number, &made.constraints, &journal.calls)?;
     for (i, row) in rows.iter().enumerate() {
         let mut own = Made {
             number: made.number,
@@ -370,8 +373,13 @@ pub(crate) fn spread_calls<'a>(
         };
         spread_row(&spreading, i as u32, row, &mut own)?;
         made.number = own.number;
-        take_all(own.constraints, &mut kept, &mut made.constraints)?;
+        take_all(
+            own.constraints,
+            &following,
+            &mut kept,
+            &mut made.constraints,
+        )?;
     }
-    lay_out(kept, made)?;
+    lay_out(alloc, kept, made)?;
     Ok(())
 }

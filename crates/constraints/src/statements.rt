@@ -9,6 +9,7 @@ ghost use Rattle.path_map.specs.Exceptions.{AreRaised};
 ghost use Rattle.resolved.specs.Ends.{raises};
 ghost use Rattle.resolved.specs.Tree.{Assign, Clear, Leave, Receive, ReturnWith, Send};
 ghost use Rattle.resolved.specs.TreeOf.{expression_of, some_expression_of};
+ghost use Rattle.solver.specs.Rule.{rule_number};
 ghost use Rattle.std.specs.Prelude.{List, OnOk, ℕ, ◌++◌};
 
 use crate::around::Around;
@@ -21,19 +22,19 @@ use path_map::raises::{Raises, raises_of};
 use resolved::expression::{Expression, Variable};
 use resolved::statement::Exit;
 use resolved::target::Target;
-use solver::{Atom, Constraint, Left};
+use solver::{Atom, Constraint, Left, Rule};
 use std::alloc::{AllocError, Global};
 
 /// A procedure of a program whose constraints are gathered, with the labels of the program's tables and its possible ends.
 #[derive(Drop)]
-pub struct Walk<'a> {
+pub struct ProcedureWalk<'a> {
     pub alloc: Global,
     pub table: &'a Table<'a>,
     pub map: &'a Ends,
     pub procedure: u32,
 }
 
-impl<'a> Walk<'a> {
+impl<'a> ProcedureWalk<'a> {
     // Adds the flows of what goes on at an end or raises one of these exceptions.
     pub(crate) fn add_ends(
         &self,
@@ -71,7 +72,7 @@ impl<'a> Walk<'a> {
             self.now.table.now.core.now.labels around.now.pc
             (λ (named : NamedAtom). valued_constraints
             (scope_of self.now.table.now.core.now self.now.procedure) named
-            (takers_around around.now) demand.at demand.rule (expression_of value.now)
+            (takers_around around.now) demand.at (rule_number demand.rule) (expression_of value.now)
             demand.target exit)
             constraints.old.items constraints.new.items) }
     {
@@ -105,7 +106,7 @@ impl<'a> Walk<'a> {
     {
         let demand = Demand {
             at,
-            rule: 1,
+            rule: Rule::Assignment,
             target: Target::ToVariable(self.procedure, variable),
         };
         self.add_valued(demand, value, Exit::Normal, around, constraints)?;
@@ -129,7 +130,7 @@ impl<'a> Walk<'a> {
     {
         let demand = Demand {
             at,
-            rule: 5,
+            rule: Rule::Send,
             target: Target::ToChannel(channel),
         };
         self.add_valued(demand, value, Exit::Normal, around, constraints)?;
@@ -150,9 +151,9 @@ impl<'a> Walk<'a> {
             (Leave at exit)
             constraints.old.items constraints.new.items) }
     {
-        let left = left_of_pc(self.alloc, around.pc)?;
+        let taker = around.taker(exit);
         self.table
-            .add_flow(self.alloc, &left, around.taker(exit), constraints)?;
+            .add_pc_flow(self.alloc, around.pc, taker, constraints)?;
         Ok(())
     }
 
@@ -172,15 +173,15 @@ impl<'a> Walk<'a> {
     {
         match value {
             None => {
-                let left = left_of_pc(self.alloc, around.pc)?;
                 let taker = around.taker(Exit::Return);
-                self.table.add_flow(self.alloc, &left, taker, constraints)?;
+                self.table
+                    .add_pc_flow(self.alloc, around.pc, taker, constraints)?;
                 Ok(())
             }
             Some(value) => {
                 let demand = Demand {
                     at,
-                    rule: 10,
+                    rule: Rule::Return,
                     target: Target::ToValue(self.procedure),
                 };
                 self.add_valued(demand, value, Exit::Return, around, constraints)?;
@@ -206,14 +207,14 @@ impl<'a> Walk<'a> {
         let target = Target::ToVariable(self.procedure, Variable::Local(slot));
         self.table.add_rule(
             at,
-            2,
+            Rule::ArrayDeclaration,
             left_of_pc(self.alloc, around.pc)?,
             target,
             constraints,
         )?;
-        let left = left_of_pc(self.alloc, around.pc)?;
         let taker = around.taker(Exit::Normal);
-        self.table.add_flow(self.alloc, &left, taker, constraints)?;
+        self.table
+            .add_pc_flow(self.alloc, around.pc, taker, constraints)?;
         Ok(())
     }
 
@@ -221,7 +222,7 @@ impl<'a> Walk<'a> {
     pub(crate) fn add_target(
         &self,
         at: usize,
-        rule: u8,
+        rule: Rule,
         left: Left,
         target: Option<Variable>,
         constraints: &mut Vec<Constraint<Option<Target>>>,
@@ -230,7 +231,7 @@ impl<'a> Walk<'a> {
             IsLeft self.now.table.now.core.now self.now.table.now.core.now.labels atoms left.items →
             AreAdded self.now.table.now.core.now self.now.table.now.core.now.labels
             (target_constraint (scope_of self.now.table.now.core.now self.now.procedure)
-            at rule atoms target)
+            at (rule_number rule) atoms target)
             constraints.old.items constraints.new.items) }
     {
         match target {
@@ -261,14 +262,14 @@ impl<'a> Walk<'a> {
         let source = Target::ToChannel(channel);
         self.table.add_rule(
             at,
-            4,
+            Rule::Receive,
             left_of_pc(self.alloc, around.pc)?,
             source,
             constraints,
         )?;
         let left = self.table.left_of_label(self.alloc, around.pc, source)?;
         let received = self.table.left_of_label(self.alloc, around.pc, source)?;
-        self.add_target(at, 4, received, target, constraints)?;
+        self.add_target(at, Rule::Receive, received, target, constraints)?;
         let normal = around.taker(Exit::Normal);
         self.table.add_flow(self.alloc, &left, normal, constraints)?;
         let ended = around.taker(Exit::Throw(END));

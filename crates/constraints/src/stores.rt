@@ -14,15 +14,15 @@ ghost use Rattle.std.specs.Prelude.{IfOk, OnOk, ◌++◌};
 use crate::around::Around;
 use crate::forms::ArrayStore;
 use crate::lefts::left_of_pc;
-use crate::statements::Walk;
+use crate::statements::ProcedureWalk;
 use path_map::raises::{Raises, index_can_raise, raises_of};
 use resolved::expression::Expression;
 use resolved::statement::Exit;
 use resolved::target::Target;
-use solver::{Atom, Constraint, Left};
+use solver::{Atom, Constraint, Left, Rule};
 use std::alloc::AllocError;
 
-impl<'a> Walk<'a> {
+impl<'a> ProcedureWalk<'a> {
     // The pc, and the labels of the index and the value of a store.
     fn left_of_stored(
         &self,
@@ -95,7 +95,7 @@ impl<'a> Walk<'a> {
         let target = Target::ToVariable(self.procedure, store.array);
         let stored = self.left_of_stored(around.pc, index, value)?;
         self.table
-            .add_rule(store.at, 3, stored, target, constraints)?;
+            .add_rule(store.at, Rule::Store, stored, target, constraints)?;
         let left = self.left_of_store(around.pc, store.length, index, value)?;
         let found = raises_of_store(store.length, index, value);
         self.add_ends(&left, around, Exit::Normal, found, constraints)?;

@@ -5,7 +5,7 @@ ghost use Rattle.gathering.specs.Walk.{in_loop, with_normal, within_single};
 ghost use Rattle.resolved.specs.TreeOf.{handlers_of};
 ghost use Rattle.resolved.specs.declared.statement.Handler.{Handler};
 ghost use Rattle.std.specs.Prelude.{IfOk, List, OnOk, length, map, set, slice_index_or, ℕ, ◌+◌, ◌<◌, ◌≡◌, ◌≤◌};
-ghost use Rattle.constraints.specs.declared.takers.Entry.{Entry};
+ghost use Rattle.constraints.specs.declared.takers.Taker.{Taker};
 
 use path_map::{ExceptionMap, PathMap};
 use resolved::statement::{Exit, Handler};
@@ -13,7 +13,7 @@ use std::alloc::{AllocError, Global};
 
 /// The taker of an exception, which counts where its level is above the barrier.
 #[derive(Clone, Copy, Debug, PartialEq, Eq)]
-pub struct Entry {
+pub struct Taker {
     pub number: u32,
     pub level: u32,
 }
@@ -30,7 +30,7 @@ pub struct Takers {
 #[derive(Clone, Copy, Debug)]
 pub struct ThrownTakers<'a> {
     pub barrier: u32,
-    pub thrown: &'a [Entry],
+    pub thrown: &'a [Taker],
 }
 
 impl<'a> ExceptionMap<Option<u32>> for ThrownTakers<'a> {
@@ -45,15 +45,15 @@ impl<'a> ExceptionMap<Option<u32>> for ThrownTakers<'a> {
 #[derive(Clone, Copy, Debug, PartialEq, Eq)]
 pub struct Saved {
     pub exception: u32,
-    pub entry: Entry,
+    pub entry: Taker,
 }
 
 // The entry of an exception.
-pub(crate) fn entry_in(thrown: &[Entry], exception: u32) -> Entry
+pub(crate) fn entry_in(thrown: &[Taker], exception: u32) -> Taker
     ensures { result ≡ slice_index_or thrown.now exception no_entry }
 {
     match thrown.get(exception as usize) {
-        None => Entry {
+        None => Taker {
             number: 0,
             level: 0,
         },
@@ -62,7 +62,7 @@ pub(crate) fn entry_in(thrown: &[Entry], exception: u32) -> Entry
 }
 
 // The taker that an entry gives.
-pub(crate) fn taker_in(barrier: u32, entry: Entry) -> Option<u32>
+pub(crate) fn taker_in(barrier: u32, entry: Taker) -> Option<u32>
     ensures { result ≡ taker_of barrier entry }
 {
     if barrier < entry.level {
@@ -74,8 +74,8 @@ pub(crate) fn taker_in(barrier: u32, entry: Entry) -> Option<u32>
 /// Sets the taker of an exception, unless there is one of the same level already, and saves the entry that was there.
 pub(crate) fn take(
     exception: u32,
-    entry: Entry,
-    thrown: &mut Vec<Entry>,
+    entry: Taker,
+    thrown: &mut Vec<Taker>,
     saved: &mut Vec<Saved>,
 ) -> Result<(), AllocError>
     requires { exception < length thrown.old.items }
@@ -97,7 +97,7 @@ pub(crate) fn take(
 }
 
 /// Puts a saved entry back.
-pub fn put(saved: Saved, thrown: &mut Vec<Entry>)
+pub fn put(saved: Saved, thrown: &mut Vec<Taker>)
     ensures { thrown.new.items ≡ set thrown.old.items saved.exception saved.entry }
 {
     let at = saved.exception as usize;
@@ -107,7 +107,7 @@ pub fn put(saved: Saved, thrown: &mut Vec<Entry>)
 }
 
 /// Puts saved entries back, the last one first.
-pub fn put_back(saved: Vec<Saved>, thrown: &mut Vec<Entry>)
+pub fn put_back(saved: Vec<Saved>, thrown: &mut Vec<Taker>)
     ensures { thrown.new.items ≡ undone saved.items thrown.old.items }
 {
     let mut saved = saved;
@@ -121,7 +121,7 @@ pub(crate) fn take_handled(
     handlers: &[Handler],
     first: u32,
     level: u32,
-    thrown: &mut Vec<Entry>,
+    thrown: &mut Vec<Taker>,
     saved: &mut Vec<Saved>,
 ) -> Result<(), AllocError>
     requires inside { AreHandledInside handlers.now thrown.old.items }
@@ -134,7 +134,7 @@ pub(crate) fn take_handled(
 {
     for (i, handler) in handlers.iter().enumerate() {
         let number = first + i as u32;
-        take(handler.exception, Entry { number, level }, thrown, saved)?;
+        take(handler.exception, Taker { number, level }, thrown, saved)?;
     }
     Ok(())
 }
@@ -143,7 +143,7 @@ pub(crate) fn take_handled(
 pub(crate) fn numbers_of(
     alloc: Global,
     handlers: &[Handler],
-    thrown: &[Entry],
+    thrown: &[Taker],
 ) -> Result<Vec<u32>, AllocError>
     ensures { IfOk result (λ numbers. numbers.items ≡ map (λ (handler : Handler).
         (slice_index_or thrown.now handler.exception no_entry).number) handlers.now) }
@@ -157,7 +157,7 @@ pub(crate) fn numbers_of(
 
 impl Takers {
     /// The taker of an end.
-    pub fn at(self, thrown: &[Entry], exit: Exit) -> Option<u32>
+    pub fn at(self, thrown: &[Taker], exit: Exit) -> Option<u32>
         ensures { result ≡ takers_of self thrown.now exit }
     {
         let raised = ThrownTakers {
@@ -170,9 +170,9 @@ impl Takers {
     /// The same takers but for that of the normal end.
     pub fn with_normal(self, normal: Option<u32>) -> Takers
         ensures level { result.level ≡ self.level }
-        ensures levelled { (thrown : List Entry) →
+        ensures levelled { (thrown : List Taker) →
             AreLevelled self thrown → AreLevelled result thrown }
-        ensures takers { (thrown : List Entry) →
+        ensures takers { (thrown : List Taker) →
             takers_of result thrown ≡ with_normal normal (takers_of self thrown) }
     {
         Takers {
@@ -187,9 +187,9 @@ impl Takers {
     /// The takers in the body of a loop, whose condition is reached at the inner unknown with this number.
     pub fn in_loop(self, back: u32) -> Takers
         ensures level { result.level ≡ self.level }
-        ensures levelled { (thrown : List Entry) →
+        ensures levelled { (thrown : List Taker) →
             AreLevelled self thrown → AreLevelled result thrown }
-        ensures takers { (thrown : List Entry) →
+        ensures takers { (thrown : List Taker) →
             takers_of result thrown ≡ in_loop back (takers_of self thrown) }
     {
         Takers {
@@ -217,9 +217,9 @@ impl Takers {
     /// No takers, where there is one end only.
     pub fn within_single(self, only: bool) -> Takers
         ensures level { result.level ≡ self.level }
-        ensures levelled { (thrown : List Entry) →
+        ensures levelled { (thrown : List Taker) →
             AreLevelled self thrown → AreLevelled result thrown }
-        ensures takers { (thrown : List Entry) → AreWithin self.level thrown →
+        ensures takers { (thrown : List Taker) → AreWithin self.level thrown →
             takers_of result thrown ≡ within_single only (takers_of self thrown) }
     {
         if only {

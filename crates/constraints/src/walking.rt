@@ -10,7 +10,7 @@ ghost use Rattle.std.specs.Prelude.{IfOk, List, OnOk, drop, length, map, â„•, â—
 use crate::around::Context;
 use crate::forms::{ArrayStore, CallSite, LoopSite};
 use crate::progress::Progress;
-use crate::statements::Walk;
+use crate::statements::ProcedureWalk;
 use crate::takers::{Takers, put_back};
 use path_map::Exits;
 use resolved::expression::Expression;
@@ -23,7 +23,7 @@ use std::alloc::AllocError;
 /// program, and that the path map goes on with its entries.
 #[cycle(walk)]
 pub(crate) fn walk_block(
-    walk: &Walk,
+    walk: &ProcedureWalk,
     block: &[Statement],
     context: Context,
     progress: &mut Progress,
@@ -44,7 +44,7 @@ pub(crate) fn walk_block(
 // Walks along the statements of a block.
 #[cycle(walk)]
 fn walk_statements(
-    walk: &Walk,
+    walk: &ProcedureWalk,
     block: &[Statement],
     context: Context,
     progress: &mut Progress,
@@ -78,7 +78,7 @@ fn walk_statements(
 // Walks past a statement, and gives its possible ends. Its normal end has the taker with this number.
 #[cycle(walk)]
 fn walk_statement(
-    walk: &Walk,
+    walk: &ProcedureWalk,
     statement: &Statement,
     number: u32,
     context: Context,
@@ -106,7 +106,7 @@ fn walk_statement(
 // Walks past a statement, by its form.
 #[cycle(walk)]
 fn walk_form(
-    walk: &Walk,
+    walk: &ProcedureWalk,
     statement: &Statement,
     context: Context,
     progress: &mut Progress,
@@ -153,7 +153,7 @@ fn walk_form(
 // Walks past a branch.
 #[cycle(walk)]
 fn walk_if(
-    walk: &Walk,
+    walk: &ProcedureWalk,
     condition: &Expression,
     yes_block: &[Statement],
     no_block: &[Statement],
@@ -182,7 +182,7 @@ fn walk_if(
 // Walks past a loop with this number.
 #[cycle(walk)]
 fn walk_while(
-    walk: &Walk,
+    walk: &ProcedureWalk,
     site: LoopSite,
     condition: &Expression,
     body: &[Statement],
@@ -211,7 +211,7 @@ fn walk_while(
 // Walks past a `try`.
 #[cycle(walk)]
 fn walk_try(
-    walk: &Walk,
+    walk: &ProcedureWalk,
     block: &[Statement],
     handlers: &[Handler],
     context: Context,
@@ -241,7 +241,7 @@ fn walk_try(
 // Walks along the bodies of handlers, each of which is reached at the inner unknown with its number.
 #[cycle(walk)]
 fn walk_handlers(
-    walk: &Walk,
+    walk: &ProcedureWalk,
     handlers: &[Handler],
     numbers: &[u32],
     takers: Takers,

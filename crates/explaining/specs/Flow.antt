@@ -13,6 +13,7 @@ use Rattle.resolved.specs.declared.expression.Variable.{Variable}
 use Rattle.resolved.specs.declared.expression.Variable.TheVariants.{Global, Local}
 use Rattle.resolved.specs.declared.target.Target.{Target}
 use Rattle.resolved.specs.declared.target.Target.TheVariants.{ToVariable, ToChannel, ToBegin, ToParameter, ToValue, ToEnd, ToThrown, ToLoop}
+use Rattle.solver.specs.Rule.{rule_number}
 use Rattle.checker.specs.declared.fault.RefusedFlow.{RefusedFlow}
 use Rattle.checker.specs.declared.fault.Step.{Step}
 use Rattle.explaining.specs.Text.{at_place}
@@ -46,7 +47,7 @@ policy_line h policy = codes "policy " ++ (printed_label h (policy ∷ []) ++ co
 abbrev pub step_line : (source : List ℕ) → Program → Step → List ℕ
 step_line source program step =
     at_place source step.at
-    (codes " rule " ++ (decimal step.rule ++ (codes " to " ++ (target_name program step.target ++ codes "\n"))))
+    (codes " rule " ++ (decimal (rule_number step.rule) ++ (codes " to " ++ (target_name program step.target ++ codes "\n"))))
 
 -- the text of a flow that is refused
 abbrev pub flow_text : (source : List ℕ) → RefusedFlow → List ℕ

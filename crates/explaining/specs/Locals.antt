@@ -2,7 +2,7 @@
 -- Source: our own; labels of locals may be left out, and are then inferred, as in JFlow (Myers 1999).
 use Rattle.std.specs.Prelude.{ℕ, suc, ◌≡◌, List, [], ◌∷◌, ◌++◌, Option, Some, None, codes}
 use Rattle.labels.specs.Canonical.{IsCanonicalLabel}
-use Rattle.labels.specs.Constraints.{label_lattice}
+use Rattle.labels.specs.LabelLattice.{label_lattice}
 use Rattle.labels.specs.Label.{Label}
 use Rattle.labels.specs.Printed.{printed_label}
 use Rattle.principals.specs.ActsFor.{PrincipalHierarchy}

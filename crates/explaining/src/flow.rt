@@ -94,7 +94,7 @@ fn line_of_step(
         ≡ step_line marked.now.text.now (program_of core.now) step) }
 {
     let Place { line, column } = marked.place_of(step.at);
-    let rule = step.rule;
+    let rule = step.rule.number();
     let target = NamedTarget {
         core,
         target: step.target,

@@ -15,7 +15,7 @@ use Rattle.principals.proofs.Names.{one_number}
 use Rattle.principals.proofs.Total.{described_is_hierarchy}
 use Rattle.labels.specs.Carried.{label_under}
 use Rattle.labels.specs.Label.{Label, may_read}
-use Rattle.labels.specs.declared.sent.Pair.{Pair}
+use Rattle.common.specs.declared.sent.Pair.{Pair}
 use Rattle.labels.specs.Sent.{IsPrefix, OneIsPrefix}
 use Rattle.labels.proofs.Prefixes.{prefix-itself, prefixes-of-two, prefix-through, seen-prefix}
 use Rattle.resolved.specs.Labelled as labels

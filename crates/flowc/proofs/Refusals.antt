@@ -18,7 +18,7 @@ use Rattle.verifier.specs.Refusals.{IsCodeRefusalAfter}
 use Rattle.verifier.specs.declared.fault.CodeRefusal.{CodeRefusal}
 use Rattle.std.specs.Result.{IsErrAnd}
 use Rattle.std.proofs.lemmas.Result.{err_from_is_err_and}
-use Rattle.labels.specs.declared.sent.Pair.{Pair}
+use Rattle.common.specs.declared.sent.Pair.{Pair}
 use Rattle.principals.specs.ActsFor.{PrincipalHierarchy, ContainsHierarchy}
 use Rattle.principals.specs.Laws.{HasOneHierarchy, IsNotReadAndRefused}
 use Rattle.modules.specs.Form.{Spells}
@@ -30,10 +30,6 @@ use Rattle.flowc.specs.Task.{status_of_fault}
 use Rattle.flowc.specs.declared.ended.Ended.{Ended}
 use Rattle.flowc.specs.declared.fault.PerformFault.{PerformFault}
 use Rattle.flowc.specs.declared.fault.PerformFault.TheVariants.{Refused, CannotWrite, NoMemory}
-
-reported_after : (m : ModuleContents) (refusals : List CodeRefusal) (refusal : CodeRefusal) → IsCodeRefusalAfter m refusals refusal → refusals ≡ [] → ((other : CodeRefusal) → IsCodeRefusalAfter m [] other → ⊥) → ⊥
-reported_after m [] refusal reported fixed flow = flow refusal reported
-reported_after m (first ∷ more) refusal reported fixed flow = cc
 
 -- a text with a wrong line is no world
 pub wrong_is_no_world : (inputs : List (List ℕ)) (lines : List (List (List ℕ))) (refusal : WorldRefusal)

@@ -1,7 +1,7 @@
 -- A session of bytes that can be opened, by a host with one place, which shows what the bytes send within so many steps.
 use Rattle.std.proofs.Common.{◌≡◌, ℕ, zero, suc, ◌≤◌, ◌<◌, ◌⊎◌, List, [], ◌∷◌, length, Option, Some, refl, sym, ap, ◌∙◌, subst, inl, inr, ⊎_elim, arith}
 use Rattle.principals.specs.ActsFor.{PrincipalHierarchy}
-use Rattle.labels.specs.declared.sent.Pair.{Pair}
+use Rattle.common.specs.declared.sent.Pair.{Pair}
 use Rattle.modules.specs.Contents.{ModuleContents}
 use Rattle.modules.specs.Isolated.{module_view}
 use Rattle.modules.specs.Machine as machine

@@ -7,7 +7,7 @@ use Rattle.std.specs.declared.alloc.Global.{Global}
 use Rattle.std.specs.declared.vec.Vec.{Vec}
 use Rattle.principals.specs.ActsFor.{PrincipalHierarchy, HasName, IsHierarchy}
 use Rattle.labels.specs.Carried.{label_under}
-use Rattle.labels.specs.declared.sent.Pair.{Pair}
+use Rattle.common.specs.declared.sent.Pair.{Pair}
 use Rattle.labels.specs.Sent.{IsPrefix, pairs_for, OneIsPrefix}
 use Rattle.resolved.specs.Labelled.{channel_label}
 use Rattle.resolved.specs.Meaning.{frame_limit, run_within, sent_by}

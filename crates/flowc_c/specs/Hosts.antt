@@ -9,7 +9,7 @@ use Rattle.host.specs.Values.{HostRuns, host_of}
 use Rattle.host.specs.declared.fault.HostRefusal.{HostRefusal}
 use Rattle.host.specs.declared.fault.HostRefusal.TheVariants.{Full, UnknownId, UnknownPrincipal, Load, New, NotContained}
 use Rattle.host.specs.declared.hosts.TheConstants.{MAX_SESSIONS}
-use Rattle.labels.specs.declared.sent.Pair.{Pair}
+use Rattle.common.specs.declared.sent.Pair.{Pair}
 use Rattle.machine.specs.declared.status.Status.{Status}
 use Rattle.machine.specs.declared.status.Status.TheVariants as runs
 use Rattle.verifier.specs.declared.loading.LoadRefusal.TheVariants.{Bytes, Code}

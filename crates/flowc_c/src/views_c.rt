@@ -6,7 +6,7 @@ ghost use Rattle.common.specs.declared.fault.OrNoMemory.TheVariants as faults;
 ghost use Rattle.host.specs.Meaning.{Refused, View, Viewed};
 ghost use Rattle.host.specs.Values.{viewed_or};
 ghost use Rattle.host.specs.declared.fault.HostRefusal.{HostRefusal};
-ghost use Rattle.labels.specs.declared.sent.Pair.{Pair};
+ghost use Rattle.common.specs.declared.sent.Pair.{Pair};
 ghost use Rattle.std.specs.Option.{option_map};
 ghost use Rattle.std.specs.Prelude.{◌≡◌, ◌≤◌, ◌↔◌, IfOk, List, None, Some, map};
 

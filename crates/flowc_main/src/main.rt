@@ -24,6 +24,10 @@ enum ProgramRefusal {
     NoText,
 }
 
+// The most bytes of a block that the allocator of the C library takes from the memory that it keeps, once it has seen such a block
+// freed; before, each large block that is freed goes back to the system.
+const LARGE_BLOCK: usize = 32 * 1024 * 1024 - 64 * 1024;
+
 // Why the program stops.
 type ProgramFault = OrNoMemory<ProgramRefusal>;
 
@@ -35,6 +39,9 @@ impl From<TaskRefusal> for ProgramRefusal {
 }
 
 fn main(rt: HostRuntime) -> ExitCode {
+    if let Ok(block) = Vec::<u8>::with_capacity(rt.alloc(), LARGE_BLOCK) {
+        drop(block);
+    }
     match perform_words(&rt) {
         Ok(status) => ExitCode::from(status),
         Err(fault) => ExitCode::from(report(&rt, &fault)),

@@ -3,8 +3,8 @@ use Rattle.std.proofs.Common.{◌≡◌, refl, sym, ap, ◌∙◌, subst, ℕ, s
 use Rattle.std.specs.Prelude.{Contains, Option, Some, None, ◌==◌, filter}
 use Rattle.std.proofs.lemmas.Bool.{or_left, or_right, eq-eqb}
 use Rattle.std.proofs.lemmas.List.Elements.{Contains-append_cases, Contains-append_left, Contains-append_right}
-use Rattle.principals.proofs.Closure.{none_in_nil, Contains-cons_cases, Contains-later, Contains-first}
-use Rattle.labels.specs.Constraints.{Written, Unknown, renamed}
+use Rattle.common.proofs.Elements.{none_in_nil, Contains-cons_cases, Contains-later, Contains-first}
+use Rattle.lattices.specs.Constraints.{Written, Unknown, renamed}
 use Rattle.resolved.specs.declared.expression.Variable.{Variable}
 use Rattle.resolved.specs.declared.expression.Variable.TheVariants.{Local}
 use Rattle.resolved.specs.declared.statement.Exit.{Exit}
@@ -66,9 +66,6 @@ module _ (m : ℕ → Join) where
 
   pub below-sub : (p : List NamedAtom) (x y : Join) → Below p x → Sub x y → Below p y
   below-sub p x y h s b there a i = s a (h b there a i)
-
-  pub below-nil : (x : Join) → Below [] x
-  below-nil x b there = absurd (none_in_nil b there)
 
   pub below-inner : (n : ℕ) (j : Join) → m n ≡ j → Below (inner_atom n ∷ []) j
   below-inner n j e b there a i =

@@ -3,8 +3,8 @@ use Rattle.std.proofs.Common.{◌≡◌, refl, sym, ap, ◌∙◌, subst, ℕ, s
 use Rattle.std.specs.Prelude.{IsFalse, Contains, Option, Some, None, ◌==◌}
 use Rattle.std.proofs.lemmas.Bool.{or_left, or_right, or_cases, eq-eqb}
 use Rattle.std.proofs.lemmas.List.Elements.{Contains-append_cases, Contains-append_left, Contains-append_right}
-use Rattle.principals.proofs.Closure.{none_in_nil, Contains-cons_cases, Contains-later, Contains-first}
-use Rattle.labels.specs.Constraints.{Written, Unknown, renamed, is_inner, Feeds, itself, through}
+use Rattle.common.proofs.Elements.{none_in_nil, Contains-cons_cases, Contains-later, Contains-first}
+use Rattle.lattices.specs.Constraints.{Written, Unknown, renamed, is_inner, Feeds, itself, through}
 use Rattle.resolved.specs.declared.expression.Variable.{Variable}
 use Rattle.resolved.specs.declared.expression.Variable.TheVariants.{Local}
 use Rattle.resolved.specs.declared.statement.Exit.{Exit}

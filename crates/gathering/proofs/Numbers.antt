@@ -6,9 +6,10 @@ use Rattle.std.proofs.lemmas.List.Sums.{sum_by_more_le}
 use Rattle.std.proofs.lemmas.List.Recursion.{is_sum_by}
 use Rattle.common.proofs.Cases.{contained_map_only}
 use Rattle.labels.specs.Label.{Label}
-use Rattle.labels.specs.Constraints.{Atom, Written, Unknown, renamed, is_inner, label_lattice}
+use Rattle.lattices.specs.Constraints.{Atom, Written, Unknown, renamed, is_inner}
+use Rattle.labels.specs.LabelLattice.{label_lattice}
 use Rattle.labels.proofs.FlowTests.{IsLattice-flows}
-use Rattle.labels.proofs.Gathered.{fits-alike, fits-down, fits-up}
+use Rattle.lattices.proofs.Gathered.{fits-alike, fits-down, fits-up}
 use Rattle.resolved.specs.Program.{Program, ProcedureEntry, procedure_at}
 use Rattle.resolved.specs.EndFaults.{end_faults}
 use Rattle.resolved.specs.Flow.{Gathered, AreGathered}
@@ -165,10 +166,6 @@ labellings-fit program formed none labelling =
           (λ u there. ap found.labels (numbers u) ∙ sym (found.chosen_by u there))
           (fits-down (program_demands program) (gathered_constraints program) gathered lattice laws found.labels found.fits),
     )
-
--- what is gathered, in one
-pub gathered-of : (program : Program) → IsTrue (well_formed program) → end_faults program ≡ [] → AreConstraintsOf program (gathered_constraints program)
-gathered-of program formed none = record { gathered = numbered-gathered program formed none; numbered = numbered-numbers program formed none }
 
 -- and its unknowns have numbers below their count
 number-below : (program : Program) (a : NamedAtom) → InRange program (unknown_count program) a → IsUnknownBelow (unknown_count program) (numbered_atom program a)

@@ -3,8 +3,8 @@ use Rattle.std.proofs.Common.{◌≡◌, refl, sym, ◌∙◌, ℕ, suc, ◌+◌
 use Rattle.std.specs.Prelude.{Contains, if◌then◌else◌, ◌==◌, IsTrue}
 use Rattle.std.proofs.lemmas.Bool.{and_parts, or_left, or_right, eq-eqb}
 use Rattle.std.proofs.lemmas.Option.{slice_get-get_or}
-use Rattle.principals.proofs.Closure.{none_in_nil, Contains-cons_cases}
-use Rattle.labels.specs.Constraints.{renamed}
+use Rattle.common.proofs.Elements.{none_in_nil, Contains-cons_cases}
+use Rattle.lattices.specs.Constraints.{renamed}
 use Rattle.resolved.specs.declared.target.Target.TheVariants.{ToBegin, ToEnd, ToThrown}
 use Rattle.resolved.specs.Program.{Program, ProcedureEntry, ThrownEntry, procedure_at}
 use Rattle.resolved.specs.Ends.{block_ends}

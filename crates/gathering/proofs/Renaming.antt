@@ -1,9 +1,9 @@
 -- What was gathered stays gathered when its unknowns get other names, different ones where they stand in the constraints.
 use Rattle.std.proofs.Common.{◌≡◌, refl, sym, ap, ◌∙◌, subst, Bool, true, false, List, [], ◌∷◌, ◌⊎◌, inl, inr}
 use Rattle.std.specs.Prelude.{IsTrue, Contains, Option, None, if◌then◌else◌, map}
-use Rattle.principals.proofs.Closure.{Contains-later, Contains-first}
-use Rattle.labels.specs.Constraints.{Atom, Written, Unknown, Constraint, Occurs, renamed, is_inner, outer, Feeds, itself, through, StandsFor, OneByOne, IsGathered}
-use Rattle.labels.proofs.Gathered.{occurs-there, outer-only}
+use Rattle.common.proofs.Elements.{Contains-later, Contains-first}
+use Rattle.lattices.specs.Constraints.{Atom, Written, Unknown, Constraint, Occurs, renamed, is_inner, outer, Feeds, itself, through, StandsFor, OneByOne, IsGathered}
+use Rattle.lattices.proofs.Gathered.{occurs-there, outer-only}
 use Rattle.common.proofs.Cases.{contained_map, contained_map_only}
 
 renamed-twice : {U W X V : Type 0} (f : W → X) (g : U → W) (a : Atom U V) → renamed f (renamed g a) ≡ renamed (λ u. f (g u)) a

@@ -2,12 +2,12 @@
 use Rattle.std.proofs.Common.{◌≡◌, refl, sym, ap, ◌∙◌, subst, Bool, true, false, List, [], ◌∷◌, ◌++◌, ⊎_elim}
 use Rattle.std.specs.Prelude.{IsTrue, IsFalse, Contains, Option, if◌then◌else◌}
 use Rattle.std.proofs.lemmas.List.Elements.{Contains-append_cases, Contains-append_left, Contains-append_right}
-use Rattle.principals.proofs.Closure.{Contains-later, Contains-first}
-use Rattle.labels.specs.Constraints.{Atom, Written, Unknown, Constraint, renamed, is_inner, outer, Feeds, through, LeftStandsFor, StandsFor, OneByOne, IsGathered}
-use Rattle.labels.specs.Constraints as formal
-use Rattle.labels.proofs.Gathered.{outer-only}
+use Rattle.common.proofs.Elements.{Contains-later, Contains-first}
+use Rattle.lattices.specs.Constraints.{Atom, Written, Unknown, Constraint, renamed, is_inner, outer, Feeds, through, LeftStandsFor, StandsFor, OneByOne, IsGathered}
+use Rattle.lattices.specs.Constraints as formal
+use Rattle.lattices.proofs.Gathered.{outer-only}
 use Rattle.common.proofs.Cases.{by_test}
-use Rattle.gathering.specs.Rerouted.{Leads, arrived, onward, Brings, itself, others, IsRerouted}
+use Rattle.gathering.specs.Rerouted.{LeadsInside, ended, led, Brings, itself, others, IsRerouted}
 
 not-both : (b : Bool) → IsTrue b → IsFalse b → ⊥
 not-both true e f = let i : true ≡ false = f in absurd (cc)
@@ -45,12 +45,11 @@ module _ {N U W V : Type 0} (ds : List (Constraint N U V)) (cs base added : List
   brings-old part old e (itself f same) = same
   brings-old part old e (others u is f stands) = absurd (not-both (further u) f (subst (λ a. IsFalse (is_inner further a)) is e))
 
-  -- along a path of added constraints
-  along : (from part to : Atom W V) → Leads added part to → Feeds inner (base ++ added) from part → Feeds inner (base ++ added) from to
-  along from part to (arrived _ same) fed = subst (λ a. Feeds inner (base ++ added) from a) same fed
-  along from part to (onward middle _ leads link) fed =
-      through link.by middle to (along from part middle leads fed) (Contains-append_right base added link.by link.among) link.starts link.ends
-      (subst (λ a. IsTrue (is_inner inner a)) link.ends (added-inner link.by link.among))
+  -- along a path of constraints
+  along : (from part to : Atom W V) → LeadsInside inner (base ++ added) part to → Feeds inner (base ++ added) from part → Feeds inner (base ++ added) from to
+  along from part to (ended _ same) fed = subst (λ a. Feeds inner (base ++ added) from a) same fed
+  along from part to (led middle _ leads link e) fed =
+      through link.by middle to (along from part middle leads fed) link.among link.starts link.ends e
 
   feeds-up : (from to : Atom W V) → Feeds inner cs from to → Feeds inner (base ++ added) from to
   feeds-up from to (formal.itself _ e same) = formal.itself to e same

@@ -1,9 +1,9 @@
 -- Whole programs of which some flows go by further unknowns.
 use Rattle.std.proofs.Common.{◌≡◌, sym, ap, ◌∙◌, ℕ, List, [], ◌++◌, ◌==◌, arith, subst}
 use Rattle.std.specs.Prelude.{IsTrue, ◌↔◌, nat_le}
-use Rattle.labels.specs.Constraints.{label_lattice}
+use Rattle.labels.specs.LabelLattice.{label_lattice}
 use Rattle.labels.proofs.FlowTests.{IsLattice-flows}
-use Rattle.labels.proofs.Gathered.{fits-alike, fits-down, fits-up}
+use Rattle.lattices.proofs.Gathered.{fits-alike, fits-down, fits-up}
 use Rattle.resolved.specs.EndFaults.{end_faults}
 use Rattle.resolved.specs.Flow.{Gathered}
 use Rattle.resolved.specs.Labelled.{Labelling, FitsDemands, chosen, program_demands}

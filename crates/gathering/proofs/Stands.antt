@@ -3,8 +3,8 @@ use Rattle.std.proofs.Common.{◌≡◌, refl, sym, ap, ◌∙◌, subst, ℕ, s
 use Rattle.std.specs.Prelude.{IsTrue, IsFalse, Contains, Option, Some, None, if◌then◌else◌, ◌==◌}
 use Rattle.std.proofs.lemmas.Bool.{or_left, or_right, eq-eqb}
 use Rattle.std.proofs.lemmas.List.Elements.{Contains-append_cases}
-use Rattle.principals.proofs.Closure.{Contains-first}
-use Rattle.labels.specs.Constraints.{Written, Unknown, renamed, is_inner, outer, Feeds, itself, through, LeftStandsFor, OneByOne}
+use Rattle.common.proofs.Elements.{Contains-first}
+use Rattle.lattices.specs.Constraints.{Written, Unknown, renamed, is_inner, outer, Feeds, itself, through, LeftStandsFor, OneByOne}
 use Rattle.resolved.specs.declared.expression.Variable.{Variable}
 use Rattle.resolved.specs.declared.expression.Variable.TheVariants.{Local}
 use Rattle.resolved.specs.declared.statement.Exit.{Exit}
@@ -104,11 +104,6 @@ module _ (cs : List NamedConstraint) where
         let is : outer is_inner_name (c ∷ []) ≡ (c ∷ []) = rw (outer_atom (label_of scope.program target)) refl in
         subst (λ z. OneByOne Real is_inner_name cs (demand scope.program at rule j target) z) (sym is)
         (record { at_is = refl; rule_is = refl; target_is = refl; right_is = refl; left = left-stands p j below fed }, tt)
-
-    pub one-target : (scope : Scope) (at rule : ℕ) (p : List NamedAtom) (j : Join) (target : Option Variable) → Below m p j → Fed cs p j →
-        One (target_demand scope at rule j target) (target_constraint scope at rule p target)
-    one-target scope at rule p j None below fed = tt
-    one-target scope at rule p j (Some x) below fed = one-rule scope at rule p j (ToVariable scope.number x) below fed
 
     -- a target's demand with what is not told after it
     pub one-target_more : (scope : Scope) (at rule : ℕ) (p : List NamedAtom) (j : Join) (target : Option Variable) (xs : List NamedConstraint) → Below m p j → Fed cs p j → One [] xs →

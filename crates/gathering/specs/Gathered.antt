@@ -3,7 +3,8 @@
 -- Source: our own.
 use Rattle.std.specs.Prelude.{◌≡◌, ℕ, List}
 use Rattle.labels.specs.Label.{Label}
-use Rattle.labels.specs.Constraints.{FitsAll, Occurs, label_lattice}
+use Rattle.lattices.specs.Constraints.{FitsAll, Occurs}
+use Rattle.labels.specs.LabelLattice.{label_lattice}
 use Rattle.resolved.specs.Program.{Program}
 use Rattle.resolved.specs.Flow.{Gathered, AreGathered}
 use Rattle.resolved.specs.Labelled.{Labelling, Unwritten, chosen, program_demands}

@@ -3,7 +3,7 @@
 -- Source: our own; program-counter labels as unknowns as in JFlow (Myers 1999).
 use Rattle.std.specs.Prelude.{ℕ, ◌+◌, ◌<◌, List, [], ◌∷◌, Bool, true, false, map, length, sum_by, take, Option}
 use Rattle.labels.specs.Label.{Label}
-use Rattle.labels.specs.Constraints.{Atom, Constraint, renamed}
+use Rattle.lattices.specs.Constraints.{Atom, Constraint, renamed}
 use Rattle.resolved.specs.declared.target.Target.{Target}
 use Rattle.resolved.specs.Program.{Program, ProcedureEntry, procedure_at}
 use Rattle.resolved.specs.Labelled.{Unwritten, OfLocal, OfLoop, Join}

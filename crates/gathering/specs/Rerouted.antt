@@ -1,8 +1,8 @@
 -- Private: constraints of which some flows go by further inner unknowns: what flowed from a part to an inner unknown by one of the constraints
--- flows there by a path of others, through unknowns that stand in none of the old ones.
+-- flows there by a path of others and of those that stay, through unknowns that stand in none of the old ones.
 -- Source: our own.
-use Rattle.std.specs.Prelude.{◌≡◌, List, Bool, Option, None, IsTrue, IsFalse, Contains, ◌⊎◌}
-use Rattle.labels.specs.Constraints.{Atom, Unknown, Constraint, is_inner, outer}
+use Rattle.std.specs.Prelude.{◌≡◌, List, ◌++◌, Bool, Option, None, IsTrue, IsFalse, Contains, ◌⊎◌}
+use Rattle.lattices.specs.Constraints.{Atom, Unknown, Constraint, is_inner, outer}
 
 -- a constraint by which a part flows to a right side
 pub record Links {N U V : Type 0} (cs : List (Constraint N U V)) (from to : Atom U V) : Type 0 where
@@ -15,6 +15,11 @@ pub record Links {N U V : Type 0} (cs : List (Constraint N U V)) (from to : Atom
 pub data Leads {N U V : Type 0} (cs : List (Constraint N U V)) (from : Atom U V) : Atom U V → Type 0 where
   arrived : (to : Atom U V) → from ≡ to → Leads cs from to
   onward : (middle to : Atom U V) → Leads cs from middle → Links cs middle to → Leads cs from to
+
+-- a path of such constraints whose right sides are all inner unknowns
+pub data LeadsInside {N U V : Type 0} (inner : U → Bool) (cs : List (Constraint N U V)) (from : Atom U V) : Atom U V → Type 0 where
+  ended : (to : Atom U V) → from ≡ to → LeadsInside inner cs from to
+  led : (middle to : Atom U V) → LeadsInside inner cs from middle → Links cs middle to → IsTrue (is_inner inner to) → LeadsInside inner cs from to
 
 -- what a part brings: an old part itself, and a further unknown the old parts that it stands for
 pub data Brings {U V : Type 0} (further : U → Bool) (stands : U → List (Atom U V)) (part old : Atom U V) : Type 0 where
@@ -40,5 +45,5 @@ pub record IsRerouted {N U V : Type 0} (inner further : U → Bool) (cs base add
   pub old_parts : (c : Constraint (Option N) U V) → Contains cs c → (part : Atom U V) → Contains c.left part → IsFalse (is_inner further part)
   pub old_right : (c : Constraint (Option N) U V) → Contains cs c → IsFalse (is_inner further c.right)
   pub goes : (c : Constraint (Option N) U V) → Contains cs c → IsTrue (is_inner inner c.right) →
-      Contains base c ⊎ ((part : Atom U V) → Contains c.left part → Leads added part c.right)
+      Contains base c ⊎ ((part : Atom U V) → Contains c.left part → LeadsInside inner (base ++ added) part c.right)
   pub each : (c : Constraint (Option N) U V) → Contains added c → IsAdded inner further stands cs c

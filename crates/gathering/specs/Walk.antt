@@ -6,7 +6,7 @@
 use Rattle.std.specs.Prelude.{ℕ, suc, ◌+◌, ◌<◌, List, [], ◌∷◌, ◌++◌, Bool, true, false, map, filter, length, ◌==◌, ◌&&◌, ◌||◌, if◌then◌else◌, Option, Some, None, Contains}
 use Rattle.std.specs.List.{list_any}
 use Rattle.labels.specs.Label.{Label}
-use Rattle.labels.specs.Constraints.{Atom, Written, Unknown, renamed}
+use Rattle.lattices.specs.Constraints.{Atom, Written, Unknown, renamed}
 use Rattle.resolved.specs.declared.expression.Variable.{Variable}
 use Rattle.resolved.specs.declared.expression.Variable.TheVariants.{Local}
 use Rattle.resolved.specs.declared.statement.Exit.{Exit}

@@ -4,7 +4,7 @@ ghost use Rattle.gathering.specs.Names.{real_unknowns};
 ghost use Rattle.gathering.specs.Rerouted.{IsRerouted};
 ghost use Rattle.gathering.specs.Size.{declared_at_calls, size_of};
 ghost use Rattle.gathering.specs.Walk.{AreUnknownsBelow, FitsGathered, gathered_constraints, program_constraints, unknown_count};
-ghost use Rattle.labels.specs.Constraints.{IsGathered};
+ghost use Rattle.lattices.specs.Constraints.{IsGathered};
 ghost use Rattle.resolved.specs.EndFaults.{end_faults};
 ghost use Rattle.resolved.specs.Flow.{AreGathered, Gathered};
 ghost use Rattle.resolved.specs.Labelled.{FitsDemands, Labelling, program_demands};

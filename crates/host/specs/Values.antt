@@ -3,7 +3,7 @@
 use Rattle.std.specs.Prelude.{ℕ, List, Option, Some, None, Result, Ok, Err, map}
 use Rattle.std.specs.Global.{Vec}
 use Rattle.principals.specs.ActsFor.{PrincipalHierarchy}
-use Rattle.labels.specs.declared.sent.Pair.{Pair}
+use Rattle.common.specs.declared.sent.Pair.{Pair}
 use Rattle.machine.specs.Run.{RunContents, machine_of}
 use Rattle.machine.specs.declared.status.Status.{Status}
 use Rattle.host.specs.Meaning as meaning

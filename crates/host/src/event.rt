@@ -1,5 +1,6 @@
 use crate::fault::HostFault;
-use channels::{Pair, World};
+use channels::World;
+use common::Pair;
 use machine::Status;
 use principals::Hierarchy;
 

@@ -8,8 +8,8 @@ ghost use Rattle.std.specs.Prelude.{[], ◌≡◌, ◌+◌, ◌<◌, ◌^◌, If
 use crate::event::{Answer, Event, Id};
 use crate::fault::{HostFault, HostRefusal};
 use crate::session::{Session, find, first_session, remove};
-use channels::{Pair, Sent, World};
-use common::OrNoMemory;
+use channels::{Sent, World};
+use common::{OrNoMemory, Pair};
 use machine::Status;
 use principals::Hierarchy;
 use std::alloc::{AllocError, Global};

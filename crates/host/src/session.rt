@@ -10,8 +10,8 @@ ghost use Rattle.std.specs.Prelude.{◌≡◌, ◌==◌, IfErr, IfOk, IfSome, No
 
 use crate::event::Id;
 use crate::fault::{HostFault, HostRefusal};
-use channels::{Pair, Sent, World, pairs_for, pairs_for_under};
-use common::OrNoMemory;
+use channels::{Sent, World, pairs_for, pairs_for_under};
+use common::{OrNoMemory, Pair};
 use labels::Renumbering;
 use machine::{Machine, Status};
 use modules::Module;

@@ -13,7 +13,7 @@ use denote.Steps.{nothing}
 use denote.Struct.Struct.{within}
 use denote.Struct.Owning.{shape}
 use Rattle.host_handle.specs.Owned.{is_held, slot_owns}
-use Rattle.host_handle.specs.contracts.Slot as slot
+use Rattle.host_handle.specs.contracts.HostSlot as slot
 
 abbrev pub word : Ptr → Val
 word p = vstruct (vcons (ptr_val p) vnil)

@@ -18,14 +18,14 @@ use std::ptr::null_mut;
 /// Where a slot with a host is dropped, the host stays on the heap: [`Handle::take`] takes it out.
 #[repr(C)]
 #[derive(Drop)]
-pub struct Slot {
+pub struct HostSlot {
     // A pointer to bytes, since a program in C knows no host.
     pointer: *mut u8,
     /// The host that it holds.
     pub ghost held: { Option HostRuns } by { coded_option host_type.the_row.coded },
 }
 
-impl Model for Slot {
+impl Model for HostSlot {
     ghost use Rattle.host.specs.Values.{HostRuns};
     ghost use Rattle.host.specs.contracts.hosts.Host as host_type;
     ghost use Rattle.host_handle.specs.Owned.{coded_option, slot_owns};
@@ -34,22 +34,22 @@ impl Model for Slot {
     ghost also_owns = { λ slot. slot_owns slot.pointer slot.held };
 }
 
-impl Slot {
+impl HostSlot {
     /// A slot that holds no host.
-    pub fn empty() -> Slot
+    pub fn empty() -> HostSlot
         ensures { result.held ≡ None }
     {
-        Slot {
+        HostSlot {
             pointer: null_mut(),
         }
     }
 
     /// A slot that holds the host of a box.
-    pub fn of(parts: BoxParts<Host, Global>) -> Slot
+    pub fn of(parts: BoxParts<Host, Global>) -> HostSlot
         ensures { result.held ≡ Some parts.value }
     {
         let BoxParts { pointer, alloc: _ } = parts;
-        Slot {
+        HostSlot {
             pointer: pointer as *mut u8,
         }
     }
@@ -59,7 +59,7 @@ impl Slot {
         requires { is_held self.held ≡ true }
         ensures { self.held ≡ Some result.value }
     {
-        let Slot { pointer } = self;
+        let HostSlot { pointer } = self;
         BoxParts {
             pointer: pointer as *mut Host,
             alloc,
@@ -68,14 +68,14 @@ impl Slot {
 }
 
 // A host may go to another thread, and the heap takes it back there.
-unsafe impl Send for Slot {}
+unsafe impl Send for HostSlot {}
 
 /// What another program keeps of a host. Zeros are a handle without a host.
 #[repr(C)]
 #[derive(Drop)]
 pub struct Handle {
     /// The place of the host.
-    pub slot: Slot,
+    pub slot: HostSlot,
     /// Whether it holds one.
     pub full: bool,
     ghost tied: { is_held slot.held ≡ full },
@@ -87,7 +87,7 @@ impl Handle {
         ensures { result.slot.held ≡ None }
     {
         Handle {
-            slot: Slot::empty(),
+            slot: HostSlot::empty(),
             full: false,
         }
     }
@@ -110,7 +110,7 @@ impl Handle {
         ensures { self.new.slot.held ≡ Some host.value }
     {
         *self = Handle {
-            slot: Slot::of(BoxParts::of(host)),
+            slot: HostSlot::of(BoxParts::of(host)),
             full: true,
         };
     }

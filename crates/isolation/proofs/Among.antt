@@ -62,12 +62,6 @@ raises-then : {A B : Type 0} (xs ys : List ℕ) (o : Evaluated A) (next : A → 
 raises-then xs ys (Yields v) next h rest = record { among = λ x e. any-right (λ y. x == y) xs ys ((rest v refl).among x e) }
 raises-then xs ys (Raises z) next h rest = raises-this (xs ++ ys) z (any-left (λ y. z == y) xs ys (h.among z refl))
 
-raises-more : {A : Type 0} (xs ys : List ℕ) (o : Evaluated A) → RaisesAmong xs o → RaisesAmong (xs ++ ys) o
-raises-more xs ys o h = record { among = λ x e. any-left (λ y. x == y) xs ys (h.among x e) }
-
-raises-last : {A : Type 0} (xs ys : List ℕ) (o : Evaluated A) → RaisesAmong ys o → RaisesAmong (xs ++ ys) o
-raises-last xs ys o h = record { among = λ x e. any-right (λ y. x == y) xs ys (h.among x e) }
-
 -- an index that cannot raise is in range
 pub index-in_range : (s : SourceState) (index : Expression) (length : ℕ) (v : Value) → index_can_raise index length ≡ false →
     value_of s index ≡ Yields v → in_range (number_in v) length ≡ true
@@ -183,12 +177,6 @@ among-right xs ys o h = among-more ys (xs ++ ys) o (λ exit f. any-right (same_e
 
 among-first : (exit : Exit) (rest : List Exit) (r : Option Value) (s : SourceState) → Among (exit ∷ rest) (Ended exit r s)
 among-first exit rest r s = record { among = or_left (same_exit exit exit) (has_end rest exit) (same_exit-itself exit) }
-
-among-rest : (exit : Exit) (rest : List Exit) (o : Outcome) → Among rest o → Among (exit ∷ rest) o
-among-rest exit rest o h = among-more rest (exit ∷ rest) o (λ e f. or_right (same_exit e exit) (has_end rest e) f) h
-
-among-thrown : (xs : List ℕ) (x : ℕ) (s : SourceState) → raised_in xs x ≡ true → Among (thrown_ends xs) (thrown x s)
-among-thrown xs x s h = record { among = thrown-among xs x h }
 
 among-evaluated : {A : Type 0} (xs : List ℕ) (ends : List Exit) (e : Evaluated A) (s : SourceState) (next : A → Outcome) →
     RaisesAmong xs e → ((exit : Exit) → has_end (thrown_ends xs) exit ≡ true → has_end ends exit ≡ true) →

@@ -22,7 +22,8 @@ use Rattle.resolved.specs.Ends.{same_exit, has_end, raises, thrown_ends, leaves_
 use Rattle.resolved.specs.declared.target.Target.{Target}
 use Rattle.resolved.specs.declared.target.Target.TheVariants.{ToEnd, ToThrown, ToValue, ToVariable, ToChannel, ToBegin, ToValue, ToLoop}
 use Rattle.resolved.specs.Labelled.{chosen, Scope, ExitLabels, Demand, demand, join_under, label_under, FitsDemands, variable_label, channel_label, result_label, value_label, raise_label, raise_labels, label_if, at_ends, own_label, raised_exits, call_exits, any_of, loop_exits, statement_rule, block_rule, handlers_rule, block_exits, target_demand, argument_demands, statement_demands, block_demands, handlers_demands, Labelling, Join, one, label_of, here, LabelAtom}
-use Rattle.labels.specs.Constraints.{holds, label_lattice}
+use Rattle.lattices.specs.Constraints.{holds}
+use Rattle.labels.specs.LabelLattice.{label_lattice}
 use Rattle.isolation.proofs.Among.{CallsAmong, expression-raises, thrown-among, statement-among, block-among}
 use Rattle.isolation.proofs.Observer.{Reader, View, view_of, AgreeFor, agree-itself, agree-through, agree-unread, agree-unread_input, agree-unread_sending, with_input, unread-left, unread-right, unread-flowing}
 use Rattle.isolation.proofs.Unseen.{hidden_end, hidden_return, Unseen, LoopExits, unseen-weaker, unseen-from, unseen-end, unseen-stop, unseen-evaluated, unseen-if, unseen-after, unseen-turns, unseen-caught}

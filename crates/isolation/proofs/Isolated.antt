@@ -17,7 +17,7 @@ use Rattle.resolved.specs.Meaning.{Deep, Outcome, leaving, Stopped, entering, fi
 use Rattle.resolved.specs.Ends.{block_ends}
 use Rattle.resolved.specs.declared.target.Target.TheVariants.{ToBegin}
 use Rattle.resolved.specs.Labelled.{parameter_label, Scope, OfLocal, Join, one, written_or, label_of, join_under, Labelling, FitsDemands, channel_label, block_rule, block_exits, block_demands, end_demands, procedure_demands, demands_from, program_demands}
-use Rattle.labels.specs.Constraints.{Written}
+use Rattle.lattices.specs.Constraints.{Written}
 use Rattle.isolation.proofs.Grows.{calls-grow}
 use Rattle.isolation.proofs.Among.{EndsAsDeclared, calls-among, block-among}
 use Rattle.isolation.proofs.Observer.{LabelReader, under, View, view_of, shown, AgreeFor, agree-itself}

@@ -4,10 +4,10 @@ use Rattle.std.proofs.Common.{◌≡◌, refl, sym, ap, ◌∙◌, ℕ, Bool, tr
 use Rattle.std.specs.Prelude.{IsTrue, ◌==◌, ℤ}
 use Rattle.std.proofs.lemmas.Bool.{and_parts, and_left, and_right}
 use Rattle.std.proofs.lemmas.List.{append-nil}
-use Rattle.labels.proofs.Constraints.{join_of-append}
+use Rattle.lattices.proofs.Constraints.{join_of-append}
 use Rattle.std.proofs.lemmas.List.Elements.{filter-append}
 use Rattle.principals.specs.ActsFor.{PrincipalHierarchy}
-use Rattle.labels.specs.declared.sent.Pair.{Pair}
+use Rattle.common.specs.declared.sent.Pair.{Pair}
 use Rattle.labels.specs.Label.{Label, flows}
 use Rattle.resolved.specs.declared.expression.Variable.{Variable}
 use Rattle.resolved.specs.declared.expression.Variable.TheVariants.{Global, Local}
@@ -16,7 +16,7 @@ use Rattle.resolved.specs.SourceState.{SourceState, cells, with_cells}
 use Rattle.resolved.specs.Value.{number_in}
 use Rattle.resolved.specs.Meaning.{sending}
 use Rattle.resolved.specs.Labelled.{chosen, Scope, Join, one, Labelling, label_under, join_under, variable_label, channel_label, LabelAtom}
-use Rattle.labels.specs.Constraints.{Written}
+use Rattle.lattices.specs.Constraints.{Written}
 
 -- who reads labels: a test that the empty label passes, and a join where both its sides do. Where a label flows to another one,
 -- a reader of the other one reads it
@@ -66,10 +66,6 @@ module _ {h : PrincipalHierarchy} {labelling : Labelling} (reader : Reader h lab
 
   pub unread-right : reader.reads b ≡ false → reader.reads (a ++ b) ≡ false
   unread-right e = reader.joined a b ∙ and_right (reader.reads a) (reader.reads b) e
-
-  -- where a join is not read but its left side is, its right side is not
-  pub unread-other : reader.reads a ≡ true → reader.reads (a ++ b) ≡ false → reader.reads b ≡ false
-  unread-other e f = sym (reader.joined a b ∙ ap (λ x. x && reader.reads b) e) ∙ f
 
 -- where a join flows to a label, who does not read it does not read the label
 module _ {h : PrincipalHierarchy} {labelling : Labelling} (reader : Reader h labelling) (a : Join) (b : LabelAtom) where

@@ -4,7 +4,7 @@ use Rattle.std.proofs.Common.{◌≡◌, refl, sym, ap, ◌∙◌, ℕ, zero, su
 use Rattle.std.specs.Prelude.{Option, None, if◌then◌else◌}
 use Rattle.std.proofs.lemmas.List.{append-nil}
 use Rattle.std.proofs.lemmas.List.Elements.{filter-append}
-use Rattle.labels.specs.declared.sent.Pair.{Pair}
+use Rattle.common.specs.declared.sent.Pair.{Pair}
 use Rattle.labels.specs.Sent.{IsPrefix}
 use Rattle.resolved.specs.declared.expression.Value.{Value}
 use Rattle.resolved.specs.declared.statement.Exit.{Exit}
@@ -45,16 +45,6 @@ stopped-prefix view s p q h grows =
 
 pub agree-prefix : (view : View) (s t : SourceState) → AgreeFor view s t → IsPrefix (shown view s.sent) (shown view t.sent)
 agree-prefix view s t h = ([], append-nil (shown view s.sent) ∙ h.sent)
-
--- of two related runs the observer sees two lists of which one is a prefix of the other
-pub related-prefix : (view : View) (value : Bool) (exits : Exit → Bool) (o p : Outcome) → Related view value exits o p →
-    IsPrefix (shown view (state_after o).sent) (shown view (state_after p).sent) ⊎ IsPrefix (shown view (state_after p).sent)
-    (shown view (state_after o).sent)
-related-prefix view value exits o p (same_end exit s t h) = inl (agree-prefix view s t h)
-related-prefix view value exits o p (same_return r q s t h i) = inl (agree-prefix view s t h)
-related-prefix view value exits o p (apart _ _ h i j) = inl (agree-prefix view (state_after o) (state_after p) j)
-related-prefix view value exits o p (first_stops stop s _ h) = inl h
-related-prefix view value exits o p (second_stops _ stop t h) = inr h
 
 -- two runs of which nothing is seen
 pub both-unseen : (view : View) (value : Bool) (exits : Exit → Bool) (s t : SourceState) (o p : Outcome) → AgreeFor view s t →

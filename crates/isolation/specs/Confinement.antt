@@ -1,7 +1,7 @@
 -- Confinement: what a labelled statement may do at a program-counter label that a principal may not read.
 -- Source: confinement of Volpano, Smith and Irvine 1996; with a label for each end as in JFlow (Myers 1999).
 use Rattle.std.specs.Prelude.{◌≡◌, ℕ, List, [], Bool, IsTrue, IsFalse}
-use Rattle.labels.specs.declared.sent.Pair.{Pair}
+use Rattle.common.specs.declared.sent.Pair.{Pair}
 use Rattle.labels.specs.Label.{Label, may_read}
 use Rattle.labels.specs.Sent.{pairs_for}
 use Rattle.resolved.specs.declared.expression.Variable.{Variable}

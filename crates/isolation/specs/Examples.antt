@@ -3,7 +3,7 @@
 -- Source: our own.
 use Rattle.std.specs.Prelude.{ℕ, zero, suc, List, [], ◌∷◌, ℤ, Some, None}
 use Rattle.principals.specs.ActsFor.{PrincipalHierarchy}
-use Rattle.labels.specs.declared.sent.Pair.{Pair}
+use Rattle.common.specs.declared.sent.Pair.{Pair}
 use Rattle.labels.specs.Label.{Label}
 use Rattle.labels.specs.Sent.{pairs_for}
 use Rattle.resolved.specs.declared.expression.Base.TheVariants.{Int}

@@ -5,7 +5,7 @@ use Rattle.std.specs.List.{list_any}
 use Rattle.std.proofs.lemmas.List.Elements.{All-map}
 use Rattle.std.proofs.lemmas.Option.{slice_get-get_or}
 use Rattle.principals.specs.ActsFor.{PrincipalHierarchy, IsHierarchy, ActsFor, itself, written, through, HasName, number_of}
-use Rattle.principals.proofs.Closure.{Contains-first, Contains-later}
+use Rattle.common.proofs.Elements.{Contains-first, Contains-later}
 use Rattle.principals.proofs.Names.{position_of_name}
 use Rattle.labels.specs.Carried.{KeepsActsFor, carried_policy, carried_label, number_by_name, numbered, FlowsAreKept, NamesKeepActsFor, IsPolicyOf, LabelsStayThemselves}
 use Rattle.labels.specs.Label.{ReaderPolicy, PolicyAllows, PolicyFlowsTo}

@@ -10,8 +10,8 @@ use Rattle.labels.specs.Under.{FirstAbove}
 use Rattle.labels.specs.Label.{Covers, ReaderPolicy, flows}
 use Rattle.labels.specs.LabelTable.{label_at}
 use Rattle.labels.specs.Row.{IncludedBetween, Includes, has}
-use Rattle.labels.specs.declared.comparing.LeftSide.{LeftSide}
-use Rattle.labels.specs.declared.comparing.RightSide.{RightSide}
+use Rattle.labels.specs.declared.left_side.LeftSide.{LeftSide}
+use Rattle.labels.specs.declared.right_side.CoveredSide.{CoveredSide}
 use Rattle.labels.specs.declared.entries.Entry.{Entry}
 use Rattle.labels.proofs.Tests.{flows-decides}
 use Rattle.labels.proofs.Held.{covers-parts, each-made, flows-parts, has-inside, has-none, has-set, label-parts, made-in_row}
@@ -146,7 +146,7 @@ and-both true false e = absurd (let no : false ≡ true = e in cc)
 and-both false b e = absurd (let no : false ≡ true = e in cc)
 
 -- a label covers what an entry covers that it is made of
-pub right-more : (h : PrincipalHierarchy) (es : List Entry) (side : RightSide) (to part : ℕ) (new : List Bool) → side.to ≡ to → IsTrue (made_of es to part) → IsRightSide h es side →
+pub right-more : (h : PrincipalHierarchy) (es : List Entry) (side : CoveredSide) (to part : ℕ) (new : List Bool) → side.to ≡ to → IsTrue (made_of es to part) → IsRightSide h es side →
     AreOf es (Covers h (own_at es part)) side.covered new → IsRightSide h es (record { to = side.to; covered = new })
 right-more h es side to part new is made right more = record {
   inside = right.inside;
@@ -175,7 +175,7 @@ pub set-adds : (row new : List Bool) (i : ℕ) → i < length row → new ≡ se
 set-adds row new i within is = set-is row new i i within is ∙ or-first (i == i) (has row i) (eq-eqb i i refl)
 
 -- where all policies on the left are covered, all labels there flow
-pub all-flow : (h : PrincipalHierarchy) (es : List Entry) (left : LeftSide) (right : RightSide) (labels : List Bool) (to : ℕ) → IsLeftSide es left → IsRightSide h es right → right.to ≡ to →
+pub all-flow : (h : PrincipalHierarchy) (es : List Entry) (left : LeftSide) (right : CoveredSide) (labels : List Bool) (to : ℕ) → IsLeftSide es left → IsRightSide h es right → right.to ≡ to →
     Includes right.covered left.policies → Includes left.labels labels → AllFlow h es labels to
 all-flow h es left right labels to l r is covered among label held =
     (flows-parts h es label (label_at (labels_in es) to)).1

@@ -4,7 +4,7 @@ use Rattle.std.specs.Prelude.{Any, Contains}
 use Rattle.std.proofs.lemmas.List.Elements.{Contains-append_left, Contains-append_right, Contains-append_cases, All-nil}
 use Rattle.principals.specs.ActsFor.{PrincipalHierarchy, ActsFor, itself, through}
 use Rattle.labels.specs.Label.{ReaderPolicy, Label, PolicyAllows, MayRead, PolicyFlowsTo, FlowsTo}
-use Rattle.labels.specs.Lattice.{IsLattice}
+use Rattle.lattices.specs.Lattice.{IsLattice}
 use Rattle.labels.specs.Sets.{SameSet}
 use Rattle.labels.proofs.Elements.{All-from_each, each_from_All, Any-from_some, Any-elim}
 
@@ -16,10 +16,6 @@ PolicyAllows-acting h policy p q acts allowed =
     (λ some. Any-elim (λ reader. ActsFor h.pairs p reader) policy.readers (PolicyAllows h q policy) some
     (λ reader contained reads. inr (Any-from_some (λ r. ActsFor h.pairs q r) policy.readers reader contained (through q p reader acts reads))))
     allowed
-
--- a policy allows its owner and its readers
-pub PolicyAllows-owner : (h : PrincipalHierarchy) (policy : ReaderPolicy) → PolicyAllows h policy.owner policy
-PolicyAllows-owner h policy = inl (itself policy.owner)
 
 pub PolicyAllows-reader : (h : PrincipalHierarchy) (policy : ReaderPolicy) (reader : ℕ) → Contains policy.readers reader → PolicyAllows h reader policy
 PolicyAllows-reader h policy reader contained = inr (Any-from_some (λ r. ActsFor h.pairs reader r) policy.readers reader contained (itself reader))

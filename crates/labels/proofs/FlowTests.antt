@@ -1,44 +1,19 @@
 -- The laws of reading and of flow, as facts about the tests.
 use Rattle.std.proofs.Common.{◌≡◌, ℕ, Bool, [], ◌++◌, ◌&&◌, ◌↔◌}
-use Rattle.std.specs.Prelude.{Contains, IsTrue}
+use Rattle.std.specs.Prelude.{IsTrue}
 use Rattle.std.proofs.lemmas.Bool.Decides.{same_from_decides}
 use Rattle.std.proofs.lemmas.List.Folds.{list_all-append}
 use Rattle.principals.specs.ActsFor.{PrincipalHierarchy}
-use Rattle.labels.specs.Label.{ReaderPolicy, Label, policy_allows, may_read, flows, FlowsTo}
-use Rattle.labels.specs.Lattice.{IsLattice}
+use Rattle.labels.specs.Label.{Label, policy_allows, may_read, flows, FlowsTo}
+use Rattle.lattices.specs.Lattice.{IsLattice}
 use Rattle.labels.specs.Sets.{SameSet}
-use Rattle.labels.proofs.Flow.{FlowsTo-itself, FlowsTo-through, FlowsTo-join_left, FlowsTo-join_right, FlowsTo-join_least, FlowsTo-least, FlowsTo-subset, FlowsTo-same, IsLattice-flow, MayRead-flowing, MayRead-subset, MayRead-least, MayRead-same}
+use Rattle.labels.proofs.Flow.{FlowsTo-same, IsLattice-flow, MayRead-flowing, MayRead-least, MayRead-same}
 use Rattle.labels.proofs.Tests.{may_read-decides, flows-decides}
 
 -- tests of two facts that follow from one another answer the same
 same_answer : {P Q : Type 0} (a b : Bool) → (IsTrue a ↔ P) → (IsTrue b ↔ Q) → (P ↔ Q) → a ≡ b
 same_answer a b left right both =
     same_from_decides a b left (λ t. both.1 (right.0 t), λ fact. right.1 (both.0 fact))
-
-pub flows-itself : (h : PrincipalHierarchy) (a : Label) → IsTrue (flows h a a)
-flows-itself h a = (flows-decides h a a).1 (FlowsTo-itself h a)
-
-pub flows-through : (h : PrincipalHierarchy) (a b c : Label) → IsTrue (flows h a b) → IsTrue (flows h b c) → IsTrue (flows h a c)
-flows-through h a b c first second =
-    (flows-decides h a c).1 (FlowsTo-through h a b c ((flows-decides h a b).0 first) ((flows-decides h b c).0 second))
-
-pub flows-join_left : (h : PrincipalHierarchy) (a b : Label) → IsTrue (flows h a (a ++ b))
-flows-join_left h a b = (flows-decides h a (a ++ b)).1 (FlowsTo-join_left h a b)
-
-pub flows-join_right : (h : PrincipalHierarchy) (a b : Label) → IsTrue (flows h b (a ++ b))
-flows-join_right h a b = (flows-decides h b (a ++ b)).1 (FlowsTo-join_right h a b)
-
-pub flows-join_least : (h : PrincipalHierarchy) (a b c : Label) → IsTrue (flows h a c) → IsTrue (flows h b c) → IsTrue (flows h (a ++ b) c)
-flows-join_least h a b c left right =
-    (flows-decides h (a ++ b) c).1 (FlowsTo-join_least h a b c ((flows-decides h a c).0 left) ((flows-decides h b c).0 right))
-
--- the least label flows everywhere
-pub flows-least : (h : PrincipalHierarchy) (a : Label) → IsTrue (flows h [] a)
-flows-least h a = (flows-decides h [] a).1 (FlowsTo-least h a)
-
--- a label flows to each label that has its policies
-pub flows-subset : (h : PrincipalHierarchy) (a b : Label) → ((policy : ReaderPolicy) → Contains a policy → Contains b policy) → IsTrue (flows h a b)
-flows-subset h a b more = (flows-decides h a b).1 (FlowsTo-subset h a b more)
 
 -- a lattice's laws go by what its order says
 pub IsLattice-like : {V : Type 0} (leq like : V → V → Type 0) (join : V → V → V) (least : V) → ((a b : V) → like a b ↔ leq a b) → IsLattice leq join least → IsLattice like join least
@@ -58,9 +33,6 @@ IsLattice-flows h = IsLattice-like (FlowsTo h) (λ a b. IsTrue (flows h a b)) (�
 pub may_read-flowing : (h : PrincipalHierarchy) (a b : Label) (p : ℕ) → IsTrue (flows h a b) → IsTrue (may_read h p b) → IsTrue (may_read h p a)
 may_read-flowing h a b p flow reads =
     (may_read-decides h p a).1 (MayRead-flowing h a b p ((flows-decides h a b).0 flow) ((may_read-decides h p b).0 reads))
-
-pub may_read-subset : (h : PrincipalHierarchy) (a b : Label) (p : ℕ) → ((policy : ReaderPolicy) → Contains a policy → Contains b policy) → IsTrue (may_read h p b) → IsTrue (may_read h p a)
-may_read-subset h a b p more reads = (may_read-decides h p a).1 (MayRead-subset h a b p more ((may_read-decides h p b).0 reads))
 
 -- the readers of a join are the readers of both
 pub may_read-join : (h : PrincipalHierarchy) (p : ℕ) (a b : Label) → may_read h p (a ++ b) ≡ (may_read h p a && may_read h p b)

@@ -4,7 +4,7 @@ use Rattle.std.specs.Prelude.{IsTrue}
 use Rattle.std.proofs.lemmas.List.Elements.{Contains-append_left, Contains-append_right}
 use Rattle.principals.specs.ActsFor.{PrincipalHierarchy}
 use Rattle.labels.specs.Label.{Label, MayRead, FlowsTo, flows}
-use Rattle.labels.specs.Lattice.{IsLattice}
+use Rattle.lattices.specs.Lattice.{IsLattice}
 use Rattle.labels.specs.Canonical.{joined}
 use Rattle.labels.proofs.Flow.{FlowsTo-itself, FlowsTo-through, FlowsTo-subset, FlowsTo-join_least, FlowsTo-least, MayRead-join, MayRead-join_left, MayRead-join_right, MayRead-same}
 use Rattle.labels.proofs.FlowTests.{IsLattice-like}

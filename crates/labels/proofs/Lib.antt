@@ -16,8 +16,6 @@ pub mod Present
 pub mod Tests
 mod Readers
 pub mod Written
-pub mod Constraints
-pub mod Gathered
 pub mod WordJoins
 pub mod FourWords
 pub mod WordBits

@@ -6,7 +6,7 @@ use Rattle.std.proofs.lemmas.Bool.{eqb-true, eq-eqb, ne_eqb}
 use Rattle.std.proofs.lemmas.List.Elements.{All-contains, All-contains_itself, All-filter}
 use Rattle.std.proofs.lemmas.Map.Lookups.{exact_unsigned}
 use Rattle.principals.specs.ActsFor.{PrincipalHierarchy, ActsFor, itself}
-use Rattle.principals.proofs.Closure.{none_in_nil, Contains-cons_cases, Contains-later, Contains-first}
+use Rattle.common.proofs.Elements.{none_in_nil, Contains-cons_cases, Contains-later, Contains-first}
 use Rattle.labels.specs.Label.{ReaderPolicy, PolicyAllows, PolicyFlowsTo}
 use Rattle.labels.specs.Sets.{ascending_set}
 use Rattle.labels.specs.Canonical.{readers_beside, written_policy}

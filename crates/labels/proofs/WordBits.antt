@@ -181,20 +181,3 @@ none-step words others from i more false none grow e first short = λ n ge lt ha
     let same : i / 64 ≡ n / 64 = omega (arith, at, lt, first, short) in
     kept-has others words n (subst (IsKept others words) same (grow (i / 64) (omega arith) (omega arith))) has)
     (cases_lt n i)
-
--- one number that is not new
-pub none-more : (words others : List ℕ) (from i : ℕ) → NoneNew words others from i → (IsTrue (has_bit words i) → IsTrue (has_bit others i)) → NoneNew words others from (i + 1)
-none-more words others from i none this = λ n ge lt has.
-    ⊎_elim (λ (before : n < i). none n ge before has)
-    (λ (at : i ≤ n). let is : i ≡ n = omega (arith, at, lt) in subst (λ k. IsTrue (has_bit others k)) is (this (subst (λ k. IsTrue (has_bit words k)) (sym is) has)))
-    (cases_lt n i)
-
--- without others: a word without a bit, and one number whose bit is not set
-pub none-word : (words : List ℕ) (from i more : ℕ) → NoneNew words [] from i → word words (i / 64) ≡ 0 → i % 64 ≡ 0 → more ≤ 64 → NoneNew words [] from (i + more)
-none-word words from i more none zeros first short = λ n ge lt has.
-    ⊎_elim (λ (before : n < i). none n ge before has)
-    (λ (at : i ≤ n).
-    let same : i / 64 ≡ n / 64 = omega (arith, at, lt, first, short) in
-    let empty : has_bit words n ≡ false = ap (λ w. bit_at w (n % 64) == 1) (ap (word words) (sym same) ∙ zeros) ∙ ap (λ x. x == 1) (bit_at-zero (n % 64)) in
-    absurd (let no : false ≡ true = sym empty ∙ has in cc))
-    (cases_lt n i)

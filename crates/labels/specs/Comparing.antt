@@ -7,12 +7,12 @@ use Rattle.labels.specs.Label.{Covers, FlowsTo, PolicyAllows, ReaderPolicy}
 use Rattle.labels.specs.LabelTable.{label_at}
 use Rattle.labels.specs.Entries.{IsTable, labels_in, made_of, own_at, own_of}
 use Rattle.labels.specs.declared.entries.Entry.{Entry}
-use Rattle.labels.specs.declared.comparing.Bits.{Bits}
-use Rattle.labels.specs.declared.comparing.Kept.{Kept}
-use Rattle.labels.specs.declared.comparing.LeftSide.{LeftSide}
-use Rattle.labels.specs.declared.comparing.RightSide.{RightSide}
-use Rattle.labels.specs.declared.comparing.Role.{Role}
-use Rattle.labels.specs.declared.comparing.Role.TheVariants.{Owner, Reader}
+use Rattle.labels.specs.declared.policy_bits.Bits.{Bits}
+use Rattle.labels.specs.declared.comparing.Memo.{Memo}
+use Rattle.labels.specs.declared.left_side.LeftSide.{LeftSide}
+use Rattle.labels.specs.declared.right_side.CoveredSide.{CoveredSide}
+use Rattle.labels.specs.declared.policy_bits.Role.{Role}
+use Rattle.labels.specs.declared.policy_bits.Role.TheVariants.{Owner, Reader}
 
 -- the own policies of all entries, one entry behind another, and how many stand before those of one
 abbrev pub slots : List Entry → List ReaderPolicy
@@ -81,7 +81,7 @@ pub record IsLeftSide (entries : List Entry) (side : LeftSide) : Type 0 where
   pub complete : (label : ℕ) → IsTrue (has side.labels label) → HasParts entries label side.parts
 
 -- a label covers the policies of a row
-pub record IsRightSide (h : PrincipalHierarchy) (entries : List Entry) (side : RightSide) : Type 0 where
+pub record IsRightSide (h : PrincipalHierarchy) (entries : List Entry) (side : CoveredSide) : Type 0 where
   pub inside : side.to < length entries
   pub covered_are : HaveAll entries (Covers h (label_at (labels_in entries) side.to)) side.covered
 
@@ -90,16 +90,16 @@ abbrev pub AllFlow : PrincipalHierarchy → List Entry → List Bool → (to : �
 AllFlow h entries row to = (label : ℕ) → IsTrue (has row label) → FlowsTo h (label_at (labels_in entries) label) (label_at (labels_in entries) to)
 
 -- what is kept of comparisons
-pub record IsKept (h : PrincipalHierarchy) (entries : List Entry) (kept : Kept) : Type 0 where
+pub record IsKept (h : PrincipalHierarchy) (entries : List Entry) (kept : Memo) : Type 0 where
   pub bits_are : AreBits h entries kept.bits
   pub left_is : IsLeftSide entries kept.left
   pub other_is : IsLeftSide entries kept.other
   pub right_is : IsRightSide h entries kept.right
 
-abbrev pub MayBeKept : PrincipalHierarchy → List Entry → Option Kept → Type 0
+abbrev pub MayBeKept : PrincipalHierarchy → List Entry → Option Memo → Type 0
 MayBeKept h entries None = Unit {0}
 MayBeKept h entries (Some kept) = IsKept h entries kept
 
-pub record AreComparisons (h : PrincipalHierarchy) (entries : List Entry) (kept : Option Kept) : Type 0 where
+pub record AreComparisons (h : PrincipalHierarchy) (entries : List Entry) (kept : Option Memo) : Type 0 where
   pub table : IsTable entries
   pub kept_is : MayBeKept h entries kept

@@ -1,12 +1,11 @@
 pub mod Canonical
 pub mod Carried
 pub mod Comparing
-pub mod Constraints
 pub mod Entries
 pub mod Inside
 pub mod Label
 pub mod LabelTable
-pub mod Lattice
+pub mod LabelLattice
 pub mod PolicyOrder
 pub mod Printed
 pub mod Row

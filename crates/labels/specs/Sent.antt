@@ -1,7 +1,7 @@
 -- What a run has sent, and what a principal sees of it.
 -- Source: our own; seeing the channels that one may read is the observer of Volpano, Smith and Irvine 1996.
 use Rattle.std.specs.Prelude.{◌≡◌, ℕ, List, ◌++◌, filter, ◌⊎◌}
-use Rattle.labels.specs.declared.sent.Pair.{Pair}
+use Rattle.common.specs.declared.sent.Pair.{Pair}
 use Rattle.principals.specs.ActsFor.{PrincipalHierarchy}
 use Rattle.labels.specs.Label.{Label, may_read}
 

@@ -3,7 +3,7 @@
 ghost use Rattle.labels.specs.Canonical.{IsCanonicalLabel, IsCanonicalPolicy, joined, written_label, written_policy};
 ghost use Rattle.labels.specs.Carried.{FlowsAreKept, FlowsStayByName, LabelsStayThemselves, NamesKeepActsFor};
 ghost use Rattle.labels.specs.Label.{Covers, FlowsTo, Label, MayRead, PolicyAllows, PolicyFlowsTo, ReaderPolicy, covers, flows, may_read, policy_allows, policy_flows};
-ghost use Rattle.labels.specs.Lattice.{IsLattice};
+ghost use Rattle.lattices.specs.Lattice.{IsLattice};
 ghost use Rattle.labels.specs.Sets.{SameSet};
 ghost use Rattle.principals.specs.ActsFor.{PrincipalHierarchy};
 ghost use Rattle.std.specs.Prelude.{All, Contains, IsTrue, List, [], ℕ, ◌&&◌, ◌++◌, ◌↔◌, ◌≡◌, ◌≢◌};

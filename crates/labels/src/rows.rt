@@ -29,6 +29,18 @@ impl Model for Row {
     ghost invariant = { IsStoredRow };
 }
 
+// So many words without bits. One is made at once: most rows have no more.
+fn zero_words(alloc: Global, count: usize) -> Result<SmallVec<u64, 1>, AllocError>
+    ensures { IfOk result (λ words. words.items ≡ replicate count 0) }
+{
+    if count == 1 {
+        let mut words = SmallVec::new(alloc);
+        words.push(0u64)?;
+        return Ok(words);
+    }
+    Ok(SmallVec::from_elem(alloc, 0u64, count)?)
+}
+
 impl Row {
     /// The empty set of numbers below this.
     ///
@@ -38,7 +50,7 @@ impl Row {
     pub fn new(alloc: Global, n: usize) -> Result<Row, AllocError>
         ensures { IfOk result (λ row. row ≡ replicate n false) }
     {
-        let words = SmallVec::from_elem(alloc, 0u64, n / 64 + 1)?;
+        let words = zero_words(alloc, n / 64 + 1)?;
         Ok(Row { n, words })
     }
 

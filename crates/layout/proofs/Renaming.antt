@@ -4,13 +4,13 @@ use Rattle.std.proofs.Common.{◌≡◌, ℕ, zero, suc, ◌+◌, ◌∙◌, ref
 use Rattle.std.specs.Prelude.{slice_get}
 use Rattle.std.specs.Option.{option_map}
 use Rattle.std.proofs.lemmas.List.{length-map}
-use Rattle.labels.specs.declared.sent.Pair.{Pair}
+use Rattle.common.specs.declared.sent.Pair.{Pair}
 use Rattle.modules.specs.Values.{zero_of, has_kind}
 use Rattle.modules.specs.declared.instruction.Arithmetic.{Arithmetic}
 use Rattle.modules.specs.declared.instruction.Comparison.{Comparison}
 use Rattle.modules.specs.declared.instruction.Instruction.{Instruction}
 use Rattle.modules.specs.declared.instruction.Instruction.TheVariants.{Push, PushBoolean, Pop, Load, Store, LoadGlobal, StoreGlobal, LoadElement, StoreElement, LoadGlobalElement, StoreGlobalElement, Clear, Compute, Negate, Not, Compare, SameBoolean, OtherBoolean, Jump, JumpIfFalse, Call, Return, ReturnValue, Receive, Send, Throw}
-use Rattle.modules.specs.declared.value.Kind.{Kind}
+use Rattle.modules.specs.declared.value.ValueKind.{ValueKind}
 use Rattle.modules.specs.declared.value.Cell.{Cell}
 use Rattle.modules.specs.declared.value.Cell.TheVariants as cell
 use Rattle.modules.specs.declared.declaration.Slot.{Slot}
@@ -185,7 +185,7 @@ leaves-same : (l : Relaid) (s : State) (callers : List Caller) → Same l (leave
 leaves-same l s [] = refl
 leaves-same l s (caller ∷ callers) = refl
 
-leaves_without-same : (l : Relaid) (s : State) (returned : Option Kind) → Same l (leaves_without (moved l s) returned) (leaves_without s returned)
+leaves_without-same : (l : Relaid) (s : State) (returned : Option ValueKind) → Same l (leaves_without (moved l s) returned) (leaves_without s returned)
 leaves_without-same l s None = leaves-same l s s.callers
 leaves_without-same l s (Some kind) = refl
 
@@ -197,7 +197,7 @@ leaves_value-same : (l : Relaid) (s : State) (x : Cell) (callers : List Caller) 
 leaves_value-same l s x [] = refl
 leaves_value-same l s x (caller ∷ callers) = refl
 
-gives_back-same : (l : Relaid) (s : State) (returned : Option Kind) (operands : List Cell) → Same l (gives_back (moved l s) returned operands) (gives_back s returned operands)
+gives_back-same : (l : Relaid) (s : State) (returned : Option ValueKind) (operands : List Cell) → Same l (gives_back (moved l s) returned operands) (gives_back s returned operands)
 gives_back-same l s None operands = refl
 gives_back-same l s (Some kind) [] = refl
 gives_back-same l s (Some kind) (x ∷ operands) = either l (has_kind kind x) _ _ _ _ (leaves_value-same l s x s.callers) refl

@@ -1,7 +1,7 @@
 -- The runs of a graph: those of the machine's table, where control goes from position to position.
 -- Source: our own.
 use Rattle.std.specs.Prelude.{ℕ, ◌+◌, List, slice_get, ℤ}
-use Rattle.labels.specs.declared.sent.Pair.{Pair}
+use Rattle.common.specs.declared.sent.Pair.{Pair}
 use Rattle.modules.specs.Contents.{ModuleContents}
 use Rattle.modules.specs.Machine.{MachineCode, machine_code, code_of, Machine, Running, first_state, exec, sent_of}
 

@@ -2,7 +2,7 @@
 -- of positions.
 -- Source: our own; a renaming of states that commutes with each step.
 use Rattle.std.specs.Prelude.{◌≡◌, ◌↔◌, ℕ, List, map, ℤ}
-use Rattle.labels.specs.declared.sent.Pair.{Pair}
+use Rattle.common.specs.declared.sent.Pair.{Pair}
 use Rattle.modules.specs.Contents.{ModuleContents}
 use Rattle.modules.specs.Machine.{Frame, Caller, State, Machine, Running, Ended, Stuck, Ending, header_of, after_steps, sent_after}
 use Rattle.layout.specs.Offsets.{offset_in, laid_out}

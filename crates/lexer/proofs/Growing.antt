@@ -71,7 +71,7 @@ gap text rest left tokens ok tail_ok so_far (front, next) =
 pub token : (text rest left bytes : List ℕ) (tokens : List Terminal) (kind : Kind) → IsUtf8 rest → IsUtf8 left → IsUtf8 bytes
     → IsCutSoFar text rest tokens → Reads (chars rest) (Some kind) (chars left) → chars rest ≡ chars bytes ++ chars left
     → (added : Terminal)
-    → added ≡ record { kind = kind; text = bytes; start = length text - length rest; end = length text - length left }
+    → added ≡ record { kind = kind; text = bytes; start = length text - length rest; end = length text - length rest + length bytes }
     → GrowsBy text rest left (tokens ++ added ∷ [])
 token text rest left bytes tokens kind ok tail_ok bytes_ok so_far (front, next) parts added e =
     let g = goes text rest left (Word kind) front so_far.within ok tail_ok next in
@@ -79,8 +79,7 @@ token text rest left bytes tokens kind ok tail_ok bytes_ok so_far (front, next) 
     let same : chars bytes ≡ front = same_before (chars bytes) front (chars left) (sym parts ∙ next.text_is) in
     let spelled : encode_utf8_all front ≡ bytes = ap encode_utf8_all (sym same) ∙ encodes-chars bytes bytes_ok in
     let terminal : terminal_at here kind front ≡ added =
-    ap (λ t. record { kind = kind; text = t; start = here; end = here + size front }) spelled
-    ∙ (ap (λ k. record { kind = kind; text = bytes; start = here; end = k }) g.place ∙ sym e) in
+    ap (λ t. record { kind = kind; text = t; start = here; end = here + length t }) spelled ∙ sym e in
     let step : Cuts here (chars rest) (terminal_at here kind front ∷ []) (length text - length left) (chars left) =
     subst (λ k. Cuts here (chars rest) (terminal_at here kind front ∷ []) k (chars left)) g.place
     (Token here (chars rest) kind front (chars left) [] (here + size front) (chars left) next (Nothing (here + size front) (chars left))) in
@@ -108,17 +107,15 @@ refused text rest tokens fault so_far stuck = record {
 
 -- a text that is cut to its end
 pub cut_to_end : (text rest : List ℕ) (tokens : List Terminal) (last : Terminal) → IsCutSoFar text rest tokens → rest ≡ []
-    → last ≡ record { kind = End; text = rest; start = length text; end = length text }
+    → last ≡ record { kind = End; text = rest; start = length text; end = length text + length rest }
     → IsCut text (tokens ++ last ∷ [])
 cut_to_end text rest tokens last so_far e k =
     let place : length text - length rest ≡ length text = let n = ap length e in omega arith in
     let none : chars rest ≡ [] = ap chars e ∙ chars-nil in
-    let width : length text ≡ length text + size [] = omega arith in
     record {
       words = tokens;
       cuts = subst (λ r. Cuts 0 (chars text) tokens (length text) r) none
           (subst (λ p. Cuts 0 (chars text) tokens p (chars rest)) place so_far.cuts);
       ended = ap (λ t. tokens ++ t ∷ []) (k
-          ∙ (ap (λ r. record { kind = End; text = r; start = length text; end = length text }) e
-          ∙ ap (λ n. record { kind = End; text = []; start = length text; end = n }) width));
+          ∙ ap (λ r. record { kind = End; text = r; start = length text; end = length text + length r }) e);
     }

@@ -7,14 +7,6 @@ use Rattle.std.proofs.lemmas.List.{reverse-append, take_more}
 use Rattle.std.proofs.lemmas.List.Sums.{sum_by-cons, take_while-cons}
 use Rattle.lexer.specs.Position.{begins_character, is_line_feed, bytes_of_line, column_of}
 
--- a byte that is not 10 ends no line
-pub no_line_feed : (byte : ℕ) → (byte ≡ 10 → ⊥) → is_line_feed byte ≡ false
-no_line_feed byte other = by_test (is_line_feed byte) refl
-  where
-    by_test : (test : Bool) → is_line_feed byte ≡ test → is_line_feed byte ≡ false
-    by_test false e = e
-    by_test true e = absurd (other (eqb-true byte 10 e))
-
 module _ (text : List ℕ) (i d : ℕ) (within : i < length text) where
   abbrev byte : ℕ
   byte = get_or text i d

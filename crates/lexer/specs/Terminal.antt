@@ -1,6 +1,6 @@
 -- A token as contracts see it, without references: a terminal symbol of a grammar, with its text and its place.
 -- Source: the usual notion of a terminal symbol, and of an end marker behind the last one.
-use Rattle.std.specs.Prelude.{◌≡◌, ◌≢◌, ◌⊎◌, ℕ, List, [], ◌∷◌, map}
+use Rattle.std.specs.Prelude.{◌≡◌, ◌≢◌, ◌⊎◌, ◌+◌, ℕ, List, [], ◌∷◌, length, map}
 use Rattle.lexer.specs.declared.token.Kind.{Kind}
 use Rattle.lexer.specs.declared.token.Kind.TheVariants.{End}
 use Rattle.lexer.specs.declared.token.Token.{Token}
@@ -15,7 +15,7 @@ pub record Terminal : Type 0 where
 -- what a token is to a contract
 abbrev pub terminal_of : Token → Terminal
 terminal_of token =
-    record { kind = token.kind; text = token.text.now; start = token.span.start; end = token.span.end }
+    record { kind = token.kind; text = token.text.now; start = token.start; end = token.start + length token.text.now }
 
 -- the tokens of a list, each as a contract sees it
 abbrev pub terminals_of : List Token → List Terminal

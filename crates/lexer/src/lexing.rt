@@ -8,7 +8,7 @@ ghost use Rattle.std.specs.List.{All};
 
 use crate::fault::{LexFault, LexRefusal};
 use crate::pieces::{Piece, cut_piece, split_first, take_front};
-use crate::token::{Kind, Span, Token};
+use crate::token::{Kind, Token};
 use common::OrNoMemory;
 use std::alloc::Global;
 
@@ -34,7 +34,8 @@ pub fn lex(alloc: Global, src: &str) -> Result<Vec<Token<'_>>, LexFault>
     ensures count { IfOk result (λ tokens.
         length (terminals_of tokens.items) ≤ length src.now + 1) }
 {
-    let mut tokens = Vec::new(alloc);
+    // A token takes three bytes or more of most texts, with the space before it.
+    let mut tokens = Vec::with_capacity(alloc, src.len() / 3 + 1)?;
     let mut rest = src;
     while let Some((first, after)) = split_first(rest) {
         let start = src.len() - rest.len();
@@ -43,20 +44,14 @@ pub fn lex(alloc: Global, src: &str) -> Result<Vec<Token<'_>>, LexFault>
         )?;
         if let Some(kind) = kind {
             let text = take_front(rest, left);
-            let end = src.len() - left.len();
-            tokens.push(Token {
-                kind,
-                text,
-                span: Span { start, end },
-            })?;
+            tokens.push(Token { kind, text, start })?;
         }
         rest = left;
     }
-    let end = src.len();
     tokens.push(Token {
         kind: Kind::End,
         text: rest,
-        span: Span { start: end, end },
+        start: src.len(),
     })?;
     Ok(tokens)
 }

@@ -15,4 +15,4 @@ pub use fault::{LexDefect, LexFault, LexRefusal};
 pub use lexing::{lex, one_reading};
 pub use names::is_name;
 pub use position::place;
-pub use token::{Kind, Place, Span, Token};
+pub use token::{Kind, Place, Token};

@@ -92,19 +92,12 @@ pub enum Kind {
     End,
 }
 
-/// The bytes of a text from `start` on and before `end`.
-#[derive(Clone, Copy, Debug, PartialEq, Eq)]
-pub struct Span {
-    pub start: usize,
-    pub end: usize,
-}
-
-/// A token: its kind, its text, which is the slice of the source at its span, and that span.
+/// A token: its kind, its text, which is a slice of the source, and the byte at which that begins.
 #[derive(Clone, Copy, Debug)]
 pub struct Token<'a> {
     pub kind: Kind,
     pub text: &'a str,
-    pub span: Span,
+    pub start: usize,
 }
 
 /// A place in a text: its line and its column, both from 1. A column is one character.

@@ -24,27 +24,11 @@ x = tree.Read (Local 0)
 abbrev y : tree.Expression
 y = tree.Read (Local 1)
 
--- `while (x < 3 && 5 <= x) { send pub, 1; break; }`
-looping : (p : Program) → ◌≡◌ {A = List Instruction}
-    (body_code p (tree.Then (tree.While 0 0 (tree.Short And (tree.Binary (operator.Compare LessThan) x (tree.Integer 3)) (tree.Binary (operator.Compare AtMost) (tree.Integer 5) x))
-    (tree.Then (tree.Send 0 0 (tree.Integer 1)) (tree.Then (tree.Leave 0 exit.Break) tree.Empty))) tree.Empty))
-    (Jump 4 ∷ Push (literal_number 1) ∷ Send 0 ∷ Jump 12
-    ∷ Load 0 ∷ Push (literal_number 3) ∷ Compare Less ∷ JumpIfFalse 12
-    ∷ Push (literal_number 5) ∷ Load 0 ∷ Compare Greater ∷ JumpIfFalse 1 ∷ Return ∷ [])
-looping p = refl
-
 -- `while (x) { while (y) { } }`: from the test of the outer loop control goes on at that of the inner one
 nested : (p : Program) → ◌≡◌ {A = List Instruction}
     (threaded (body_code p (tree.Then (tree.While 0 0 x (tree.Then (tree.While 0 0 y tree.Empty) tree.Empty)) tree.Empty)))
     (Jump 5 ∷ Jump 2 ∷ Load 1 ∷ Not ∷ JumpIfFalse 2 ∷ Load 0 ∷ Not ∷ JumpIfFalse 2 ∷ Return ∷ [])
 nested p = refl
-
--- `try { send pub, 1 / x; } catch (Arith) { return; }`
-catching : (p : Program) → ◌≡◌ {A = List Instruction}
-    (body_code p (tree.Then (tree.Try 0 (tree.Then (tree.Send 0 0 (tree.Binary (operator.Divide Quotient) (tree.Integer 1) x)) tree.Empty)
-    (tree.Catch 0 0 (tree.Then (tree.ReturnWith 0 None) tree.Empty) tree.NoMore)) tree.Empty))
-    (Push (literal_number 1) ∷ Load 0 ∷ Compute Divide ∷ Send 0 ∷ Jump 6 ∷ Return ∷ Return ∷ [])
-catching p = refl
 
 caught : (p : Program) → ◌≡◌ {A = List Handler}
     (block_table p 0 (tree.Then (tree.Try 0 (tree.Then (tree.Send 0 0 (tree.Binary (operator.Divide Quotient) (tree.Integer 1) x)) tree.Empty)

@@ -19,10 +19,3 @@ over-filled first (s ∷ rest) r h is = is ∙ sym (and-true (block_falls (block
 pub behind-filled : (block : List S.Statement) (behind : List Handler) (r : Bool) → 0 < length behind → r ≡ block_falls (block_of block) → r ≡ jumps_behind (block_of block) (handlers_of behind)
 behind-filled block [] r h is = absurd (omega (arith, h))
 behind-filled block (handler ∷ rest) r h is = is ∙ sym (and-true (block_falls (block_of block)))
-
--- where nothing follows, nothing is jumped over
-pub over-none : (first : List S.Statement) → false ≡ jumps_over (block_of first) (block_of [])
-over-none first = sym (and-false (block_falls (block_of first)))
-
-pub behind-none : (block : List S.Statement) → false ≡ jumps_behind (block_of block) (handlers_of [])
-behind-none block = sym (and-false (block_falls (block_of block)))

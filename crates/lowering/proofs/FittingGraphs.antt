@@ -17,8 +17,8 @@ use Rattle.resolved.proofs.WellFormedParts.{ProcedureParts, procedure_parts, pro
 use Rattle.modules.specs.declared.instruction.Instruction.{Instruction}
 use Rattle.modules.specs.declared.instruction.Instruction.TheVariants as instruction
 use Rattle.modules.specs.declared.declaration.Handler.{Handler}
-use Rattle.modules.specs.declared.value.Kind.{Kind}
-use Rattle.modules.specs.declared.value.Kind.TheVariants as kind
+use Rattle.modules.specs.declared.value.ValueKind.{ValueKind}
+use Rattle.modules.specs.declared.value.ValueKind.TheVariants as kind
 use Rattle.modules.specs.Form.{Fits, FitEach, IsCoded, Code}
 use Rattle.modules.specs.Format.{returned, handler, handlers, procedure, procedures, may_start, main, program as program_field, version as version_field, contents, module_file}
 use Rattle.modules.specs.declared.version.Version.{Version}
@@ -117,7 +117,7 @@ renamed-each : (version : Version) (f : ℕ → ℕ) (code : List Instruction) �
 renamed-each version f [] h = tt
 renamed-each version f (x ∷ code) h = (renamed-numbered version f x h.0, renamed-each version f code h.1)
 
-returned-fits : (result : Option Kind) → Fits returned result
+returned-fits : (result : Option ValueKind) → Fits returned result
 unfolding returned
 returned-fits None = ((omega arith, refl), refl)
 returned-fits (Some kind.Int) = ((omega arith, refl), refl)

@@ -20,7 +20,7 @@ use Rattle.resolved.specs.Kinds.{ArgumentsFit}
 use Rattle.resolved.proofs.WellFormedParts.{program_parts, passes_at}
 use Rattle.resolved.proofs.Sound.Values.{same_base_is}
 use Rattle.modules.specs.declared.value.Cell.{Cell}
-use Rattle.modules.specs.declared.value.Kind.{Kind}
+use Rattle.modules.specs.declared.value.ValueKind.{ValueKind}
 use Rattle.modules.specs.declared.declaration.Slot.{Slot}
 use Rattle.modules.specs.declared.declaration.Slot.TheVariants as slot
 use Rattle.modules.specs.Values.{has_kind, zero_of}
@@ -113,19 +113,19 @@ pub reverse_more : {A : Type 0} (x : A) (xs more : List A) → reverse (x ∷ xs
 reverse_more x xs more = ap (λ l. l ++ more) (reverse-append (x ∷ []) xs) ∙ append_assoc (reverse xs) (x ∷ []) more
 
 -- values of these kinds, as many
-abbrev pub KindsAre : List Kind → List Value → Type 0
+abbrev pub KindsAre : List ValueKind → List Value → Type 0
 KindsAre [] [] = Unit {0}
 KindsAre [] (v ∷ vs) = ⊥
 KindsAre (kind ∷ kinds) [] = ⊥
 KindsAre (kind ∷ kinds) (v ∷ vs) = (has_kind kind (cell_of v) ≡ true) × KindsAre kinds vs
 
-popped_more : (kinds more : List Kind) (vs : List Value) (arguments operands : List Cell) → KindsAre kinds vs
+popped_more : (kinds more : List ValueKind) (vs : List Value) (arguments operands : List Cell) → KindsAre kinds vs
     → popped (reverse kinds ++ more) arguments (pushed vs operands) ≡ popped more (cells_of vs ++ arguments) operands
 popped_more [] more [] arguments operands h = refl
 popped_more [] more (v ∷ vs) arguments operands h = absurd h
 popped_more (kind ∷ kinds) more [] arguments operands h = absurd h
 popped_more (kind ∷ kinds) more (v ∷ vs) arguments operands h =
-    ap (λ (l : List Kind). popped l arguments (pushed vs (cell_of v ∷ operands))) (reverse_more kind kinds more)
+    ap (λ (l : List ValueKind). popped l arguments (pushed vs (cell_of v ∷ operands))) (reverse_more kind kinds more)
     ∙ popped_more kinds (kind ∷ more) vs arguments (cell_of v ∷ operands) h.1
     ∙ last h.0
   where
@@ -148,7 +148,7 @@ pub popped-all : (entry : ProcedureEntry) (vs : List Value) → ArgumentsFit (pa
     → popped (reverse (kinds_of (take entry.parameters (map slot_contents entry.slots)))) [] (pushed vs []) ≡ Some (cells_of vs, [])
 popped-all entry vs h =
     let kinds = kinds_of (take entry.parameters (map slot_contents entry.slots)) in
-    ap (λ (l : List Kind). popped l [] (pushed vs [])) (sym (append-nil (reverse kinds)))
+    ap (λ (l : List ValueKind). popped l [] (pushed vs [])) (sym (append-nil (reverse kinds)))
     ∙ popped_more kinds [] vs [] [] (kinds_are entry.parameters entry.slots vs h)
     ∙ ap (λ (l : List Cell). Some (l, [])) (append-nil (cells_of vs))
 

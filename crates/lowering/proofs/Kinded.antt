@@ -22,8 +22,8 @@ use Rattle.modules.specs.declared.instruction.Instruction.{Instruction}
 use Rattle.modules.specs.declared.instruction.Instruction.TheVariants as instruction
 use Rattle.modules.specs.declared.declaration.Slot.{Slot}
 use Rattle.modules.specs.declared.declaration.Slot.TheVariants as slot
-use Rattle.modules.specs.declared.value.Kind.{Kind}
-use Rattle.modules.specs.declared.value.Kind.TheVariants.{Int, Boolean}
+use Rattle.modules.specs.declared.value.ValueKind.{ValueKind}
+use Rattle.modules.specs.declared.value.ValueKind.TheVariants.{Int, Boolean}
 use Rattle.verifier.specs.declared.fault.CodeDefect.{CodeDefect}
 use Rattle.verifier.specs.declared.fault.CodeDefect.TheVariants.{OperandKind, SlotOrIndex}
 use Rattle.verifier.specs.Fixed.{instruction_defect, unless}
@@ -37,19 +37,19 @@ use Rattle.lowering.proofs.States.{slot_of_type, direction_in}
 use Rattle.lowering.proofs.Flowing.{Does, following}
 
 -- ---- operands that are popped
-same-kind : (kind : Kind) → is_same_kind kind kind ≡ true
+same-kind : (kind : ValueKind) → is_same_kind kind kind ≡ true
 same-kind Int = refl
 same-kind Boolean = refl
 
-pops-one : (kind : Kind) (kinds : List Kind) (pushes : Option Kind) → exchanged (exchange (kind ∷ []) pushes) (kind ∷ kinds) ≡ Leaves (pushed pushes kinds)
+pops-one : (kind : ValueKind) (kinds : List ValueKind) (pushes : Option ValueKind) → exchanged (exchange (kind ∷ []) pushes) (kind ∷ kinds) ≡ Leaves (pushed pushes kinds)
 pops-one Int kinds pushes = refl
 pops-one Boolean kinds pushes = refl
 
-pops-two : (kind : Kind) (kinds : List Kind) → exchanged (exchange (kind ∷ Int ∷ []) None) (kind ∷ Int ∷ kinds) ≡ Leaves kinds
+pops-two : (kind : ValueKind) (kinds : List ValueKind) → exchanged (exchange (kind ∷ Int ∷ []) None) (kind ∷ Int ∷ kinds) ≡ Leaves kinds
 pops-two Int kinds = refl
 pops-two Boolean kinds = refl
 
-pops-all : (wanted kinds : List Kind) → all_popped (map (λ kind. Some kind) wanted) (wanted ++ kinds) ≡ Leaves kinds
+pops-all : (wanted kinds : List ValueKind) → all_popped (map (λ kind. Some kind) wanted) (wanted ++ kinds) ≡ Leaves kinds
 pops-all [] kinds = refl
 pops-all (kind ∷ wanted) kinds =
     ap (λ (b : Bool). and_then (if b then Leaves (wanted ++ kinds) else Misses OperandKind) (all_popped (map (λ kind. Some kind) wanted))) (same-kind kind)
@@ -111,12 +111,12 @@ module _ (m : ModuleContents) (p : ProcedureContents) where
   slot_in (Global k) = slice_get (machine_code m).globals k
   slot_in (Local k) = slice_get p.slots k
 
-  going : (i : Instruction) (before after : List Kind) → effect m p i before ≡ Leaves after → goes_on i ≡ true → target_of i ≡ None
+  going : (i : Instruction) (before after : List ValueKind) → effect m p i before ≡ Leaves after → goes_on i ≡ true → target_of i ≡ None
       → instruction_defect m p i ≡ None → Does m p i before after
   going i before after leaves goes no_target fixed =
       record { after = after; leaves = leaves; follows = ap (λ (b : Bool). following b (Leaves after)) goes; no_target = no_target; fixed = fixed }
 
-  pub load-does : (x : Variable) (kind : Kind) (kinds : List Kind) → slot_in x ≡ Some (slot.Scalar kind) → Does m p (load_of x) kinds (kind ∷ kinds)
+  pub load-does : (x : Variable) (kind : ValueKind) (kinds : List ValueKind) → slot_in x ≡ Some (slot.Scalar kind) → Does m p (load_of x) kinds (kind ∷ kinds)
   load-does (Global k) kind kinds h =
       going (instruction.LoadGlobal k) kinds (kind ∷ kinds) (ap (λ (s : Option Slot). Leaves (slot_kind s ∷ kinds)) h) refl refl
       (ap (λ (s : Option Slot). unless (is_scalar s) SlotOrIndex) h)
@@ -124,7 +124,7 @@ module _ (m : ModuleContents) (p : ProcedureContents) where
       going (instruction.Load k) kinds (kind ∷ kinds) (ap (λ (s : Option Slot). Leaves (slot_kind s ∷ kinds)) h) refl refl
       (ap (λ (s : Option Slot). unless (is_scalar s) SlotOrIndex) h)
 
-  pub store-does : (x : Variable) (kind : Kind) (kinds : List Kind) → slot_in x ≡ Some (slot.Scalar kind) → Does m p (store_of x) (kind ∷ kinds) kinds
+  pub store-does : (x : Variable) (kind : ValueKind) (kinds : List ValueKind) → slot_in x ≡ Some (slot.Scalar kind) → Does m p (store_of x) (kind ∷ kinds) kinds
   store-does (Global k) kind kinds h =
       going (instruction.StoreGlobal k) (kind ∷ kinds) kinds
       (ap (λ (s : Option Slot). exchanged (exchange (slot_kind s ∷ []) None) (kind ∷ kinds)) h ∙ pops-one kind kinds None) refl refl
@@ -134,7 +134,7 @@ module _ (m : ModuleContents) (p : ProcedureContents) where
       (ap (λ (s : Option Slot). exchanged (exchange (slot_kind s ∷ []) None) (kind ∷ kinds)) h ∙ pops-one kind kinds None) refl refl
       (ap (λ (s : Option Slot). unless (is_scalar s) SlotOrIndex) h)
 
-  pub load_element-does : (x : Variable) (kind : Kind) (count : ℕ) (kinds : List Kind) → slot_in x ≡ Some (slot.Array kind count)
+  pub load_element-does : (x : Variable) (kind : ValueKind) (count : ℕ) (kinds : List ValueKind) → slot_in x ≡ Some (slot.Array kind count)
       → Does m p (load_element_of x) (Int ∷ kinds) (kind ∷ kinds)
   load_element-does (Global k) kind count kinds h =
       going (instruction.LoadGlobalElement k) (Int ∷ kinds) (kind ∷ kinds) (ap (λ (s : Option Slot). Leaves (slot_kind s ∷ kinds)) h) refl refl
@@ -143,7 +143,7 @@ module _ (m : ModuleContents) (p : ProcedureContents) where
       going (instruction.LoadElement k) (Int ∷ kinds) (kind ∷ kinds) (ap (λ (s : Option Slot). Leaves (slot_kind s ∷ kinds)) h) refl refl
       (ap (λ (s : Option Slot). unless (is_array s) SlotOrIndex) h)
 
-  pub store_element-does : (x : Variable) (kind : Kind) (count : ℕ) (kinds : List Kind) → slot_in x ≡ Some (slot.Array kind count)
+  pub store_element-does : (x : Variable) (kind : ValueKind) (count : ℕ) (kinds : List ValueKind) → slot_in x ≡ Some (slot.Array kind count)
       → Does m p (store_element_of x) (kind ∷ Int ∷ kinds) kinds
   store_element-does (Global k) kind count kinds h =
       going (instruction.StoreGlobalElement k) (kind ∷ Int ∷ kinds) kinds
@@ -154,31 +154,31 @@ module _ (m : ModuleContents) (p : ProcedureContents) where
       (ap (λ (s : Option Slot). exchanged (exchange (slot_kind s ∷ Int ∷ []) None) (kind ∷ Int ∷ kinds)) h ∙ pops-two kind kinds) refl refl
       (ap (λ (s : Option Slot). unless (is_array s) SlotOrIndex) h)
 
-  pub clear-does : (k : ℕ) (kind : Kind) (count : ℕ) (kinds : List Kind) → slice_get p.slots k ≡ Some (slot.Array kind count) → Does m p (instruction.Clear k) kinds kinds
+  pub clear-does : (k : ℕ) (kind : ValueKind) (count : ℕ) (kinds : List ValueKind) → slice_get p.slots k ≡ Some (slot.Array kind count) → Does m p (instruction.Clear k) kinds kinds
   clear-does k kind count kinds h =
       going (instruction.Clear k) kinds kinds refl refl refl (ap (λ (s : Option Slot). unless (is_array s) SlotOrIndex) h)
 
-  pub push-does : (n : _) (kinds : List Kind) → Does m p (instruction.Push n) kinds (Int ∷ kinds)
+  pub push-does : (n : _) (kinds : List ValueKind) → Does m p (instruction.Push n) kinds (Int ∷ kinds)
   push-does n kinds = going (instruction.Push n) kinds (Int ∷ kinds) refl refl refl refl
 
-  pub push_boolean-does : (b : Bool) (kinds : List Kind) → Does m p (instruction.PushBoolean b) kinds (Boolean ∷ kinds)
+  pub push_boolean-does : (b : Bool) (kinds : List ValueKind) → Does m p (instruction.PushBoolean b) kinds (Boolean ∷ kinds)
   push_boolean-does b kinds = going (instruction.PushBoolean b) kinds (Boolean ∷ kinds) refl refl refl refl
 
-  pub pop-does : (kind : Kind) (kinds : List Kind) → Does m p instruction.Pop (kind ∷ kinds) kinds
+  pub pop-does : (kind : ValueKind) (kinds : List ValueKind) → Does m p instruction.Pop (kind ∷ kinds) kinds
   pop-does kind kinds = going instruction.Pop (kind ∷ kinds) kinds refl refl refl refl
 
-  pub prefix-does : (sign : Prefix) (kinds : List Kind)
+  pub prefix-does : (sign : Prefix) (kinds : List ValueKind)
       → Does m p (prefix_instruction sign) (kind_of_base (prefix_base sign) ∷ kinds) (kind_of_base (prefix_base sign) ∷ kinds)
   prefix-does prefix.Negate kinds = going instruction.Negate (Int ∷ kinds) (Int ∷ kinds) refl refl refl refl
   prefix-does prefix.Not kinds = going instruction.Not (Boolean ∷ kinds) (Boolean ∷ kinds) refl refl refl refl
 
-  numbers : (o : _) (kinds : List Kind) → Does m p (instruction.Compute o) (Int ∷ Int ∷ kinds) (Int ∷ kinds)
+  numbers : (o : _) (kinds : List ValueKind) → Does m p (instruction.Compute o) (Int ∷ Int ∷ kinds) (Int ∷ kinds)
   numbers o kinds = going (instruction.Compute o) (Int ∷ Int ∷ kinds) (Int ∷ kinds) refl refl refl refl
 
-  compares : (o : _) (kinds : List Kind) → Does m p (instruction.Compare o) (Int ∷ Int ∷ kinds) (Boolean ∷ kinds)
+  compares : (o : _) (kinds : List ValueKind) → Does m p (instruction.Compare o) (Int ∷ Int ∷ kinds) (Boolean ∷ kinds)
   compares o kinds = going (instruction.Compare o) (Int ∷ Int ∷ kinds) (Boolean ∷ kinds) refl refl refl refl
 
-  pub operator-does : (o : Operator) (kinds : List Kind)
+  pub operator-does : (o : Operator) (kinds : List ValueKind)
       → Does m p (operator_instruction o) (kind_of_base (operand_base o) ∷ kind_of_base (operand_base o) ∷ kinds) (kind_of_base (result_base o) ∷ kinds)
   operator-does (operator.Compute computed) kinds = numbers _ kinds
   operator-does (operator.Divide divided) kinds = numbers _ kinds
@@ -187,17 +187,17 @@ module _ (m : ModuleContents) (p : ProcedureContents) where
   operator-does (operator.Match sameness.Same) kinds = going instruction.SameBoolean (Boolean ∷ Boolean ∷ kinds) (Boolean ∷ kinds) refl refl refl refl
   operator-does (operator.Match sameness.Different) kinds = going instruction.OtherBoolean (Boolean ∷ Boolean ∷ kinds) (Boolean ∷ kinds) refl refl refl refl
 
-  pub receive-does : (channel : ℕ) (kinds : List Kind) → is_input (slice_get (machine_code m).directions channel) ≡ true
+  pub receive-does : (channel : ℕ) (kinds : List ValueKind) → is_input (slice_get (machine_code m).directions channel) ≡ true
       → Does m p (instruction.Receive channel) kinds (Int ∷ kinds)
   receive-does channel kinds h =
       going (instruction.Receive channel) kinds (Int ∷ kinds) refl refl refl (unless-right (is_input (slice_get (machine_code m).directions channel)) SlotOrIndex h)
 
-  pub send-does : (channel : ℕ) (kinds : List Kind) → is_output (slice_get (machine_code m).directions channel) ≡ true
+  pub send-does : (channel : ℕ) (kinds : List ValueKind) → is_output (slice_get (machine_code m).directions channel) ≡ true
       → Does m p (instruction.Send channel) (Int ∷ kinds) kinds
   send-does channel kinds h =
       going (instruction.Send channel) (Int ∷ kinds) kinds refl refl refl (unless-right (is_output (slice_get (machine_code m).directions channel)) SlotOrIndex h)
 
-  pub call-does : (f : ℕ) (callee : ProcedureContents) (kinds : List Kind) → slice_get m.procedures f ≡ Some callee
+  pub call-does : (f : ℕ) (callee : ProcedureContents) (kinds : List ValueKind) → slice_get m.procedures f ≡ Some callee
       → Does m p (instruction.Call f) (reverse (header_of callee).parameters ++ kinds) (pushed callee.returned kinds)
   call-does f callee kinds h =
       let wanted = reverse (header_of callee).parameters in
@@ -209,17 +209,17 @@ module _ (m : ModuleContents) (p : ProcedureContents) where
   pub return-does : p.returned ≡ None → Does m p instruction.Return [] []
   return-does h = record {
     after = [];
-    leaves = ap (λ (r : Option Kind). if is_none r then exchanged (exchange [] None) [] else Misses OperandKind) h;
+    leaves = ap (λ (r : Option ValueKind). if is_none r then exchanged (exchange [] None) [] else Misses OperandKind) h;
     follows = refl;
     no_target = refl;
     fixed = refl;
   }
 
-  pub return_value-does : (kind : Kind) → p.returned ≡ Some kind → Does m p instruction.ReturnValue (kind ∷ []) []
+  pub return_value-does : (kind : ValueKind) → p.returned ≡ Some kind → Does m p instruction.ReturnValue (kind ∷ []) []
   return_value-does kind h = record {
     after = [];
     leaves =
-        ap (λ (r : Option Kind). if is_some r then exchanged (exchange (value_kinds r) None) (kind ∷ []) else Misses OperandKind) h
+        ap (λ (r : Option ValueKind). if is_some r then exchanged (exchange (value_kinds r) None) (kind ∷ []) else Misses OperandKind) h
         ∙ pops-one kind [] None;
     follows = refl;
     no_target = refl;
@@ -253,4 +253,4 @@ pub parameters-are : (n : ℕ) (slots : List SlotEntry) → kinds_of (take n (ma
 parameters-are zero slots = refl
 parameters-are (suc n) [] = refl
 parameters-are (suc n) (s ∷ slots) =
-    kinds-more s.base s.size (take n (map slot_contents slots)) ∙ ap (λ (l : List Kind). kind_of_base s.base ∷ l) (parameters-are n slots)
+    kinds-more s.base s.size (take n (map slot_contents slots)) ∙ ap (λ (l : List ValueKind). kind_of_base s.base ∷ l) (parameters-are n slots)

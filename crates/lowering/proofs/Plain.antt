@@ -22,7 +22,7 @@ use Rattle.resolved.specs.Kinds.{StateFits, CellsFit}
 use Rattle.resolved.proofs.Sound.Values.{value_fits}
 use Rattle.resolved.proofs.Sound.Meanings.{base_given}
 use Rattle.modules.specs.declared.value.Cell.{Cell}
-use Rattle.modules.specs.declared.value.Kind.{Kind}
+use Rattle.modules.specs.declared.value.ValueKind.{ValueKind}
 use Rattle.modules.specs.declared.value.Cell.TheVariants as cell
 use Rattle.modules.specs.declared.declaration.Slot.{Slot}
 use Rattle.modules.specs.declared.declaration.Slot.TheVariants as slot
@@ -164,7 +164,7 @@ module _ (g : Setting) (loop : Loop) (h : ℕ → Option ℕ) (k : ℕ) (s : sou
   element-stored x count (Truth b) w at more type is size is_int same stands finds = absurd (let no : base.Boolean ≡ base.Int = is_int in cc)
   element-stored x count (Number z) w at more type is size is_int same stands finds = go z
     where
-      kind : Kind
+      kind : ValueKind
       kind = kind_of_base type.base
 
       slot_is : slot_for g x ≡ Some (Rattle.modules.specs.declared.declaration.Slot.TheVariants.Array (kind_of_base type.base) count)

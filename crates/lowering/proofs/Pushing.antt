@@ -16,8 +16,8 @@ use Rattle.resolved.proofs.Sound.Values.{same_base_is}
 use Rattle.modules.specs.Contents.{ProcedureContents, ModuleContents}
 use Rattle.modules.specs.declared.instruction.Instruction.{Instruction}
 use Rattle.modules.specs.declared.instruction.Instruction.TheVariants as instruction
-use Rattle.modules.specs.declared.value.Kind.{Kind}
-use Rattle.modules.specs.declared.value.Kind.TheVariants.{Boolean}
+use Rattle.modules.specs.declared.value.ValueKind.{ValueKind}
+use Rattle.modules.specs.declared.value.ValueKind.TheVariants.{Boolean}
 use Rattle.lowering.specs.Interface.{kind_of_base}
 use Rattle.lowering.specs.Expressions.{tested, deciding, value_size, value_code, rest_of_short, arguments_code, branch_size, branch_code, test_code}
 use Rattle.lowering.proofs.Sizes.{value-sized, branch-sized}
@@ -29,7 +29,7 @@ use Rattle.lowering.proofs.Kinded.{scalar-type, array-type, Stated, load-does, l
 -- ---- values
 module _ (m : ModuleContents) (p : ProcedureContents) (whole : List Instruction) where
   -- behind the left operand of a connective
-  short-flows : (connective : Connective) (at n : ℕ) (right : ℕ → List Instruction) (kinds : List Kind) → ((place : ℕ) → length (right place) ≡ n)
+  short-flows : (connective : Connective) (at n : ℕ) (right : ℕ → List Instruction) (kinds : List ValueKind) → ((place : ℕ) → length (right place) ≡ n)
       → ((place : ℕ) → Flows m p whole place (right place) (Unit {0}) kinds (Boolean ∷ kinds))
       → Flows m p whole at (rest_of_short connective at n right) (Unit {0}) (Boolean ∷ kinds) (Boolean ∷ kinds)
   short-flows And at n right kinds size flows =
@@ -60,11 +60,11 @@ module _ (m : ModuleContents) (p : ProcedureContents) (whole : List Instruction)
 
 module _ (program : Program) (procedure : ProcedureEntry) (m : ModuleContents) (p : ProcedureContents) (whole : List Instruction) (stated : Stated program procedure m p) where
   -- code whose value has another name for its base type
-  as-base : {at : ℕ} {code : List Instruction} {kinds : List Kind} (a b : Base) → a ≡ b → Flows m p whole at code (Unit {0}) kinds (kind_of_base a ∷ kinds)
+  as-base : {at : ℕ} {code : List Instruction} {kinds : List ValueKind} (a b : Base) → a ≡ b → Flows m p whole at code (Unit {0}) kinds (kind_of_base a ∷ kinds)
       → Flows m p whole at code (Unit {0}) kinds (kind_of_base b ∷ kinds)
   as-base {at = at} {code = code} {kinds = kinds} a b same f = subst (λ c. Flows m p whole at code (Unit {0}) kinds (kind_of_base c ∷ kinds)) same f
 
-  pub value-flows : (e : Expression) (wanted : Base) (at : ℕ) (kinds : List Kind) → has_base program procedure wanted e ≡ true
+  pub value-flows : (e : Expression) (wanted : Base) (at : ℕ) (kinds : List ValueKind) → has_base program procedure wanted e ≡ true
       → Flows m p whole at (value_code at e) (Unit {0}) kinds (kind_of_base wanted ∷ kinds)
   value-flows (Integer n) wanted at kinds typed =
       as-base base.Int wanted (same_base_is base.Int wanted (and_parts (same_base base.Int wanted) _ typed).0) (flows-one m p whole (push-does m p (literal_number n) kinds))
@@ -100,7 +100,7 @@ module _ (program : Program) (procedure : ProcedureEntry) (m : ModuleContents) (
       (λ place. value-sized e place) (λ place. value-flows e base.Boolean place kinds outer.1)))
 
   -- arguments, from the left: the last one is on the top
-  pub arguments-flow : (parameters : List SlotEntry) (es : List Expression) (at : ℕ) (kinds : List Kind) → arguments_match program procedure parameters es ≡ true
+  pub arguments-flow : (parameters : List SlotEntry) (es : List Expression) (at : ℕ) (kinds : List ValueKind) → arguments_match program procedure parameters es ≡ true
       → Flows m p whole at (arguments_code at es) (Unit {0}) kinds (reverse (map (λ (s : SlotEntry). kind_of_base s.base) parameters) ++ kinds)
   arguments-flow [] [] at kinds typed = flows-none m p whole
   arguments-flow [] (e ∷ rest) at kinds typed = absurd (let no : false ≡ true = typed in cc)
@@ -114,19 +114,19 @@ module _ (program : Program) (procedure : ProcedureEntry) (m : ModuleContents) (
       (arguments-flow parameters rest (at + value_size e) (kind ∷ kinds) parts.1))
 
   -- ---- conditions
-  test-flows : (e : Expression) (wanted : Bool) (at target : ℕ) (kinds : List Kind) → has_base program procedure base.Boolean e ≡ true
+  test-flows : (e : Expression) (wanted : Bool) (at target : ℕ) (kinds : List ValueKind) → has_base program procedure base.Boolean e ≡ true
       → Flows m p whole at (test_code wanted at target e) (kinds_at m p whole target ≡ kinds) kinds kinds
   test-flows e wanted at target kinds typed =
       flows-both m p whole (value_size (tested wanted e)) (value-sized (tested wanted e) at)
       (flows-free m p whole (value-flows (tested wanted e) base.Boolean at kinds (tested-fits program procedure wanted e typed)))
       (flows-test m p whole target (λ aims. aims))
 
-  either-at : (b : Bool) (first second : ℕ) (kinds : List Kind) → kinds_at m p whole first ≡ kinds → kinds_at m p whole second ≡ kinds
+  either-at : (b : Bool) (first second : ℕ) (kinds : List ValueKind) → kinds_at m p whole first ≡ kinds → kinds_at m p whole second ≡ kinds
       → kinds_at m p whole (if b then first else second) ≡ kinds
   either-at true first second kinds h k = h
   either-at false first second kinds h k = k
 
-  pub branch-flows : (e : Expression) (wanted : Bool) (at target : ℕ) (kinds : List Kind) → has_base program procedure base.Boolean e ≡ true
+  pub branch-flows : (e : Expression) (wanted : Bool) (at target : ℕ) (kinds : List ValueKind) → has_base program procedure base.Boolean e ≡ true
       → Flows m p whole at (branch_code wanted at target e) (kinds_at m p whole target ≡ kinds) kinds kinds
   branch-flows (Integer n) wanted at target kinds typed = test-flows (Integer n) wanted at target kinds typed
   branch-flows (Logical b) wanted at target kinds typed = test-flows (Logical b) wanted at target kinds typed

@@ -8,7 +8,7 @@ use Rattle.modules.specs.declared.instruction.Arithmetic.{Arithmetic}
 use Rattle.modules.specs.declared.instruction.Comparison.{Comparison}
 use Rattle.modules.specs.declared.instruction.Instruction.{Instruction}
 use Rattle.modules.specs.declared.instruction.Instruction.TheVariants.{Push, PushBoolean, Pop, Load, Store, LoadGlobal, StoreGlobal, LoadElement, StoreElement, LoadGlobalElement, StoreGlobalElement, Clear, Compute, Negate, Not, Compare, SameBoolean, OtherBoolean, Jump, JumpIfFalse, Call, Return, ReturnValue, Receive, Send, Throw}
-use Rattle.modules.specs.declared.value.Kind.{Kind}
+use Rattle.modules.specs.declared.value.ValueKind.{ValueKind}
 use Rattle.modules.specs.declared.declaration.Slot.{Slot}
 use Rattle.modules.specs.declared.declaration.Slot.TheVariants as slot
 use Rattle.common.specs.declared.direction.Direction.{Direction}
@@ -122,7 +122,7 @@ leaves-keeps : (s : State) (callers : List Caller) → Kept s (leaves s callers)
 leaves-keeps s [] = same s
 leaves-keeps s (caller ∷ callers) = same s
 
-leaves_without-keeps : (s : State) (o : Option Kind) → Kept s (leaves_without s o)
+leaves_without-keeps : (s : State) (o : Option ValueKind) → Kept s (leaves_without s o)
 leaves_without-keeps s None = leaves-keeps s s.callers
 leaves_without-keeps s (Some kind) = same s
 
@@ -134,7 +134,7 @@ leaves_value-keeps : (s : State) (x : Cell) (callers : List Caller) → Kept s (
 leaves_value-keeps s x [] = same s
 leaves_value-keeps s x (caller ∷ callers) = same s
 
-gives_back-keeps : (s : State) (o : Option Kind) (operands : List Cell) → Kept s (gives_back s o operands)
+gives_back-keeps : (s : State) (o : Option ValueKind) (operands : List Cell) → Kept s (gives_back s o operands)
 gives_back-keeps s (Some kind) (x ∷ operands) = choice-keeps s (has_kind kind x) _ _ (leaves_value-keeps s x s.callers) (same s)
 gives_back-keeps s _ _ = same s
 

@@ -25,8 +25,8 @@ use Rattle.modules.specs.declared.declaration.Handler.{Handler}
 use Rattle.modules.specs.declared.declaration.Slot.TheVariants as slot
 use Rattle.modules.specs.declared.instruction.Instruction.{Instruction}
 use Rattle.modules.specs.declared.instruction.Instruction.TheVariants as instruction
-use Rattle.modules.specs.declared.value.Kind.{Kind}
-use Rattle.modules.specs.declared.value.Kind.TheVariants.{Int}
+use Rattle.modules.specs.declared.value.ValueKind.{ValueKind}
+use Rattle.modules.specs.declared.value.ValueKind.TheVariants.{Int}
 use Rattle.verifier.specs.Signatures.{is_input, is_output}
 use Rattle.verifier.specs.Flow.{pushed}
 use Rattle.lowering.specs.Interface.{kind_of_base, declared_slot, returned_kind}
@@ -42,7 +42,7 @@ use Rattle.resolved.proofs.Exits.{no_fault-test}
 
 -- an array that may be cleared
 record Cleared (o : Option VariableType) : Type 0 where
-  kind : Kind
+  kind : ValueKind
   count : ℕ
   is : slot_of_type o ≡ Some (slot.Array kind count)
 
@@ -207,8 +207,8 @@ module _ (program : Program) (procedure : ProcedureEntry) (m : ModuleContents) (
       let same : (header_of q.0).parameters ≡ kinds = ap (λ (h : Header). h.parameters) q.2 ∙ parameters-are callee.parameters callee.slots in
       let gives : q.0.returned ≡ returned_kind callee.result = ap (λ (h : Header). h.returned) q.2 in
       let calls : Does m p (instruction.Call f) (reverse kinds ++ []) (pushed (returned_kind callee.result) []) =
-      subst (λ (r : Option Kind). Does m p (instruction.Call f) (reverse kinds ++ []) (pushed r [])) gives
-      (subst (λ (l : List Kind). Does m p (instruction.Call f) (reverse l ++ []) (pushed q.0.returned [])) same (call-does m p f q.0 [] q.1)) in
+      subst (λ (r : Option ValueKind). Does m p (instruction.Call f) (reverse kinds ++ []) (pushed r [])) gives
+      (subst (λ (l : List ValueKind). Does m p (instruction.Call f) (reverse l ++ []) (pushed q.0.returned [])) same (call-does m p f q.0 [] q.1)) in
       flows-both m p whole (arguments_size arguments) (arguments-sized arguments at)
       (arguments-flow program procedure m p whole stated (parameters_of callee) arguments at [] parts.0)
       (flows-both m p whole 1 refl (flows-one m p whole calls) (result-flows (at + arguments_size arguments + 1) callee.result target parts.1))

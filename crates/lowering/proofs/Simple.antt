@@ -21,7 +21,7 @@ use Rattle.resolved.specs.Meaning.{Ended, kept_in}
 use Rattle.resolved.specs.WellFormed.{VariableType, variable_type, has_base, same_base, scalar_by, array_by, target_by, channel_is, is_array, may_leave_by, is_exception, has_result, cell_count}
 use Rattle.resolved.proofs.Sound.Values.{same_base_is}
 use Rattle.modules.specs.declared.value.Cell.{Cell}
-use Rattle.modules.specs.declared.value.Kind.{Kind}
+use Rattle.modules.specs.declared.value.ValueKind.{ValueKind}
 use Rattle.modules.specs.declared.value.Cell.TheVariants as cell
 use Rattle.modules.specs.declared.declaration.Slot.TheVariants as slot
 use Rattle.modules.specs.declared.instruction.Instruction.{Instruction}
@@ -92,7 +92,7 @@ module _ (g : Setting) (loop : Loop) (h : ℕ → Option ℕ) (k : ℕ) (s : sou
       (ap (returns_nothing (state_at g at [] s)) g.header_is ∙ ap (leaves_without (state_at g at [] s)) (g.returned_is ∙ ap returned_kind (none_there g.procedure.result none))
       ∙ leaves-is g at [] s)
 
-  gives_kind : (at : ℕ) (v : Value) (kind : Kind) → has_kind kind (cell_of v) ≡ true
+  gives_kind : (at : ℕ) (v : Value) (kind : ValueKind) → has_kind kind (cell_of v) ≡ true
       → gives_back (state_at g at (cell_of v ∷ []) s) (Some kind) (cell_of v ∷ []) ≡ leaves_value (state_at g at (cell_of v ∷ []) s) (cell_of v) g.callers
   gives_kind at v kind e = rw e refl
 
@@ -101,7 +101,7 @@ module _ (g : Setting) (loop : Loop) (h : ℕ → Option ℕ) (k : ℕ) (s : sou
   returns-value at more v entry result same stands =
       let S = state_at g at (cell_of v ∷ []) s in
       does g more instruction.ReturnValue at (cell_of v ∷ []) s _ stands
-      (ap (returns_value S) g.header_is ∙ ap (λ (o : Option Kind). gives_back S o (cell_of v ∷ [])) (g.returned_is ∙ ap returned_kind result)
+      (ap (returns_value S) g.header_is ∙ ap (λ (o : Option ValueKind). gives_back S o (cell_of v ∷ [])) (g.returned_is ∙ ap returned_kind result)
       ∙ gives_kind at v (kind_of_base entry.base) (kind-same v entry.base same) ∙ leaves_value-is g at (cell_of v ∷ []) v s)
 
   -- ---- channels

@@ -1,6 +1,6 @@
 -- Runs of a machine put together, and what a run that ends has sent on its way.
 use Rattle.std.proofs.Common.{◌≡◌, ℕ, zero, suc, ◌+◌, ◌≤◌, List, Option, Some, None, refl, sym, ap, ◌∙◌, subst, arith}
-use Rattle.labels.specs.declared.sent.Pair.{Pair}
+use Rattle.common.specs.declared.sent.Pair.{Pair}
 use Rattle.labels.specs.Sent.{IsPrefix}
 use Rattle.modules.specs.Machine.{State, Machine, Running, Ended, Stuck, Ending, MachineCode, sent_of, step, exec}
 use Rattle.labels.proofs.Prefixes.{prefix-itself}

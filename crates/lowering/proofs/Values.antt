@@ -17,7 +17,7 @@ use Rattle.resolved.specs.Value.{Evaluated, Yields, Raises, then_with, base_of, 
 use Rattle.resolved.specs.WellFormed.{VariableType, variable_type, same_base, scalar_by, array_by, has_length, cell_count}
 use Rattle.resolved.specs.Kinds.{StateFits, CellsFit}
 use Rattle.modules.specs.declared.value.Cell.{Cell}
-use Rattle.modules.specs.declared.value.Kind.{Kind}
+use Rattle.modules.specs.declared.value.ValueKind.{ValueKind}
 use Rattle.modules.specs.declared.value.Cell.TheVariants as cell
 use Rattle.modules.specs.declared.declaration.Slot.{Slot}
 use Rattle.modules.specs.declared.declaration.Slot.TheVariants as slot
@@ -88,7 +88,7 @@ array-there (Some type) count test h =
     this_size None h = cc
     this_size (Some n) h = ap (λ (m : ℕ). Some m) (eqb-true n count h)
 
-first_cell : (kind : Kind) (values : List Value) → length values ≡ 1 → scalar_cell kind (cells_of values) ≡ cell_of (cell_at values 0)
+first_cell : (kind : ValueKind) (values : List Value) → length values ≡ 1 → scalar_cell kind (cells_of values) ≡ cell_of (cell_at values 0)
 first_cell kind [] e = absurd (let no : 0 ≡ 1 = e in omega (arith, no))
 first_cell kind (v ∷ rest) e = refl
 
@@ -109,7 +109,7 @@ module _ (g : Setting) (h : ℕ → Option ℕ) (s : source.SourceState) (fit : 
       let is_type : variable_type g.program g.procedure x ≡ Some type = there.1 in
       let no_size : type.size ≡ None = there.2 in
       let fits : CellsFit type (cells s x) = fit.fits x type is_type in
-      let kind : Kind = kind_of_base type.base in
+      let kind : ValueKind = kind_of_base type.base in
       let one : length (cells s x) ≡ 1 = fits.count ∙ ap cell_count no_size in
       let S = state_at g at operands s in
       does g more (load_of x) at operands s _ stands

@@ -16,8 +16,8 @@ use Rattle.modules.specs.declared.declaration.Global.{Global}
 use Rattle.modules.specs.declared.declaration.Global.TheVariants as global
 use Rattle.modules.specs.declared.version.Version.{Version}
 use Rattle.modules.specs.declared.version.Version.TheVariants.{One, Two}
-use Rattle.modules.specs.declared.value.Kind.{Kind}
-use Rattle.modules.specs.declared.value.Kind.TheVariants as kind
+use Rattle.modules.specs.declared.value.ValueKind.{ValueKind}
+use Rattle.modules.specs.declared.value.ValueKind.TheVariants as kind
 use Rattle.modules.specs.Contents.{ChannelContents, ModuleContents}
 use Rattle.modules.specs.Format.{pair_cmp}
 
@@ -34,7 +34,7 @@ abbrev pub channel_contents : ChannelEntry → ChannelContents
 channel_contents entry = record { direction = entry.direction; name = entry.name; label = entry.label }
 
 -- the kind of the values of a base type
-abbrev pub kind_of_base : Base → Kind
+abbrev pub kind_of_base : Base → ValueKind
 kind_of_base base.Int = kind.Int
 kind_of_base base.Boolean = kind.Boolean
 
@@ -59,7 +59,7 @@ abbrev pub global_contents : GlobalEntry → Global
 global_contents entry = declared_global entry.base entry.size entry.first
 
 -- the kind of value that a procedure gives, if it gives one
-abbrev pub returned_kind : Option ResultEntry → Option Kind
+abbrev pub returned_kind : Option ResultEntry → Option ValueKind
 returned_kind None = None
 returned_kind (Some entry) = Some (kind_of_base entry.base)
 

@@ -1,7 +1,7 @@
 -- What it means that a machine keeps the meaning of a program: on every world both send the same and end the same way.
 -- Source: our own; the correctness of a compiler by simulation in both directions, as for CompCert (Leroy 2009).
 use Rattle.std.specs.Prelude.{◌≡◌, ℕ, List, Option, Some, None}
-use Rattle.labels.specs.declared.sent.Pair.{Pair}
+use Rattle.common.specs.declared.sent.Pair.{Pair}
 use Rattle.labels.specs.Sent.{IsPrefix}
 use Rattle.resolved.specs.declared.statement.Exit.TheVariants.{Normal, Return, Break, Continue, Throw}
 use Rattle.resolved.specs.Program.{Program}

@@ -32,6 +32,14 @@ struct TryPlaces {
     behind: u32,
 }
 
+/// The condition of an `if`, and its blocks: for where it holds, and for where it does not.
+#[derive(Clone, Copy)]
+struct Branches<'a> {
+    condition: &'a Expression,
+    yes_block: &'a [Statement],
+    no_block: &'a [Statement],
+}
+
 /// The instruction of `break`, `continue` and `throw`.
 fn leave_code(around: LoopPlaces, exit: Exit) -> Instruction
     ensures { result ≡ leave_code (record { behind = around.behind; test = around.test }) exit }
@@ -102,7 +110,12 @@ fn push_statement(
             push_call(core, code, *procedure, arguments, *target)
         }
         Statement::If(_, condition, yes_block, no_block) => {
-            push_if(core, around, code, table, condition, yes_block, no_block)
+            let branches = Branches {
+                condition,
+                yes_block,
+                no_block,
+            };
+            push_if(core, around, code, table, &branches)
         }
         Statement::While(_, _, condition, body) => push_while(core, code, table, condition, body),
         Statement::Leave(_, exit) => push(code, leave_code(around, *exit)),
@@ -144,18 +157,22 @@ fn push_if(
     around: LoopPlaces,
     code: &mut Vec<Instruction>,
     table: &mut Vec<Handler>,
-    condition: &Expression,
-    yes_block: &[Statement],
-    no_block: &[Statement],
+    branches: &Branches,
 ) -> Result<(), AllocError>
     requires { length code.now.items + statement_size (program_of core.now)
-        (If 0 (expression_of condition.now) (block_of yes_block.now) (block_of no_block.now))
-        < 2 ^ 32 }
+        (If 0 (expression_of branches.now.condition.now) (block_of branches.now.yes_block.now)
+        (block_of branches.now.no_block.now)) < 2 ^ 32 }
     ensures { OnOk result (IsStatementAdded (program_of core.now)
         (record { behind = around.behind; test = around.test })
-        (If 0 (expression_of condition.now) (block_of yes_block.now) (block_of no_block.now))
+        (If 0 (expression_of branches.now.condition.now) (block_of branches.now.yes_block.now)
+        (block_of branches.now.no_block.now))
         code.old.items code.new.items table.old.items table.new.items) }
 {
+    let Branches {
+        condition,
+        yes_block,
+        no_block,
+    } = *branches;
     let jumps = jumps_over(yes_block, no_block);
     let test_end = next_place(code) + branch_size(false, condition);
     let second = test_end + block_size(core, yes_block) + jump_size(jumps);

@@ -6,7 +6,7 @@ ghost use Rattle.lowering.specs.Fitting.{IsShortValue};
 ghost use Rattle.std.specs.Prelude.{All, IfOk, List, map, ◌≡◌};
 
 use labels::LabelTable;
-use modules::{Channel, Kind};
+use modules::{Channel, ValueKind};
 use principals::Hierarchy;
 use resolved::expression::{Base, Value};
 use resolved::tables;
@@ -49,12 +49,12 @@ pub(crate) fn channels_of(
 }
 
 /// The kind of the values of a base type.
-pub(crate) fn kind_of_base(base: Base) -> Kind
+pub(crate) fn kind_of_base(base: Base) -> ValueKind
     ensures { result ≡ kind_of_base base }
 {
     match base {
-        Base::Int => Kind::Int,
-        Base::Boolean => Kind::Boolean,
+        Base::Int => ValueKind::Int,
+        Base::Boolean => ValueKind::Boolean,
     }
 }
 

@@ -13,7 +13,7 @@ use crate::emitter::push;
 use crate::endings::block_falls;
 use crate::interface::kind_of_base;
 use crate::threading::thread;
-use modules::{Instruction, Kind, Procedure, Slot};
+use modules::{Instruction, Procedure, Slot, ValueKind};
 use resolved::expression::Base;
 use resolved::program::Core;
 use resolved::tables;
@@ -42,7 +42,7 @@ fn slots_of(alloc: Global, slots: &[tables::Slot]) -> Result<Vec<Slot>, AllocErr
 }
 
 /// The kind of value that a procedure gives, if it gives one.
-fn returned_kind(given: &Option<tables::ResultType>) -> Option<Kind>
+fn returned_kind(given: &Option<tables::ResultType>) -> Option<ValueKind>
     ensures { (labels : List Label) → result ≡ returned_kind (result_entry labels given.now) }
 {
     given.as_ref().map(|given| kind_of_base(given.base))

@@ -44,11 +44,11 @@ impl Input {
 
 /// What is left of the numbers of all channels.
 #[derive(Debug, Drop)]
-pub struct Inputs {
+pub struct RemainingInputs {
     inputs: Vec<Input>,
 }
 
-impl Model for Inputs {
+impl Model for RemainingInputs {
     ghost use Rattle.std.specs.Prelude.{List, ℤ};
 
     ghost Value = { List (List ℤ) };
@@ -56,12 +56,12 @@ impl Model for Inputs {
     ghost view = { λ inputs. inputs.inputs.items };
 }
 
-impl Inputs {
+impl RemainingInputs {
     /// The inputs in the order of their channels.
-    pub fn of(inputs: Vec<Input>) -> Inputs
+    pub fn of(inputs: Vec<Input>) -> RemainingInputs
         ensures { result ≡ inputs.items }
     {
-        Inputs { inputs }
+        RemainingInputs { inputs }
     }
 
     /// The next number of a channel, which is not taken yet.

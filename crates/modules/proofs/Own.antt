@@ -11,7 +11,7 @@ use Rattle.principals.specs.ActsFor.{PrincipalHierarchy, IsHierarchy, AllDiffere
 use Rattle.labels.specs.Carried.{IsPolicyOf, IsLabelOf, label_under}
 use Rattle.labels.specs.Label.{Label, may_read}
 use Rattle.labels.specs.Sent.{pairs_for}
-use Rattle.labels.specs.declared.sent.Pair.{Pair}
+use Rattle.common.specs.declared.sent.Pair.{Pair}
 use Rattle.labels.proofs.Carried.{own-label}
 use Rattle.modules.specs.Contents.{ChannelContents, ModuleContents}
 use Rattle.modules.specs.Form.{Fits, FitEach}

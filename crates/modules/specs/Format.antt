@@ -17,8 +17,8 @@ use Rattle.modules.specs.declared.fault.FormatDefect.TheVariants.{Magic, BadValu
 use Rattle.modules.specs.declared.fault.FormatDefect.TheVariants as defect
 use Rattle.modules.specs.declared.version.Version.{Version}
 use Rattle.modules.specs.declared.version.Version.TheVariants.{One, Two}
-use Rattle.modules.specs.declared.value.Kind.{Kind}
-use Rattle.modules.specs.declared.value.Kind.TheVariants as kind
+use Rattle.modules.specs.declared.value.ValueKind.{ValueKind}
+use Rattle.modules.specs.declared.value.ValueKind.TheVariants as kind
 use Rattle.modules.specs.declared.declaration.Slot.{Slot}
 use Rattle.modules.specs.declared.declaration.Slot.TheVariants as slot
 use Rattle.modules.specs.declared.declaration.Global.{Global}
@@ -143,14 +143,14 @@ declared count = Then exceptions (channels count)
 
 -- ---- globals and slots
 
-abbrev pub kind_of : ℕ → Kind
+abbrev pub kind_of : ℕ → ValueKind
 kind_of byte = if byte == 0 then kind.Int else kind.Boolean
 
-abbrev pub kind_byte : Kind → ℕ
+abbrev pub kind_byte : ValueKind → ℕ
 kind_byte kind.Int = 0
 kind_byte kind.Boolean = 1
 
-unfoldable pub variable_kind : Form Kind
+unfoldable pub variable_kind : Form ValueKind
 variable_kind = Named kind_of kind_byte (Checked BadValue (λ byte. nat_lt byte 2) Byte)
 
 -- what a scalar has and an array lacks, where 0 stands for it
@@ -159,18 +159,18 @@ of_scalar true form = form
 of_scalar false form = Nothing 0
 
 -- a scalar's first value: an int, or 0 or 1 for a boolean
-abbrev pub first_value : Kind → ℕ → Form ℕ
+abbrev pub first_value : ValueKind → ℕ → Form ℕ
 first_value kind.Int size = of_scalar (size == 0) Number
 first_value kind.Boolean size = of_scalar (size == 0) (Checked BadValue (λ n. nat_lt n 2) Number)
 
 -- a kind, a size and a first value as a global, and back
-abbrev pub global_of : Kind × (ℕ × ℕ) → Global
+abbrev pub global_of : ValueKind × (ℕ × ℕ) → Global
 global_of (kind.Int, (size, first)) =
     if size == 0 then global.Int (cast_signed w32 first) else global.Array kind.Int size
 global_of (kind.Boolean, (size, first)) =
     if size == 0 then global.Boolean (first == 1) else global.Array kind.Boolean size
 
-abbrev pub global_fields : Global → Kind × (ℕ × ℕ)
+abbrev pub global_fields : Global → ValueKind × (ℕ × ℕ)
 global_fields (global.Int n) = (kind.Int, (0, cast_unsigned w32 n))
 global_fields (global.Boolean b) = (kind.Boolean, (0, if b then 1 else 0))
 global_fields (global.Array kind size) = (kind, (size, 0))
@@ -189,10 +189,10 @@ globals = Counted any global_after
 
 -- ---- slots
 
-abbrev pub slot_of : Kind × ℕ → Slot
+abbrev pub slot_of : ValueKind × ℕ → Slot
 slot_of (kind, size) = if size == 0 then slot.Scalar kind else slot.Array kind size
 
-abbrev pub slot_fields : Slot → Kind × ℕ
+abbrev pub slot_fields : Slot → ValueKind × ℕ
 slot_fields (slot.Scalar kind) = (kind, 0)
 slot_fields (slot.Array kind size) = (kind, size)
 
@@ -214,16 +214,16 @@ slots parameters = Counted (λ count. nat_le parameters count) (slot_after param
 
 -- ---- procedures
 
-abbrev pub returned_of : ℕ → Option Kind
+abbrev pub returned_of : ℕ → Option ValueKind
 returned_of byte = if byte == 0 then None else if byte == 1 then Some kind.Int else Some kind.Boolean
 
-abbrev pub returned_byte : Option Kind → ℕ
+abbrev pub returned_byte : Option ValueKind → ℕ
 returned_byte None = 0
 returned_byte (Some kind.Int) = 1
 returned_byte (Some kind.Boolean) = 2
 
 -- the kind of value that a procedure returns, if any
-unfoldable pub returned : Form (Option Kind)
+unfoldable pub returned : Form (Option ValueKind)
 returned = Named returned_of returned_byte (Checked BadValue (λ byte. nat_lt byte 3) Byte)
 
 unfoldable pub handler : Form Handler

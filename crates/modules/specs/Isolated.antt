@@ -6,7 +6,7 @@ use Rattle.principals.specs.ActsFor.{PrincipalHierarchy, IsHierarchy, ContainsHi
 use Rattle.labels.specs.Carried.{label_under}
 use Rattle.labels.specs.Label.{Label, may_read}
 use Rattle.labels.specs.Sent.{pairs_for, OneIsPrefix}
-use Rattle.labels.specs.declared.sent.Pair.{Pair}
+use Rattle.common.specs.declared.sent.Pair.{Pair}
 use Rattle.modules.specs.Contents.{ChannelContents, ModuleContents}
 use Rattle.modules.specs.Machine.{sent_after}
 use Rattle.common.specs.declared.direction.Direction.TheVariants.{Input}

@@ -1,7 +1,7 @@
 //! Laws of the spelling of instructions, and of modules under their own hierarchy.
 
 ghost use Rattle.labels.specs.Sent.{pairs_for};
-ghost use Rattle.labels.specs.declared.sent.Pair.{Pair};
+ghost use Rattle.common.specs.declared.sent.Pair.{Pair};
 ghost use Rattle.modules.specs.Contents.{ModuleContents};
 ghost use Rattle.modules.specs.Form.{Fits, IsCoded};
 ghost use Rattle.modules.specs.Format.{module_file};

@@ -23,5 +23,5 @@ pub use fault::FormatDefect;
 pub use instruction::{Arithmetic, Comparison, Instruction};
 pub use module::Module;
 pub use procedure::Procedure;
-pub use value::{Cell, Kind};
+pub use value::{Cell, ValueKind};
 pub use version::Version;

@@ -1,4 +1,4 @@
-ghost use Rattle.modules.specs.Opcodes.{arithmetic_opcode, comparison_opcode, flagged, instruction_of, numbered, plain, row_of, width_after, with_opcode};
+ghost use Rattle.modules.specs.Opcodes.{arithmetic_opcode, comparison_opcode, examples, flagged, instruction_of, numbered, operand_width, plain, row_of, width_after, with_opcode};
 ghost use Rattle.std.specs.Prelude.{IfSome, length, ◌<◌, ◌≡◌, ◌≤◌};
 
 use crate::instruction::{Arithmetic, Comparison, Instruction};
@@ -14,56 +14,82 @@ pub enum Operand {
     Number(u32),
 }
 
-/// A row of the table of opcodes: the byte that spells an instruction, the name that it is listed by, and its operand.
+impl Operand {
+    /// How many bytes the operand has in a file.
+    pub fn width(self) -> usize
+        ensures width { result ≡ operand_width self }
+        ensures wide { 1 < result → 4 ≤ result }
+    {
+        match self {
+            Operand::Absent => 0,
+            Operand::Int(_) => 4,
+            Operand::Boolean(_) => 1,
+            Operand::Number(_) => 4,
+        }
+    }
+}
+
+/// A row of the table of opcodes: the version of the file since which an instruction exists, the byte that spells it, the name that
+/// it is listed by, and its operand.
 #[derive(Clone, Copy, Debug)]
-pub struct Row {
+pub struct OpcodeRow {
+    pub since: Version,
     pub byte: u8,
     pub name: &'static str,
     pub operand: Operand,
 }
 
-fn plain_row(byte: u8, name: &'static str) -> Row
+fn plain_row(since: Version, byte: u8, name: &'static str) -> OpcodeRow
+    ensures since { result.since ≡ since }
     ensures byte { result.byte ≡ byte }
     ensures name { result.name.now ≡ name.now }
     ensures operand { result.operand ≡ Operand.Absent }
 {
-    Row {
+    OpcodeRow {
+        since,
         byte,
         name,
         operand: Operand::Absent,
     }
 }
 
-fn numbered_row(byte: u8, name: &'static str, number: u32) -> Row
+fn numbered_row(byte: u8, name: &'static str, number: u32) -> OpcodeRow
+    ensures since { result.since ≡ Version.One }
     ensures byte { result.byte ≡ byte }
     ensures name { result.name.now ≡ name.now }
     ensures operand { result.operand ≡ Operand.Number number }
 {
-    Row {
+    OpcodeRow {
+        since: Version::One,
         byte,
         name,
         operand: Operand::Number(number),
     }
 }
 
-/// The row of an instruction.
-pub fn row_of(instruction: Instruction) -> Row
+/// The row of an instruction. It is inlined, so that who asks for one part of it, as each walk along code for the width, gets that
+/// alone.
+#[inline(always)]
+pub fn row_of(instruction: Instruction) -> OpcodeRow
+    ensures since { result.since ≡ (row_of instruction).since }
     ensures byte { result.byte ≡ (row_of instruction).byte }
     ensures name { result.name.now ≡ (row_of instruction).name }
     ensures operand { result.operand ≡ (row_of instruction).operand }
 {
     match instruction {
-        Instruction::Push(number) => Row {
+        Instruction::Push(number) => OpcodeRow {
+            since: Version::One,
             byte: 0x01,
             name: "PUSH",
             operand: Operand::Int(number),
         },
-        Instruction::PushBoolean(flag) => Row {
+        Instruction::PushBoolean(flag) => OpcodeRow {
+            since: Version::One,
             byte: 0x02,
             name: "PUSHB",
             operand: Operand::Boolean(flag),
         },
-        Instruction::Pop => plain_row(0x03, "POP"),
+        Instruction::Pop => plain_row(Version::One, 0x03, "POP"),
         Instruction::Load(slot) => numbered_row(0x04, "LOAD", slot),
         Instruction::Store(slot) => numbered_row(0x05, "STORE", slot),
         Instruction::LoadGlobal(slot) => numbered_row(0x06, "GLOAD", slot),
@@ -74,54 +100,56 @@ pub fn row_of(instruction: Instruction) -> Row
         Instruction::StoreGlobalElement(slot) => numbered_row(0x0b, "GASTORE", slot),
         Instruction::Clear(slot) => numbered_row(0x0c, "CLEAR", slot),
         Instruction::Compute(operator) => arithmetic_row(operator),
-        Instruction::Negate => plain_row(0x15, "NEG"),
-        Instruction::Not => plain_row(0x16, "NOT"),
+        Instruction::Negate => plain_row(Version::One, 0x15, "NEG"),
+        Instruction::Not => plain_row(Version::One, 0x16, "NOT"),
         Instruction::Compare(comparison) => comparison_row(comparison),
-        Instruction::SameBoolean => plain_row(0x1d, "BEQ"),
-        Instruction::OtherBoolean => plain_row(0x1e, "BNE"),
+        Instruction::SameBoolean => plain_row(Version::One, 0x1d, "BEQ"),
+        Instruction::OtherBoolean => plain_row(Version::One, 0x1e, "BNE"),
         Instruction::Jump(target) => numbered_row(0x20, "JUMP", target),
         Instruction::JumpIfFalse(target) => numbered_row(0x21, "JFALSE", target),
         Instruction::Call(procedure) => numbered_row(0x22, "CALL", procedure),
-        Instruction::Return => plain_row(0x23, "RET"),
-        Instruction::ReturnValue => plain_row(0x24, "RETV"),
+        Instruction::Return => plain_row(Version::One, 0x23, "RET"),
+        Instruction::ReturnValue => plain_row(Version::One, 0x24, "RETV"),
         Instruction::Receive(channel) => numbered_row(0x25, "RECV", channel),
         Instruction::Send(channel) => numbered_row(0x26, "SEND", channel),
         Instruction::Throw(exception) => numbered_row(0x27, "THROW", exception),
     }
 }
 
-fn arithmetic_row(operator: Arithmetic) -> Row
+fn arithmetic_row(operator: Arithmetic) -> OpcodeRow
+    ensures since { result.since ≡ (arithmetic_opcode operator).0 }
     ensures byte { result.byte ≡ (arithmetic_opcode operator).1 }
     ensures name { result.name.now ≡ (arithmetic_opcode operator).2 }
     ensures operand { result.operand ≡ Operand.Absent }
 {
     match operator {
-        Arithmetic::Add => plain_row(0x10, "ADD"),
-        Arithmetic::Subtract => plain_row(0x11, "SUB"),
-        Arithmetic::Multiply => plain_row(0x12, "MUL"),
-        Arithmetic::Divide => plain_row(0x13, "DIV"),
-        Arithmetic::Remainder => plain_row(0x14, "REM"),
-        Arithmetic::BitAnd => plain_row(0x28, "AND"),
-        Arithmetic::BitOr => plain_row(0x29, "OR"),
-        Arithmetic::BitXor => plain_row(0x2a, "XOR"),
-        Arithmetic::ShiftLeft => plain_row(0x2b, "SHL"),
-        Arithmetic::ShiftRight => plain_row(0x2c, "SHR"),
-        Arithmetic::ShiftRightUnsigned => plain_row(0x2d, "USHR"),
+        Arithmetic::Add => plain_row(Version::One, 0x10, "ADD"),
+        Arithmetic::Subtract => plain_row(Version::One, 0x11, "SUB"),
+        Arithmetic::Multiply => plain_row(Version::One, 0x12, "MUL"),
+        Arithmetic::Divide => plain_row(Version::One, 0x13, "DIV"),
+        Arithmetic::Remainder => plain_row(Version::One, 0x14, "REM"),
+        Arithmetic::BitAnd => plain_row(Version::Two, 0x28, "AND"),
+        Arithmetic::BitOr => plain_row(Version::Two, 0x29, "OR"),
+        Arithmetic::BitXor => plain_row(Version::Two, 0x2a, "XOR"),
+        Arithmetic::ShiftLeft => plain_row(Version::Two, 0x2b, "SHL"),
+        Arithmetic::ShiftRight => plain_row(Version::Two, 0x2c, "SHR"),
+        Arithmetic::ShiftRightUnsigned => plain_row(Version::Two, 0x2d, "USHR"),
     }
 }
 
-fn comparison_row(comparison: Comparison) -> Row
+fn comparison_row(comparison: Comparison) -> OpcodeRow
+    ensures since { result.since ≡ Version.One }
     ensures byte { result.byte ≡ (comparison_opcode comparison).0 }
     ensures name { result.name.now ≡ (comparison_opcode comparison).1 }
     ensures operand { result.operand ≡ Operand.Absent }
 {
     match comparison {
-        Comparison::Less => plain_row(0x17, "LT"),
-        Comparison::AtMost => plain_row(0x18, "LE"),
-        Comparison::Greater => plain_row(0x19, "GT"),
-        Comparison::AtLeast => plain_row(0x1a, "GE"),
-        Comparison::Equal => plain_row(0x1b, "EQ"),
-        Comparison::NotEqual => plain_row(0x1c, "NE"),
+        Comparison::Less => plain_row(Version::One, 0x17, "LT"),
+        Comparison::AtMost => plain_row(Version::One, 0x18, "LE"),
+        Comparison::Greater => plain_row(Version::One, 0x19, "GT"),
+        Comparison::AtLeast => plain_row(Version::One, 0x1a, "GE"),
+        Comparison::Equal => plain_row(Version::One, 0x1b, "EQ"),
+        Comparison::NotEqual => plain_row(Version::One, 0x1c, "NE"),
     }
 }
 
@@ -206,51 +234,27 @@ pub fn instruction_of(opcode: u8, operand: &[u8]) -> Option<Instruction>
     }
 }
 
+// The instruction with an opcode, of an operand whose bytes are all 0.
+fn example_of(opcode: u8) -> Option<Instruction>
+    ensures { result ≡ with_opcode opcode examples }
+{
+    if let Some(found) = plain_instruction(opcode) {
+        return Some(found);
+    }
+    if let Some(found) = flagged_instruction(opcode, 0) {
+        return Some(found);
+    }
+    numbered_instruction(opcode, 0)
+}
+
 /// How many bytes of operand follow an opcode in a file of the version, or none where that has no such opcode.
 pub fn width_after(version: Version, opcode: u8) -> Option<usize>
     ensures width { result ≡ width_after version opcode }
     ensures wide { IfSome result (λ width. 1 < width → 4 ≤ width) }
 {
-    match opcode {
-        0x02 => Some(1),
-        0x03
-        | 0x10
-        | 0x11
-        | 0x12
-        | 0x13
-        | 0x14
-        | 0x15
-        | 0x16
-        | 0x17
-        | 0x18
-        | 0x19
-        | 0x1a
-        | 0x1b
-        | 0x1c
-        | 0x1d
-        | 0x1e
-        | 0x23
-        | 0x24 => Some(0),
-        0x01
-        | 0x04
-        | 0x05
-        | 0x06
-        | 0x07
-        | 0x08
-        | 0x09
-        | 0x0a
-        | 0x0b
-        | 0x0c
-        | 0x20
-        | 0x21
-        | 0x22
-        | 0x25
-        | 0x26
-        | 0x27 => Some(4),
-        0x28 | 0x29 | 0x2a | 0x2b | 0x2c | 0x2d => match version {
-            Version::One => None,
-            Version::Two => Some(0),
-        },
-        _ => None,
+    let row = row_of(example_of(opcode)?);
+    if !version.has(row.since) {
+        return None;
     }
+    Some(row.operand.width())
 }

@@ -3,7 +3,7 @@ ghost use Rattle.std.specs.Prelude.{◌≡◌};
 
 /// The kind of a value.
 #[derive(Clone, Copy, Debug, PartialEq, Eq)]
-pub enum Kind {
+pub enum ValueKind {
     Int,
     Boolean,
 }
@@ -15,26 +15,26 @@ pub enum Cell {
     Bool(bool),
 }
 
-impl Kind {
+impl ValueKind {
     /// The value that a scalar of this kind, and each element of an array, starts with: 0 or `false`.
     pub fn zero(self) -> Cell
         ensures { result ≡ zero_of self }
     {
         match self {
-            Kind::Int => Cell::Int(0),
-            Kind::Boolean => Cell::Bool(false),
+            ValueKind::Int => Cell::Int(0),
+            ValueKind::Boolean => Cell::Bool(false),
         }
     }
 }
 
 impl Cell {
     /// The kind of the value.
-    pub fn kind(self) -> Kind
+    pub fn kind(self) -> ValueKind
         ensures { result ≡ kind_of self }
     {
         match self {
-            Cell::Int(_) => Kind::Int,
-            Cell::Bool(_) => Kind::Boolean,
+            Cell::Int(_) => ValueKind::Int,
+            Cell::Bool(_) => ValueKind::Boolean,
         }
     }
 }

@@ -25,7 +25,7 @@ impl<'t, 'a> Parser<'t, 'a> {
         let token = self.expect(Kind::Minus)?;
         let (_, value) = self.parse_integer()?;
         Ok(Constant::Integer {
-            at: token.span.start,
+            at: token.start,
             negative: true,
             value,
         })
@@ -41,7 +41,7 @@ impl<'t, 'a> Parser<'t, 'a> {
             Kind::Integer(value) => {
                 let token = self.advance()?;
                 Ok(Constant::Integer {
-                    at: token.span.start,
+                    at: token.start,
                     negative: false,
                     value,
                 })
@@ -49,14 +49,14 @@ impl<'t, 'a> Parser<'t, 'a> {
             Kind::True => {
                 let token = self.advance()?;
                 Ok(Constant::Truth {
-                    at: token.span.start,
+                    at: token.start,
                     value: true,
                 })
             }
             Kind::False => {
                 let token = self.advance()?;
                 Ok(Constant::Truth {
-                    at: token.span.start,
+                    at: token.start,
                     value: false,
                 })
             }
@@ -102,7 +102,7 @@ impl<'t, 'a> Parser<'t, 'a> {
         let value = self.parse_global_value()?;
         self.expect(Kind::Semicolon)?;
         Ok(Item::Global(GlobalVariable {
-            at: token.span.start,
+            at: token.start,
             base,
             label,
             name,
@@ -119,7 +119,7 @@ impl<'t, 'a> Parser<'t, 'a> {
         let name = self.parse_name()?;
         self.expect(Kind::Semicolon)?;
         Ok(Item::Exception {
-            at: token.span.start,
+            at: token.start,
             name,
         })
     }
@@ -132,11 +132,11 @@ impl<'t, 'a> Parser<'t, 'a> {
         match self.kind() {
             Kind::Input => {
                 let token = self.advance()?;
-                Ok((token.span.start, Direction::Input))
+                Ok((token.start, Direction::Input))
             }
             Kind::Output => {
                 let token = self.advance()?;
-                Ok((token.span.start, Direction::Output))
+                Ok((token.start, Direction::Output))
             }
             _ => Err(self.refuse_next()),
         }
@@ -177,7 +177,7 @@ impl<'t, 'a> Parser<'t, 'a> {
         match self.kind() {
             Kind::Void => {
                 let token = self.advance()?;
-                Ok((token.span.start, WrittenResult::Nothing))
+                Ok((token.start, WrittenResult::Nothing))
             }
             _ => self.parse_valued_result(),
         }

@@ -1,4 +1,4 @@
-ghost use Rattle.std.specs.Prelude.{◌≡◌, ℕ, map};
+ghost use Rattle.std.specs.Prelude.{◌≡◌, ◌++◌, ◌∷◌, [], ℕ, OnOk, map};
 ghost use Rattle.lexer.specs.Terminal.{terminals_of};
 ghost use Rattle.lexer.specs.declared.token.Kind.TheVariants.{Comma, Else, Assign, OpenParenthesis};
 ghost use Rattle.syntax.specs.Form.{many, ◌·◌, ◌gives◌};
@@ -9,6 +9,7 @@ ghost use Rattle.parser.specs.Reading.{IsRead, read, maps, right_read, right_beh
 use crate::cursor::Parser;
 use crate::fault::ParseFault;
 use lexer::Kind;
+use std::alloc::AllocError;
 use syntax::{Block, Call, Catch, Expression, Name, RightSide, Size, Statement};
 
 /// What stands behind the name of a local.
@@ -27,6 +28,22 @@ pub enum Behind<'a> {
         value: Expression<'a>,
     },
     Arguments(Vec<Expression<'a>>),
+}
+
+/// Puts a statement behind the others of its block. Behind the last one no room is kept for more.
+fn push_statement<'a>(
+    statements: &mut Vec<Statement<'a>>,
+    statement: Statement<'a>,
+    is_last: bool,
+) -> Result<(), AllocError>
+    ensures { OnOk result
+        (statements.new.items ≡ statements.old.items ++ statement.entry ∷ []) }
+{
+    if is_last {
+        statements.reserve_exact(1)?;
+    }
+    statements.push(statement)?;
+    Ok(())
 }
 
 impl<'t, 'a> Parser<'t, 'a> {
@@ -74,7 +91,7 @@ impl<'t, 'a> Parser<'t, 'a> {
         let channel = self.parse_name()?;
         self.expect(Kind::Semicolon)?;
         Ok(Statement::Receive {
-            at: token.span.start,
+            at: token.start,
             channel,
         })
     }
@@ -90,7 +107,7 @@ impl<'t, 'a> Parser<'t, 'a> {
         let value = self.parse_expression(room)?;
         self.expect(Kind::Semicolon)?;
         Ok(Statement::Send {
-            at: token.span.start,
+            at: token.start,
             channel,
             value,
         })
@@ -103,9 +120,7 @@ impl<'t, 'a> Parser<'t, 'a> {
     {
         let token = self.expect(Kind::Break)?;
         self.expect(Kind::Semicolon)?;
-        Ok(Statement::Break {
-            at: token.span.start,
-        })
+        Ok(Statement::Break { at: token.start })
     }
 
     #[tactic(auto, unfolding(syntax::specs::Grammar::throw_statement, crate::specs::Reading::read))]
@@ -117,7 +132,7 @@ impl<'t, 'a> Parser<'t, 'a> {
         let exception = self.parse_name()?;
         self.expect(Kind::Semicolon)?;
         Ok(Statement::Throw {
-            at: token.span.start,
+            at: token.start,
             exception,
         })
     }
@@ -129,9 +144,7 @@ impl<'t, 'a> Parser<'t, 'a> {
     {
         let token = self.expect(Kind::Continue)?;
         self.expect(Kind::Semicolon)?;
-        Ok(Statement::Continue {
-            at: token.span.start,
-        })
+        Ok(Statement::Continue { at: token.start })
     }
 
     fn is_at_expression(&self) -> bool
@@ -170,7 +183,7 @@ impl<'t, 'a> Parser<'t, 'a> {
         let value = self.parse_returned(room)?;
         self.expect(Kind::Semicolon)?;
         Ok(Statement::Return {
-            at: token.span.start,
+            at: token.start,
             value,
         })
     }
@@ -206,7 +219,7 @@ impl<'t, 'a> Parser<'t, 'a> {
         let statements = self.parse_statements(room - 1)?;
         self.expect(Kind::CloseBrace)?;
         Ok(Block {
-            at: token.span.start,
+            at: token.start,
             statements,
         })
     }
@@ -220,7 +233,7 @@ impl<'t, 'a> Parser<'t, 'a> {
         let mut statements = Vec::new(self.alloc);
         while self.is_at_statement() {
             let statement = self.parse_statement(room)?;
-            statements.push(statement)?;
+            push_statement(&mut statements, statement, !self.is_at_statement())?;
         }
         Ok(statements)
     }
@@ -258,7 +271,7 @@ impl<'t, 'a> Parser<'t, 'a> {
         let condition = self.parse_condition(room)?;
         let accepted = self.parse_block(room)?;
         let otherwise = self.parse_otherwise(room)?;
-        Ok(Statement::make_if(token.span.start, condition, accepted, otherwise))
+        Ok(Statement::make_if(token.start, condition, accepted, otherwise))
     }
 
     #[cycle(statement)]
@@ -270,7 +283,7 @@ impl<'t, 'a> Parser<'t, 'a> {
         let token = self.expect(Kind::While)?;
         let condition = self.parse_condition(room)?;
         let body = self.parse_block(room)?;
-        Ok(Statement::make_while(token.span.start, condition, body))
+        Ok(Statement::make_while(token.start, condition, body))
     }
 
     #[cycle(statement)]
@@ -285,7 +298,7 @@ impl<'t, 'a> Parser<'t, 'a> {
         self.expect(Kind::CloseParenthesis)?;
         let body = self.parse_block(room)?;
         Ok(Catch {
-            at: token.span.start,
+            at: token.start,
             exception,
             body,
         })
@@ -316,7 +329,7 @@ impl<'t, 'a> Parser<'t, 'a> {
         let token = self.expect(Kind::Try)?;
         let body = self.parse_block(room)?;
         let catches = self.parse_catches(room)?;
-        Ok(Statement::make_try(token.span.start, body, catches))
+        Ok(Statement::make_try(token.start, body, catches))
     }
 
     #[cycle(statement)]
@@ -359,7 +372,7 @@ impl<'t, 'a> Parser<'t, 'a> {
         match self.kind() {
             Kind::Integer(value) => {
                 let token = self.advance()?;
-                Ok((token.span.start, value))
+                Ok((token.start, value))
             }
             _ => Err(self.refuse_next()),
         }
@@ -432,7 +445,7 @@ impl<'t, 'a> Parser<'t, 'a> {
                 let token = self.advance()?;
                 let channel = self.parse_name()?;
                 Ok(RightSide::Receive {
-                    at: token.span.start,
+                    at: token.start,
                     channel,
                 })
             }

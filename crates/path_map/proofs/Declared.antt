@@ -82,6 +82,3 @@ bounds-grow bound rows row old new f = go (cases_lt f (length rows))
     go : (f < length rows) ⊎ (length rows ≤ f) → HasBound bound (get_or (rows ++ row ∷ []) f no_row)
     go (inl before) = subst (λ r. HasBound bound r) (sym (get_or_append_left rows (row ∷ []) no_row f before)) (old f)
     go (inr from) = behind (eq-or-lt_of_le from)
-
-pub no-bounds : (bound : ℕ) → HaveBound bound []
-no-bounds bound f set is = absurd (cc)

@@ -73,10 +73,6 @@ module _ (program : Program) where
       → FitsSome (λ procedure. statement_fits program procedure (statement_of s)) → FitsSome (λ procedure. block_fits program procedure block)
   nested-fits s at block is some = record { procedure = some.procedure; fits = fits-at s (Nested at block) is some }
 
-  pub thrown-below : (s : S.Statement) (at exception : ℕ) → statement_of s ≡ Leave at (Throw exception)
-      → FitsSome (λ procedure. statement_fits program procedure (statement_of s)) → exception < BUILT_IN + length program.exceptions
-  thrown-below s at exception is some = ltb-true exception (BUILT_IN + length program.exceptions) (fits-at s (Leave at (Throw exception)) is some)
-
   -- one statement of a block, and the body of one handler of several
   statement-at : (procedure : ProcedureEntry) (block : List S.Statement) (i : ℕ) (s : S.Statement) → i < length block → s ≡ get_or block i s
       → block_fits program procedure (block_of block) ≡ true → statement_fits program procedure (statement_of s) ≡ true
@@ -153,9 +149,3 @@ lent-body-fits core procedure body lent fits = record {
 
 pub counted : (core : Core) → exception_count core ≡ BUILT_IN + length core.exceptions.items
 counted core = ap (λ n. BUILT_IN + n) (length-map core.exceptions.items string_bytes)
-
-pub few-exceptions : (core : Core) → length core.exceptions.items ≤ MAX_TEXT
-few-exceptions core =
-    let small : program_nodes (program_of core) ≤ MAX_TEXT =
-    leb-true (program_nodes (program_of core)) MAX_TEXT (program_parts (program_of core) core.well_formed).nodes_fit in
-    omega (arith, small, length-map core.exceptions.items string_bytes)

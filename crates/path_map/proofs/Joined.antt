@@ -3,12 +3,12 @@ use Rattle.std.proofs.Common.{◌≡◌, sym, ap, ◌∙◌, ℕ, ◌<◌, List,
 use Rattle.std.specs.Prelude.{◌==◌}
 use Rattle.std.proofs.lemmas.List.{length-replicate, length-set}
 use Rattle.labels.specs.Row.{has, union}
-use Rattle.path_map.specs.declared.members.Kept.{Kept}
-use Rattle.path_map.specs.declared.members.Kept.TheVariants.{Empty, Single, Many}
+use Rattle.path_map.specs.declared.members.SetForm.{SetForm}
+use Rattle.path_map.specs.declared.members.SetForm.TheVariants.{Empty, Single, Many}
 use Rattle.path_map.specs.Kept.{IsInside}
 use Rattle.path_map.proofs.Rows.{has-none, has-set, has-union, length-union}
 
-kept-row : Kept → List Bool
+kept-row : SetForm → List Bool
 kept-row Empty = []
 kept-row (Single only) = []
 kept-row (Many row) = row

@@ -11,15 +11,15 @@ use Rattle.path_map.specs.declared.exits.Raised.{Raised}
 use Rattle.path_map.specs.declared.exits.Raised.TheVariants.{Nothing, One, Several}
 use Rattle.path_map.specs.Exits.{Exits}
 use Rattle.path_map.specs.declared.members.ExceptionSet.{ExceptionSet}
-use Rattle.path_map.specs.declared.table.Entry.{Entry}
+use Rattle.path_map.specs.declared.table.EndsEntry.{EndsEntry}
 use Rattle.path_map.specs.Exits.{exits_of, raised_by, thrown_in}
 use Rattle.path_map.specs.Entries.{below, listed, row_at, exceptions_at, end_if, entry_ends, IsKept, AreKept, RowsGrow, IsRowFor, IsRowOf, HasExits, IsPut}
 use Rattle.path_map.specs.Joins.{only_raised}
 use Rattle.path_map.specs.PathMaps.{value_at}
 use Rattle.path_map.specs.ThrownEnds.{is_raised}
 use Rattle.path_map.specs.Exceptions.{is_one_of}
-use Rattle.path_map.specs.declared.members.Kept.{Kept}
-use Rattle.path_map.specs.declared.members.Kept.TheVariants.{Empty, Single, Many}
+use Rattle.path_map.specs.declared.members.SetForm.{SetForm}
+use Rattle.path_map.specs.declared.members.SetForm.TheVariants.{Empty, Single, Many}
 use Rattle.path_map.specs.Kept.{IsInside, kept_has}
 use Rattle.path_map.specs.Sets.{members, throws, IsSummaryOf}
 use Rattle.path_map.proofs.Summary.{none-thrown, summary-is, throws-in, throws-thrown}
@@ -50,7 +50,7 @@ listed-at p (suc n) e near = go (e == n) refl (p n) refl (λ less. listed-at p n
         let less : e < n = let differs : e ≢ n = eqb-false e n f in omega arith in
         rw g (rest less)
 
-inside-below : (bound : ℕ) (kept : Kept) → IsInside bound kept → (e : ℕ) → bound ≤ e → kept_has kept e ≡ false
+inside-below : (bound : ℕ) (kept : SetForm) → IsInside bound kept → (e : ℕ) → bound ≤ e → kept_has kept e ≡ false
 inside-below bound Empty inside e far = refl
 inside-below bound (Single only) inside e far = let below : only < bound = inside.0 only refl in ne_eqb e only (λ same. absurd (omega (arith, below, same, far)))
 inside-below bound (Many row) inside e far = let same : length row ≡ bound = inside.1 row refl in get_or_past row e false (omega (arith, same, far))
@@ -70,7 +70,7 @@ if-has : (test : Bool) (x : Exit) (rest : List Exit) (exit : Exit)
 if-has true x rest exit = refl
 if-has false x rest exit = refl
 
-module _ (rows : List ExceptionSet) (entry : Entry) where
+module _ (rows : List ExceptionSet) (entry : EndsEntry) where
   raised : List ℕ
   raised = exceptions_at rows entry.row entry.exits.raised
 
@@ -136,43 +136,29 @@ exceptions-same old new row (One e) same = refl
 exceptions-same old new row Several same = same
 
 module _ (old new : List ExceptionSet) (grown : RowsGrow old new) where
-  ends-same : (entry : Entry) → IsKept old entry → entry_ends new entry ≡ entry_ends old entry
+  ends-same : (entry : EndsEntry) → IsKept old entry → entry_ends new entry ≡ entry_ends old entry
   ends-same entry kept =
       ap (λ es. end_if entry.exits.normal Normal ++ (end_if entry.exits.returns Return ++ (end_if entry.exits.breaks Break
       ++ (end_if entry.exits.continues Continue ++ thrown_ends es))))
       (exceptions-same old new entry.row entry.exits.raised (grown.same entry.row kept.there))
 
-  one-grown : (entry : Entry) → IsKept old entry → IsKept new entry
+  one-grown : (entry : EndsEntry) → IsKept old entry → IsKept new entry
   one-grown entry kept = record {
     there = omega (arith, kept.there, grown.more);
     summary = kept.summary ∙ ap exits_of (sym (ends-same entry kept));
   }
 
-  pub view-grown : (entries : List Entry) → AreKept old entries → map (entry_ends new) entries ≡ map (entry_ends old) entries
+  pub view-grown : (entries : List EndsEntry) → AreKept old entries → map (entry_ends new) entries ≡ map (entry_ends old) entries
   view-grown [] kept = refl
   view-grown (entry ∷ entries) kept = rw (ends-same entry kept.0, view-grown entries kept.1) refl
 
-  pub kept-grown : (entries : List Entry) → AreKept old entries → AreKept new entries
+  pub kept-grown : (entries : List EndsEntry) → AreKept old entries → AreKept new entries
   kept-grown [] kept = tt
   kept-grown (entry ∷ entries) kept = (one-grown entry kept.0, kept-grown entries kept.1)
-
-pub rows-same : (rows : List ExceptionSet) → RowsGrow rows rows
-rows-same rows = record { more = omega arith; same = λ row there. refl }
-
-row-append : (rows : List ExceptionSet) (set : ExceptionSet) (row : ℕ) → row < length rows → row_at (rows ++ set ∷ []) row ≡ row_at rows row
-row-append [] set row there = absurd (omega arith)
-row-append (x ∷ rows) set zero there = refl
-row-append (x ∷ rows) set (suc row) there = row-append rows set row (omega arith)
 
 row-last : (rows : List ExceptionSet) (set : ExceptionSet) → row_at (rows ++ set ∷ []) (length rows) ≡ listed set
 row-last [] set = refl
 row-last (x ∷ rows) set = row-last rows set
-
-pub pushed-grow : (rows : List ExceptionSet) (set : ExceptionSet) → RowsGrow rows (rows ++ set ∷ [])
-pushed-grow rows set = record {
-  more = omega (arith, length-append rows (set ∷ []));
-  same = λ row there. row-append rows set row there;
-}
 
 pub pushed-row : (rows : List ExceptionSet) (set : ExceptionSet) → IsRowOf (members set) (rows ++ set ∷ []) (length rows)
 pushed-row rows set = record {
@@ -192,7 +178,7 @@ raised-among rows row set Nothing x is = refl
 raised-among rows row set (One only) x is = sym (or-false (x == only))
 raised-among rows row set Several x is = sym (listed-has set x) ∙ ap (λ list. is_one_of list x) (sym is)
 
-pub entry-value : (rows : List ExceptionSet) (entry : Entry) (set : ExceptionSet) → row_at rows entry.row ≡ listed set
+pub entry-value : (rows : List ExceptionSet) (entry : EndsEntry) (set : ExceptionSet) → row_at rows entry.row ≡ listed set
     → (exit : Exit) → value_at (λ (raised : Raised). is_raised entry.exits.raised set) entry.exits exit ≡ has_end (entry_ends rows entry) exit
 entry-value rows entry set is Normal = sym (entry-normal rows entry)
 entry-value rows entry set is Return = sym (entry-returns rows entry)
@@ -201,51 +187,51 @@ entry-value rows entry set is Continue = sym (entry-continues rows entry)
 entry-value rows entry set is (Throw x) = raised-among rows entry.row set entry.exits.raised x is ∙ sym (entry-raised rows entry x)
 
 -- more entries
-pub kept-append : (rows : List ExceptionSet) (entries : List Entry) (entry : Entry) → AreKept rows entries → IsKept rows entry → AreKept rows (entries ++ entry ∷ [])
+pub kept-append : (rows : List ExceptionSet) (entries : List EndsEntry) (entry : EndsEntry) → AreKept rows entries → IsKept rows entry → AreKept rows (entries ++ entry ∷ [])
 kept-append rows [] entry kept one = (one, tt)
 kept-append rows (x ∷ entries) entry kept one = (kept.0, kept-append rows entries entry kept.1 one)
 
-kept-set : (rows : List ExceptionSet) (entries : List Entry) (at : ℕ) (entry : Entry) → AreKept rows entries → IsKept rows entry → AreKept rows (set entries at entry)
+kept-set : (rows : List ExceptionSet) (entries : List EndsEntry) (at : ℕ) (entry : EndsEntry) → AreKept rows entries → IsKept rows entry → AreKept rows (set entries at entry)
 kept-set rows [] at entry kept one = tt
 kept-set rows (x ∷ entries) zero entry kept one = (one, kept.1)
 kept-set rows (x ∷ entries) (suc at) entry kept one = (kept.0, kept-set rows entries at entry kept.1 one)
 
-view-set : (rows : List ExceptionSet) (entries : List Entry) (at : ℕ) (entry : Entry)
+view-set : (rows : List ExceptionSet) (entries : List EndsEntry) (at : ℕ) (entry : EndsEntry)
     → map (entry_ends rows) (set entries at entry) ≡ set (map (entry_ends rows) entries) at (entry_ends rows entry)
 view-set rows [] at entry = refl
 view-set rows (x ∷ entries) zero entry = refl
 view-set rows (x ∷ entries) (suc at) entry = ap (λ xs. entry_ends rows x ∷ xs) (view-set rows entries at entry)
 
-pub exits-at : (rows : List ExceptionSet) (entries : List Entry) (number : ℕ) (none : Entry) → AreKept rows entries → number < length entries
+pub exits-at : (rows : List ExceptionSet) (entries : List EndsEntry) (number : ℕ) (none : EndsEntry) → AreKept rows entries → number < length entries
     → (get_or entries number none).exits ≡ exits_of (slice_index_or (map (entry_ends rows) entries) number [])
 exits-at rows [] number none kept there = absurd (omega arith)
 exits-at rows (x ∷ entries) zero none kept there = kept.0.summary
 exits-at rows (x ∷ entries) (suc number) none kept there = exits-at rows entries number none kept.1 (omega arith)
 
 -- an entry that is read
-kept-at : (rows : List ExceptionSet) (entries : List Entry) (number : ℕ) (none : Entry) → AreKept rows entries → number < length entries
+kept-at : (rows : List ExceptionSet) (entries : List EndsEntry) (number : ℕ) (none : EndsEntry) → AreKept rows entries → number < length entries
     → (get_or entries number none).row < length rows
 kept-at rows [] number none kept there = absurd (omega arith)
 kept-at rows (x ∷ entries) zero none kept there = kept.0.there
 kept-at rows (x ∷ entries) (suc number) none kept there = kept-at rows entries number none kept.1 (omega arith)
 
-ends-at : (rows : List ExceptionSet) (entries : List Entry) (number : ℕ) (none : Entry) → number < length entries
+ends-at : (rows : List ExceptionSet) (entries : List EndsEntry) (number : ℕ) (none : EndsEntry) → number < length entries
     → entry_ends rows (get_or entries number none) ≡ slice_index_or (map (entry_ends rows) entries) number []
 ends-at rows [] number none there = absurd (omega arith)
 ends-at rows (x ∷ entries) zero none there = refl
 ends-at rows (x ∷ entries) (suc number) none there = ends-at rows entries number none (omega arith)
 
-module _ (rows : List ExceptionSet) (entries : List Entry) (found : List (List Exit)) (number : ℕ) (entry none : Entry)
+module _ (rows : List ExceptionSet) (entries : List EndsEntry) (found : List (List Exit)) (number : ℕ) (entry none : EndsEntry)
     (is : entry ≡ get_or entries number none) (view : map (entry_ends rows) entries ≡ found) (there : number < length found) where
   inside : number < length entries
   inside = omega (arith, there, ap length view, length-map entries (entry_ends rows))
 
   pub row-inside : AreKept rows entries → entry.row < length rows
-  row-inside kept = subst (λ (e : Entry). e.row < length rows) (sym is) (kept-at rows entries number none kept inside)
+  row-inside kept = subst (λ (e : EndsEntry). e.row < length rows) (sym is) (kept-at rows entries number none kept inside)
 
   pub end-found : (exit : Exit) → has_end (entry_ends rows entry) exit ≡ has_end (slice_index_or found number []) exit
   end-found exit =
-      ap (λ (e : Entry). has_end (entry_ends rows e) exit) is
+      ap (λ (e : EndsEntry). has_end (entry_ends rows e) exit) is
       ∙ (ap (λ ends. has_end ends exit) (ends-at rows entries number none inside)
       ∙ ap (λ v. has_end (slice_index_or v number []) exit) view)
 
@@ -260,7 +246,7 @@ one-exception set x e only = go (e == x) refl (set e) refl
 
 module _ (rows : List ExceptionSet) (exits : Exits) (set : ℕ → Bool) (row : ℕ) (raised : Raised) (there : row < length rows) (sum : IsSummaryOf set raised)
     (of : raised ≡ Several → (e : ℕ) → is_one_of (row_at rows row) e ≡ set e) where
-  written : Entry
+  written : EndsEntry
   written = record { exits = record exits { raised = raised }; row = row }
 
   written-members : (r : Raised) → raised ≡ r → (e : ℕ) → is_one_of (exceptions_at rows row r) e ≡ set e
@@ -290,12 +276,12 @@ module _ (rows : List ExceptionSet) (exits : Exits) (set : ℕ → Bool) (row : 
             rw (written-has.normal, written-has.returns, written-has.breaks, written-has.continues, sym is) refl;
       }
 
-module _ (old new : List ExceptionSet) (entries : List Entry) (at : ℕ) (exits given : Exits) (raises : ℕ → Bool) (row : ℕ) (raised : Raised)
+module _ (old new : List ExceptionSet) (entries : List EndsEntry) (at : ℕ) (exits given : Exits) (raises : ℕ → Bool) (row : ℕ) (raised : Raised)
     (grown : RowsGrow old new) (kept : AreKept old entries) (of : IsRowFor raises raised new row) (sum : IsSummaryOf raises raised)
     (is : given ≡ record exits { raised = raised }) where
   pub put-is : IsPut at exits raises (map (entry_ends old) entries) (map (entry_ends new) (set entries at (record { exits = given; row = row })))
   put-is =
-      let entry : Entry = record { exits = record exits { raised = raised }; row = row } in
+      let entry : EndsEntry = record { exits = record exits { raised = raised }; row = row } in
       subst (λ (x : Exits). IsPut at exits raises (map (entry_ends old) entries) (map (entry_ends new) (set entries at (record { exits = x; row = row })))) (sym is)
       (record {
         ends = entry_ends new entry;
@@ -314,10 +300,6 @@ module _ (old new : List ExceptionSet) (entries : List Entry) (at : ℕ) (exits 
 -- an entry for which room is made
 pub room-kept : (rows : List ExceptionSet) (given : Exits) → given ≡ only_raised Nothing → 0 < length rows → IsKept rows (record { exits = given; row = 0 })
 room-kept rows given is some = rw is (record { there = some; summary = refl })
-
--- a row that is there already, and one that is new
-pub row-for : (rows : List ExceptionSet) (set : ℕ → Bool) (summary : Raised) (row : ℕ) → IsRowOf set rows row → IsRowFor set summary rows row
-row-for rows set summary row of = record { there = of.there; same = λ several. of.same }
 
 pub no-row : (rows : List ExceptionSet) (set : ℕ → Bool) (summary : Raised) → 0 < length rows → (summary ≡ Several → ⊥) → IsRowFor set summary rows 0
 no-row rows set summary some none = record { there = some; same = λ several. absurd (none several) }

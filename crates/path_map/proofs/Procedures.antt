@@ -85,9 +85,6 @@ some-value labels result normal = ap (λ some. some && normal) (some-result labe
 
 -- the faults of a procedure
 module _ (program : Program) (procedure : ProcedureEntry) where
-  ends_here : List Exit
-  ends_here = block_ends program procedure.body
-
   pub body-first : (fault : OrNoMemory EndRefusal) → IfRefused (IsFirstEndFault (block_faults program false true procedure.body)) fault → IfRefused (IsFirstEndFault (procedure_faults program procedure)) fault
   body-first fault first =
       first-left (block_faults program false true procedure.body

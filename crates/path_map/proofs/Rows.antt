@@ -27,16 +27,6 @@ has-set row i e inside = go (nat_eq e i) refl
     go false differs =
         get_or-set_other row i e true false (eqb-false e i differs) ∙ sym (ap (λ b. has row e || b) differs ∙ or-false (has row e))
 
-pub has-cleared : (row : List Bool) (i e : ℕ) → i < length row → has (set row i false) e ≡ (has row e && not (e == i))
-has-cleared row i e inside = go (nat_eq e i) refl
-  where
-    go : (t : Bool) → nat_eq e i ≡ t → has (set row i false) e ≡ (has row e && not (e == i))
-    go true same =
-        ap (λ j. get_or (set row i false) j false) (eqb-true e i same) ∙ get_or-set_same row i false false inside
-        ∙ sym (ap (λ b. has row e && not b) same ∙ and-false (has row e))
-    go false differs =
-        get_or-set_other row i e false false (eqb-false e i differs) ∙ sym (ap (λ b. has row e && not b) differs ∙ and-true (has row e))
-
 pub has-union : (row other : List Bool) → length row ≡ length other → (e : ℕ) → has (union row other) e ≡ (has row e || has other e)
 has-union [] [] same e = refl
 has-union [] (y ∷ ys) same e = absurd (omega (arith, same))
@@ -49,9 +39,6 @@ length-union [] [] same = refl
 length-union [] (y ∷ ys) same = absurd (omega (arith, same))
 length-union (x ∷ xs) [] same = absurd (omega (arith, same))
 length-union (x ∷ xs) (y ∷ ys) same = ap suc (length-union xs ys (omega (arith, same)))
-
-pub has-past : (row : List Bool) (e : ℕ) → length row ≤ e → has row e ≡ false
-has-past row e far = get_or_past row e false far
 
 -- rows that include each other
 pub includes-both : (row other : List Bool) → Includes row other → Includes other row → (e : ℕ) → has row e ≡ has other e
@@ -68,43 +55,6 @@ pub not-more : (a b c : Bool) → ((a && not b) && not c) ≡ (a && not (b || c)
 not-more false b c = refl
 not-more true true c = refl
 not-more true false c = refl
-
--- the summary of a row, by its first and its second number
-has-nothing : (n : ℕ) → IsTrue (has [] n) → ⊥
-has-nothing n there = let no : false ≡ true = there in cc
-
-module _ (row : List Bool) where
-  below-first : (first e : ℕ) → IsFirstBeyond row [] 0 first → has row e ≡ true → e < first → ⊥
-  below-first first e is there near = has-nothing e (is.before e (omega arith) near there)
-
-  inside-row : (e : ℕ) → has row e ≡ true → e < length row
-  inside-row e there = ⊎_elim (λ (near : e < length row). near)
-      (λ (far : length row ≤ e). absurd (let no : false ≡ true = sym (has-past row e far) ∙ there in cc)) (cases_lt e (length row))
-
-  pub row-nothing : FirstBeyond row [] 0 None → (e : ℕ) → has row e ≡ false
-  row-nothing none e = go (has row e) refl
-    where
-      go : (b : Bool) → has row e ≡ b → has row e ≡ false
-      go false f = f
-      go true f = absurd (has-nothing e (none e (omega arith) (inside-row e f) f))
-
-  pub row-only : (first : ℕ) → IsFirstBeyond row [] 0 first → FirstBeyond row [] (first + 1) None → HasOnly (has row) first
-  row-only first is none = record {
-    has = is.there;
-    only = λ e there. ⊎_elim (λ (same : e ≡ first). same)
-        (λ (differs : e ≢ first). absurd (⊎_elim (λ (near : e < first). below-first first e is there near)
-        (λ (far : first ≤ e). has-nothing e (none e (omega (arith, far, differs)) (inside-row e there) there)) (cases_lt e first)))
-        (cases_eq e first);
-  }
-
-  pub row-several : (first second : ℕ) → IsFirstBeyond row [] 0 first → IsFirstBeyond row [] (first + 1) second → HasTwo (has row)
-  row-several first second is next = record {
-    first = first;
-    second = second;
-    has_first = is.there;
-    has_second = next.there;
-    differ = λ same. absurd (omega (arith, same, next.from_on));
-  }
 
 -- literals
 pub small-literal : (n : ℕ) → n < 2147483648 → int_wrap w32 (pos n) ≡ pos n

@@ -206,10 +206,6 @@ first-continue false false false Nothing = refl
 first-continue false false false (One e) = refl
 first-continue false false false Several = refl
 
--- the same of an exception
-and-out : (a b c d e : Bool) → (a ≡ true) → false ≡ (not a && (not b && (not c && (not d && e))))
-and-out a b c d e is = rw is refl
-
 all-throw : (x : ℕ) (ends : List Exit) → list_all (same_exit (Throw x)) ends
     ≡ (not (has_end ends Normal) && (not (has_end ends Return) && (not (has_end ends Break) && (not (has_end ends Continue) && list_all (λ other. x == other) (thrown_in ends)))))
 all-throw x [] = refl

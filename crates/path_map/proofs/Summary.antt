@@ -17,10 +17,6 @@ use Rattle.path_map.specs.Joins.{join_raised, join, after, only_raised, of_loop}
 use Rattle.path_map.specs.Exceptions.{is_one_of}
 use Rattle.path_map.specs.Sets.{IsSummaryOf, throws}
 
-pub or-same : (a : Bool) → (a || a) ≡ a
-or-same true = refl
-or-same false = refl
-
 pub same-number : (n : ℕ) → (n == n) ≡ true
 same-number n = eq-eqb n n refl
 

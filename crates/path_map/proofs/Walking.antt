@@ -229,10 +229,6 @@ module _ (program : Program) (in_loop : Bool) (block : Block) (old : List (List 
     raised = record { has = λ e. sym (ap (λ b. has e || b) (and-false so_far.normal) ∙ or-false (has e)) ∙ along.raised e };
   }
 
-  pub along-clean : (now : List (List Exit)) (has : ℕ → Bool) (so_far : Exits) → Along program in_loop block Empty old now had has so_far
-      → block_faults program in_loop true block ≡ []
-  along-clean now has so_far along = sym along.faults
-
 -- along handlers: what the walk has taken out of the inner set, and the faults that are to come
 pub record Remaining (program : Program) (in_loop : Bool) (faults : List EndRefusal) (row : ℕ → Bool) (tail : Handlers) : Type 0 where
   pub ends : List Exit
@@ -342,14 +338,6 @@ module _ (program : Program) (in_loop : Bool) (handlers : Handlers) (old : List 
     entries = alike-end now (old ++ handlers_paths program handlers) along.entries;
     raised = record { has = λ e. sym (or-false (has e)) ∙ along.raised e };
   }
-
-  pub handling-left : (now : List (List Exit)) (has row : ℕ → Bool) (so_far : Exits) → Handling program in_loop handlers NoMore old now had has was row so_far
-      → AreLeft was row handlers
-  handling-left now has row so_far along = record { has = λ e. sym (and-true (row e)) ∙ along.left e }
-
-  pub handling-clean : (now : List (List Exit)) (has row : ℕ → Bool) (so_far : Exits) → Handling program in_loop handlers NoMore old now had has was row so_far
-      → (ends : List Exit) → AreThrown was ends → handlers_faults program in_loop ends handlers ≡ []
-  handling-clean now has row so_far along ends are = sym (along.remaining ends are).same
 
 -- a statement that only raises, goes on or returns
 module _ (listed exceptions : List ℕ) (same : (e : ℕ) → is_one_of listed e ≡ is_one_of exceptions e) (raised : Raised) (is : raised ≡ raised_by listed)

@@ -9,7 +9,7 @@ use Rattle.path_map.specs.declared.exits.Raised.{Raised}
 use Rattle.path_map.specs.declared.exits.Raised.TheVariants.{Nothing, One, Several}
 use Rattle.path_map.specs.Exits.{Exits}
 use Rattle.path_map.specs.declared.members.ExceptionSet.{ExceptionSet}
-use Rattle.path_map.specs.declared.table.Entry.{Entry}
+use Rattle.path_map.specs.declared.table.EndsEntry.{EndsEntry}
 use Rattle.path_map.specs.Exits.{exits_of}
 use Rattle.path_map.specs.Exceptions.{is_one_of}
 use Rattle.path_map.specs.Sets.{members, throws}
@@ -37,18 +37,18 @@ exceptions_at rows row Several = row_at rows row
 abbrev pub end_if : Bool → Exit → List Exit
 end_if test exit = if test then exit ∷ [] else []
 
-abbrev pub entry_ends : List ExceptionSet → Entry → List Exit
+abbrev pub entry_ends : List ExceptionSet → EndsEntry → List Exit
 entry_ends rows entry =
     end_if entry.exits.normal Normal ++ (end_if entry.exits.returns Return
     ++ (end_if entry.exits.breaks Break ++ (end_if entry.exits.continues Continue
     ++ thrown_ends (exceptions_at rows entry.row entry.exits.raised))))
 
 -- an entry whose row is there, and whose summary is that of its ends
-pub record IsKept (rows : List ExceptionSet) (entry : Entry) : Type 0 where
+pub record IsKept (rows : List ExceptionSet) (entry : EndsEntry) : Type 0 where
   pub there : entry.row < length rows
   pub summary : entry.exits ≡ exits_of (entry_ends rows entry)
 
-abbrev pub AreKept : List ExceptionSet → List Entry → Type 0
+abbrev pub AreKept : List ExceptionSet → List EndsEntry → Type 0
 AreKept rows [] = ⊤
 AreKept rows (entry ∷ rest) = IsKept rows entry × AreKept rows rest
 

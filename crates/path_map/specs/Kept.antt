@@ -2,16 +2,16 @@
 -- Source: our own.
 use Rattle.std.specs.Prelude.{◌≡◌, ℕ, ◌<◌, List, length, Bool, false, ◌==◌}
 use Rattle.labels.specs.Row.{has}
-use Rattle.path_map.specs.declared.members.Kept.{Kept}
-use Rattle.path_map.specs.declared.members.Kept.TheVariants.{Empty, Single, Many}
+use Rattle.path_map.specs.declared.members.SetForm.{SetForm}
+use Rattle.path_map.specs.declared.members.SetForm.TheVariants.{Empty, Single, Many}
 
 -- whether an exception is in it
-abbrev pub kept_has : Kept → ℕ → Bool
+abbrev pub kept_has : SetForm → ℕ → Bool
 kept_has Empty exception = false
 kept_has (Single only) exception = exception == only
 kept_has (Many row) exception = has row exception
 
 -- its exceptions are below the bound, which is that of a row
-abbrev pub IsInside : (bound : ℕ) → Kept → Type 0
+abbrev pub IsInside : (bound : ℕ) → SetForm → Type 0
 IsInside bound kept =
     ((only : ℕ) → kept ≡ Single only → only < bound) × ((row : List Bool) → kept ≡ Many row → length row ≡ bound)

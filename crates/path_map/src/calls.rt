@@ -19,7 +19,7 @@ use std::alloc::{AllocError, Global};
 // The program along which a walk goes. A procedure that declares more exceptions than a row has words has a row of its own, so that
 // a call of it takes no more steps than there are words.
 #[derive(Drop)]
-pub(crate) struct Walk<'a> {
+pub(crate) struct EndsWalk<'a> {
     pub(crate) alloc: Global,
     pub(crate) core: &'a Core,
     // How many exceptions there are.
@@ -30,8 +30,8 @@ pub(crate) struct Walk<'a> {
     ghost bounded: { HaveBound bound rows.items },
 }
 
-impl<'a> Walk<'a> {
-    pub(crate) fn along(alloc: Global, core: &'a Core) -> Result<Walk<'a>, AllocError>
+impl<'a> EndsWalk<'a> {
+    pub(crate) fn along(alloc: Global, core: &'a Core) -> Result<EndsWalk<'a>, AllocError>
         ensures { IfOk result (λ walk. walk.core.now ≡ core.now) }
     {
         let bound = core.exceptions.len() as u32 + BUILT_IN;
@@ -39,7 +39,7 @@ impl<'a> Walk<'a> {
         for procedure in &core.procedures {
             rows.push(row_of(alloc, &procedure.throws, bound)?)?;
         }
-        Ok(Walk {
+        Ok(EndsWalk {
             alloc,
             core,
             bound,

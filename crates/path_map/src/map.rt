@@ -11,7 +11,7 @@ ghost use Rattle.resolved.specs.ProgramOf.{procedure_entry};
 ghost use Rattle.resolved.specs.WellFormed.{procedure_fits};
 ghost use Rattle.std.specs.Prelude.{IfErr, IfOk, IsTrue, OnOk, [], is_some, not, ◌&&◌, ◌++◌, ◌||◌, ◌≡◌};
 
-use crate::calls::Walk;
+use crate::calls::EndsWalk;
 use crate::exits::{Exits, Raised};
 use crate::fault::EndFault;
 use crate::members::ExceptionSet;
@@ -34,7 +34,7 @@ pub fn ends(alloc: Global, core: &Core) -> Result<Ends, EndFault>
     ensures first_fault { IfErr result (IfRefused
         (IsFirstEndFault (end_faults (program_of core.now)))) }
 {
-    let walk = Walk::along(alloc, core)?;
+    let walk = EndsWalk::along(alloc, core)?;
     let mut table = Ends::new(alloc, core.procedures.len())?;
     for procedure in &core.procedures {
         walk_procedure(&walk, procedure, &mut table)?;
@@ -43,7 +43,7 @@ pub fn ends(alloc: Global, core: &Core) -> Result<Ends, EndFault>
 }
 
 // Finds the ends of a procedure's body and of what is in it.
-fn walk_procedure(walk: &Walk, procedure: &Procedure, table: &mut Ends) -> Result<(), EndFault>
+fn walk_procedure(walk: &EndsWalk, procedure: &Procedure, table: &mut Ends) -> Result<(), EndFault>
     requires { let core = walk.now.core.now in
         IsTrue (procedure_fits (program_of core) (procedure_entry core.labels procedure.now)) }
     ensures found { let core = walk.now.core.now in

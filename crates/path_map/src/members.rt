@@ -7,7 +7,7 @@ use std::alloc::Global;
 
 // How a set is kept: a row takes memory, so there is one only where several exceptions came together.
 #[derive(Drop)]
-pub(crate) enum Kept {
+pub(crate) enum SetForm {
     Empty,
     Single(u32),
     Many(Row),
@@ -18,7 +18,7 @@ pub(crate) enum Kept {
 pub(crate) struct ExceptionSet {
     pub(crate) alloc: Global,
     pub(crate) bound: u32,
-    pub(crate) kept: Kept,
+    pub(crate) kept: SetForm,
     ghost inside: { IsInside bound kept },
     ghost short: { bound < 4294967296 },
 }

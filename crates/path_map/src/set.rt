@@ -2,11 +2,11 @@
 ghost use Rattle.labels.specs.Row.{has};
 ghost use Rattle.path_map.specs.Kept.{kept_has};
 ghost use Rattle.path_map.specs.Sets.{IsSummaryOf, IsSum, members};
-ghost use Rattle.path_map.specs.declared.members.Kept.TheVariants.{Single};
+ghost use Rattle.path_map.specs.declared.members.SetForm.TheVariants.{Single};
 ghost use Rattle.std.specs.Prelude.{IfOk, IsTrue, OnOk, false, length, not, ℕ, ◌&&◌, ◌^◌, ◌<◌, ◌==◌, ◌≡◌};
 
 use crate::exits::Raised;
-use crate::members::{ExceptionSet, Kept};
+use crate::members::{ExceptionSet, SetForm};
 use labels::Row;
 use std::alloc::{AllocError, Global};
 
@@ -18,7 +18,7 @@ impl ExceptionSet {
         ExceptionSet {
             alloc,
             bound,
-            kept: Kept::Empty,
+            kept: SetForm::Empty,
         }
     }
 
@@ -29,14 +29,14 @@ impl ExceptionSet {
             (members self.new)) }
     {
         match &mut self.kept {
-            Kept::Empty => self.kept = Kept::Single(exception),
-            Kept::Single(only) => {
+            SetForm::Empty => self.kept = SetForm::Single(exception),
+            SetForm::Single(only) => {
                 if *only != exception {
                     let row = row_of_two(self.alloc, self.bound, *only, exception)?;
-                    self.kept = Kept::Many(row);
+                    self.kept = SetForm::Many(row);
                 }
             }
-            Kept::Many(row) => row.set(exception as usize),
+            SetForm::Many(row) => row.set(exception as usize),
         }
         Ok(())
     }
@@ -45,9 +45,9 @@ impl ExceptionSet {
         ensures { result ≡ members self.now exception }
     {
         match &self.kept {
-            Kept::Empty => false,
-            Kept::Single(only) => exception == *only,
-            Kept::Many(row) => exception < self.bound && row.has(exception as usize),
+            SetForm::Empty => false,
+            SetForm::Single(only) => exception == *only,
+            SetForm::Many(row) => exception < self.bound && row.has(exception as usize),
         }
     }
 
@@ -62,9 +62,9 @@ impl ExceptionSet {
             return false;
         }
         match &mut self.kept {
-            Kept::Empty => {}
-            Kept::Single(_) => self.kept = Kept::Empty,
-            Kept::Many(row) => row.remove(exception as usize),
+            SetForm::Empty => {}
+            SetForm::Single(_) => self.kept = SetForm::Empty,
+            SetForm::Many(row) => row.remove(exception as usize),
         }
         true
     }
@@ -76,9 +76,9 @@ impl ExceptionSet {
             (members self.new)) }
     {
         match &other.kept {
-            Kept::Empty => Ok(()),
-            Kept::Single(exception) => self.insert(*exception),
-            Kept::Many(row) => self.unite_row(row),
+            SetForm::Empty => Ok(()),
+            SetForm::Single(exception) => self.insert(*exception),
+            SetForm::Many(row) => self.unite_row(row),
         }
     }
 
@@ -88,18 +88,18 @@ impl ExceptionSet {
         ensures united { OnOk result (IsSum (members self.old) (has row.now) (members self.new)) }
     {
         match &mut self.kept {
-            Kept::Empty => {
+            SetForm::Empty => {
                 let mut joined = Row::new(self.alloc, self.bound as usize)?;
                 let _grew = joined.join_from(row);
-                self.kept = Kept::Many(joined);
+                self.kept = SetForm::Many(joined);
             }
-            Kept::Single(only) => {
+            SetForm::Single(only) => {
                 let mut joined = Row::new(self.alloc, self.bound as usize)?;
                 joined.set(*only as usize);
                 let _grew = joined.join_from(row);
-                self.kept = Kept::Many(joined);
+                self.kept = SetForm::Many(joined);
             }
-            Kept::Many(own) => {
+            SetForm::Many(own) => {
                 let _grew = own.join_from(row);
             }
         }
@@ -112,7 +112,7 @@ impl ExceptionSet {
             members self.now exception ≡ members other.now exception }
     {
         match (&self.kept, &other.kept) {
-            (Kept::Many(row), Kept::Many(others)) => {
+            (SetForm::Many(row), SetForm::Many(others)) => {
                 self.bound == other.bound && row.covers(others) && others.covers(row)
             }
             _ => false,
@@ -124,9 +124,9 @@ impl ExceptionSet {
         ensures { IsSummaryOf (members self.now) result }
     {
         match &self.kept {
-            Kept::Empty => Raised::Nothing,
-            Kept::Single(only) => Raised::One(*only),
-            Kept::Many(row) => summary_of_row(row),
+            SetForm::Empty => Raised::Nothing,
+            SetForm::Single(only) => Raised::One(*only),
+            SetForm::Many(row) => summary_of_row(row),
         }
     }
 }

@@ -17,7 +17,7 @@ use std::marker::Model;
 
 // What is kept of a statement or block: a summary of its ends, and the number of the row of its exceptions, where they are several.
 #[derive(Clone, Copy)]
-struct Entry {
+struct EndsEntry {
     exits: Exits,
     row: usize,
 }
@@ -48,7 +48,7 @@ impl<'a> ExceptionMap<bool> for Exceptions<'a> {
 /// Statements and blocks with the same exceptions share a row of them where they are one in the other, or calls of one procedure.
 #[derive(Drop)]
 pub struct Ends {
-    entries: Vec<Entry>,
+    entries: Vec<EndsEntry>,
     // The first row is empty, and stands for those that are not several.
     rows: Vec<ExceptionSet>,
     // The last rows of calls, four for each procedure.
@@ -93,7 +93,7 @@ impl Ends {
         ensures room { OnOk result (self.new ≡ self.old ++ [] ∷ []) }
     {
         let at = self.entries.len();
-        self.entries.push(Entry {
+        self.entries.push(EndsEntry {
             exits: Exits::raise_only(Raised::Nothing),
             row: 0,
         })?;
@@ -115,7 +115,7 @@ impl Ends {
         let like = likely(self.calls.as_slice(), call, self.rows.len());
         let row = row_of(&mut self.rows, raised, summary, like)?;
         remember(&mut self.calls, call, row);
-        self.entries[at] = Entry {
+        self.entries[at] = EndsEntry {
             exits: exits.with(summary),
             row,
         };
@@ -157,7 +157,7 @@ impl Ends {
 }
 
 // The ends of an entry.
-fn path_map_of<'a>(rows: &'a [ExceptionSet], entry: Entry) -> PathMap<bool, Exceptions<'a>>
+fn path_map_of<'a>(rows: &'a [ExceptionSet], entry: EndsEntry) -> PathMap<bool, Exceptions<'a>>
     requires { entry.row < length rows.now }
     ensures { (exit : Exit) → value_at has_exception result exit
         ≡ has_end (entry_ends rows.now entry) exit }

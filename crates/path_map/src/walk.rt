@@ -15,7 +15,7 @@ ghost use Rattle.resolved.specs.declared.statement.Exit.{Exit};
 ghost use Rattle.resolved.specs.declared.statement.Exit.TheVariants.{Normal, Return, Throw};
 ghost use Rattle.std.specs.Prelude.{IfErr, IfOk, List, OnOk, [], length, ℕ, ◌++◌, ◌<◌, ◌∷◌, ◌≡◌, ◌≤◌};
 
-use crate::calls::Walk;
+use crate::calls::EndsWalk;
 use crate::exits::{Exits, Raised};
 use crate::fault::EndFault;
 use crate::members::ExceptionSet;
@@ -32,7 +32,7 @@ use std::alloc::AllocError;
 // the set.
 #[cycle(walk)]
 pub(crate) fn walk_block(
-    walk: &Walk,
+    walk: &EndsWalk,
     in_loop: bool,
     block: &[Statement],
     table: &mut Ends,
@@ -58,7 +58,7 @@ pub(crate) fn walk_block(
 // Finds the ends of a block, and of the statements in it.
 #[cycle(walk)]
 fn walk_statements(
-    walk: &Walk,
+    walk: &EndsWalk,
     in_loop: bool,
     block: &[Statement],
     table: &mut Ends,
@@ -90,7 +90,7 @@ fn walk_statements(
 // Finds the ends of a statement and of what is in it. The statement's own entry is the first of the new ones.
 #[cycle(walk)]
 fn walk_statement(
-    walk: &Walk,
+    walk: &EndsWalk,
     in_loop: bool,
     statement: &Statement,
     table: &mut Ends,
@@ -116,7 +116,7 @@ fn walk_statement(
 // Finds the ends of a statement, and of the blocks in it.
 #[cycle(walk)]
 fn walk_form(
-    walk: &Walk,
+    walk: &EndsWalk,
     in_loop: bool,
     statement: &Statement,
     table: &mut Ends,
@@ -173,7 +173,7 @@ fn walk_form(
 // Finds the ends of handlers, of a block that can raise the exceptions of the inner set, and takes out what they handle.
 #[cycle(walk)]
 fn walk_handlers(
-    walk: &Walk,
+    walk: &EndsWalk,
     in_loop: bool,
     handlers: &[Handler],
     inner: &mut ExceptionSet,
@@ -259,7 +259,7 @@ fn receive(raised: &mut ExceptionSet) -> Result<Exits, AllocError>
 
 // The ends of a call, with arguments that can raise these exceptions.
 fn call(
-    walk: &Walk,
+    walk: &EndsWalk,
     callee: u32,
     arguments: Raises,
     raised: &mut ExceptionSet,

@@ -8,9 +8,9 @@ use Rattle.std.proofs.lemmas.Slice.Eq.{bytes_eq-Decides}
 use Rattle.lexer.specs.Terminal.{Terminal, IsTerminated}
 use Rattle.lexer.specs.declared.token.Kind.{Kind}
 use Rattle.lexer.specs.declared.token.Kind.TheVariants as kind
-use Rattle.principals.specs.HierarchyText.{Entry, Declares, Relates, IsWord, IsPrincipalName, Nonterminal, Items, Names, Derives, Finish, Declaration, Relation, OneMore, Last, IsPrefixOfForm}
-use Rattle.principals.specs.declared.reading.Role.{Role}
-use Rattle.principals.specs.declared.reading.Role.TheVariants.{Principal, ActsFor, Name, Comma, Semicolon, End}
+use Rattle.principals.specs.HierarchyText.{Entry, Declares, Relates, IsWord, IsPrincipalName, Nonterminal, Items, Names, Derives, Finish, Declaration, PrincipalRelation, OneMore, Last, IsPrefixOfForm}
+use Rattle.principals.specs.declared.reading.TokenRole.{TokenRole}
+use Rattle.principals.specs.declared.reading.TokenRole.TheVariants.{Principal, ActsFor, Name, Comma, Semicolon, End}
 use Rattle.principals.specs.Reading.{role_by, role_of, ReadingState, Fresh, Declaring, Listed, Subject, Verb, Complete, Ended, next_by, next, finished_entries, run}
 
 -- ---- what a token is
@@ -56,12 +56,12 @@ by_name kind.Semicolon text h = cc
 by_name kind.End text h = cc
 by_name _ text h = cc
 
-cond_word : (P : Role → Type 0) (b c : Bool) → P Principal → P ActsFor → P Name → P (cond b Principal (cond c ActsFor Name))
+cond_word : (P : TokenRole → Type 0) (b c : Bool) → P Principal → P ActsFor → P Name → P (cond b Principal (cond c ActsFor Name))
 cond_word P true c h k l = h
 cond_word P false true h k l = k
 cond_word P false false h k l = l
 
-abbrev RoleHasKind : Kind → Role → Type 0
+abbrev RoleHasKind : Kind → TokenRole → Type 0
 RoleHasKind k r = (r ≡ Comma → k ≡ kind.Comma) × (r ≡ Semicolon → k ≡ kind.Semicolon) × (r ≡ End → k ≡ kind.End)
 
 by_kind : (k : Kind) (text : List ℕ) → RoleHasKind k (role_by k text)
@@ -96,7 +96,7 @@ name_role t h =
     let not_second : bytes_eq t.text (codes "actsfor") ≡ false = false_from_ne_true _ (λ e. h.not_acts_for ((bytes_eq-Decides t.text (codes "actsfor")).0 e)) in
     ap (λ k. role_by k t.text) h.name ∙ (λ i. cond (not_first i) Principal (cond (not_second i) ActsFor Name))
 
-kind_role : (t : Terminal) (k : Kind) (r : Role) → ((text : List ℕ) → role_by k text ≡ r) → t.kind ≡ k → role_of t ≡ r
+kind_role : (t : Terminal) (k : Kind) (r : TokenRole) → ((text : List ℕ) → role_by k text ≡ r) → t.kind ≡ k → role_of t ≡ r
 kind_role t k r by e = ap (λ x. role_by x t.text) e ∙ by t.text
 
 -- ---- runs
@@ -157,7 +157,7 @@ at_start Items = Fresh
 at_start Names = Declaring
 
 -- one token of a run, by its role
-one : (s : ReadingState) (t : Terminal) (r : Role) (after : ReadingState) (rest : List Terminal) (es : List Entry) → role_of t ≡ r → next_by s r t ≡ Some after →
+one : (s : ReadingState) (t : Terminal) (r : TokenRole) (after : ReadingState) (rest : List Terminal) (es : List Entry) → role_of t ≡ r → next_by s r t ≡ Some after →
     run after rest ≡ Some (Ended, es) → run s (t ∷ rest) ≡ Some (Ended, finished_entries s t ++ es)
 one s t r after rest es role step h =
     let e : next s t ≡ Some after = ap (λ x. next_by s x t) role ∙ step in
@@ -167,7 +167,7 @@ pub derived_is_read : {n : Nonterminal} {tokens : List Terminal} {entries : List
 derived_is_read (Finish end h) = one Fresh end End Ended [] [] (kind_role end kind.End End (λ _. refl) h) refl refl
 derived_is_read (Declaration word rest entries h d) =
     one Fresh word Principal Declaring rest entries (word_role word h) refl (derived_is_read d)
-derived_is_read (Relation left word right semicolon rest entries l w r s d) =
+derived_is_read (PrincipalRelation left word right semicolon rest entries l w r s d) =
     one Fresh left Name (Subject left) (word ∷ right ∷ semicolon ∷ rest) (Relates left right ∷ entries) (name_role left l) refl
     (one (Subject left) word ActsFor (Verb left) (right ∷ semicolon ∷ rest) (Relates left right ∷ entries) (verb_role word w) refl
     (one (Verb left) right Name Complete (semicolon ∷ rest) entries (name_role right r) refl
@@ -195,7 +195,7 @@ Open Ended tokens entries = (end : Terminal) → end.kind ≡ kind.End → Deriv
 none : {P : Type 0} (s : ReadingState) → None ≡ Some s → P
 none s h = absurd (none-some s h)
 
-open_step : (s : ReadingState) (t : Terminal) (r : Role) (after : ReadingState) (rest : List Terminal) (es : List Entry) → role_of t ≡ r → next_by s r t ≡ Some after →
+open_step : (s : ReadingState) (t : Terminal) (r : TokenRole) (after : ReadingState) (rest : List Terminal) (es : List Entry) → role_of t ≡ r → next_by s r t ≡ Some after →
     Open after rest es → Open s (t ∷ rest) (finished_entries s t ++ es)
 open_step Fresh t Principal after rest es role h o = Declaration t rest es (role_is_principal t role) (subst (λ s. Open s rest es) (sym (same_Some _ _ h)) o)
 open_step Fresh t Name after rest es role h o = subst (λ s. Open s rest es) (sym (same_Some _ _ h)) o (role_is_name t role)
@@ -209,7 +209,7 @@ open_step (Subject left) t ActsFor after rest es role h o = λ l. subst (λ s. O
 open_step (Verb left) t Name after rest es role h o =
     λ word l w. subst (λ s. Open s rest es) (sym (same_Some _ _ h)) o left word t l w (role_is_name t role)
 open_step Complete t Semicolon after rest es role h o =
-    λ left word right l w r. Relation left word right t rest es l w r ((by_kind t.kind t.text).1 role) (subst (λ s. Open s rest es) (sym (same_Some _ _ h)) o)
+    λ left word right l w r. PrincipalRelation left word right t rest es l w r ((by_kind t.kind t.text).1 role) (subst (λ s. Open s rest es) (sym (same_Some _ _ h)) o)
 open_step _ t _ after rest es role h o = none after h
 
 -- a run to the end reads what is open from its state on

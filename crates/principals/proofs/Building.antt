@@ -12,7 +12,7 @@ use Rattle.std.proofs.Common.{take, drop}
 use Rattle.std.proofs.lemmas.List.{take-append-drop, drop_more, take_more, map-append, map_push}
 use Rattle.common.proofs.Cases.{contained_at}
 use Rattle.principals.specs.Reading.{IsHierarchyOfEntries, HaveNames, entry_of, entries_of}
-use Rattle.principals.specs.declared.reading.Statement.{Statement}
+use Rattle.principals.specs.declared.reading.HierarchyStatement.{HierarchyStatement}
 use Rattle.principals.specs.declared.fault.HierarchyRefusal.{HierarchyRefusal}
 
 -- ---- lists
@@ -164,13 +164,13 @@ built_described es hierarchy built = record { accepted = built.accepted; names =
 -- ---- statements
 
 -- the statements around one of them
-pub entries_around : (statements : List Statement) (i : ℕ) (d : Statement) → i < length statements →
+pub entries_around : (statements : List HierarchyStatement) (i : ℕ) (d : HierarchyStatement) → i < length statements →
     entries_of statements ≡ entries_of (take i statements) ++ entry_of (get_or statements i d) ∷ entries_of (drop (i + 1) statements)
 entries_around statements i d h =
     ap entries_of (sym (take-append-drop i statements) ∙ ap (λ x. take i statements ++ x) (drop_more statements i d h))
     ∙ map-append entry_of (take i statements) (get_or statements i d ∷ drop (i + 1) statements)
 
-pub entries_more : (statements : List Statement) (i : ℕ) (d : Statement) → i < length statements →
+pub entries_more : (statements : List HierarchyStatement) (i : ℕ) (d : HierarchyStatement) → i < length statements →
     entries_of (take (i + 1) statements) ≡ entries_of (take i statements) ++ entry_of (get_or statements i d) ∷ []
 entries_more statements i d h = ap entries_of (take_more statements i d h) ∙ map_push entry_of (take i statements) (get_or statements i d)
 

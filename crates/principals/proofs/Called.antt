@@ -13,7 +13,7 @@ use Rattle.lexer.specs.Terminal.{Terminal}
 use Rattle.lexer.specs.declared.token.Kind.TheVariants.{Name, End}
 use Rattle.common.specs.declared.limits.TheConstants.{MAX_TEXT}
 use Rattle.principals.specs.ActsFor.{PrincipalHierarchy}
-use Rattle.principals.specs.HierarchyText.{Entry, Nonterminal, Derives, Finish, Declaration, Relation, OneMore, Last, declared, IsHierarchyForm, IsHierarchyOf}
+use Rattle.principals.specs.HierarchyText.{Entry, Nonterminal, Derives, Finish, Declaration, PrincipalRelation, OneMore, Last, declared, IsHierarchyForm, IsHierarchyOf}
 use Rattle.principals.specs.Named.{IsNameWithin, IsKeptName}
 
 -- the text of a token is UTF-8
@@ -43,7 +43,7 @@ module _ (P : List ℕ → Type 0) where
   declared_hold _ _ _ (Finish end kind) all = All-nil P
   declared_hold _ _ _ (Declaration word rest entries kind derived) all =
       declared_hold _ rest entries derived (All-tail Holds word rest all)
-  declared_hold _ _ _ (Relation left word right semicolon rest entries a b c d derived) all =
+  declared_hold _ _ _ (PrincipalRelation left word right semicolon rest entries a b c d derived) all =
       declared_hold _ rest entries derived (All-tail Holds semicolon rest (All-tail Holds right (semicolon ∷ rest) (All-tail Holds word (right ∷ semicolon ∷ rest) (All-tail Holds left (word ∷ right ∷ semicolon ∷ rest) all))))
   declared_hold _ _ _ (OneMore name comma rest entries named kind derived) all =
       All-cons P name.text (declared entries) (All-head Holds name (comma ∷ rest) all named.name) (declared_hold _ rest entries derived (All-tail Holds comma rest (All-tail Holds name (comma ∷ rest) all)))

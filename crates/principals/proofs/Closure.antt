@@ -1,30 +1,12 @@
 -- What holds of acts-for: the test and the relation say the same, both are reflexive and transitive, more pairs never take an
 -- answer away, and every reflexive and transitive relation that contains the written pairs contains acts-for.
-use Rattle.std.proofs.Common.{◌≡◌, ℕ, eqb, List, [], ◌∷◌, ◌⊎◌, ◌↔◌, refl, sym, ◌∙◌, subst, inl, inr, ⊎_elim, ◌<◌, ◌≤◌, arith, not-suc-le-zero}
+use Rattle.std.proofs.Common.{◌≡◌, ℕ, eqb, List, [], ◌∷◌, ◌⊎◌, ◌↔◌, refl, sym, ◌∙◌, subst, inl, inr, ⊎_elim, ◌<◌, ◌≤◌, arith}
 use Rattle.std.specs.Prelude.{Contains, All, IsTrue}
 use Rattle.std.proofs.lemmas.Bool.{eqb-true, eq-eqb, or_left, or_right, or_cases, and_from, and_parts}
 use Rattle.std.proofs.lemmas.Bool.Decides.{same_from_decides}
-use Rattle.std.proofs.lemmas.List.Elements.{Contains-append_cases, Contains-append_right, Contains-push_cases, All-contains}
+use Rattle.std.proofs.lemmas.List.Elements.{All-contains}
+use Rattle.common.proofs.Elements.{none_in_nil, Contains-cons_cases, Contains-later, Contains-first}
 use Rattle.principals.specs.ActsFor.{ActsFor, itself, written, through, acts_for}
-
--- ---- what a list contains
-
-pub none_in_nil : {X : Type 0} (x : X) → Contains [] x → ⊥
-none_in_nil x h = not-suc-le-zero h.1
-
--- an element of a list is its first one or one of the rest
-pub Contains-cons_cases : {X : Type 0} (y : X) (ys : List X) (x : X) → Contains (y ∷ ys) x → (y ≡ x) ⊎ Contains ys x
-Contains-cons_cases y ys x h =
-    ⊎_elim
-    (λ k. ⊎_elim (λ none. absurd (none_in_nil x none)) inl (Contains-push_cases [] y x k))
-    inr
-    (Contains-append_cases (y ∷ []) ys x h)
-
-pub Contains-later : {X : Type 0} (y : X) (ys : List X) (x : X) → Contains ys x → Contains (y ∷ ys) x
-Contains-later y ys x h = Contains-append_right (y ∷ []) ys x h
-
-pub Contains-first : {X : Type 0} (y : X) (ys : List X) → Contains (y ∷ ys) y
-Contains-first y ys = (0, omega arith, refl)
 
 -- ---- the test
 
@@ -102,10 +84,6 @@ acts_for-sound (pair ∷ pairs) a b h =
 
 pub acts_for-decides : (pairs : List (ℕ × ℕ)) (a b : ℕ) → IsTrue (acts_for pairs a b) ↔ ActsFor pairs a b
 acts_for-decides pairs a b = (acts_for-sound pairs a b, λ h. acts_for-complete pairs h)
-
--- the test's form of the same two laws
-pub acts_for-monotone : (pairs others : List (ℕ × ℕ)) → ((a b : ℕ) → Contains pairs (a, b) → Contains others (a, b)) → (a b : ℕ) → IsTrue (acts_for pairs a b) → IsTrue (acts_for others a b)
-acts_for-monotone pairs others more a b h = acts_for-complete others (ActsFor-monotone pairs others more (acts_for-sound pairs a b h))
 
 pub acts_for-least : (R : ℕ → ℕ → Type 0) (pairs : List (ℕ × ℕ)) → ((a : ℕ) → R a a) → ((a b c : ℕ) → R a b → R b c → R a c) →
     ((a b : ℕ) → Contains pairs (a, b) → R a b) → (a b : ℕ) → IsTrue (acts_for pairs a b) → R a b

@@ -6,7 +6,8 @@ use Rattle.std.proofs.lemmas.Bool.{eqb-true, eq-eqb, or_left, or_right, or_cases
 use Rattle.std.proofs.lemmas.Bool.Decides.{same_from_decides}
 use Rattle.principals.specs.ActsFor.{acts_for}
 use Rattle.principals.specs.Table.{is_written, has_path_below}
-use Rattle.principals.proofs.Closure.{none_in_nil, Contains-cons_cases, Contains-first, Contains-later, acts_for-itself, acts_for-through, acts_for-written, acts_for-least, acts_for-below}
+use Rattle.common.proofs.Elements.{none_in_nil, Contains-cons_cases, Contains-first, Contains-later}
+use Rattle.principals.proofs.Closure.{acts_for-itself, acts_for-through, acts_for-written, acts_for-least, acts_for-below}
 
 -- ---- paths by steps of any relation
 

@@ -7,7 +7,7 @@ use Rattle.std.proofs.lemmas.Str.{IsCharBoundary-start}
 use Rattle.lexer.specs.Cut.{IsCut}
 use Rattle.lexer.specs.Terminal.{Terminal}
 use Rattle.lexer.proofs.Listed.{listed, refused_at}
-use Rattle.principals.specs.HierarchyText.{Entry, Declares, Relates, Nonterminal, Derives, Finish, Declaration, Relation, OneMore, Last, IsEntryRefusal, Twice, Crowded, UnknownLeft, UnknownRight, IsFirstRefusal, HasEntries, IsSyntaxRefusal, IsRefusedText, Long, Formless, Wrong, HasBoundary}
+use Rattle.principals.specs.HierarchyText.{Entry, Declares, Relates, Nonterminal, Derives, Finish, Declaration, PrincipalRelation, OneMore, Last, IsEntryRefusal, Twice, Crowded, UnknownLeft, UnknownRight, IsFirstRefusal, HasEntries, IsSyntaxRefusal, IsRefusedText, Long, Formless, Wrong, HasBoundary}
 use Rattle.principals.specs.declared.fault.HierarchyRefusal.{HierarchyRefusal}
 
 -- ---- tokens
@@ -28,7 +28,7 @@ entry_spots : (source : List ℕ) {n : Nonterminal} {tokens : List Terminal} {en
     AllByRecursion (StartsIn source) tokens → AllByRecursion (EntryStartsIn source) entries
 entry_spots source (Finish end h) spots = tt
 entry_spots source (Declaration word rest entries h d) spots = entry_spots source d spots.1
-entry_spots source (Relation left word right semicolon rest entries l w r s d) spots =
+entry_spots source (PrincipalRelation left word right semicolon rest entries l w r s d) spots =
     ((spots.0, spots.1.1.0), entry_spots source d spots.1.1.1.1)
 entry_spots source (OneMore name comma rest entries n c d) spots = (spots.0, entry_spots source d spots.1.1)
 entry_spots source (Last name semicolon rest entries n s d) spots = (spots.0, entry_spots source d spots.1.1)

@@ -17,7 +17,7 @@ use Rattle.principals.specs.declared.fault.HierarchyRefusal.{HierarchyRefusal}
 use Rattle.principals.specs.declared.fault.HierarchyDefect.TheVariants as defect
 use Rattle.principals.proofs.Automaton.{run-push, read_is_open, is_prefix, stops, run_ends}
 use Rattle.principals.proofs.Building.{built_nothing, built_name, built_pair, built_refused, built_described}
-use Rattle.principals.proofs.Closure.{none_in_nil, Contains-cons_cases, Contains-first, Contains-later}
+use Rattle.common.proofs.Elements.{none_in_nil, Contains-cons_cases, Contains-first, Contains-later}
 use Rattle.principals.proofs.Uniqueness.{hierarchy_once}
 use Rattle.common.specs.declared.limits.TheConstants.{MAX_TEXT}
 use Rattle.common.proofs.Cases.{contained_place}

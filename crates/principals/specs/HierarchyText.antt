@@ -40,7 +40,7 @@ pub data Derives : Nonterminal → List Terminal → List Entry → Type 0 where
   Finish : (end : Terminal) → end.kind ≡ End → Derives Items (end ∷ []) []
   Declaration : (word : Terminal) (rest : List Terminal) (entries : List Entry) → IsWord (codes "principal") word
       → Derives Names rest entries → Derives Items (word ∷ rest) entries
-  Relation : (left word right semicolon : Terminal) (rest : List Terminal) (entries : List Entry)
+  PrincipalRelation : (left word right semicolon : Terminal) (rest : List Terminal) (entries : List Entry)
       → IsPrincipalName left → IsWord (codes "actsfor") word → IsPrincipalName right → semicolon.kind ≡ Semicolon
       → Derives Items rest entries → Derives Items (left ∷ word ∷ right ∷ semicolon ∷ rest) (Relates left right ∷ entries)
   OneMore : (name comma : Terminal) (rest : List Terminal) (entries : List Entry) → IsPrincipalName name

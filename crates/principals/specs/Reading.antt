@@ -10,22 +10,22 @@ use Rattle.lexer.specs.declared.token.Kind.TheVariants.{Name as NameKind, Comma 
 use Rattle.principals.specs.HierarchyText.{Entry, Declares, Relates, IsUnexpectedInHierarchyAt, AllAccepted, declared, written, refusal_for}
 use Rattle.principals.specs.declared.fault.HierarchyRefusal.{HierarchyRefusal}
 use Rattle.principals.specs.declared.fault.HierarchyDefect.TheVariants.{Syntax}
-use Rattle.principals.specs.declared.reading.Role.{Role}
-use Rattle.principals.specs.declared.reading.Role.TheVariants.{Principal, ActsFor, Name, Comma, Semicolon, End, Other}
-use Rattle.principals.specs.declared.reading.Progress.{Progress}
-use Rattle.principals.specs.declared.reading.Progress.TheVariants as progress
-use Rattle.principals.specs.declared.reading.Statement.{Statement}
-use Rattle.principals.specs.declared.reading.Statement.TheVariants as statement
+use Rattle.principals.specs.declared.reading.TokenRole.{TokenRole}
+use Rattle.principals.specs.declared.reading.TokenRole.TheVariants.{Principal, ActsFor, Name, Comma, Semicolon, End, Other}
+use Rattle.principals.specs.declared.reading.ItemState.{ItemState}
+use Rattle.principals.specs.declared.reading.ItemState.TheVariants as progress
+use Rattle.principals.specs.declared.reading.HierarchyStatement.{HierarchyStatement}
+use Rattle.principals.specs.declared.reading.HierarchyStatement.TheVariants as statement
 
 -- what a token is here
-abbrev pub role_by : Kind → List ℕ → Role
+abbrev pub role_by : Kind → List ℕ → TokenRole
 role_by NameKind text = if bytes_eq text (codes "principal") then Principal else (if bytes_eq text (codes "actsfor") then ActsFor else Name)
 role_by CommaKind text = Comma
 role_by SemicolonKind text = Semicolon
 role_by EndKind text = End
 role_by _ text = Other
 
-abbrev pub role_of : Terminal → Role
+abbrev pub role_of : Terminal → TokenRole
 role_of token = role_by token.kind token.text
 
 -- what was read of an item: nothing; what comes before a declared name; the name; the left name of a pair; this and the
@@ -40,7 +40,7 @@ pub data ReadingState : Type 0 where
   Ended : ReadingState
 
 -- the state after one more token, if some text goes on with it
-abbrev pub next_by : ReadingState → Role → Terminal → Option ReadingState
+abbrev pub next_by : ReadingState → TokenRole → Terminal → Option ReadingState
 next_by Fresh Principal token = Some Declaring
 next_by Fresh Name token = Some (Subject token)
 next_by Fresh End token = Some Ended
@@ -68,7 +68,7 @@ run state (token ∷ rest) =
     option_and_then (λ after. option_map (λ end. (end.0, finished_entries state token ++ end.1)) (run after rest)) (next state token)
 
 -- the code's states and statements, without references
-abbrev pub state_of : Progress → ReadingState
+abbrev pub state_of : ItemState → ReadingState
 state_of progress.Fresh = Fresh
 state_of progress.Declaring = Declaring
 state_of progress.Listed = Listed
@@ -77,11 +77,11 @@ state_of (progress.Verb left) = Verb (terminal_of left)
 state_of progress.Complete = Complete
 state_of progress.Ended = Ended
 
-abbrev pub entry_of : Statement → Entry
+abbrev pub entry_of : HierarchyStatement → Entry
 entry_of (statement.Declares name) = Declares (terminal_of name)
 entry_of (statement.Relates left right) = Relates (terminal_of left) (terminal_of right)
 
-abbrev pub entries_of : List Statement → List Entry
+abbrev pub entries_of : List HierarchyStatement → List Entry
 entries_of statements = map entry_of statements
 
 -- the refusal of the form alone: the first token with which no text of this form goes on

@@ -13,7 +13,7 @@ ghost use Rattle.std.specs.Prelude.{All, Contains, IfErr, IfOk, OnOk, Some, [], 
 use crate::Hierarchy;
 use crate::fault::{HierFault, HierarchyDefect, HierarchyRefusal};
 use crate::principal_set::PrincipalSet;
-use crate::reading::Statement;
+use crate::reading::HierarchyStatement;
 use common::OrNoMemory;
 use common::limits::MAX_PRINCIPALS;
 use indexmap::IndexSet;
@@ -30,7 +30,7 @@ fn declare(alloc: Global, names: &mut IndexSet<String>, name: &Token<'_>) -> Res
         (IsEntryRefusal (names_of names.old) (Declares (terminal_of name.now)))) }
 {
     let full = names.len() >= PrincipalSet::LIMIT;
-    let at = name.span.start;
+    let at = name.start;
     if names.contains(name.text) {
         let defect = HierarchyDefect::DeclaredTwice;
         return Err(OrNoMemory::Refused(HierarchyRefusal { defect, at }));
@@ -49,13 +49,13 @@ fn find_number(names: &IndexSet<String>, name: &Token<'_>) -> Result<u32, Hierar
     ensures found { IfOk result (λ number. slice_get (names_of names.now) number
         ≡ Some name.now.text.now) }
     ensures unknown { IfErr result (λ refusal. (refusal ≡ refusal_for UnknownPrincipal
-        name.now.span.start) × (¬ Contains (names_of names.now) name.now.text.now)) }
+        name.now.start) × (¬ Contains (names_of names.now) name.now.text.now)) }
 {
     match names.get_index_of(name.text) {
         Some(number) => Ok(number as u32),
         None => Err(HierarchyRefusal {
             defect: HierarchyDefect::UnknownPrincipal,
-            at: name.span.start,
+            at: name.start,
         }),
     }
 }
@@ -82,7 +82,7 @@ fn find_pair(
 /// The hierarchy that statements describe, or the first of them that is refused.
 pub(crate) fn hierarchy_of(
     alloc: Global,
-    statements: &[Statement<'_>],
+    statements: &[HierarchyStatement<'_>],
 ) -> Result<Hierarchy, HierFault>
     requires { All IsKeptName (declared (entries_of statements.now)) }
     ensures described { IfOk result (IsDescribedBy (entries_of statements.now)) }
@@ -93,8 +93,8 @@ pub(crate) fn hierarchy_of(
     let mut pairs = Vec::new(alloc);
     for statement in statements {
         match statement {
-            Statement::Declares(name) => declare(alloc, &mut names, name)?,
-            Statement::Relates(left, right) => {
+            HierarchyStatement::Declares(name) => declare(alloc, &mut names, name)?,
+            HierarchyStatement::Relates(left, right) => {
                 let pair = find_pair(&names, left, right).map_err(OrNoMemory::Refused)?;
                 pairs.push(pair)?;
             }

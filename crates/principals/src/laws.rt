@@ -12,12 +12,12 @@ pub fn acts_for_decides()
 {}
 
 /// A relation on the numbers of principals.
-pub trait Relation {
+pub trait PrincipalRelation {
     ghost related: { ℕ → ℕ → Type 0 };
 }
 
 /// Acts-for is reflexive and transitive and contains the written pairs, and each such relation contains it, decidable or not.
-pub fn acts_for_is_least<R: Relation>()
+pub fn acts_for_is_least<R: PrincipalRelation>()
     ensures reflexive { (pairs : List (ℕ × ℕ)) (a : ℕ) → ActsFor pairs a a }
     ensures transitive { (pairs : List (ℕ × ℕ)) (a b c : ℕ) →
         ActsFor pairs a b → ActsFor pairs b c → ActsFor pairs a c }

@@ -13,7 +13,7 @@ use std::alloc::Global;
 
 /// What a token is in a hierarchy text.
 #[derive(Clone, Copy)]
-pub(crate) enum Role {
+pub(crate) enum TokenRole {
     /// The word `principal`.
     Principal,
     /// The word `actsfor`.
@@ -29,14 +29,14 @@ pub(crate) enum Role {
 
 /// What a text says: that there is a principal of a name, or that one acts for another.
 #[derive(Clone, Copy)]
-pub(crate) enum Statement<'a> {
+pub(crate) enum HierarchyStatement<'a> {
     Declares(Token<'a>),
     Relates(Token<'a>, Token<'a>),
 }
 
 /// What was read of an item.
 #[derive(Clone, Copy)]
-pub(crate) enum Progress<'a> {
+pub(crate) enum ItemState<'a> {
     /// Nothing: an item begins, or the text ends.
     Fresh,
     /// What comes before a declared name: the word `principal`, or a comma.
@@ -53,72 +53,72 @@ pub(crate) enum Progress<'a> {
     Ended,
 }
 
-fn role_of(token: &Token<'_>) -> Role
+fn role_of(token: &Token<'_>) -> TokenRole
     ensures { result ≡ role_of (terminal_of token.now) }
 {
     match token.kind {
         Kind::Name => match token.text {
-            "principal" => Role::Principal,
-            "actsfor" => Role::ActsFor,
-            _ => Role::Name,
+            "principal" => TokenRole::Principal,
+            "actsfor" => TokenRole::ActsFor,
+            _ => TokenRole::Name,
         },
-        Kind::Comma => Role::Comma,
-        Kind::Semicolon => Role::Semicolon,
-        Kind::End => Role::End,
-        _ => Role::Other,
+        Kind::Comma => TokenRole::Comma,
+        Kind::Semicolon => TokenRole::Semicolon,
+        Kind::End => TokenRole::End,
+        _ => TokenRole::Other,
     }
 }
 
-impl<'a> Progress<'a> {
+impl<'a> ItemState<'a> {
     ghost use Rattle.lexer.specs.Terminal.{terminal_of};
     ghost use Rattle.principals.specs.Reading.{entry_of, finished_entries, next, state_of};
     ghost use Rattle.std.specs.Prelude.{map, option_map, option_to_list, ◌≡◌};
 
     /// What was read after one more token, or `None` where no text of the form goes on with it.
-    fn next(self, token: Token<'a>) -> Option<Progress<'a>>
+    fn next(self, token: Token<'a>) -> Option<ItemState<'a>>
         ensures { option_map (λ after. state_of after) result ≡ next (state_of self.entry)
             (terminal_of token.entry) }
     {
         match self {
-            Progress::Fresh => match role_of(&token) {
-                Role::Principal => Some(Progress::Declaring),
-                Role::Name => Some(Progress::Subject(token)),
-                Role::End => Some(Progress::Ended),
+            ItemState::Fresh => match role_of(&token) {
+                TokenRole::Principal => Some(ItemState::Declaring),
+                TokenRole::Name => Some(ItemState::Subject(token)),
+                TokenRole::End => Some(ItemState::Ended),
                 _ => None,
             },
-            Progress::Declaring => match role_of(&token) {
-                Role::Name => Some(Progress::Listed),
+            ItemState::Declaring => match role_of(&token) {
+                TokenRole::Name => Some(ItemState::Listed),
                 _ => None,
             },
-            Progress::Listed => match role_of(&token) {
-                Role::Comma => Some(Progress::Declaring),
-                Role::Semicolon => Some(Progress::Fresh),
+            ItemState::Listed => match role_of(&token) {
+                TokenRole::Comma => Some(ItemState::Declaring),
+                TokenRole::Semicolon => Some(ItemState::Fresh),
                 _ => None,
             },
-            Progress::Subject(left) => match role_of(&token) {
-                Role::ActsFor => Some(Progress::Verb(left)),
+            ItemState::Subject(left) => match role_of(&token) {
+                TokenRole::ActsFor => Some(ItemState::Verb(left)),
                 _ => None,
             },
-            Progress::Verb(_) => match role_of(&token) {
-                Role::Name => Some(Progress::Complete),
+            ItemState::Verb(_) => match role_of(&token) {
+                TokenRole::Name => Some(ItemState::Complete),
                 _ => None,
             },
-            Progress::Complete => match role_of(&token) {
-                Role::Semicolon => Some(Progress::Fresh),
+            ItemState::Complete => match role_of(&token) {
+                TokenRole::Semicolon => Some(ItemState::Fresh),
                 _ => None,
             },
-            Progress::Ended => None,
+            ItemState::Ended => None,
         }
     }
 
     /// The statement that one more token makes whole.
-    fn finish(self, token: Token<'a>) -> Option<Statement<'a>>
+    fn finish(self, token: Token<'a>) -> Option<HierarchyStatement<'a>>
         ensures { map (λ statement. entry_of statement) (option_to_list result)
             ≡ finished_entries (state_of self.entry) (terminal_of token.entry) }
     {
         match self {
-            Progress::Declaring => Some(Statement::Declares(token)),
-            Progress::Verb(left) => Some(Statement::Relates(left, token)),
+            ItemState::Declaring => Some(HierarchyStatement::Declares(token)),
+            ItemState::Verb(left) => Some(HierarchyStatement::Relates(left, token)),
             _ => None,
         }
     }
@@ -128,17 +128,17 @@ impl<'a> Progress<'a> {
 pub(crate) fn read_statements<'a>(
     alloc: Global,
     tokens: &[Token<'a>],
-) -> Result<Vec<Statement<'a>>, HierFault>
+) -> Result<Vec<HierarchyStatement<'a>>, HierFault>
     requires { IsTerminated (terminals_of tokens.now) }
     ensures form { IfOk result (λ statements. IsHierarchyForm (terminals_of tokens.now)
         (entries_of statements.items)) }
     ensures rejected { IfErr result (IfRefused (IsFormRefusal (terminals_of tokens.now))) }
 {
     let mut statements = Vec::new(alloc);
-    let mut progress = Progress::Fresh;
+    let mut progress = ItemState::Fresh;
     for token in tokens {
         let Some(after) = progress.next(*token) else {
-            let at = token.span.start;
+            let at = token.start;
             let defect = HierarchyDefect::Syntax;
             return Err(OrNoMemory::Refused(HierarchyRefusal { defect, at }));
         };

@@ -6,11 +6,12 @@ use Rattle.std.proofs.lemmas.Bool.{and_parts, not-false, not-true}
 use Rattle.principals.specs.ActsFor.{PrincipalHierarchy}
 use Rattle.std.proofs.lemmas.List.Elements.{Contains-append_cases}
 use Rattle.std.proofs.Math.Bool.{and-false, or-false}
-use Rattle.principals.proofs.Closure.{Contains-later, Contains-first, none_in_nil}
+use Rattle.common.proofs.Elements.{Contains-later, Contains-first, none_in_nil}
 use Rattle.labels.specs.Label.{ReaderPolicy, Label, Covers, covers, flows}
-use Rattle.labels.specs.Constraints.{Written, Unknown, Atom, is_written, value, join_of, holds, FitsAll, first_unmet, IsRefusedAt, StandsFor, OneByOne, outer, Linked, ends, label_lattice, renamed, reported_steps, reported_gathered}
-use Rattle.labels.proofs.Constraints.{found-or, least-fits, all-from, least_values, least_values-least, unknown-holds, unmet-chain, chain-rules_out, join_all, reaching, reaching-only, linked-from_reaching}
-use Rattle.labels.proofs.Gathered.{fits-up, fits-down, refused-same, reported-same}
+use Rattle.lattices.specs.Constraints.{Written, Unknown, Atom, is_written, value, join_of, holds, FitsAll, first_unmet, IsRefusedAt, StandsFor, OneByOne, outer, Linked, ends, renamed, reported_steps, reported_gathered}
+use Rattle.labels.specs.LabelLattice.{label_lattice}
+use Rattle.lattices.proofs.Constraints.{found-or, least-fits, all-from, least_values, least_values-least, unknown-holds, unmet-chain, chain-rules_out, join_all, reaching, reaching-only, linked-from_reaching}
+use Rattle.lattices.proofs.Gathered.{fits-up, fits-down, refused-same, reported-same}
 use Rattle.labels.proofs.FlowTests.{IsLattice-flows}
 use Rattle.labels.proofs.Tests.{flows-decides, covers-decides}
 use Rattle.labels.proofs.Elements.{each_from_All}
@@ -189,30 +190,6 @@ refused-by program last policy to first there is policy_of uncovered =
         let longer = linked-from_reaching (label_lattice program.hierarchy) (IsLattice-flows program.hierarchy) (program_demands program) found.0 u
         (reaching-only same_unwritten unwritten-same unwritten-itself (program_demands program) found.0 u found.1) (last ∷ []) last (ends (Unknown u) last there part) in
         made found.0 longer.0 found.2 longer.1
-
--- where the demands with an unwritten right side hold, the first that does not hold has a written one
-pub first-is_written : (h : PrincipalHierarchy) (labels : Unwritten → Label) (ds : List Demand) (last : Demand) →
-    IsTrue (list_all (λ (d : Demand). is_written d.right || holds (label_lattice h) labels d) ds) →
-    find (λ (d : Demand). not (holds (label_lattice h) labels d)) ds ≡ Some last →
-    (first_unmet (label_lattice h) ds labels ≡ Some last) × Contains ds last × (is_written last.right ≡ true)
-first-is_written h labels [] last fits e = let i : None ≡ Some last = e in absurd (cc)
-first-is_written h labels (d ∷ ds) last fits e =
-    let parts = and_parts (is_written d.right || holds (label_lattice h) labels d) (list_all (λ (d : Demand). is_written d.right || holds (label_lattice h) labels d) ds) fits in
-    go (holds (label_lattice h) labels d) refl parts.0 e (first-is_written h labels ds last parts.1)
-  where
-    go : (b : Bool) → holds (label_lattice h) labels d ≡ b → (is_written d.right || holds (label_lattice h) labels d) ≡ true →
-        find (λ (d : Demand). not (holds (label_lattice h) labels d)) (d ∷ ds) ≡ Some last →
-        (find (λ (d : Demand). not (holds (label_lattice h) labels d)) ds ≡ Some last →
-        (first_unmet (label_lattice h) ds labels ≡ Some last) × Contains ds last × (is_written last.right ≡ true)) →
-        (first_unmet (label_lattice h) (d ∷ ds) labels ≡ Some last) × Contains (d ∷ ds) last × (is_written last.right ≡ true)
-    go true f fit e later =
-        let found = later (sym (rw f refl) ∙ e) in
-        (rw (f, and-false (is_written d.right)) found.0, Contains-later d ds last found.1, found.2)
-    go false f fit e later =
-        let is : Some d ≡ Some last = sym (rw f refl) ∙ e in
-        let same : d ≡ last = cc in
-        let written : is_written d.right ≡ true = sym (or-false (is_written d.right)) ∙ (rw f at fit) in
-        (rw (f, written) (ap (λ x. Some x) same), subst (λ x. Contains (d ∷ ds) x) same (Contains-first d ds), ap (λ (x : Demand). is_written x.right) (sym same) ∙ written)
 
 -- ---- what was gathered decides
 module _ (program : Program) (cs : List Gathered) (gathered : AreGathered program cs) where

@@ -203,16 +203,3 @@ module _ (program : Program) (procedure : ProcedureEntry) (more : Program) (whol
         and_from (is_exception more handled && block_fits more whole body) (handlers_fit more whole rest)
         (and_from (is_exception more handled) (block_fits more whole body) (as_much.exceptions handled inner.0) (block_fits_kept body inner.1))
         (handlers_fit_kept rest outer.1)
-
--- numbers that count up, and go on doing so
-pub counts_from-append : (n : ℕ) (first second : List ℕ)
-    → counts_from n (first ++ second) ≡ (counts_from n first && counts_from (n + length first) second)
-counts_from-append n [] second = ap (λ m. counts_from m second) (sym (add-zero n))
-counts_from-append n (m ∷ first) second =
-    let same : suc n + length first ≡ n + length (m ∷ first) = omega arith in
-    ap (λ rest. m == n && rest) (counts_from-append (suc n) first second ∙ ap (λ from. counts_from (suc n) first && counts_from from second) same)
-    ∙ sym (and_assoc (m == n) (counts_from (suc n) first) (counts_from (n + length (m ∷ first)) second))
-  where
-    and_assoc : (a b c : Bool) → ((a && b) && c) ≡ (a && (b && c))
-    and_assoc true b c = refl
-    and_assoc false b c = refl

@@ -4,7 +4,8 @@
 use Rattle.std.specs.Prelude.{◌≡◌, ℕ, List, [], ◌∷◌, Option, Some, Contains, IsTrue}
 use Rattle.principals.specs.ActsFor.{PrincipalHierarchy}
 use Rattle.labels.specs.Label.{ReaderPolicy, Label, Covers, flows}
-use Rattle.labels.specs.Constraints.{Atom, Constraint, IsGathered, Written, Unknown, IsLeast, Occurs, first_unmet, Linked, label_lattice}
+use Rattle.lattices.specs.Constraints.{Atom, Constraint, IsGathered, Written, Unknown, IsLeast, Occurs, first_unmet, Linked}
+use Rattle.labels.specs.LabelLattice.{label_lattice}
 use Rattle.resolved.specs.Program.{Program}
 use Rattle.resolved.specs.declared.target.Target.{Target}
 use Rattle.resolved.specs.declared.target.Target.TheVariants.{ToVariable, ToChannel, ToBegin, ToParameter, ToValue, ToEnd, ToThrown, ToLoop}

@@ -4,7 +4,7 @@
 use Rattle.common.specs.Functions.{updated}
 use Rattle.std.specs.Prelude.{ℕ, zero, suc, List, [], ◌∷◌, ◌++◌, ℤ, ◌==◌, if◌then◌else◌, Option, Some, None, replicate, slice_get}
 use Rattle.common.specs.declared.limits.TheConstants.{MAX_FRAMES}
-use Rattle.labels.specs.declared.sent.Pair.{Pair}
+use Rattle.common.specs.declared.sent.Pair.{Pair}
 use Rattle.resolved.specs.declared.expression.Variable.{Variable}
 use Rattle.resolved.specs.declared.expression.Value.{Value}
 use Rattle.resolved.specs.declared.expression.Value.TheVariants.{Number}

@@ -2,7 +2,7 @@
 -- Source: our own; the big-step meaning of expressions of textbooks, with exceptions.
 use Rattle.common.specs.Functions.{updated}
 use Rattle.std.specs.Prelude.{ℕ, List, [], ◌∷◌, ℤ, pos, map, slice_index_or, slice_set, if◌then◌else◌}
-use Rattle.labels.specs.declared.sent.Pair.{Pair}
+use Rattle.common.specs.declared.sent.Pair.{Pair}
 use Rattle.resolved.specs.declared.expression.Variable.{Variable}
 use Rattle.resolved.specs.declared.expression.Variable.TheVariants.{Global, Local}
 use Rattle.resolved.specs.declared.expression.Value.{Value}

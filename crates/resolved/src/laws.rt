@@ -1,5 +1,6 @@
 //! Laws of the definitions, each the contract of a function that does nothing.
-ghost use Rattle.labels.specs.Constraints.{FitsAll, IsRefusedAt, StandsFor, label_lattice, reported_gathered, reported_steps};
+ghost use Rattle.lattices.specs.Constraints.{FitsAll, IsRefusedAt, StandsFor, reported_gathered, reported_steps};
+ghost use Rattle.labels.specs.LabelLattice.{label_lattice};
 ghost use Rattle.labels.specs.Label.{Label, ReaderPolicy};
 ghost use Rattle.resolved.specs.Flow.{AreGathered, AreLeast, FlowBothWays, Gathered, IsFlowChain, IsProgramRefused, IsUncovered, reported_step};
 ghost use Rattle.resolved.specs.Kinds.{MeaningKeepsTypes, RunsBeginTyped, ValuesHaveTheirTypes};

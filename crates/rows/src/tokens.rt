@@ -45,7 +45,7 @@ fn write_tokens(
 }
 
 fn write_token(alloc: Global, token: &Token<'_>, answer: &mut Vec<u8>) -> Result<(), LineFault> {
-    let (at, kind, text) = (token.span.start, token.kind, token.text);
+    let (at, kind, text) = (token.start, token.kind, token.text);
     let line = if text.is_empty() {
         format!(in alloc; "{at} {kind:?}\n")?
     } else {

@@ -2,8 +2,7 @@
 use Rattle.std.proofs.Common.{◌≡◌, refl, ap, ◌∙◌, subst, sym, ℕ, zero, suc, ◌<◌, ◌≤◌, ◌+◌, length, set, get_or, get_or-set_other, get_or-set_same, List, [], ◌∷◌, Bool, true, false, arith, nat_eq, ◌||◌, ◌⊎◌, inl, inr, ⊎_elim, replicate, add-zero}
 use Rattle.std.specs.Prelude.{IsTrue, ◌==◌, ◌↔◌, ◌≢◌}
 use Rattle.std.proofs.lemmas.Bool.{eqb-true, eqb-false, or_left, or_right}
-use Rattle.labels.specs.Row.{IncludedBetween, has, union}
-use Rattle.labels.proofs.Held.{has-inside}
+use Rattle.labels.specs.Row.{has, union}
 use Rattle.solver.specs.Looks.{count_of, one, stands_left, written_left}
 use Rattle.solver.specs.declared.constraints.Constraint.{Constraint}
 
@@ -102,22 +101,7 @@ size-less (x ∷ a) (y ∷ b) zero h there off =
     omega (arith, rest, here, none)
 size-less (x ∷ a) (y ∷ b) (suc i) h there off = let rest = size-less a b i (λ n. h (suc n)) there off in let first = one-le x y (h 0) in omega (arith, rest, first)
 
-or-flip : (a b : Bool) → (a || b) ≡ (b || a)
-or-flip true true = refl
-or-flip true false = refl
-or-flip false true = refl
-or-flip false false = refl
-
 -- ---- the numbers of a left side are added to a row: by words, or as a longer row
-pub nothing-new : (row left : List Bool) → IncludedBetween left row 0 (length left) → (n : ℕ) → has row n ≡ (has row n || has left n)
-nothing-new row left among n = go (has left n) refl
-  where
-    go : (t : Bool) → has left n ≡ t → has row n ≡ (has row n || has left n)
-    go false e = rw e (or-flip false (has row n))
-    go true e = let held : has row n ≡ true = among n (omega arith) (has-inside left n e) e in rw held refl
-
-pub members-flip : (row left new : List Bool) → ((n : ℕ) → has new n ≡ (has left n || has row n)) → (n : ℕ) → has new n ≡ (has row n || has left n)
-members-flip row left new is n = is n ∙ or-flip (has left n) (has row n)
 
 pub some-new : (row left new : List Bool) (i : ℕ) → ((n : ℕ) → has new n ≡ (has left n || has row n)) → IsTrue (has left i) → has row i ≡ false → size row < size new
 some-new row left new i is there off =

@@ -3,7 +3,7 @@ use Rattle.std.proofs.Common.{◌≡◌, refl, sym, ap, ◌∙◌, subst, ℕ, s
 use Rattle.std.specs.Prelude.{Contains}
 use Rattle.std.proofs.lemmas.List.{take_more, length-take-le}
 use Rattle.std.proofs.lemmas.List.Elements.{Contains-get_or}
-use Rattle.principals.proofs.Closure.{none_in_nil, Contains-cons_cases}
+use Rattle.common.proofs.Elements.{none_in_nil, Contains-cons_cases}
 use Rattle.solver.specs.Broken.{RightsInside, broken_by, candidates, earlier, earliest, found_candidates}
 use Rattle.solver.specs.Reach.{row_of, edge}
 use Rattle.solver.specs.declared.broken.Broken.{Broken}

@@ -3,7 +3,7 @@ use Rattle.std.proofs.Common.{◌≡◌, refl, ap, ℕ, List, [], ◌∷◌, ◌
 use Rattle.principals.specs.ActsFor.{PrincipalHierarchy}
 use Rattle.labels.specs.Label.{Label}
 use Rattle.labels.specs.Canonical.{written_label}
-use Rattle.labels.specs.Constraints.{label_lattice}
+use Rattle.labels.specs.LabelLattice.{label_lattice}
 use Rattle.labels.specs.LabelTable.{label_at, labels_of}
 use Rattle.labels.proofs.Flow.{FlowsTo-subset}
 use Rattle.labels.proofs.Tests.{flows-decides}

@@ -5,9 +5,10 @@ use Rattle.std.specs.Prelude.{Contains, slice_get}
 use Rattle.std.proofs.lemmas.Bool.{eqb-true, eq-eqb}
 use Rattle.std.proofs.lemmas.List.Elements.{Contains-append_cases, Contains-append_left, Contains-append_right, All-contains}
 use Rattle.std.proofs.lemmas.Option.{same_Some}
-use Rattle.principals.proofs.Closure.{none_in_nil, Contains-cons_cases, Contains-later, Contains-first}
-use Rattle.labels.specs.Constraints.{Lattice, Reaches, onward}
-use Rattle.labels.specs.Constraints as formal
+use Rattle.common.proofs.Elements.{none_in_nil, Contains-cons_cases, Contains-later, Contains-first}
+use Rattle.lattices.specs.Lattice.{Lattice}
+use Rattle.lattices.specs.Constraints.{Reaches, onward}
+use Rattle.lattices.specs.Constraints as formal
 use Rattle.solver.specs.Broken.{written_at}
 use Rattle.solver.specs.Links.{AreBelow, InRange, IsBelow, Link, edges_at, left_links, link, links_of, same}
 use Rattle.solver.specs.Reach as reach
@@ -18,7 +19,7 @@ use Rattle.solver.specs.declared.edges.Edges.{Edges}
 use Rattle.solver.specs.declared.constraints.Atom.{Atom}
 use Rattle.solver.specs.declared.constraints.Atom.TheVariants.{Unknown, Written}
 use Rattle.solver.specs.declared.constraints.Constraint.{Constraint}
-use Rattle.common.proofs.Cases.{contained_map, contained_map_only, contained_place, contained_at}
+use Rattle.common.proofs.Cases.{contained_map, contained_map_only, contained_at}
 
 -- ---- lists
 
@@ -144,10 +145,6 @@ module _ {T V : Type 0} (l : Lattice V) (table : List V) (cs : List (Constraint 
   written-is (Written n) v e = (n, refl, ap (value_or v) e)
   written-is (Unknown u) v e = absurd (cc)
 
-  pub unknown-is : (a : Atom) (u : ℕ) → atom_of l table a ≡ formal.Unknown u → a ≡ Unknown u
-  unknown-is (Written n) u e = absurd (cc)
-  unknown-is (Unknown w) u e = ap Unknown (ap (number_or u) e)
-
   pub reaches-to : (n u : ℕ) → ReachesBy edges n u → Reaches meant (written_at l table n) u
   reaches-to n u (reach.directly by _ h) =
       let part = leads-part cs edges are (Written n) by (Unknown u) h in
@@ -164,31 +161,3 @@ module _ {T V : Type 0} (l : Lattice V) (table : List V) (cs : List (Constraint 
   in_table c n h part =
       All-contains (IsBelow (length table) unknowns) c.left.items (Written n)
       ((All-contains (λ (c : Constraint T). AreBelow (length table) unknowns c.left.items × IsBelow (length table) unknowns c.right) cs c range h).0) part
-
-  pub reaches-from : (v : V) (u : ℕ) → Reaches meant v u → (n : ℕ) × (n < length table) × (written_at l table n ≡ v) × ReachesBy edges n u
-  reaches-from v u (formal.directly d _ h from is) =
-      let source = contained_map_only (constraint_of l table) cs d h in
-      let c = source.0 in
-      let part = contained_map_only (atom_of l table) c.left.items (formal.Written v) (subst (λ (x : formal.Constraint T ℕ V). Contains x.left (formal.Written v)) (sym source.2) from) in
-      let number = written-is part.0 v part.2 in
-      let here : Contains c.left.items (Written number.0) = subst (λ a. Contains c.left.items a) number.1 part.1 in
-      let at = contained_place cs c source.1 in
-      let right : c.right ≡ Unknown u = unknown-is c.right u (ap (λ (x : formal.Constraint T ℕ V). x.right) source.2 ∙ is) in (
-        number.0,
-        in_table c number.0 source.1 here,
-        number.2,
-        reach.directly at.0 u (subst (λ r. LeadsTo edges (Written number.0) at.0 r) right (part-leads cs edges are at.0 c (Written number.0) at.1 here)),
-      )
-  reaches-from v u (formal.onward d w _ r h from is) =
-      let before = reaches-from v w r in
-      let source = contained_map_only (constraint_of l table) cs d h in
-      let c = source.0 in
-      let part = contained_map_only (atom_of l table) c.left.items (formal.Unknown w) (subst (λ (x : formal.Constraint T ℕ V). Contains x.left (formal.Unknown w)) (sym source.2) from) in
-      let here : Contains c.left.items (Unknown w) = subst (λ a. Contains c.left.items a) (unknown-is part.0 w part.2) part.1 in
-      let at = contained_place cs c source.1 in
-      let right : c.right ≡ Unknown u = unknown-is c.right u (ap (λ (x : formal.Constraint T ℕ V). x.right) source.2 ∙ is) in (
-        before.0,
-        before.1,
-        before.2,
-        reach.onward at.0 w u before.3 (subst (λ r. LeadsTo edges (Unknown w) at.0 r) right (part-leads cs edges are at.0 c (Unknown w) at.1 here)),
-      )

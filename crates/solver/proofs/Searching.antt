@@ -4,7 +4,7 @@ use Rattle.std.specs.Prelude.{if◌then◌else◌, IsTrue, Contains}
 use Rattle.std.proofs.lemmas.Bool.{eqb-true, eqb-false}
 use Rattle.std.proofs.lemmas.List.{get_or_read, length_push, length-replicate, take_more}
 use Rattle.std.proofs.lemmas.List.Elements.{Contains-append_cases, Contains-get_or}
-use Rattle.principals.proofs.Closure.{none_in_nil, Contains-cons_cases, Contains-first}
+use Rattle.common.proofs.Elements.{none_in_nil, Contains-cons_cases, Contains-first}
 use Rattle.std.specs.Global.{Global}
 use Rattle.std.specs.declared.vec.Vec.{Vec}
 use Rattle.solver.proofs.Rows.{row_at-slice}

@@ -1,15 +1,16 @@
 -- What rows of what reaches each unknown say of the constraints: the joins of what reaches the unknowns are least, they fit all
 -- constraints where none is broken, and a chain to the first that is broken refuses them.
-use Rattle.std.proofs.Common.{◌≡◌, refl, sym, ap, ◌∙◌, subst, ℕ, zero, suc, ◌<◌, ◌≤◌, ◌+◌, length, get_or, map, List, [], ◌∷◌, Bool, true, false, not, ◌&&◌, ◌||◌, arith, zero-add, add-zero, ⊎_elim, Some}
+use Rattle.std.proofs.Common.{◌≡◌, refl, sym, ap, ◌∙◌, subst, ℕ, zero, suc, ◌<◌, ◌≤◌, ◌+◌, length, map, List, [], ◌∷◌, Bool, true, false, not, ◌&&◌, ◌||◌, arith, zero-add, add-zero, ⊎_elim, Some}
 use Rattle.std.specs.Prelude.{Contains, slice_get, IsTrue, IsFalse, find}
 use Rattle.std.specs.List.{list_any}
 use Rattle.std.proofs.lemmas.Bool.{eqb-true, eq-eqb, or_left, or_right, or_cases}
 use Rattle.std.proofs.lemmas.List.Elements.{All-contains}
 use Rattle.std.proofs.lemmas.Option.{same_Some}
-use Rattle.principals.proofs.Closure.{none_in_nil, Contains-cons_cases, Contains-later, Contains-first}
-use Rattle.labels.specs.Constraints.{FitsAll, IsLeast, IsRefusedAt, Linked, LatticeLaws, Lattice, holds, is_written, join_of, value}
-use Rattle.labels.specs.Constraints as formal
-use Rattle.labels.proofs.Constraints.{all-from, join_all, join_all-above, join_all-least, not_below-one, not_below-part, part-below, reaches-below, join_of-least}
+use Rattle.common.proofs.Elements.{none_in_nil, Contains-cons_cases, Contains-later, Contains-first}
+use Rattle.lattices.specs.Constraints.{FitsAll, IsLeast, IsRefusedAt, Linked, holds, is_written, join_of, value}
+use Rattle.lattices.specs.Lattice.{LatticeLaws, Lattice}
+use Rattle.lattices.specs.Constraints as formal
+use Rattle.lattices.proofs.Constraints.{all-from, join_all, join_all-above, join_all-least, not_below-one, not_below-part, part-below, reaches-below, join_of-least}
 use Rattle.solver.specs.Breaker.{Arrives, Breaks, BreaksAlong, BreaksFirst, IsBreakChain, itself, onward}
 use Rattle.solver.specs.Broken.{AllRightsInside, is_below, written_at}
 use Rattle.solver.specs.Links.{AreBelow, InRange, IsBelow, edges_at, links_of, row_at}
@@ -18,7 +19,6 @@ use Rattle.solver.specs.Reach.{AreEdges, CameFrom, IsTrail, LeadsTo, LeadsOn, Re
 use Rattle.solver.specs.Rows.{AreRows, atom_has, has_at, left_has, reached_by, unknowns_with}
 use Rattle.solver.specs.Constraints.{Picks, atom_of, constraint_of, is_among, row_join, rows_with, values_of}
 use Rattle.solver.specs.declared.edges.Edges.{Edges}
-use Rattle.solver.specs.declared.search.Found.{Found}
 use Rattle.solver.specs.declared.constraints.Atom.{Atom}
 use Rattle.solver.specs.declared.constraints.Atom.TheVariants.{Unknown, Written}
 use Rattle.solver.specs.declared.constraints.Constraint.{Constraint}
@@ -59,23 +59,6 @@ rows_with-only k (suc count) rows u n h = go (is_among u (unknowns_with k 0 rows
     go false e more =
         let k' : Contains (rows_with (suc k) (reached_by (suc k) count rows) u) n = rw e at h in
         let found = more k' in (omega (arith, found.0), found.1)
-
--- ---- trails are sound
-trail-sound : (edges : Edges) (n : ℕ) (found : List Found) → IsTrail edges n found → (bound k : ℕ) → k < bound → k < length found →
-    ReachesBy edges n (get_or found k nothing_found).unknown
-trail-sound edges n found trail zero k lt h = absurd (omega (arith, lt))
-trail-sound edges n found trail (suc bound) k lt h =
-    let step = trail k h in
-    by_came (get_or found k nothing_found).parent step.from step.came step.leads (λ p before. trail-sound edges n found trail bound p (omega (arith, lt, before)) (omega (arith, before, h)))
-  where
-    by_came : (parent : ℕ) (from : Atom) → CameFrom n found k parent from → LeadsTo edges from (get_or found k nothing_found).by (Unknown (get_or found k nothing_found).unknown) →
-        ((p : ℕ) → p < k → ReachesBy edges n (get_or found p nothing_found).unknown) → ReachesBy edges n (get_or found k nothing_found).unknown
-    by_came _ _ reach.itself leads earlier_ones = reach.directly (get_or found k nothing_found).by (get_or found k nothing_found).unknown leads
-    by_came _ _ (reach.earlier p w before e) leads earlier_ones =
-        reach.onward (get_or found k nothing_found).by w (get_or found k nothing_found).unknown (subst (λ x. ReachesBy edges n x) e (earlier_ones p before)) leads
-
-pub found-sound : (edges : Edges) (n : ℕ) (found : List Found) → IsTrail edges n found → (k : ℕ) → k < length found → ReachesBy edges n (get_or found k nothing_found).unknown
-found-sound edges n found trail k h = trail-sound edges n found trail (suc k) k (omega arith) h
 
 -- ---- some element that passes a test
 pub list_any-has : {X : Type 0} (test : X → Bool) (xs : List X) (x : X) → Contains xs x → IsTrue (test x) → IsTrue (list_any test xs)

@@ -3,8 +3,8 @@ use Rattle.std.proofs.Common.{◌≡◌, ◌≢◌, refl, sym, ap, ◌∙◌, su
 use Rattle.std.specs.Prelude.{Contains, if◌then◌else◌, IsTrue, ◌==◌}
 use Rattle.std.proofs.lemmas.Bool.{eqb-true, or_left}
 use Rattle.std.proofs.lemmas.List.Elements.{Contains-append_cases, Contains-append_left, Contains-append_right}
-use Rattle.principals.proofs.Closure.{none_in_nil, Contains-cons_cases, Contains-later, Contains-first}
-use Rattle.labels.specs.Constraints.{IsJoin, LatticeLaws, Lattice}
+use Rattle.common.proofs.Elements.{none_in_nil, Contains-cons_cases, Contains-later, Contains-first}
+use Rattle.lattices.specs.Lattice.{IsJoin, LatticeLaws, Lattice}
 use Rattle.labels.specs.Row.{has}
 use Rattle.solver.specs.Broken.{written_at}
 use Rattle.solver.specs.Rows.{has_at, reached_by, unknowns_with}
@@ -117,19 +117,6 @@ module _ {V : Type 0} (l : Lattice V) (laws : LatticeLaws l) (table : List V) wh
             (Contains-cons_cases n ns m h);
         least = λ b each. laws.least_above (written_at l table n) (row_join l table ns) b (each n (Contains-first n ns)) (rest.least b (λ m k. each m (Contains-later n ns m k)));
       }
-
-  pub alike-none : (value : V) → value ≡ l.least → AreAlike l (row_join l table []) value
-  alike-none value e = record {
-    to = laws.below_all value;
-    from = subst (λ v. IsTrue (l.leq v l.least)) (sym e) (laws.below_all l.least);
-  }
-
-  pub alike-one : (element value : V) (n : ℕ) → element ≡ written_at l table n → IsJoin l l.least element value → AreAlike l (row_join l table (n ∷ [])) value
-  alike-one element value n is join = record {
-    to = laws.least_above (written_at l table n) l.least value (subst (λ v. IsTrue (l.leq v value)) is join.above_right) (laws.below_all value);
-    from = join.least_above (row_join l table (n ∷ [])) (laws.below_all _)
-        (subst (λ v. IsTrue (l.leq v (row_join l table (n ∷ [])))) (sym is) (laws.above_left (written_at l table n) l.least));
-  }
 
   pub alike-both : (left right value : V) (xs ys : List ℕ) → AreAlike l (row_join l table xs) left → AreAlike l (row_join l table ys) right → IsJoin l left right value →
       AreAlike l (row_join l table (xs ++ ys)) value

@@ -6,7 +6,7 @@ use Rattle.std.proofs.lemmas.List.{length-set, set-get_or}
 use Rattle.std.proofs.lemmas.List.Elements.{All-contains, All-set}
 use Rattle.std.proofs.lemmas.Option.{same_Some}
 use Rattle.std.specs.List.{list_any}
-use Rattle.principals.proofs.Closure.{none_in_nil, Contains-cons_cases, Contains-later}
+use Rattle.common.proofs.Elements.{none_in_nil, Contains-cons_cases, Contains-later}
 use Rattle.labels.specs.Row.{has}
 use Rattle.solver.specs.Links.{AreBelow, InRange, IsBelow}
 use Rattle.solver.specs.Constraints.{Solved}

@@ -1,7 +1,7 @@
 -- The constraints with a written right side that one written element breaks, and the earliest of them.
 -- Source: our own.
 use Rattle.std.specs.Prelude.{ℕ, suc, ◌<◌, List, [], ◌∷◌, ◌++◌, length, Bool, true, Option, Some, None, if◌then◌else◌, Contains, slice_index_or, nat_lt}
-use Rattle.labels.specs.Constraints.{Lattice}
+use Rattle.lattices.specs.Lattice.{Lattice}
 use Rattle.solver.specs.Reach.{edge, nothing_found, row_of}
 use Rattle.solver.specs.declared.broken.Broken.{Broken}
 use Rattle.solver.specs.declared.edges.Edge.{Edge}

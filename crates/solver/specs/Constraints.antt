@@ -2,13 +2,15 @@
 -- Source: our own.
 use Rattle.std.specs.Prelude.{◌≡◌, ℕ, suc, List, [], ◌∷◌, length, map, Bool, Some, if◌then◌else◌, ◌==◌, slice_get, IsTrue}
 use Rattle.std.specs.List.{list_any}
-use Rattle.labels.specs.Constraints.{FitsAll, IsJoin, IsLeast, IsRefusedAt, Lattice}
-use Rattle.labels.specs.Constraints as formal
+use Rattle.lattices.specs.Constraints.{FitsAll, IsLeast, IsRefusedAt}
+use Rattle.lattices.specs.Lattice.{Lattice}
+use Rattle.lattices.specs.Constraints as formal
 use Rattle.solver.specs.Broken.{written_at}
 use Rattle.solver.specs.declared.fault.SolveRefusal.{SolveRefusal}
 use Rattle.solver.specs.declared.constraints.Atom.{Atom}
 use Rattle.solver.specs.declared.constraints.Atom.TheVariants.{Unknown, Written}
 use Rattle.solver.specs.declared.constraints.Constraint.{Constraint}
+use Rattle.solver.specs.Rule.{rule_number}
 
 -- an atom, with the written element in place of its number, and so a constraint and a list of them
 abbrev pub atom_of : {V : Type 0} → Lattice V → List V → Atom → formal.Atom ℕ V
@@ -18,7 +20,7 @@ atom_of l table (Unknown u) = formal.Unknown u
 abbrev pub constraint_of : {T V : Type 0} → Lattice V → List V → Constraint T → formal.Constraint T ℕ V
 constraint_of l table c = record {
   at = c.at;
-  rule = c.rule;
+  rule = rule_number c.rule;
   left = map (atom_of l table) c.left.items;
   target = c.target;
   right = atom_of l table c.right;

@@ -6,5 +6,6 @@ pub mod Looks
 pub mod Queue
 pub mod Reach
 pub mod Rows
+pub mod Rule
 pub mod Walks
 pub mod Work

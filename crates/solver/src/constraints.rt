@@ -1,5 +1,6 @@
 //! Constraints with unknowns, as they are stored.
 
+use crate::rule::Rule;
 use smallvec::SmallVec;
 
 /// A part of a left side, or a right side: a written element of the lattice, by its number in the table of written elements, or an
@@ -25,8 +26,8 @@ pub type Left = SmallVec<Atom, 3>;
 pub struct Constraint<T> {
     /// The byte where it stands.
     pub at: usize,
-    /// The number of the rule that asks for it.
-    pub rule: u8,
+    /// The rule that asks for it.
+    pub rule: Rule,
     pub left: Left,
     /// What the right side is, for messages.
     pub target: T,

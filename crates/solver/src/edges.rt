@@ -36,9 +36,10 @@ pub fn edges_of<T>(
     ensures written_count { IfOk result (λ edges. length edges.written.items ≡ written) }
     ensures unknown_count { IfOk result (λ edges. length edges.unknown.items ≡ unknowns) }
 {
+    let counts = counts_of(alloc, constraints, written, unknowns)?;
     let mut edges = Edges {
-        written: empty_rows(alloc, written)?,
-        unknown: empty_rows(alloc, unknowns)?,
+        written: empty_rows(alloc, &counts.written)?,
+        unknown: empty_rows(alloc, &counts.unknown)?,
     };
     for (i, constraint) in constraints.iter().enumerate() {
         add_left(&mut edges, constraint.left.as_slice(), i, constraint.right)?;
@@ -46,14 +47,64 @@ pub fn edges_of<T>(
     Ok(edges)
 }
 
-// So many empty rows.
-fn empty_rows(alloc: Global, count: usize) -> Result<Vec<Vec<Edge>>, AllocError>
-    ensures rows { IfOk result (λ rows. (k : ℕ) → row_at rows.items k ≡ []) }
-    ensures count { IfOk result (λ rows. length rows.items ≡ count) }
+// How many edges there will be from each part. Rows have just this room: most have few edges.
+#[derive(Drop)]
+struct Counts {
+    written: Vec<usize>,
+    unknown: Vec<usize>,
+}
+
+// Counts one more, if there is a count.
+fn count_one(counts: &mut Vec<usize>, at: usize)
+    ensures { length counts.new.items ≡ length counts.old.items }
 {
-    let mut rows = Vec::with_capacity(alloc, count)?;
-    for _i in 0..count {
-        rows.push(Vec::new(alloc))?;
+    if at < counts.len() {
+        counts[at] = counts[at].saturating_add(1);
+    }
+}
+
+// Counts the parts of a left side.
+fn count_left(left: &[Atom], counts: &mut Counts)
+    ensures written { length counts.new.written.items ≡ length counts.old.written.items }
+    ensures unknown { length counts.new.unknown.items ≡ length counts.old.unknown.items }
+{
+    for atom in left {
+        match *atom {
+            Atom::Written(n) => count_one(&mut counts.written, n as usize),
+            Atom::Unknown(u) => count_one(&mut counts.unknown, u as usize),
+        }
+    }
+}
+
+// The counts of the edges of constraints.
+fn counts_of<T>(
+    alloc: Global,
+    constraints: &[Constraint<T>],
+    written: usize,
+    unknowns: usize,
+) -> Result<Counts, AllocError>
+    ensures written { IfOk result (λ counts. length counts.written.items ≡ written) }
+    ensures unknown { IfOk result (λ counts. length counts.unknown.items ≡ unknowns) }
+{
+    let mut counts = Counts {
+        written: vec![in alloc; 0; written]?,
+        unknown: vec![in alloc; 0; unknowns]?,
+    };
+    for constraint in constraints {
+        count_left(constraint.left.as_slice(), &mut counts);
+    }
+    Ok(counts)
+}
+
+// An empty row with room for each count.
+fn empty_rows(alloc: Global, counts: &[usize]) -> Result<Vec<Vec<Edge>>, AllocError>
+    ensures rows { IfOk result (λ rows. (k : ℕ) → row_at rows.items k ≡ []) }
+    ensures count { IfOk result (λ rows. length rows.items ≡ length counts.now) }
+{
+    let mut rows = Vec::with_capacity(alloc, counts.len())?;
+    for count in counts {
+        let row = Vec::with_capacity(alloc, *count)?;
+        rows.push(row)?;
     }
     Ok(rows)
 }

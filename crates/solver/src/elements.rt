@@ -1,13 +1,15 @@
 //! The written elements of constraints, by their numbers.
 ghost use Rattle.labels.specs.Canonical.{written_label};
-ghost use Rattle.labels.specs.Constraints.{LatticeLaws, Lattice as LatticeOf, label_lattice};
+ghost use Rattle.lattices.specs.Lattice.{LatticeLaws, Lattice as LatticeOf};
+ghost use Rattle.labels.specs.LabelLattice.{label_lattice};
 ghost use Rattle.labels.specs.Under.{FirstAbove};
 ghost use Rattle.solver.specs.Broken.{is_below};
 ghost use Rattle.solver.specs.Constraints.{AreAlike, values_of};
 ghost use Rattle.std.specs.Prelude.{IfOk, List, length, ◌<◌, ◌≡◌};
 
 use crate::solution::Solution;
-use labels::{Comparisons, Label, LabelLattice, LabelTable, Lattice, Row};
+use labels::{Comparisons, Label, LabelLattice, LabelTable, Row};
+use lattices::Lattice;
 use principals::Hierarchy;
 use std::alloc::{AllocError, Global};
 

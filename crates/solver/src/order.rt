@@ -11,14 +11,14 @@ use std::alloc::{AllocError, Global};
 // A walk along edges, each once: how many edges from each unknown are left, which unknowns were entered, those on the way, and those
 // that are done, each after all that it leads to.
 #[derive(Drop)]
-struct Walk {
+struct EdgeWalk {
     left: Vec<usize>,
     marks: Vec<bool>,
     way: Vec<usize>,
     done: Vec<usize>,
 }
 
-impl Walk {
+impl EdgeWalk {
     // Enters an unknown, unless it was entered before.
     fn enter(&mut self, unknown: usize) -> Result<(), AllocError>
         ensures left { OnOk result (self.new.left ≡ self.old.left) }
@@ -80,7 +80,7 @@ fn target(edges: &[Vec<Edge>], unknown: usize, index: usize) -> Option<usize> {
 
 // The unknowns, each after all to which it leads, but where that leads back.
 fn walked(alloc: Global, edges: &[Vec<Edge>]) -> Result<Vec<usize>, AllocError> {
-    let mut walk = Walk {
+    let mut walk = EdgeWalk {
         left: lengths(alloc, edges)?,
         marks: vec![in alloc; false; edges.len()]?,
         way: Vec::new(alloc),

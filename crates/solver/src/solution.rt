@@ -3,7 +3,8 @@ ghost use Rattle.solver.specs.Rows.{AreSized, has_at, reached_by};
 ghost use Rattle.solver.specs.Constraints.{AreAlike, row_join, rows_with, values_of};
 ghost use Rattle.std.specs.Prelude.{All, IfOk, length, ◌<◌, ◌≡◌, ◌≤◌};
 
-use labels::{Lattice, Row};
+use labels::Row;
+use lattices::Lattice;
 use std::alloc::{AllocError, Global};
 use std::marker::Model;
 

@@ -19,7 +19,7 @@ use crate::search::trace;
 use crate::solution::Solution;
 use crate::worklist::rows_of;
 use common::OrNoMemory;
-use labels::Lattice;
+use lattices::Lattice;
 use std::alloc::{AllocError, Global};
 
 /// The least values of the unknowns that fit the constraints whose right side is an unknown, if they fit all constraints. Otherwise

@@ -5,7 +5,7 @@ ghost use Rattle.std.specs.List.{flat_map};
 ghost use Rattle.std.specs.Prelude.{IfOk, OnOk, Some, is_some, length, map, ◌++◌, ◌<◌, ◌≡◌};
 
 use crate::shape::{Shape, repeat};
-use modules::{Cell, Global as Variable, Kind, Slot};
+use modules::{Cell, Global as Variable, Slot, ValueKind};
 use std::alloc::{AllocError, Global};
 use std::marker::Model;
 
@@ -102,8 +102,8 @@ fn slot_of(global: Variable) -> Slot
     ensures { result ≡ slot_of global }
 {
     match global {
-        Variable::Int(_) => Slot::Scalar(Kind::Int),
-        Variable::Boolean(_) => Slot::Scalar(Kind::Boolean),
+        Variable::Int(_) => Slot::Scalar(ValueKind::Int),
+        Variable::Boolean(_) => Slot::Scalar(ValueKind::Boolean),
         Variable::Array(kind, count) => Slot::Array(kind, count),
     }
 }

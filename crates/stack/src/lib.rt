@@ -9,8 +9,8 @@ pub mod slab;
 
 pub use globals::Globals;
 pub use point::Point;
-pub use shape::{Shape, Span, cells_of, count_of, repeat};
+pub use shape::{CellRange, Shape, cells_of, count_of, repeat};
 pub use slab::{
-    Registers, ReturnState, SavedFrame, StackFrame, StackState, call_on, give_back_on, leave_on,
-    operand_on, point_of, stack_state_of,
+    FrameCall, Registers, ReturnState, SavedFrame, StackFrame, StackState, call_on, give_back_on,
+    leave_on, operand_on, point_of, stack_state_of,
 };

@@ -3,13 +3,13 @@
 ghost use Rattle.stack.specs.Slab.{cells_in, place_in, total};
 ghost use Rattle.std.specs.Prelude.{IfOk, OnErr, OnOk, map, replicate, slice_get, ◌++◌, ◌<◌, ◌^◌, ◌≡◌};
 
-use modules::{Cell, Kind, Slot};
+use modules::{Cell, Slot, ValueKind};
 use std::alloc::{AllocError, Global};
 use std::marker::Model;
 
 /// Where the cells of a slot stand among those of its frame.
 #[derive(Clone, Copy, Debug)]
-pub struct Span {
+pub struct CellRange {
     pub start: usize,
     pub count: usize,
 }
@@ -17,7 +17,7 @@ pub struct Span {
 /// How many cells each of the slots has that lie one after another.
 #[derive(Debug, Drop)]
 pub struct Shape {
-    spans: Vec<Span>,
+    spans: Vec<CellRange>,
 }
 
 impl Model for Shape {
@@ -41,7 +41,7 @@ impl Shape {
         let mut start: usize = 0;
         for slot in slots {
             let count = count_of(*slot);
-            spans.push(Span { start, count })?;
+            spans.push(CellRange { start, count })?;
             start += count;
         }
         Ok(Shape { spans })
@@ -73,7 +73,7 @@ impl Shape {
 }
 
 // The span of a number, if it is there.
-fn span_at(spans: &[Span], number: usize) -> Option<Span>
+fn span_at(spans: &[CellRange], number: usize) -> Option<CellRange>
     ensures { result ≡ slice_get spans.now number }
 {
     spans.get(number).copied()

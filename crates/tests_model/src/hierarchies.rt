@@ -2,7 +2,7 @@
 
 use common::limits::MAX_TEXT;
 use lexer::is_name;
-use principals::laws::Relation;
+use principals::laws::PrincipalRelation;
 use principals::{HierFault, Hierarchy, laws};
 use std::alloc::Global;
 use std::test::Fail;
@@ -12,7 +12,7 @@ const THREE: &str = "principal Alice, Bob, Carol;\nCarol actsfor Bob;";
 // Everybody is related to everybody.
 struct Everybody;
 
-impl Relation for Everybody {
+impl PrincipalRelation for Everybody {
     ghost related = { λ _ _. Unit {0} };
 }
 

@@ -3,7 +3,9 @@
 ghost use Rattle.labels.specs.Canonical.{IsCanonicalPolicy};
 ghost use Rattle.std.specs.Prelude.{IfOk};
 
-use labels::{Label, Pair, Policy, PrintedLabel, constraint_laws, flows, join, laws, may_read};
+use common::Pair;
+use labels::{Label, Policy, PrintedLabel, flows, join, laws, may_read};
+use lattices::constraint_laws;
 use principals::Hierarchy;
 use std::alloc::{AllocError, Global};
 use std::cmp::Ordering;

@@ -6,7 +6,7 @@ ghost use Rattle.std.specs.Prelude.{IfOk, [], length, ◌∷◌, ◌<◌, ◌≡
 use common::OrNoMemory;
 use labels::{Label, LabelLattice, Policy};
 use principals::Hierarchy;
-use solver::{Atom, Constraint, Constraints, Left, solve};
+use solver::{Atom, Constraint, Constraints, Left, Rule, solve};
 use std::alloc::{AllocError, Global};
 use std::test::Fail;
 
@@ -23,7 +23,7 @@ fn flow(alloc: Global, left: Atom, right: Atom) -> Result<Constraint<u8>, AllocE
 {
     Ok(Constraint {
         at: 0,
-        rule: 1,
+        rule: Rule::Assignment,
         left: Left::from_slice(alloc, &[left])?,
         target: 0,
         right,

@@ -5,7 +5,7 @@ use channels::{Device, SinkFault};
 use common::{Direction, OrNoMemory};
 use listing::write_listing;
 use modules::{
-    Arithmetic, Cell, Comparison, Global, Handler, Instruction, Kind, Module, Procedure, Slot,
+    Arithmetic, Cell, Comparison, Global, Handler, Instruction, Module, Procedure, Slot, ValueKind,
     Version,
 };
 use std::alloc::Global as Heap;
@@ -154,7 +154,7 @@ fn sends_fewer(procedure: &Procedure) -> bool {
             Instruction::Return
         ]
     );
-    let slots = [Slot::Scalar(Kind::Int)];
+    let slots = [Slot::Scalar(ValueKind::Int)];
     is_wanted && procedure.slots() == slots.as_slice()
 }
 
@@ -185,14 +185,17 @@ fn lends_globals_and_handlers(rt: HostRuntime) -> Result<(), Fail> {
     let globals = [
         Global::Int(-7),
         Global::Boolean(true),
-        Global::Array(Kind::Int, 3),
-        Global::Array(Kind::Boolean, 2),
+        Global::Array(ValueKind::Int, 3),
+        Global::Array(ValueKind::Boolean, 2),
     ];
     assert!(rt; module.globals() == globals.as_slice());
     let [main, first, second] = module.procedures() else {
         return Err("three procedures".into());
     };
-    let slots = [Slot::Scalar(Kind::Boolean), Slot::Array(Kind::Int, 2)];
+    let slots = [
+        Slot::Scalar(ValueKind::Boolean),
+        Slot::Array(ValueKind::Int, 2),
+    ];
     let handler = Handler {
         start: 0,
         end: 2,
@@ -200,8 +203,8 @@ fn lends_globals_and_handlers(rt: HostRuntime) -> Result<(), Fail> {
         target: 7,
     };
     assert!(rt; main.slots() == slots.as_slice() && main.handlers() == [handler].as_slice());
-    assert!(rt; first.parameters() == 1 && first.returned() == Some(Kind::Int));
-    assert!(rt; second.parameters() == 0 && second.returned() == Some(Kind::Boolean));
+    assert!(rt; first.parameters() == 1 && first.returned() == Some(ValueKind::Int));
+    assert!(rt; second.parameters() == 0 && second.returned() == Some(ValueKind::Boolean));
     Ok(())
 }
 
@@ -235,8 +238,12 @@ fn prints_names_and_operands(rt: HostRuntime) -> Result<(), Fail> {
 
 #[test]
 fn values_have_kinds(rt: HostRuntime) {
-    assert!(rt; Kind::Int.zero() == Cell::Int(0) && Kind::Boolean.zero() == Cell::Bool(false));
-    assert!(rt; Cell::Int(5).kind() == Kind::Int && Cell::Bool(true).kind() == Kind::Boolean);
+    assert!(rt;
+        ValueKind::Int.zero() == Cell::Int(0) && ValueKind::Boolean.zero() == Cell::Bool(false)
+    );
+    assert!(rt;
+        Cell::Int(5).kind() == ValueKind::Int && Cell::Bool(true).kind() == ValueKind::Boolean
+    );
 }
 
 // What the module is listed as that some bytes spell.

@@ -1,8 +1,8 @@
 //! Runs of a machine, counted step by step.
 
 use bytecode::{decode, encode};
-use channels::{Pair, World};
-use common::OrNoMemory;
+use channels::World;
+use common::{OrNoMemory, Pair};
 use machine::{Machine, NewFault, NewRefusal, Status};
 use modules::{Cell, Instruction, Module};
 use std::alloc::Global;

@@ -1,8 +1,8 @@
 //! Worlds, lists of what was sent, and sinks that fail.
 
 use bytecode::decode;
-use channels::{Device, InputList, Pair, Sent, Sink, SinkFault, World, write_all, write_view};
-use common::OrNoMemory;
+use channels::{Device, InputList, Sent, Sink, SinkFault, World, write_all, write_view};
+use common::{OrNoMemory, Pair};
 use modules::Module;
 use std::alloc::Global;
 use std::io::Cursor;

@@ -1,7 +1,7 @@
-//! Texts that are read from sources which fail, and from sources that have too much.
+//! Texts that are read from sources which fail, from sources that have too much, and where growths are refused.
 
 use common::OrNoMemory;
-use flowc::{Cause, Fault, Feed, Source, SourceFault, Text, compile, read_text};
+use flowc::{Cause, Fault, Feed, ReadFault, Source, SourceFault, Text, compile, read_text};
 use std::alloc::Global;
 use std::io::{Error, ErrorKind, Read, Result as ReadResult, repeat};
 use std::test::Fail;
@@ -50,6 +50,28 @@ fn no_more_is_read_than_shows_that_a_text_is_too_long(rt: HostRuntime) -> Result
         assert_eq!(rt; count_of(rt.alloc(), length)?, count);
     }
     Ok(())
+}
+
+// The length of a text that takes several reads, or why it was not read, and whether its source then has failed.
+fn length_of(alloc: Global) -> (Result<usize, ReadFault>, bool) {
+    let mut feed = Feed::new(repeat(b' ').take(20_000));
+    let length = match read_text(alloc, &mut feed) {
+        Ok(text) => Ok(text.len()),
+        Err(fault) => Err(fault),
+    };
+    (length, feed.failed())
+}
+
+// Whichever growth is refused while a text is read, the answer is that memory ran out or the undisturbed one, the source has not failed,
+// and another one like it is read. `tools/out-of-memory` refuses each of them in turn.
+#[test]
+fn a_refused_growth_is_no_failure_of_a_source(rt: HostRuntime) {
+    let (mut length, failed) = length_of(rt.alloc());
+    assert!(rt; !failed);
+    if matches!(&length, Err(OrNoMemory::NoMemory)) {
+        (length, _) = length_of(rt.alloc());
+    }
+    assert!(rt; matches!(&length, Ok(20_000)));
 }
 
 // Whether a source was refused for its length, at its first place.

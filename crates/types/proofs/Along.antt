@@ -9,7 +9,7 @@ use Rattle.resolved.specs.declared.statement.Statement as S
 use Rattle.resolved.specs.declared.statement.Handler.{Handler}
 use Rattle.resolved.specs.Tree.{Block, Empty, Then, Handlers, NoMore, Catch}
 use Rattle.resolved.specs.TreeOf.{statement_of, block_of, handlers_of}
-use Rattle.types.specs.declared.body.Body.{Body}
+use Rattle.types.specs.declared.body.BodyScope.{BodyScope}
 use Rattle.common.specs.Answers.{IfRefused}
 use Rattle.common.specs.declared.fault.OrNoMemory.{OrNoMemory}
 use Rattle.types.specs.declared.fault.TypeRefusal.{TypeRefusal}
@@ -17,7 +17,7 @@ use Rattle.types.specs.Finding.{IsRefusalOf, Finding, and_then}
 use Rattle.types.specs.Environment.{exception_finding}
 use Rattle.types.specs.Statements.{Point, statement_finding, block_finding, statements_finding, catches_finding}
 use Rattle.types.specs.Views.{IsLater, names_of, point_of, setting_of, taken}
-use Rattle.types.proofs.Later.{later_same, later_through, setting_same}
+use Rattle.types.proofs.Later.{later_through, setting_same}
 use Rattle.types.proofs.Loops.{fails_later, fails_second, then_ok}
 
 -- ---- statements
@@ -39,7 +39,7 @@ before_push (one ∷ made) statement rest = ap (Then (statement_of one)) (before
 abbrev pub with_rest : List S.Statement → Point × Block → Finding (Point × Block)
 with_rest made others = Ok (others.0, before_block made others.1)
 
-pub record AlongStatements (start now : Body) (written : List Statement) (made : List S.Statement) (i : ℕ) : Type 0 where
+pub record AlongStatements (start now : BodyScope) (written : List Statement) (made : List S.Statement) (i : ℕ) : Type 0 where
   pub on : and_then (statements_finding (setting_of start) (point_of now) (statements_of (map statement_tree (drop i written)))) (with_rest made) ≡ statements_finding (setting_of start) (point_of start) (statements_of (map statement_tree written))
   pub later : IsLater start now
   pub few : taken now + statements_nodes (statements_of (map statement_tree (drop i written))) ≤ taken start + statements_nodes (statements_of (map statement_tree written))
@@ -54,15 +54,7 @@ one_before : (made : List S.Statement) (statement : S.Statement) (found : Findin
 one_before made statement (Ok others) = ap (λ block. Ok (others.0, block)) (before_push made statement others.1)
 one_before made statement (Err fault) = refl
 
-pub statements_start : (start : Body) (written : List Statement) (made : List S.Statement) → made ≡ [] → AlongStatements start start written made 0
-statements_start start written made none = subst (λ list. AlongStatements start start written list 0) (sym none) (record {
-  on = none_before _;
-  later = later_same start;
-  few = omega arith;
-  part = omega arith;
-})
-
-module _ {start now : Body} {written : List Statement} {made : List S.Statement} {i : ℕ} (along : AlongStatements start now written made i) where
+module _ {start now : BodyScope} {written : List Statement} {made : List S.Statement} {i : ℕ} (along : AlongStatements start now written made i) where
   module _ (statement : Statement) (is : statement ≡ get_or written i statement) (within : i < length written) where
     rest_is : statements_of (map statement_tree (drop i written)) ≡ StatementThen (statement_tree statement) (statements_of (map statement_tree (drop (i + 1) written)))
     rest_is = ap (λ list. statements_of (map statement_tree list)) (drop_more written i statement within ∙ ap (λ one. one ∷ drop (i + 1) written) (sym is))
@@ -84,7 +76,7 @@ module _ {start now : Body} {written : List Statement} {made : List S.Statement}
         (fails_later _ (with_rest made) fault (fails_later _ _ fault
         (subst (λ setting. IfRefused (IsRefusalOf (statement_finding setting (point_of now) (statement_tree statement))) fault) (setting_same start now along.later) wrong)))
 
-    pub statement_right : (after : Body) (one : S.Statement) → statement_finding (setting_of now) (point_of now) (statement_tree statement) ≡ Ok (point_of after, statement_of one)
+    pub statement_right : (after : BodyScope) (one : S.Statement) → statement_finding (setting_of now) (point_of now) (statement_tree statement) ≡ Ok (point_of after, statement_of one)
         → IsLater now after → taken after ≤ taken now + statement_nodes (statement_tree statement)
         → AlongStatements start after written (made ++ one ∷ []) (i + 1)
     unfolding statements_finding
@@ -126,30 +118,18 @@ before_handler (one ∷ made) handler rest = ap (Catch one.at one.exception (blo
 abbrev pub with_handlers : List Handler → Point × Handlers → Finding (Point × Handlers)
 with_handlers made others = Ok (others.0, before_handlers made others.1)
 
-pub record AlongCatches (start now : Body) (written : List WrittenCatch) (made : List Handler) (i : ℕ) : Type 0 where
+pub record AlongCatches (start now : BodyScope) (written : List WrittenCatch) (made : List Handler) (i : ℕ) : Type 0 where
   pub on : and_then (catches_finding (setting_of start) (point_of now) (catches_of (map catch_tree (drop i written)))) (with_handlers made) ≡ catches_finding (setting_of start) (point_of start) (catches_of (map catch_tree written))
   pub later : IsLater start now
   pub few : taken now + catches_nodes (catches_of (map catch_tree (drop i written))) ≤ taken start + catches_nodes (catches_of (map catch_tree written))
   pub part : catches_nodes (catches_of (map catch_tree (drop i written))) ≤ catches_nodes (catches_of (map catch_tree written))
-
-no_handler_before : (found : Finding (Point × Handlers)) → and_then found (with_handlers []) ≡ found
-no_handler_before (Ok others) = refl
-no_handler_before (Err fault) = refl
 
 handler_before : (made : List Handler) (handler : Handler) (found : Finding (Point × Handlers))
     → and_then found (with_handlers (made ++ handler ∷ [])) ≡ and_then (and_then found (λ others. Ok (others.0, Catch handler.at handler.exception (block_of handler.body.items) others.1))) (with_handlers made)
 handler_before made handler (Ok others) = ap (λ handlers. Ok (others.0, handlers)) (before_handler made handler others.1)
 handler_before made handler (Err fault) = refl
 
-pub catches_start : (start : Body) (written : List WrittenCatch) (made : List Handler) → made ≡ [] → AlongCatches start start written made 0
-catches_start start written made none = subst (λ list. AlongCatches start start written list 0) (sym none) (record {
-  on = no_handler_before _;
-  later = later_same start;
-  few = omega arith;
-  part = omega arith;
-})
-
-module _ {start now : Body} {written : List WrittenCatch} {made : List Handler} {i : ℕ} (along : AlongCatches start now written made i) where
+module _ {start now : BodyScope} {written : List WrittenCatch} {made : List Handler} {i : ℕ} (along : AlongCatches start now written made i) where
   module _ (one : WrittenCatch) (is : one ≡ get_or written i one) (within : i < length written) where
     catches_are : catches_of (map catch_tree (drop i written)) ≡ CatchThen one.at (name_tree one.exception) (block_tree one.body) (catches_of (map catch_tree (drop (i + 1) written)))
     catches_are = ap (λ list. catches_of (map catch_tree list)) (drop_more written i one within ∙ ap (λ first. first ∷ drop (i + 1) written) (sym is))
@@ -177,7 +157,7 @@ module _ {start now : Body} {written : List WrittenCatch} {made : List Handler} 
           (fails_later _ (with_handlers made) fault (fails_second _ _ number fault found (fails_later _ _ fault
           (subst (λ setting. IfRefused (IsRefusalOf (block_finding setting (point_of now) (block_tree one.body))) fault) (setting_same start now along.later) wrong))))
 
-      pub catch_right : (after : Body) (handler : Handler) → handler.at ≡ one.exception.at → handler.exception ≡ number
+      pub catch_right : (after : BodyScope) (handler : Handler) → handler.at ≡ one.exception.at → handler.exception ≡ number
           → block_finding (setting_of now) (point_of now) (block_tree one.body) ≡ Ok (point_of after, block_of handler.body.items)
           → IsLater now after → taken after ≤ taken now + block_nodes (block_tree one.body)
           → AlongCatches start after written (made ++ handler ∷ []) (i + 1)

@@ -27,29 +27,6 @@ pub record Counts (slots : List Slot) (cells i : ℕ) : Type 0 where
 abbrev slot_cells : Slot → ℕ
 slot_cells slot = cell_count slot.size
 
-module _ {slots : List Slot} {cells i : ℕ} (counts : Counts slots cells i) where
-  next_counted : (slot : Slot) → slot ≡ get_or slots i slot → i < length slots
-      → cells_of_slots (drop i slots) ≡ cell_count slot.size + cells_of_slots (drop (i + 1) slots)
-  next_counted slot is within =
-      ap (λ rest. cells_of_slots rest) (drop_more slots i slot within)
-      ∙ sum_by-cons slot_cells (get_or slots i slot) (drop (i + 1) slots)
-      ∙ ap (λ (one : Slot). cell_count one.size + cells_of_slots (drop (i + 1) slots)) (sym is)
-
-  pub counts_further : (slot : Slot) (more : ℕ) → slot ≡ get_or slots i slot → i < length slots → more ≡ cell_count slot.size
-      → cells + more ≤ MAX_CELLS → Counts slots (cells + more) (i + 1)
-  counts_further slot more is within m few =
-      record { few = few; on = omega (arith, next_counted slot is within, counts.on, m) }
-
-  pub counts_over : (slot : Slot) (more : ℕ) → slot ≡ get_or slots i slot → i < length slots → more ≡ cell_count slot.size
-      → MAX_CELLS < cells + more → nat_le (cells_of_slots slots) MAX_CELLS ≡ false
-  counts_over slot more is within m over =
-      lt-leb (cells_of_slots slots) MAX_CELLS (omega (arith, next_counted slot is within, counts.on, m))
-
-  pub counts_all : length slots ≤ i → nat_le (cells_of_slots slots) MAX_CELLS ≡ true
-  counts_all all =
-      let none : cells_of_slots (drop i slots) ≡ 0 = ap (λ rest. cells_of_slots rest) (drop_all i slots all) in
-      le-leb (cells_of_slots slots) MAX_CELLS (omega (arith, counts.on, none, counts.few))
-
 -- a frame has the cells of its slots
 pub cells_of_frame : (labels : List Label) (slots : List Slot) → frame_cells (map (slot_entry labels) slots) ≡ cells_of_slots slots
 cells_of_frame labels [] = refl

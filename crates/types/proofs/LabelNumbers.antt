@@ -60,11 +60,6 @@ module _ (before after : List Label) (extended : Extends before after) where
       map_same (channel_entry after) (channel_entry before) _ channels
       (λ channel within i. record (channel_entry before channel) { label = same_label channel.label within i }) inside
 
-  -- globals
-  pub globals_still_inside : (globals : List GlobalVariable) → All (λ (global : GlobalVariable). IsInside before global.label) globals
-      → All (λ (global : GlobalVariable). IsInside after global.label) globals
-  globals_still_inside globals inside = All_weaker _ _ globals (λ global within. still_inside global.label within) inside
-
   pub same_globals : (globals : List GlobalVariable) → All (λ (global : GlobalVariable). IsInside before global.label) globals
       → map (global_entry after) globals ≡ map (global_entry before) globals
   same_globals globals inside =
@@ -124,13 +119,6 @@ module _ (before after : List Label) (extended : Extends before after) where
   pub same_procedures : (procedures : List Procedure) → All (λ (procedure : Procedure). IsProcedureInside before procedure) procedures
       → map (procedure_entry after) procedures ≡ map (procedure_entry before) procedures
   same_procedures procedures inside = map_same (procedure_entry after) (procedure_entry before) _ procedures same_procedure inside
-
-  -- all that the variables name
-  pub variables_still_inside : (globals : List GlobalVariable) (slots : List Slot) → AreInside before globals slots → AreInside after globals slots
-  variables_still_inside globals slots inside = record {
-    of_globals = globals_still_inside globals inside.of_globals;
-    of_slots = slots_still_inside slots inside.of_slots;
-  }
 
 -- ---- more labels
 

@@ -5,24 +5,13 @@ use Rattle.std.specs.Borrow.{Bor}
 use Rattle.std.specs.List.{list_any}
 use Rattle.std.proofs.lemmas.List.{take-append-le, drop-append-le, take-append-drop, length-take, map-append}
 use Rattle.std.proofs.Math.Seq.{take-length, drop-length}
-use Rattle.types.specs.declared.body.Body.{Body}
+use Rattle.types.specs.declared.body.BodyScope.{BodyScope}
 use Rattle.types.specs.Resolution.{heads}
 use Rattle.types.specs.Views.{IsLater, found_in, item_scope_of, setting_of, signature_view, texts_of, top_view, without}
 use Rattle.types.proofs.LabelNumbers.{extends_itself, extends_through}
 use Rattle.types.proofs.Tables.{without_both}
 
-pub later_same : (body : Body) → IsLater body body
-later_same body = record {
-  hierarchy = refl;
-  top = refl;
-  globals = refl;
-  labels = extends_itself body.variables.labels;
-  result = refl;
-  declared = take-length body.declared.items;
-  locals = λ name. ap (λ gone. without (texts_of gone) (found_in body.locals) name) (sym (drop-length body.declared.items));
-}
-
-pub later_through : (first second third : Body) → IsLater first second → IsLater second third → IsLater first third
+pub later_through : (first second third : BodyScope) → IsLater first second → IsLater second third → IsLater first third
 later_through first second third p q =
     let a = first.declared.items in
     let b = second.declared.items in
@@ -46,7 +35,7 @@ later_through first second third p q =
           ∙ ap (λ gone. without gone (found_in third.locals) name) since;
     }
 
-pub setting_same : (before after : Body) → IsLater before after → setting_of after ≡ setting_of before
+pub setting_same : (before after : BodyScope) → IsLater before after → setting_of after ≡ setting_of before
 setting_same before after later = λ i. record {
   hierarchy = later.hierarchy i;
   globals = later.globals i;
@@ -54,5 +43,5 @@ setting_same before after later = λ i. record {
   result = later.result i;
 }
 
-pub scope_same : (before after : Body) → IsLater before after → item_scope_of after ≡ item_scope_of before
+pub scope_same : (before after : BodyScope) → IsLater before after → item_scope_of after ≡ item_scope_of before
 scope_same before after later = λ i. heads (later.hierarchy i) (top_view (later.top i)) (later.globals i)

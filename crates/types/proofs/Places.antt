@@ -8,20 +8,20 @@ use Rattle.std.specs.BTreeMap.{BTreeMap, UpdatesBy, get, is_at}
 use Rattle.std.specs.Map.{lookup}
 use Rattle.std.specs.Ordering.{nat_cmp, is_eq}
 use Rattle.types.specs.declared.scope.Meaning.{Meaning}
-use Rattle.types.specs.declared.short_names.Place.{Place}
-use Rattle.types.specs.declared.short_names.Place.TheVariants as places
+use Rattle.types.specs.declared.short_names.Bucket.{Bucket}
+use Rattle.types.specs.declared.short_names.Bucket.TheVariants as places
 use Rattle.types.specs.declared.short_names.TheConstants.{NO_PLACES}
 use Rattle.types.specs.Places.{ArePlaces, found_by, place_of}
 use Rattle.types.proofs.ShortNames.{number_ties}
 
 -- what a place knows of a number while these entries are still to come
-abbrev pub IsKnown : Place → ℕ → BTreeMap ℕ Meaning → List (ℕ × Meaning) → Type 0
+abbrev pub IsKnown : Bucket → ℕ → BTreeMap ℕ Meaning → List (ℕ × Meaning) → Type 0
 IsKnown places.Free number meanings rest = get nat_cmp meanings number ≡ lookup (is_at (nat_cmp number)) rest
 IsKnown places.Open number meanings rest = Unit {0}
 IsKnown (places.Taken kept meaning) number meanings rest = kept ≡ number → Some meaning ≡ get nat_cmp meanings number
 
 -- a table that is filled
-pub known_tells : (place : Place) (number : ℕ) (meanings : BTreeMap ℕ Meaning) → IsKnown place number meanings [] → found_by place number meanings ≡ get nat_cmp meanings number
+pub known_tells : (place : Bucket) (number : ℕ) (meanings : BTreeMap ℕ Meaning) → IsKnown place number meanings [] → found_by place number meanings ≡ get nat_cmp meanings number
 known_tells places.Free number meanings known = sym known
 known_tells places.Open number meanings known = refl
 known_tells (places.Taken kept meaning) number meanings known = by (kept == number) refl
@@ -33,7 +33,7 @@ known_tells (places.Taken kept meaning) number meanings known = by (kept == numb
 -- ---- a place that is set
 
 -- what holds of the new place at its index, of the old ones elsewhere, and of a place that is none
-set_place : (table : List Place) (i j : ℕ) (place : Place) (P : Place → Type 0) → (j ≡ i → P place) → ((j ≡ i → ⊥) → P (get_or table j places.Open)) → P places.Open
+set_place : (table : List Bucket) (i j : ℕ) (place : Bucket) (P : Bucket → Type 0) → (j ≡ i → P place) → ((j ≡ i → ⊥) → P (get_or table j places.Open)) → P places.Open
     → P (get_or (set table i place) j places.Open)
 set_place table i j place P here elsewhere unknown = by (j == i) (nat_lt i (length table)) refl refl
   where
@@ -51,7 +51,7 @@ set_place table i j place P here elsewhere unknown = by (j == i) (nat_lt i (leng
         subst P (sym (get_or_past (set table i place) j places.Open (omega (arith, past, long, same)))) unknown
 
 -- a place that tells of a number what the map said of it, where the map says that still
-tells_still : (place : Place) (number : ℕ) (old new : BTreeMap ℕ Meaning) → get nat_cmp new number ≡ get nat_cmp old number
+tells_still : (place : Bucket) (number : ℕ) (old new : BTreeMap ℕ Meaning) → get nat_cmp new number ≡ get nat_cmp old number
     → found_by place number old ≡ get nat_cmp old number → found_by place number new ≡ get nat_cmp new number
 tells_still places.Free number old new same tells = tells ∙ sym same
 tells_still places.Open number old new same tells = refl
@@ -62,7 +62,7 @@ tells_still (places.Taken kept meaning) number old new same tells = by (kept == 
     by false e = refl
 
 -- the map changes at a number, and its place is set to one that tells of all that lead there what the map says now
-places_after : (shift n : ℕ) (table : List Place) (old new : BTreeMap ℕ Meaning) (w : Option Meaning) (place : Place) → ArePlaces shift table old → UpdatesBy nat_cmp (nat_cmp n) old new w
+places_after : (shift n : ℕ) (table : List Bucket) (old new : BTreeMap ℕ Meaning) (w : Option Meaning) (place : Bucket) → ArePlaces shift table old → UpdatesBy nat_cmp (nat_cmp n) old new w
     → ((number : ℕ) → found_by place number new ≡ get nat_cmp new number) → ArePlaces shift (set table (place_of shift n) place) new
 places_after shift n table old new w place told updates new_tells = record {
   few = told.few;
@@ -78,20 +78,20 @@ places_after shift n table old new w place told updates new_tells = record {
         by false same = refl
         by true same = absurd (apart (same refl))
 
-pub places_with : (shift n : ℕ) (table : List Place) (old new : BTreeMap ℕ Meaning) (meaning : Meaning) → ArePlaces shift table old → UpdatesBy nat_cmp (nat_cmp n) old new (Some meaning)
+pub places_with : (shift n : ℕ) (table : List Bucket) (old new : BTreeMap ℕ Meaning) (meaning : Meaning) → ArePlaces shift table old → UpdatesBy nat_cmp (nat_cmp n) old new (Some meaning)
     → ArePlaces shift (set table (place_of shift n) (places.Taken n meaning)) new
 places_with shift n table old new meaning told updates = places_after shift n table old new (Some meaning) (places.Taken n meaning) told updates (λ number. known_tells (places.Taken n meaning) number new (λ same. sym updates.1 ∙ ap (get nat_cmp new) same))
 
-pub places_without : (shift n : ℕ) (table : List Place) (old new : BTreeMap ℕ Meaning) → ArePlaces shift table old → UpdatesBy nat_cmp (nat_cmp n) old new None
+pub places_without : (shift n : ℕ) (table : List Bucket) (old new : BTreeMap ℕ Meaning) → ArePlaces shift table old → UpdatesBy nat_cmp (nat_cmp n) old new None
     → ArePlaces shift (set table (place_of shift n) places.Open) new
 places_without shift n table old new told updates = places_after shift n table old new None places.Open told updates (λ number. refl)
 
 -- ---- a table that is filled
 
-abbrev pub AreKnown : (shift : ℕ) (table : List Place) (meanings : BTreeMap ℕ Meaning) (rest : List (ℕ × Meaning)) → Type 0
+abbrev pub AreKnown : (shift : ℕ) (table : List Bucket) (meanings : BTreeMap ℕ Meaning) (rest : List (ℕ × Meaning)) → Type 0
 AreKnown shift table meanings rest = (number : ℕ) → IsKnown (get_or table (place_of shift number) places.Open) number meanings rest
 
-known_still : (place : Place) (number : ℕ) (meanings : BTreeMap ℕ Meaning) (next : ℕ × Meaning) (rest : List (ℕ × Meaning)) → is_eq (nat_cmp number next.0) ≡ false
+known_still : (place : Bucket) (number : ℕ) (meanings : BTreeMap ℕ Meaning) (next : ℕ × Meaning) (rest : List (ℕ × Meaning)) → is_eq (nat_cmp number next.0) ≡ false
     → IsKnown place number meanings (next ∷ rest) → IsKnown place number meanings rest
 known_still places.Free number meanings next rest apart known = known ∙ ap (λ b. cond b (Some next.1) (lookup (is_at (nat_cmp number)) rest)) apart
 known_still places.Open number meanings next rest apart known = tt
@@ -110,12 +110,12 @@ known_start shift count meanings number = by (place_of shift number)
             let long = length-replicate count places.Free in
             subst (λ place. IsKnown place number meanings meanings.entries) (sym (get_or_past (replicate count places.Free) at places.Open (omega (arith, past, long)))) tt
 
-pub known_filled : (shift k n : ℕ) (front table : List Place) (meanings : BTreeMap ℕ Meaning) → front ≡ [] → table ≡ take k front ++ replicate n places.Free → AreKnown shift table meanings meanings.entries
+pub known_filled : (shift k n : ℕ) (front table : List Bucket) (meanings : BTreeMap ℕ Meaning) → front ≡ [] → table ≡ take k front ++ replicate n places.Free → AreKnown shift table meanings meanings.entries
 known_filled shift k n front table meanings none filled =
     let same : table ≡ replicate n places.Free = filled ∙ ap (λ xs. take k xs ++ replicate n places.Free) none ∙ ap (λ xs. xs ++ replicate n places.Free) (take-nil k) in
     subst (λ t. AreKnown shift t meanings meanings.entries) (sym same) (known_start shift n meanings)
 
-pub known_next : (shift : ℕ) (table : List Place) (meanings : BTreeMap ℕ Meaning) (next : ℕ × Meaning) (rest : List (ℕ × Meaning)) → AreKnown shift table meanings (next ∷ rest)
+pub known_next : (shift : ℕ) (table : List Bucket) (meanings : BTreeMap ℕ Meaning) (next : ℕ × Meaning) (rest : List (ℕ × Meaning)) → AreKnown shift table meanings (next ∷ rest)
     → get nat_cmp meanings next.0 ≡ Some next.1 → AreKnown shift (set table (place_of shift next.0) (places.Taken next.0 next.1)) meanings rest
 known_next shift table meanings next rest known found number = set_place table (place_of shift next.0) (place_of shift number) (places.Taken next.0 next.1) (λ p. IsKnown p number meanings rest)
     (λ _ same. sym found ∙ ap (get nat_cmp meanings) same)
@@ -128,14 +128,14 @@ known_next shift table meanings next rest known found number = set_place table (
         by false same = refl
         by true same = absurd (apart (same refl))
 
-pub known_places : (shift : ℕ) (table : List Place) (meanings : BTreeMap ℕ Meaning) → shift ≤ NO_PLACES → AreKnown shift table meanings [] → ArePlaces shift table meanings
+pub known_places : (shift : ℕ) (table : List Bucket) (meanings : BTreeMap ℕ Meaning) → shift ≤ NO_PLACES → AreKnown shift table meanings [] → ArePlaces shift table meanings
 known_places shift table meanings few known = record {
   few = few;
   tells = λ number. known_tells (get_or table (place_of shift number) places.Open) number meanings (known number);
 }
 
 -- what a place tells that is taken by the number
-pub taken_tells : (place : Place) (kept number : ℕ) (meaning : Meaning) (meanings : BTreeMap ℕ Meaning) → place ≡ places.Taken kept meaning → kept ≡ number
+pub taken_tells : (place : Bucket) (kept number : ℕ) (meaning : Meaning) (meanings : BTreeMap ℕ Meaning) → place ≡ places.Taken kept meaning → kept ≡ number
     → found_by place number meanings ≡ get nat_cmp meanings number → Some meaning ≡ get nat_cmp meanings number
 taken_tells place kept number meaning meanings is same tells = by (kept == number) refl (ap (λ p. found_by p number meanings) (sym is) ∙ tells)
   where

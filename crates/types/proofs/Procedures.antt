@@ -119,11 +119,6 @@ throws_few (thrown ∷ rest) = let few = throws_few rest in omega (arith, few, s
 pub throws_need : {X : Type 0} (tree : X → ThrownTree) (lent all : List X) → lent ≡ all → length lent ≤ sum_by thrown_nodes (map tree all)
 throws_need tree lent all are = let few = throws_few (map tree all) in omega (arith, few, length-map all tree, ap length are)
 
-pub begin_wrong : (scope : LabelScope) (signatures : List Signature) (procedure : ProcedureTree) (result : Option ResultEntry) → result_finding scope procedure.result ≡ Ok result
-    → (fault : OrNoMemory TypeRefusal) → IfRefused (IsRefusalOf (optional_label_finding scope procedure.begin)) fault → IfRefused (IsRefusalOf (procedure_entry_finding scope signatures procedure)) fault
-unfolding procedure_entry_finding
-begin_wrong scope signatures procedure result valued fault wrong = fails_second _ _ result fault valued (fails_later _ _ fault wrong)
-
 module _ (scope : LabelScope) (signatures : List Signature) (procedure : ProcedureTree) (result : Option ResultEntry) (begin : Option Label)
     (valued : result_finding scope procedure.result ≡ Ok result) (begun : optional_label_finding scope procedure.begin ≡ Ok begin) where
   pub parameters_wrong : (fault : OrNoMemory TypeRefusal) → IfRefused (IsRefusalOf (parameters_finding scope procedure.parameters)) fault → IfRefused (IsRefusalOf (procedure_entry_finding scope signatures procedure)) fault

@@ -68,6 +68,9 @@ digits_below [] n all l = scale_above_one n
 digits_below (b ∷ bs) zero all l = absurd (omega (arith, l))
 digits_below (b ∷ bs) (suc n) all l = omega (arith, first_is_byte b bs all, digits_below bs n (others_are_bytes b bs all) (omega (arith, l)))
 
+pub digits_fit_word : (name : List ℕ) → are_bytes name ≡ true → length name ≤ 6 → digits name < 2 ^ 49
+digits_fit_word name all l = digits_below name 6 all l
+
 pub digits_fit : (name : List ℕ) → are_bytes name ≡ true → length name ≤ 14 → digits name < 2 ^ 113
 digits_fit name all l = digits_below name 14 all l
 

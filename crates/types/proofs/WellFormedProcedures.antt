@@ -176,7 +176,7 @@ pub record IsWellFormedProcedure (h : PrincipalHierarchy) (top : TopLevel) (writ
   pub few : procedure_nodes entry ≤ tree.procedure_nodes written
 
 -- a procedure of a program, which gives a value of the type that is wanted
-record Place (h : PrincipalHierarchy) (top : TopLevel) (result : Option Base) : Type 0 where
+record Bucket (h : PrincipalHierarchy) (top : TopLevel) (result : Option Base) : Type 0 where
   pub program : Program
   pub procedure : ProcedureEntry
   pub value : given_base procedure.result ≡ result
@@ -188,10 +188,10 @@ setting_for h top globals written = setting_within (heads h top globals) top.sig
 record AreWellFormedParts (h : PrincipalHierarchy) (top : TopLevel) (globals : List GlobalEntry) (written : ProcedureTree) (result : Option ResultEntry) (begin : Option Label) (point : Point) (end : Option Label) (throws : List ThrownEntry) (done : Point × Block) : Type 0 where
   pub result_there : (result_fits h result ≡ true) × (given_base result ≡ result_base_of written.result)
   pub begin_there : written_fits h begin ≡ true
-  pub begun : (place : Place h top (result_base_of written.result)) → Begun place.program place.procedure (setting_for h top globals written) top.names (map parameter_base written.parameters) point
+  pub begun : (place : Bucket h top (result_base_of written.result)) → Begun place.program place.procedure (setting_for h top globals written) top.names (map parameter_base written.parameters) point
   pub end_there : written_fits h end ≡ true
-  pub throws_kept : (place : Place h top (result_base_of written.result)) → AreWellFormedThrows place.program place.procedure top.signatures h top.names (sum_by tree.thrown_nodes written.throws) throws
-  pub done_kept : (place : Place h top (result_base_of written.result)) → IsWellFormedBlock place.program place.procedure (setting_for h top globals written) point (tree.block_nodes written.body) done
+  pub throws_kept : (place : Bucket h top (result_base_of written.result)) → AreWellFormedThrows place.program place.procedure top.signatures h top.names (sum_by tree.thrown_nodes written.throws) throws
+  pub done_kept : (place : Bucket h top (result_base_of written.result)) → IsWellFormedBlock place.program place.procedure (setting_for h top globals written) point (tree.block_nodes written.body) done
 
 abbrev entry_with : ProcedureTree → Option ResultEntry → Option Label → Option Label → List ThrownEntry → Point × Block → ProcedureEntry
 entry_with written result begin end throws done = record {
@@ -220,7 +220,7 @@ module _ (h : PrincipalHierarchy) (top : TopLevel) (globals : List GlobalEntry) 
 
   parts_fit : (world : World h top) → nat_le (frame_cells done.0.slots) MAX_CELLS ≡ true → procedure_fits world.program entry ≡ true
   parts_fit world few_cells =
-      let place : Place h top (result_base_of written.result) = record { program = world.program; procedure = entry; value = parts.result_there.1 } in
+      let place : Bucket h top (result_base_of written.result) = record { program = world.program; procedure = entry; value = parts.result_there.1 } in
       let begun = parts.begun place in
       let kept = parts.done_kept place in
       let thrown = parts.throws_kept place in
@@ -260,7 +260,7 @@ module _ (h : PrincipalHierarchy) (top : TopLevel) (globals : List GlobalEntry) 
   -- the rest does not depend on the program
   parts_signed : (program : Program) → Signed entry (signature_of written)
   parts_signed program =
-      let place : Place h top (result_base_of written.result) = record { program = program; procedure = entry; value = parts.result_there.1 } in
+      let place : Bucket h top (result_base_of written.result) = record { program = program; procedure = entry; value = parts.result_there.1 } in
       let begun = parts.begun place in
       let kept = parts.done_kept place in
       let long : length (map slot_base point.slots) ≡ length (map parameter_base written.parameters) = ap length begun.bases_are in
@@ -272,7 +272,7 @@ module _ (h : PrincipalHierarchy) (top : TopLevel) (globals : List GlobalEntry) 
 
   parts_few : (program : Program) → procedure_nodes entry ≤ tree.procedure_nodes written
   parts_few program =
-      let place : Place h top (result_base_of written.result) = record { program = program; procedure = entry; value = parts.result_there.1 } in
+      let place : Bucket h top (result_base_of written.result) = record { program = program; procedure = entry; value = parts.result_there.1 } in
       let begun = parts.begun place in
       let kept = parts.done_kept place in
       let thrown = parts.throws_kept place in
@@ -299,7 +299,7 @@ unfolding procedure_entry_finding parameters_finding throws_finding
 procedure_keeps placed word h top globals globals_fit written is =
     let setting = setting_for h top globals written in
     let scope = heads h top globals in
-    let Here = Place h top (result_base_of written.result) in
+    let Here = Bucket h top (result_base_of written.result) in
     let begin_point : Point = record { names = top.names; slots = []; loops = 0 } in
     then_finds (result_finding scope written.result) _ (λ found. (result_fits h found ≡ true) × (given_base found ≡ result_base_of written.result)) _
     (result_there scope globals_fit refl written.result) (λ result result_is.

@@ -29,11 +29,6 @@ module _ (items : List Item) (i : ℕ) (item : Item) (is : item ≡ get_or items
   same : get_or (map item_tree items) i (item_tree item) ≡ item_tree item
   same = get_or-map item_tree items i item (item_tree item) within ∙ sym (ap item_tree is)
 
-  pub item_within : item_nodes (item_tree item) ≤ sum_by item_nodes (map item_tree items)
-  item_within =
-      subst (λ tree. item_nodes tree ≤ sum_by item_nodes (map item_tree items)) same
-      (get_or-le-sum_by item_nodes (map item_tree items) i (item_tree item) inside)
-
   pub item_written : (fits : ℕ → Type 0) (word : List ℕ → Type 0) → All (IsWrittenItem fits word IsInteger) (map item_tree items) → IsWrittenItem fits word IsInteger (item_tree item)
   item_written fits word all =
       subst (IsWrittenItem fits word IsInteger) same

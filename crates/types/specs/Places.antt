@@ -4,8 +4,8 @@ use Rattle.std.specs.Prelude.{◌≡◌, ℕ, ◌+◌, ◌*◌, ◌/◌, ◌%◌
 use Rattle.std.specs.BTreeMap.{BTreeMap, get}
 use Rattle.std.specs.Ordering.{nat_cmp}
 use Rattle.types.specs.declared.scope.Meaning.{Meaning}
-use Rattle.types.specs.declared.short_names.Place.{Place}
-use Rattle.types.specs.declared.short_names.Place.TheVariants as places
+use Rattle.types.specs.declared.short_names.Bucket.{Bucket}
+use Rattle.types.specs.declared.short_names.Bucket.TheVariants as places
 use Rattle.types.specs.declared.short_names.TheConstants.{NO_PLACES}
 
 -- a hash of a number, of which the place is the upper bits
@@ -20,12 +20,12 @@ abbrev pub place_of : (shift number : ℕ) → ℕ
 place_of shift number = mixed number % 4294967296 / 2 ^ shift
 
 -- what is found of a number by its place, and by the map where the place does not tell
-abbrev pub found_by : Place → ℕ → BTreeMap ℕ Meaning → Option Meaning
+abbrev pub found_by : Bucket → ℕ → BTreeMap ℕ Meaning → Option Meaning
 found_by places.Free number meanings = None
 found_by places.Open number meanings = get nat_cmp meanings number
 found_by (places.Taken kept meaning) number meanings = if kept == number then Some meaning else get nat_cmp meanings number
 
 -- of each number its place finds what the map finds
-pub record ArePlaces (shift : ℕ) (table : List Place) (meanings : BTreeMap ℕ Meaning) : Type 0 where
+pub record ArePlaces (shift : ℕ) (table : List Bucket) (meanings : BTreeMap ℕ Meaning) : Type 0 where
   pub few : shift ≤ NO_PLACES
   pub tells : (number : ℕ) → found_by (get_or table (place_of shift number) places.Open) number meanings ≡ get nat_cmp meanings number

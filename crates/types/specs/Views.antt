@@ -23,7 +23,7 @@ use Rattle.labels.specs.LabelTable.{Extends}
 use Rattle.resolved.specs.Program.{SlotEntry, ThrownEntry}
 use Rattle.resolved.specs.ProgramOf.{channel_entry, slot_entry, thrown_entry, procedure_entry}
 use Rattle.resolved.specs.TreeOf.{expression_of, block_of, handlers_of}
-use Rattle.types.specs.declared.body.Body.{Body}
+use Rattle.types.specs.declared.body.BodyScope.{BodyScope}
 use Rattle.types.specs.declared.expression.TypedExpression.{TypedExpression}
 use Rattle.common.specs.Answers.{Answers}
 use Rattle.common.specs.declared.fault.OrNoMemory.{OrNoMemory}
@@ -121,13 +121,13 @@ new_slot_entry labels slot = record {
   name = string_bytes slot.name;
 }
 
-abbrev pub names_of : Body → Environment
+abbrev pub names_of : BodyScope → Environment
 names_of body name = or_else (found_in body.locals name) (found_in body.top.now.names name)
 
-abbrev pub signatures_of : Body → List Signature
+abbrev pub signatures_of : BodyScope → List Signature
 signatures_of body = map signature_view body.top.now.signatures.items
 
-abbrev pub setting_of : Body → Setting
+abbrev pub setting_of : BodyScope → Setting
 setting_of body = record {
   hierarchy = body.hierarchy.now;
   globals = body.variables.globals;
@@ -135,16 +135,16 @@ setting_of body = record {
   result = body.result;
 }
 
-abbrev pub point_of : Body → Point
+abbrev pub point_of : BodyScope → Point
 point_of body = record { names = names_of body; slots = body.variables.slots; loops = body.loops }
 
 -- what the labels of the procedure before its body may name
-abbrev pub item_scope_of : Body → LabelScope
+abbrev pub item_scope_of : BodyScope → LabelScope
 item_scope_of body = heads body.hierarchy.now (top_view body.top.now) body.variables.globals
 
 -- a later point of the same body: what was declared there is declared still and stands first, the table of locals says what it said
 -- there, but for the names that were declared since, and labels keep their numbers
-pub record IsLater (before after : Body) : Type 0 where
+pub record IsLater (before after : BodyScope) : Type 0 where
   pub hierarchy : after.hierarchy.now ≡ before.hierarchy.now
   pub top : after.top.now ≡ before.top.now
   pub globals : after.variables.globals ≡ before.variables.globals
@@ -154,7 +154,7 @@ pub record IsLater (before after : Body) : Type 0 where
   pub locals : (name : List ℕ) → found_in before.locals name ≡ without (texts_of (drop (length before.declared.items) after.declared.items)) (found_in after.locals) name
 
 -- what is found together with the point behind it
-abbrev pub at_point : {X A : Type 0} → Body → (X → A) → X → Point × A
+abbrev pub at_point : {X A : Type 0} → BodyScope → (X → A) → X → Point × A
 at_point body view x = (point_of body, view x)
 
 abbrev pub typed_view : TypedExpression → Typed
@@ -186,7 +186,7 @@ tables_view tables = record {
 }
 
 -- how many labels and slots there are and loops have begun: never more than there are nodes, so that their numbers have 32 bits
-abbrev pub taken : Body → ℕ
+abbrev pub taken : BodyScope → ℕ
 taken body = length body.variables.labels + (length body.variables.slots + body.loops)
 
 -- the cells of these slots

@@ -1,6 +1,6 @@
 //! Statements, and the blocks and handlers that they hold.
 
-ghost use Rattle.types.specs.Statements.{block_finding, catches_finding, statement_finding, statements_finding};
+ghost use Rattle.types.specs.Statements.{behind_block, block_finding, catches_finding, statement_finding, statements_finding};
 ghost use Rattle.types.specs.Views.{Resolves, IsLater, at_point, block_view, handlers_view, point_of, setting_of, taken};
 ghost use Rattle.resolved.specs.TreeOf.{statement_of};
 ghost use Rattle.std.specs.Prelude.{OnOk, map, ◌+◌, ◌<◌, ◌≡◌, ◌≤◌};
@@ -8,7 +8,7 @@ ghost use Rattle.syntax.specs.Limits.{most_nodes};
 ghost use Rattle.syntax.specs.Nodes.{block_nodes, catches_nodes, statement_nodes, statements_nodes};
 ghost use Rattle.syntax.specs.Tree.{NestedTree, TryTree, WhileTree, block_tree, catch_tree, catches_of, expression_tree, if_tree, optional_block_tree, statement_tree, statements_of};
 
-use crate::body::Body;
+use crate::body::BodyScope;
 use crate::fault::TypeFault;
 use crate::operator::base_of;
 use crate::scope::{remove_all, require_exception};
@@ -16,7 +16,7 @@ use resolved::expression::Base;
 use resolved::statement::{Exit, Handler, Statement};
 use syntax::{Block, Catch};
 
-impl<'a, 'n> Body<'a, 'n> {
+impl<'a, 'n> BodyScope<'a, 'n> {
     /// Resolves a block. Its locals are in scope to its end and keep their slots; behind it the names from before it are in scope
     /// again. Precondition: slots and loops stay within the most nodes of a program.
     ///
@@ -40,6 +40,26 @@ impl<'a, 'n> Body<'a, 'n> {
         Ok(made)
     }
 
+    /// Resolves the body of a procedure, behind which no name is looked up: its locals need not be taken out.
+    ///
+    /// # Errors
+    ///
+    /// As of a block.
+    #[tactic(auto, unfolding(crate::specs::Statements::block_finding))]
+    pub fn resolve_body(&mut self, written: &Block<'n>) -> Result<Vec<Statement>, TypeFault>
+        requires room { taken self.old + block_nodes (block_tree written.now) < most_nodes }
+        ensures made { Resolves (λ body. (
+          behind_block (point_of self.old) (point_of self.new),
+          block_view body,
+        )) result
+            (block_finding (setting_of self.old) (point_of self.old) (block_tree written.now)) }
+        ensures later { OnOk result (IsLater self.old self.new) }
+        ensures grows { OnOk result (taken self.new ≤
+            taken self.old + block_nodes (block_tree written.now)) }
+    {
+        self.resolve_statements(&written.statements)
+    }
+
     /// The statements of a block.
     #[cycle(block)]
     fn resolve_statements(
@@ -55,7 +75,7 @@ impl<'a, 'n> Body<'a, 'n> {
         ensures grows { OnOk result (taken self.new ≤
             taken self.old + statements_nodes (statements_of (map statement_tree written.now))) }
     {
-        let mut made = Vec::new(self.alloc);
+        let mut made = Vec::with_capacity(self.alloc, written.len())?;
         for statement in written {
             made.push(self.resolve_statement(statement)?)?;
         }
@@ -74,7 +94,7 @@ impl<'a, 'n> Body<'a, 'n> {
         ensures grows { OnOk result (taken self.new ≤
             taken self.old + catches_nodes (catches_of (map catch_tree written.now))) }
     {
-        let mut handlers = Vec::new(self.alloc);
+        let mut handlers = Vec::with_capacity(self.alloc, written.len())?;
         for one in written {
             let name = &one.exception;
             let number = require_exception(self.look_up(name), name.at)?;

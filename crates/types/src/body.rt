@@ -21,7 +21,7 @@ use syntax::Name;
 /// and locals have taken, also those of blocks that have ended, the parameters and locals in scope, in a table and again in the
 /// order in which they were declared, and how many loops have begun.
 #[derive(Drop)]
-pub struct Body<'a, 'n> {
+pub struct BodyScope<'a, 'n> {
     pub alloc: Global,
     pub hierarchy: &'a Hierarchy,
     pub top: &'a TopNames,
@@ -32,13 +32,13 @@ pub struct Body<'a, 'n> {
     pub loops: u32,
 }
 
-impl<'a, 'n> Body<'a, 'n> {
+impl<'a, 'n> BodyScope<'a, 'n> {
     /// The point before the first parameter.
     pub fn new(
         place: &ItemPlace<'a>,
         variables: DeclaredVariables,
         value: Option<Base>,
-    ) -> Body<'a, 'n>
+    ) -> BodyScope<'a, 'n>
         ensures setting { setting_of result ≡
             record {
               hierarchy = place.now.hierarchy.now;
@@ -52,7 +52,7 @@ impl<'a, 'n> Body<'a, 'n> {
         ensures variables { result.variables ≡ variables }
         ensures taken { taken result ≡ length variables.labels + length variables.slots }
     {
-        Body {
+        BodyScope {
             alloc: place.alloc,
             hierarchy: place.hierarchy,
             top: place.top,

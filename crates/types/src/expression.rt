@@ -6,7 +6,7 @@ ghost use Rattle.resolved.specs.TreeOf.{expression_of};
 ghost use Rattle.std.specs.Prelude.{ℕ, ◌≡◌};
 ghost use Rattle.syntax.specs.Tree.{BinaryTree, ElementTree, UnaryTree, expression_tree, name_tree};
 
-use crate::body::Body;
+use crate::body::BodyScope;
 use crate::fault::{TypeDefect, TypeFault, TypeRefusal};
 use crate::operator::{
     base_of_prefix, combine, is_same, operands_base, prefix_of, use_of, value_base,
@@ -52,7 +52,7 @@ impl TypedExpression {
     }
 }
 
-impl<'a, 'n> Body<'a, 'n> {
+impl<'a, 'n> BodyScope<'a, 'n> {
     /// Resolves an expression, and finds the type of its values. Operands are resolved from the left.
     ///
     /// # Errors
@@ -161,7 +161,7 @@ impl<'a, 'n> Body<'a, 'n> {
     ///
     /// # Errors
     ///
-    /// What [`Body::resolve_expression`] reports of it, and then 401 where its values have another type; or out of memory.
+    /// What [`BodyScope::resolve_expression`] reports of it, and then 401 where its values have another type; or out of memory.
     #[tactic(auto, unfolding(crate::specs::Expressions::typed_finding))]
     pub fn type_expression(
         &self,

@@ -12,7 +12,7 @@ ghost use Rattle.syntax.specs.Limits.{most_nodes};
 ghost use Rattle.syntax.specs.Nodes.{optional_label_nodes, procedure_nodes, written_result_nodes};
 ghost use Rattle.syntax.specs.Tree.{written_result_tree, parameter_tree, procedure_tree, thrown_tree};
 
-use crate::body::Body;
+use crate::body::BodyScope;
 use crate::fault::{TypeDefect, TypeFault, TypeRefusal};
 use crate::label::ItemPlace;
 use crate::operator::base_of;
@@ -55,7 +55,7 @@ fn resolve_result(
     }
 }
 
-impl<'a, 'n> Body<'a, 'n> {
+impl<'a, 'n> BodyScope<'a, 'n> {
     /// Declares the next parameter.
     fn declare_parameter(&mut self, written: &Parameter<'n>) -> Result<(), TypeFault>
         requires room { taken self.old < most_nodes }
@@ -242,13 +242,13 @@ pub fn resolve_procedure(
     let value = resolve_result(place, &mut variables, &written.result)?;
     let begin = place.add_optional_label(&mut variables, &written.begin)?;
     let begin_label = make_begin_label(&variables, begin);
-    let mut body = Body::new(place, variables, result_of(&written.result));
+    let mut body = BodyScope::new(place, variables, result_of(&written.result));
     body.declare_parameters(&written.parameters)?;
     let end = place.add_optional_label(&mut body.variables, &written.end)?;
     let throws = resolve_throws(place, &mut body.variables, &written.throws)?;
     let end_label = make_end_label(place.alloc, &mut body.variables, end, begin_label, &throws)?;
-    let statements = body.resolve_block(&written.body)?;
-    let Body {
+    let statements = body.resolve_body(&written.body)?;
+    let BodyScope {
         mut variables,
         loops,
         ..

@@ -5,7 +5,7 @@ ghost use Rattle.types.specs.Finding.{give};
 ghost use Rattle.types.specs.Views.{Resolves, array_use, found_in, itself, scalar_use, texts_of, without};
 ghost use Rattle.types.specs.Resolution.{nothing_declared};
 ghost use Rattle.types.specs.ShortNames as spec;
-ghost use Rattle.std.specs.Prelude.{OnOk, List, [], ◌∷◌, ◌≡◌, None, ℕ};
+ghost use Rattle.std.specs.Prelude.{OnOk, List, [], ◌∷◌, ◌≡◌, ◌≤◌, None, length, true, ℕ};
 
 use crate::fault::{TypeDefect, TypeFault, TypeRefusal};
 use crate::short_names::ShortNames;
@@ -16,6 +16,9 @@ use std::collections::BTreeMap;
 
 /// The most bytes of a short name.
 pub const MOST_SHORT: usize = 15;
+
+/// The most bytes of a name whose number fits 64 bits.
+const MOST_IN_WORD: usize = 7;
 
 /// What a name stands for. Channels are numbered in their order, inputs and outputs together; so are globals, procedures and
 /// exceptions, of which 0, 1 and 2 are `Arith`, `Bounds` and `End`; a local has the number of its slot.
@@ -66,10 +69,28 @@ impl Names {
     }
 }
 
+/// The number of a name that fits a word.
+fn word_of(name: &[u8]) -> u64
+    requires { length name.now ≤ MOST_IN_WORD }
+    ensures value { result ≡ spec.digits name.now }
+    ensures bytes { spec.are_bytes name.now ≡ true }
+{
+    let mut number = 1;
+    let mut at = name.len();
+    while at > 0 {
+        at -= 1;
+        number = number * 256 + name[at] as u64;
+    }
+    number
+}
+
 /// The number of a short name: its bytes are the digits, the first one the last digit, behind a 1.
 fn number_of(name: &[u8]) -> Option<u128>
     ensures { result ≡ spec.number_of name.now }
 {
+    if name.len() <= MOST_IN_WORD {
+        return Some(word_of(name) as u128);
+    }
     if name.len() > MOST_SHORT {
         return None;
     }

@@ -17,7 +17,7 @@ pub const MOST_PLACES: u32 = 16;
 
 /// What a place knows of the numbers that lead to it.
 #[derive(Clone, Copy, Debug)]
-pub enum Place {
+pub enum Bucket {
     /// None of them stands for anything.
     Free,
     /// They are looked up in the map.
@@ -31,7 +31,7 @@ pub enum Place {
 #[derive(Drop)]
 pub struct ShortNames {
     pub meanings: BTreeMap<u128, Meaning>,
-    pub places: Vec<Place>,
+    pub places: Vec<Bucket>,
     pub shift: u32,
     ghost told: { ArePlaces shift places.items meanings },
 }
@@ -51,7 +51,7 @@ fn place_of(number: u128, shift: u32) -> usize
 }
 
 /// Sets a place, if the table has it.
-fn set_place(places: &mut Vec<Place>, at: usize, place: Place)
+fn set_place(places: &mut Vec<Bucket>, at: usize, place: Bucket)
     ensures { places.new.items ≡ slice_set places.old.items at place }
 {
     if let Some(old) = places.get_mut(at) {
@@ -76,8 +76,8 @@ impl ShortNames {
         ensures { result ≡ get nat_cmp self.now.meanings number }
     {
         match self.places.get(place_of(number, self.shift)) {
-            Some(Place::Free) => None,
-            Some(Place::Taken(kept, meaning)) if *kept == number => Some(*meaning),
+            Some(Bucket::Free) => None,
+            Some(Bucket::Taken(kept, meaning)) if *kept == number => Some(*meaning),
             _ => self.meanings.get(&number).copied(),
         }
     }
@@ -89,7 +89,7 @@ impl ShortNames {
             (Some meaning)) }
     {
         self.meanings.insert(number, meaning)?;
-        let place = Place::Taken(number, meaning);
+        let place = Bucket::Taken(number, meaning);
         set_place(&mut self.places, place_of(number, self.shift), place);
         Ok(())
     }
@@ -131,7 +131,7 @@ impl ShortNames {
             None }
     {
         self.meanings.remove(&number);
-        set_place(&mut self.places, place_of(number, self.shift), Place::Open);
+        set_place(&mut self.places, place_of(number, self.shift), Bucket::Open);
     }
 }
 
@@ -140,14 +140,14 @@ fn spread(
     alloc: Global,
     shift: u32,
     meanings: &BTreeMap<u128, Meaning>,
-) -> Result<Vec<Place>, AllocError>
+) -> Result<Vec<Bucket>, AllocError>
     requires { shift ≤ NO_PLACES }
     ensures { IfOk result (λ places. ArePlaces shift places.items meanings.now) }
 {
     let mut places = Vec::new(alloc);
-    places.resize(1 << (32 - shift), Place::Free)?;
+    places.resize(1 << (32 - shift), Bucket::Free)?;
     for (number, meaning) in meanings {
-        let place = Place::Taken(*number, *meaning);
+        let place = Bucket::Taken(*number, *meaning);
         set_place(&mut places, place_of(*number, shift), place);
     }
     Ok(places)

@@ -9,7 +9,7 @@ ghost use Rattle.std.specs.Prelude.{IfOk, OnOk, map, ◌+◌, ◌<◌, ◌≡◌
 ghost use Rattle.syntax.specs.Limits.{most_nodes};
 ghost use Rattle.syntax.specs.Tree.{call_tree, expression_tree, name_tree, optional_expression_tree, optional_label_tree, right_tree, size_tree};
 
-use crate::body::Body;
+use crate::body::BodyScope;
 use crate::fault::{TypeDefect, TypeFault, TypeRefusal};
 use crate::operator::is_same;
 use crate::scope::{
@@ -51,7 +51,7 @@ pub fn resolve_size(size: Size) -> Result<u32, TypeFault>
     }
 }
 
-impl<'a, 'n> Body<'a, 'n> {
+impl<'a, 'n> BodyScope<'a, 'n> {
     /// The arguments of a call, at places that want the types of the parameters.
     #[tactic(auto, unfolding(crate::specs::Statements::arguments_finding))]
     fn resolve_arguments(
@@ -63,7 +63,7 @@ impl<'a, 'n> Body<'a, 'n> {
             (arguments_finding (names_of self.now) parameters.now
             (map expression_tree written.now)) }
     {
-        let mut arguments = Vec::new(self.alloc);
+        let mut arguments = Vec::with_capacity(self.alloc, written.len())?;
         for argument in written {
             let base = match parameters.get(arguments.len()) {
                 Some(base) => *base,

@@ -1,7 +1,7 @@
 -- Handlers that wait until control comes to an offset that they cover.
 use Rattle.std.proofs.Common.{◌≡◌, ◌≢◌, inl, inr, ℕ, suc, zero, ◌<◌, ◌≤◌, List, length, get_or, refl, ap, ◌∙◌, arith}
 use Rattle.std.specs.List.{Contains}
-use Rattle.std.proofs.lemmas.List.Sorted.{Contains-permutation, IsPermutation-sym, length_permutation}
+use Rattle.std.proofs.lemmas.List.Sorted.{Contains-permutation, IsPermutation-sym}
 use Rattle.std.proofs.lemmas.Bool.{cases_eq, cases_lt}
 use Rattle.modules.specs.declared.declaration.Handler.{Handler}
 use Rattle.verifier.specs.Coverage.{IsCoverage, IsSortedByStart, Waits, leaf, left, total}
@@ -72,6 +72,3 @@ module _ (handlers : List Handler) (c : Coverage) (order : IsSortedByStart handl
   all_wait ends h at there high =
       let s = sorted_contains handlers c.handlers.items h order there in
       record { index = s.0; inside = s.1; there = s.2; waits = omega (arith, ends s.0 h s.1 s.2, high) }
-
-  pub sorted_length : length c.handlers.items ≡ length handlers
-  sorted_length = length_permutation handlers c.handlers.items order.same

@@ -1,14 +1,13 @@
 -- The longest list of a search is as long as any that an instruction finds or leaves.
-use Rattle.std.proofs.Common.{◌≡◌, ◌⊎◌, inl, inr, ℕ, zero, suc, ◌+◌, ◌<◌, ◌≤◌, Bool, true, false, if◌then◌else◌, List, [], ◌∷◌, length, get_or, drop, max, Option, Some, None, refl, sym, ap, ◌∙◌, arith}
-use Rattle.std.proofs.lemmas.List.{drop_more}
+use Rattle.std.proofs.Common.{◌≡◌, ◌⊎◌, inl, inr, ℕ, zero, suc, ◌+◌, ◌<◌, ◌≤◌, Bool, true, false, if◌then◌else◌, List, [], ◌∷◌, length, get_or, max, Option, Some, None, refl, sym, ap, ◌∙◌, arith}
 use Rattle.std.proofs.lemmas.Bool.{cases_lt}
 use Rattle.modules.specs.Contents.{ProcedureContents, ModuleContents}
 use Rattle.modules.specs.Code.{width_of}
 use Rattle.modules.specs.Values.{is_same_kind}
 use Rattle.modules.specs.declared.instruction.Instruction.{Instruction}
 use Rattle.modules.specs.declared.instruction.Instruction.TheVariants.{Push, PushBoolean, Pop, Load, Store, LoadGlobal, StoreGlobal, LoadElement, StoreElement, LoadGlobalElement, StoreGlobalElement, Clear, Compute, Negate, Not, Compare, SameBoolean, OtherBoolean, Jump, JumpIfFalse, Call, Return, ReturnValue, Receive, Send, Throw}
-use Rattle.modules.specs.declared.value.Kind.{Kind}
-use Rattle.modules.specs.declared.value.Kind.TheVariants.{Int}
+use Rattle.modules.specs.declared.value.ValueKind.{ValueKind}
+use Rattle.modules.specs.declared.value.ValueKind.TheVariants.{Int}
 use Rattle.verifier.specs.Depth.{IsMet, IsGreatestDepth, found, left}
 use Rattle.verifier.specs.Flow.{Effect, Leaves, Misses, all_popped, and_then, exchanged, next, pushed}
 use Rattle.verifier.specs.Signatures.{Signature, signature}
@@ -17,7 +16,7 @@ use Rattle.verifier.specs.Operands.{greatest, list_of, IsShared}
 use Rattle.verifier.specs.Search.{row, table, IsSearching, HaveLongest}
 use Rattle.verifier.specs.declared.fault.CodeDefect.TheVariants.{OperandKind}
 use Rattle.verifier.specs.declared.operands.Link.{Link}
-use Rattle.verifier.specs.declared.search.Search.{Search}
+use Rattle.verifier.specs.declared.search.ReachedOffsets.{ReachedOffsets}
 use Rattle.verifier.proofs.Laws.{flow_within}
 use Rattle.verifier.proofs.Reaching.{table_finished, no_items}
 use Rattle.verifier.proofs.Runs.{leaves_same}
@@ -26,10 +25,6 @@ use Rattle.verifier.proofs.Runs.{leaves_same}
 
 max_cases : (a b : ℕ) → (max a b ≡ a) ⊎ (max a b ≡ b)
 max_cases a b = elim (cases_lt a b) [ inl h ↦ inr (omega (arith, h)) | inr h ↦ inl (omega (arith, h)) ]
-
--- one more link of those that are left
-pub greatest_more : (links : List Link) (k deepest : ℕ) (d : Link) → k < length links → max deepest (greatest (drop k links)) ≡ greatest links → max (max (get_or links k d).depth deepest) (greatest (drop (k + 1) links)) ≡ greatest links
-greatest_more links k deepest d h e = omega (arith, e, ap greatest (drop_more links k d h))
 
 greatest_bound : (links : List Link) (k : ℕ) (d : Link) → k < length links → (get_or links k d).depth ≤ greatest links
 greatest_bound [] k d h = absurd (omega arith)
@@ -46,7 +41,7 @@ greatest_there (x ∷ links) = elim (max_cases x.depth (greatest links)) [
   ]
 ]
 
-module _ (lists : List (List Kind)) (links : List Link) (ints booleans : List (Option ℕ)) (s : IsShared lists links ints booleans) where
+module _ (lists : List (List ValueKind)) (links : List Link) (ints booleans : List (Option ℕ)) (s : IsShared lists links ints booleans) where
   no_link : Link
   no_link = record { kind = Int; below = 0; depth = 0; bits = 0; skip = 0 }
 
@@ -65,7 +60,7 @@ module _ (lists : List (List Kind)) (links : List Link) (ints booleans : List (O
 
 -- ---- where nothing is pushed, no more is left than was found
 
-popped_less : (wanted : List (Option Kind)) (kinds rest : List Kind) → all_popped wanted kinds ≡ Leaves rest → length rest ≤ length kinds
+popped_less : (wanted : List (Option ValueKind)) (kinds rest : List ValueKind) → all_popped wanted kinds ≡ Leaves rest → length rest ≤ length kinds
 popped_less [] kinds rest e = omega (arith, ap length (leaves_same kinds rest e))
 popped_less (w ∷ wanted) [] rest e = absurd (cc)
 popped_less (None ∷ wanted) (kind ∷ kinds) rest e = omega (arith, popped_less wanted kinds rest e)
@@ -75,13 +70,13 @@ popped_less (Some w ∷ wanted) (kind ∷ kinds) rest e = split (λ more. popped
     split less true e = omega (arith, less e)
     split less false e = absurd (cc)
 
-left_less : (b : Bool) (s : Signature) (kinds after : List Kind) → (if b then exchanged s kinds else Misses OperandKind) ≡ Leaves after → s.pushes ≡ None → length after ≤ length kinds
+left_less : (b : Bool) (s : Signature) (kinds after : List ValueKind) → (if b then exchanged s kinds else Misses OperandKind) ≡ Leaves after → s.pushes ≡ None → length after ≤ length kinds
 left_less false s kinds after e none = absurd (cc)
 left_less true s kinds after e none = split (all_popped s.pops kinds) refl e
   where
     split : (popped : Effect) → all_popped s.pops kinds ≡ popped → and_then popped (λ rest. Leaves (pushed s.pushes rest)) ≡ Leaves after → length after ≤ length kinds
     split (Misses wrong) is e = absurd (cc)
-    split (Leaves rest) is e = omega (arith, popped_less s.pops kinds rest is, ap length (leaves_same (pushed s.pushes rest) after e), ap (λ (o : Option Kind). length (pushed o rest)) none)
+    split (Leaves rest) is e = omega (arith, popped_less s.pops kinds rest is, ap length (leaves_same (pushed s.pushes rest) after e), ap (λ (o : Option ValueKind). length (pushed o rest)) none)
 
 -- an instruction behind which control does not go on pushes nothing
 settles : (m : ModuleContents) (p : ProcedureContents) (i : Instruction) → (goes_on i ≡ true) ⊎ ((signature m p i).pushes ≡ None)
@@ -114,17 +109,17 @@ settles m p (Throw exception) = inr refl
 
 -- ---- the lists of a search that is finished
 
-row_there : (lists : List (List Kind)) (o : Option ℕ) (kinds : List Kind) → row lists o ≡ Some kinds → ((n : ℕ) → o ≡ Some n → n < length lists) → (k : ℕ) × ((k < length lists) × (length kinds ≤ length (list_of lists k)))
+row_there : (lists : List (List ValueKind)) (o : Option ℕ) (kinds : List ValueKind) → row lists o ≡ Some kinds → ((n : ℕ) → o ≡ Some n → n < length lists) → (k : ℕ) × ((k < length lists) × (length kinds ≤ length (list_of lists k)))
 row_there lists None kinds e h = absurd (let no : None ≡ Some kinds = e in cc)
 row_there lists (Some n) kinds e h = let some : Some (list_of lists n) ≡ Some kinds = e in let same : list_of lists n ≡ kinds = cc in (n, (h n refl, omega (arith, ap length same)))
 
-pub run_longest : (m : ModuleContents) (p : ProcedureContents) (s : Search) → IsSearching m p s [] → length s.work ≡ 0 → HaveLongest m p s.operands
+pub run_longest : (m : ModuleContents) (p : ProcedureContents) (s : ReachedOffsets) → IsSearching m p s [] → length s.work ≡ 0 → HaveLongest m p s.operands
 run_longest m p s g empty = record { met = g.met; longest = along }
   where
-    in_table : (at : ℕ) (kinds : List Kind) → table s at ≡ Some kinds → (k : ℕ) × ((k < length s.operands) × (length kinds ≤ length (list_of s.operands k)))
+    in_table : (at : ℕ) (kinds : List ValueKind) → table s at ≡ Some kinds → (k : ℕ) × ((k < length s.operands) × (length kinds ≤ length (list_of s.operands k)))
     in_table at kinds has = row_there s.operands (get_or s.shapes at None) kinds has (g.numbers at)
 
-    along : (kinds : List Kind) → IsMet m p kinds → (k : ℕ) × ((k < length s.operands) × (length kinds ≤ length (list_of s.operands k)))
+    along : (kinds : List ValueKind) → IsMet m p kinds → (k : ℕ) × ((k < length s.operands) × (length kinds ≤ length (list_of s.operands k)))
     along _ (found flowing at kinds f has) = in_table at kinds (flow_within m p (table s) flowing (table_finished m p s g (no_items s.work empty)) f at kinds has)
     along _ (left flowing at kinds i after f has is e) =
         let finished = table_finished m p s g (no_items s.work empty) in
@@ -134,7 +129,7 @@ run_longest m p s g empty = record { met = g.met; longest = along }
           | inr none ↦ let r = in_table at kinds here in (r.0, (r.1.0, omega (arith, r.1.1, left_less (signature m p i).own (signature m p i) kinds after e none)))
         ]
 
-pub is_greatest : (m : ModuleContents) (p : ProcedureContents) (lists : List (List Kind)) (depth : ℕ) → HaveLongest m p lists → ((k : ℕ) → k < length lists → length (list_of lists k) ≤ depth) → (k : ℕ) × ((k < length lists) × (length (list_of lists k) ≡ depth)) → IsGreatestDepth m p depth
+pub is_greatest : (m : ModuleContents) (p : ProcedureContents) (lists : List (List ValueKind)) (depth : ℕ) → HaveLongest m p lists → ((k : ℕ) → k < length lists → length (list_of lists k) ≤ depth) → (k : ℕ) × ((k < length lists) × (length (list_of lists k) ≡ depth)) → IsGreatestDepth m p depth
 is_greatest m p lists depth h bounds there = record {
   bounds = λ kinds is. let l = h.longest kinds is in omega (arith, l.1.1, bounds l.0 l.1.0);
   met = (list_of lists there.0, (h.met there.0 there.1.0, there.1.1));

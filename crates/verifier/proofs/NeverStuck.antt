@@ -10,7 +10,7 @@ use Rattle.modules.specs.Format.{may_start}
 use Rattle.modules.specs.Values.{kind_of}
 use Rattle.modules.specs.declared.instruction.Instruction.{Instruction}
 use Rattle.modules.specs.declared.instruction.Instruction.TheVariants.{Push, PushBoolean, Pop, Load, Store, LoadGlobal, StoreGlobal, LoadElement, StoreElement, LoadGlobalElement, StoreGlobalElement, Clear, Compute, Negate, Not, Compare, SameBoolean, OtherBoolean, Jump, JumpIfFalse, Call, Return, ReturnValue, Receive, Send, Throw}
-use Rattle.modules.specs.declared.value.Kind.{Kind}
+use Rattle.modules.specs.declared.value.ValueKind.{ValueKind}
 use Rattle.modules.specs.declared.value.Cell.{Cell}
 use Rattle.modules.specs.declared.value.Cell.TheVariants as cell
 use Rattle.modules.specs.declared.declaration.Slot.{Slot}
@@ -76,7 +76,7 @@ module _ (m : ModuleContents) (free : HasNoDefect m) (p : ProcedureContents) (s 
   }
 
 -- an instruction without a defect whose operands are there acts
-act_good : (m : ModuleContents) → HasNoDefect m → (p : ProcedureContents) (s : State) (i : Instruction) (after : List Kind) → Stands m p s i (map kind_of s.frame.operands) → instruction_defect m p i ≡ None → effect m p i (map kind_of s.frame.operands) ≡ Leaves after → Good m (act (machine_code m) i s)
+act_good : (m : ModuleContents) → HasNoDefect m → (p : ProcedureContents) (s : State) (i : Instruction) (after : List ValueKind) → Stands m p s i (map kind_of s.frame.operands) → instruction_defect m p i ≡ None → effect m p i (map kind_of s.frame.operands) ≡ Leaves after → Good m (act (machine_code m) i s)
 act_good m free p s (Push n) after st d e = next_good m free p s (Push n) _ after (cell.Int n ∷ s.frame.operands) st e refl (leaves_same _ after e)
 act_good m free p s (PushBoolean b) after st d e = next_good m free p s (PushBoolean b) _ after (cell.Bool b ∷ s.frame.operands) st e refl (leaves_same _ after e)
 act_good m free p s Pop after st d e = drops_good m free p Pop s s.frame.operands after st e refl (sym (unpushed _) ∙ e)
@@ -135,16 +135,16 @@ act_good m free p s (Throw exception) after st d e =
 
 -- ---- where control goes
 
-edge_boundary : (m : ModuleContents) (p : ProcedureContents) → KeepsBoundaries p → (at : ℕ) (kinds : List Kind) (to : ℕ) (after : List Kind) → Edge m p at kinds to after → IsBoundary p to
+edge_boundary : (m : ModuleContents) (p : ProcedureContents) → KeepsBoundaries p → (at : ℕ) (kinds : List ValueKind) (to : ℕ) (after : List ValueKind) → Edge m p at kinds to after → IsBoundary p to
 edge_boundary m p boundaries at kinds _ _ (next i to after is e goes to_is) = subst (IsBoundary p) (sym to_is) (boundaries.next at i is)
 edge_boundary m p boundaries at kinds _ _ (jumps i to after is e target) = boundaries.jumps at i to is target
 edge_boundary m p boundaries at kinds _ _ (caught i h is there low high) = boundaries.caught h there
 
-flow_boundary : (m : ModuleContents) (p : ProcedureContents) → KeepsBoundaries p → (table : ℕ → Option (List Kind)) → Flow m p table → (at : ℕ) (kinds : List Kind) → table at ≡ Some kinds → IsBoundary p at
+flow_boundary : (m : ModuleContents) (p : ProcedureContents) → KeepsBoundaries p → (table : ℕ → Option (List ValueKind)) → Flow m p table → (at : ℕ) (kinds : List ValueKind) → table at ≡ Some kinds → IsBoundary p at
 flow_boundary m p boundaries _ starts at kinds e =
     elim (changed_cases nowhere 0 [] at kinds e) [
       | inl h ↦ subst (IsBoundary p) (sym h.0) boundaries.first
-      | inr h ↦ absurd (let no : ◌≡◌ {A = Option (List Kind)} None (Some kinds) = h in cc)
+      | inr h ↦ absurd (let no : ◌≡◌ {A = Option (List ValueKind)} None (Some kinds) = h in cc)
     ]
 flow_boundary m p boundaries _ (grows table from before to after f has edge none) at kinds e =
     elim (changed_cases table to after at kinds e) [
@@ -194,7 +194,7 @@ main_there : (o : Option ProcedureContents) → may_start o ≡ true → (p : Pr
 main_there None e = absurd (let no : false ≡ true = e in cc)
 main_there (Some p) e = (p, (refl, none p.returned (and_parts (p.parameters == 0) (is_none p.returned) e).1))
   where
-    none : (o : Option Kind) → is_none o ≡ true → o ≡ None
+    none : (o : Option ValueKind) → is_none o ≡ true → o ≡ None
     none None e = refl
     none (Some q) e = absurd (let no : false ≡ true = e in cc)
 

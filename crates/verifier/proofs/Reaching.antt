@@ -9,7 +9,7 @@ use Rattle.std.proofs.Math.ListN.{length-set}
 use Rattle.std.proofs.lemmas.Bool.{cases_lt, eqb-true, cases_eq}
 use Rattle.modules.specs.Contents.{ProcedureContents, ModuleContents}
 use Rattle.modules.specs.Code.{width_of, code_length, instruction_at}
-use Rattle.modules.specs.declared.value.Kind.{Kind}
+use Rattle.modules.specs.declared.value.ValueKind.{ValueKind}
 use Rattle.modules.specs.declared.declaration.Handler.{Handler}
 use Rattle.modules.specs.declared.instruction.Instruction.{Instruction}
 use Rattle.verifier.specs.declared.fault.CodeDefect.{CodeDefect}
@@ -24,11 +24,11 @@ use Rattle.verifier.specs.Depth.{IsMet, found}
 use Rattle.verifier.specs.Search.{row, table, AreMet, IsWaiting, IsFollowed, IsSearching, IsAtEdge, Flowed, KeepsSearching, IsApplied, HasEffect, HasInstruction, StartsWithEmpty, left, unset}
 use Rattle.verifier.specs.declared.fault.CodeDefect.TheVariants.{OperandKind, FallsOffEnd}
 use Rattle.verifier.specs.declared.coverage.Coverage.{Coverage}
-use Rattle.verifier.specs.declared.search.Search.{Search}
+use Rattle.verifier.specs.declared.search.ReachedOffsets.{ReachedOffsets}
 use Rattle.verifier.proofs.Offsets.{start_inside}
 use Rattle.verifier.proofs.Laws.{IsFinished, flows_well, changed_at}
 
-fun_ext : {f g : ℕ → Option (List Kind)} → ((x : ℕ) → f x ≡ g x) → f ≡ g
+fun_ext : {f g : ℕ → Option (List ValueKind)} → ((x : ℕ) → f x ≡ g x) → f ≡ g
 fun_ext h = λ i x. h x i
 
 past_end : {A : Type 0} (xs : List A) (k : ℕ) (d : A) → length xs ≤ k → get_or xs k d ≡ d
@@ -44,22 +44,22 @@ unset_set (None ∷ shapes) (suc k) list h e = let i : unset (set shapes k (Some
 unset_set (Some other ∷ shapes) (suc k) list h e = unset_set shapes k list (omega arith) e
 
 -- nothing is at the end
-pub none_at_end : (m : ModuleContents) (p : ProcedureContents) (s : Search) (busy : List ℕ) → IsSearching m p s busy → table s (code_length p.code) ≡ None
+pub none_at_end : (m : ModuleContents) (p : ProcedureContents) (s : ReachedOffsets) (busy : List ℕ) → IsSearching m p s busy → table s (code_length p.code) ≡ None
 none_at_end m p s busy g = ap (row s.operands) (past_end s.shapes (code_length p.code) None (omega (arith, g.sized)))
 
 -- an edge to the end is a defect
-pub falls_at : (m : ModuleContents) (p : ProcedureContents) (s : Search) (busy : List ℕ) (at to : ℕ) (after : List Kind) → IsSearching m p s busy → IsAtEdge m p s at to after → to ≡ code_length p.code → IsOperandDefect m p to FallsOffEnd
+pub falls_at : (m : ModuleContents) (p : ProcedureContents) (s : ReachedOffsets) (busy : List ℕ) (at to : ℕ) (after : List ValueKind) → IsSearching m p s busy → IsAtEdge m p s at to after → to ≡ code_length p.code → IsOperandDefect m p to FallsOffEnd
 falls_at m p s busy at to after g e is =
     subst (λ t. IsOperandDefect m p t FallsOffEnd) (sym is)
     (falls (updated (table s) (code_length p.code) (Some after)) after (grows (table s) at e.kinds (code_length p.code) after g.flow e.has (subst (λ t. Edge m p at e.kinds t after) is e.edge) (none_at_end m p s busy g)) (changed_at (table s) (code_length p.code) after))
 
 -- an edge that brings another list is a defect
-pub meets_at : (m : ModuleContents) (p : ProcedureContents) (s : Search) (busy : List ℕ) (at to : ℕ) (after others : List Kind) (defect : CodeDefect) → IsSearching m p s busy → IsAtEdge m p s at to after → to ≢ code_length p.code → table s to ≡ Some others → after ≢ others → defect ≡ between after others → IsOperandDefect m p to defect
+pub meets_at : (m : ModuleContents) (p : ProcedureContents) (s : ReachedOffsets) (busy : List ℕ) (at to : ℕ) (after others : List ValueKind) (defect : CodeDefect) → IsSearching m p s busy → IsAtEdge m p s at to after → to ≢ code_length p.code → table s to ≡ Some others → after ≢ others → defect ≡ between after others → IsOperandDefect m p to defect
 meets_at m p s busy at to after others defect g e inside there ne is =
     subst (IsOperandDefect m p to) (sym is) (meets (table s) at e.kinds to after others g.flow e.has e.edge inside there ne)
 
 -- the search with one more list
-module _ (m : ModuleContents) (p : ProcedureContents) (s new : Search) (at to list : ℕ) (g : IsSearching m p s (at ∷ [])) (e : IsAtEdge m p s at to (list_of s.operands list)) (number : list < length s.operands) (is_boundary : IsBoundary p to) (inside : to < length s.shapes) (unset_there : get_or s.shapes to None ≡ None) (lists : new.operands ≡ s.operands) (shapes : new.shapes ≡ set s.shapes to (Some list)) (work : new.work ≡ s.work ++ to ∷ []) where
+module _ (m : ModuleContents) (p : ProcedureContents) (s new : ReachedOffsets) (at to list : ℕ) (g : IsSearching m p s (at ∷ [])) (e : IsAtEdge m p s at to (list_of s.operands list)) (number : list < length s.operands) (is_boundary : IsBoundary p to) (inside : to < length s.shapes) (unset_there : get_or s.shapes to None ≡ None) (lists : new.operands ≡ s.operands) (shapes : new.shapes ≡ set s.shapes to (Some list)) (work : new.work ≡ s.work ++ to ∷ []) where
   at_to : get_or new.shapes to None ≡ Some list
   at_to = ap (λ l. get_or l to None) shapes ∙ get_or-set_same s.shapes to (Some list) None inside
 
@@ -89,14 +89,14 @@ module _ (m : ModuleContents) (p : ProcedureContents) (s new : Search) (at to li
   was_none : table s to ≡ None
   was_none = ap (row s.operands) unset_there
 
-  keeps : (offset : ℕ) (kinds : List Kind) → table s offset ≡ Some kinds → table new offset ≡ Some kinds
+  keeps : (offset : ℕ) (kinds : List ValueKind) → table s offset ≡ Some kinds → table new offset ≡ Some kinds
   keeps offset kinds h =
       elim (cases_eq offset to) [
         | inl same ↦ absurd (let f : None ≡ Some kinds = sym was_none ∙ ap (table s) (sym same) ∙ h in cc)
         | inr ne ↦ others offset ne ∙ h
       ]
 
-  kept : (offset : ℕ) (kinds : List Kind) → IsFollowed m p s offset kinds → IsFollowed m p new offset kinds
+  kept : (offset : ℕ) (kinds : List ValueKind) → IsFollowed m p s offset kinds → IsFollowed m p new offset kinds
   kept offset kinds k = record {
     instruction = k.instruction;
     there = k.there;
@@ -145,7 +145,7 @@ module _ (m : ModuleContents) (p : ProcedureContents) (s new : Search) (at to li
   }
 
 -- the list was there
-pub flowed_there : (m : ModuleContents) (p : ProcedureContents) (s new : Search) (at to list other : ℕ) → IsSearching m p s (at ∷ []) → get_or s.shapes to None ≡ Some other → list_of s.operands list ≡ list_of s.operands other → new ≡ s → Flowed m p s new at to list
+pub flowed_there : (m : ModuleContents) (p : ProcedureContents) (s new : ReachedOffsets) (at to list other : ℕ) → IsSearching m p s (at ∷ []) → get_or s.shapes to None ≡ Some other → list_of s.operands list ≡ list_of s.operands other → new ≡ s → Flowed m p s new at to list
 flowed_there m p s new at to list other g there same is =
     subst (λ n. Flowed m p s n at to list) (sym is) (record {
       searching = g;
@@ -156,7 +156,7 @@ flowed_there m p s new at to list other g there same is =
     })
 
 -- a offset that control may go to, and that is not the end, has an index
-pub boundary_inside : (m : ModuleContents) (p : ProcedureContents) (s : Search) (busy : List ℕ) (to : ℕ) → IsSearching m p s busy → IsBoundary p to → to ≢ length s.shapes → to < length s.shapes
+pub boundary_inside : (m : ModuleContents) (p : ProcedureContents) (s : ReachedOffsets) (busy : List ℕ) (to : ℕ) → IsSearching m p s busy → IsBoundary p to → to ≢ length s.shapes → to < length s.shapes
 boundary_inside m p s busy to g offset ne =
     elim offset [
       | inl e ↦ absurd (ne (e ∙ sym g.sized))
@@ -166,7 +166,7 @@ boundary_inside m p s busy to g offset ne =
 -- ---- the end of the search
 
 -- with nothing to look at, the table is finished
-pub table_finished : (m : ModuleContents) (p : ProcedureContents) (s : Search) → IsSearching m p s [] → s.work ≡ [] → IsFinished m p (table s)
+pub table_finished : (m : ModuleContents) (p : ProcedureContents) (s : ReachedOffsets) → IsSearching m p s [] → s.work ≡ [] → IsFinished m p (table s)
 table_finished m p s g empty = record {
   first = g.first;
   finds = λ at kinds i wrong h is e. let k = every at kinds h in
@@ -175,7 +175,7 @@ table_finished m p s g empty = record {
   none_at_end = none_at_end m p s [] g;
 }
   where
-    every : (at : ℕ) (kinds : List Kind) → table s at ≡ Some kinds → IsFollowed m p s at kinds
+    every : (at : ℕ) (kinds : List ValueKind) → table s at ≡ Some kinds → IsFollowed m p s at kinds
     every at kinds h =
         elim (g.pending at kinds h) [
           | inl w ↦ absurd (nothing at (subst (λ l. Contains l at) empty w))
@@ -185,7 +185,7 @@ table_finished m p s g empty = record {
         nothing : (at : ℕ) → Contains [] at → ⊥
         nothing at c = omega (arith, c.1)
 
-    along : (at : ℕ) (kinds : List Kind) → IsFollowed m p s at kinds → (to : ℕ) (after : List Kind) → Edge m p at kinds to after → table s to ≡ Some after
+    along : (at : ℕ) (kinds : List ValueKind) → IsFollowed m p s at kinds → (to : ℕ) (after : List ValueKind) → Edge m p at kinds to after → table s to ≡ Some after
     along at kinds k _ _ (next i to after is e goes to_is) =
         let f : Some k.instruction ≡ Some i = sym k.there ∙ is in let same : k.instruction ≡ i = cc in
         let t : Leaves k.after ≡ Leaves after = sym k.finds ∙ ap (λ j. effect m p j kinds) same ∙ e in let after_is : k.after ≡ after = cc in
@@ -196,13 +196,13 @@ table_finished m p s g empty = record {
         k.jumps to (ap target_of same ∙ jumps_to) ∙ ap Some after_is
     along at kinds k _ _ (caught i h is c l m) = k.caught h c l m
 
-pub search_finished : (m : ModuleContents) (p : ProcedureContents) (s : Search) → IsSearching m p s [] → s.work ≡ [] → FlowsWell m p
+pub search_finished : (m : ModuleContents) (p : ProcedureContents) (s : ReachedOffsets) → IsSearching m p s [] → s.work ≡ [] → FlowsWell m p
 search_finished m p s g empty = flows_well m p (table s) (table_finished m p s g empty)
 
 -- ---- a offset is looked at
 
 -- what was looked at is kept
-pub looked_at : (m : ModuleContents) (p : ProcedureContents) (s : Search) (at : ℕ) → IsSearching m p s (at ∷ []) → ((kinds : List Kind) → table s at ≡ Some kinds → IsFollowed m p s at kinds) → IsSearching m p s []
+pub looked_at : (m : ModuleContents) (p : ProcedureContents) (s : ReachedOffsets) (at : ℕ) → IsSearching m p s (at ∷ []) → ((kinds : List ValueKind) → table s at ≡ Some kinds → IsFollowed m p s at kinds) → IsSearching m p s []
 looked_at m p s at g kept = record {
   root = g.root;
   sized = g.sized;
@@ -225,16 +225,16 @@ looked_at m p s at g kept = record {
         single zero h e = e
         single (suc k) h e = absurd (omega arith)
 
-    here : (offset : ℕ) (kinds : List Kind) → table s offset ≡ Some kinds → at ≡ offset → IsFollowed m p s offset kinds
+    here : (offset : ℕ) (kinds : List ValueKind) → table s offset ≡ Some kinds → at ≡ offset → IsFollowed m p s offset kinds
     here offset kinds h e = subst (λ a. IsFollowed m p s a kinds) e (kept kinds (ap (table s) e ∙ h))
 
 -- ---- more lists
 
-longer_row : (lists more : List (List Kind)) (o : Option ℕ) → ((n : ℕ) → o ≡ Some n → n < length lists) → IsLonger lists more → row more o ≡ row lists o
+longer_row : (lists more : List (List ValueKind)) (o : Option ℕ) → ((n : ℕ) → o ≡ Some n → n < length lists) → IsLonger lists more → row more o ≡ row lists o
 longer_row lists more None h l = refl
 longer_row lists more (Some n) h l = ap Some (ap (λ ls. get_or ls n []) l.1 ∙ get_or_append_left lists l.0 [] n (h n refl))
 
-module _ (m : ModuleContents) (p : ProcedureContents) (s new : Search) (busy : List ℕ) (g : IsSearching m p s busy) (longer : IsLonger s.operands new.operands) (shapes : new.shapes ≡ s.shapes) (work : new.work ≡ s.work) (met : (k : ℕ) → length s.operands ≤ k → k < length new.operands → IsMet m p (list_of new.operands k)) where
+module _ (m : ModuleContents) (p : ProcedureContents) (s new : ReachedOffsets) (busy : List ℕ) (g : IsSearching m p s busy) (longer : IsLonger s.operands new.operands) (shapes : new.shapes ≡ s.shapes) (work : new.work ≡ s.work) (met : (k : ℕ) → length s.operands ≤ k → k < length new.operands → IsMet m p (list_of new.operands k)) where
   pub same_table : (offset : ℕ) → table new offset ≡ table s offset
   same_table offset = ap (λ (v : List (Option ℕ)). row new.operands (get_or v offset None)) shapes ∙ longer_row s.operands new.operands (get_or s.shapes offset None) (g.numbers offset) longer
 
@@ -261,7 +261,7 @@ module _ (m : ModuleContents) (p : ProcedureContents) (s new : Search) (busy : L
             | inr added ↦ met k added inside
           ]
 
-      kept : (offset : ℕ) (kinds : List Kind) → IsFollowed m p s offset kinds → IsFollowed m p new offset kinds
+      kept : (offset : ℕ) (kinds : List ValueKind) → IsFollowed m p s offset kinds → IsFollowed m p new offset kinds
       kept offset kinds k = record {
         instruction = k.instruction;
         there = k.there;
@@ -277,44 +277,38 @@ module _ (m : ModuleContents) (p : ProcedureContents) (s new : Search) (busy : L
 
 -- ---- steps from a offset
 
-pub steps_of : (m : ModuleContents) (p : ProcedureContents) (old new : Search) (at to list : ℕ) → Flowed m p old new at to list → KeepsSearching m p old new at
+pub steps_of : (m : ModuleContents) (p : ProcedureContents) (old new : ReachedOffsets) (at to list : ℕ) → Flowed m p old new at to list → KeepsSearching m p old new at
 steps_of m p old new at to list f = record { searching = f.searching; keeps = f.keeps; same = f.same; left = f.left }
 
-pub steps_none : (m : ModuleContents) (p : ProcedureContents) (s : Search) (at : ℕ) → IsSearching m p s (at ∷ []) → KeepsSearching m p s s at
-steps_none m p s at g = record { searching = g; keeps = λ offset kinds h. h; same = refl; left = omega arith }
-
-pub edge_next : (m : ModuleContents) (p : ProcedureContents) (s : Search) (at to : ℕ) (i : Instruction) (after : List Kind) → HasEffect m p s at i after → goes_on i ≡ true → to ≡ at + width_of i → IsAtEdge m p s at to after
+pub edge_next : (m : ModuleContents) (p : ProcedureContents) (s : ReachedOffsets) (at to : ℕ) (i : Instruction) (after : List ValueKind) → HasEffect m p s at i after → goes_on i ≡ true → to ≡ at + width_of i → IsAtEdge m p s at to after
 edge_next m p s at to i after h goes is = record { kinds = h.kinds; has = h.has; edge = next i to after h.there h.effect goes is }
 
-pub edge_jump : (m : ModuleContents) (p : ProcedureContents) (s : Search) (at to : ℕ) (i : Instruction) (after : List Kind) → HasEffect m p s at i after → target_of i ≡ Some to → IsAtEdge m p s at to after
+pub edge_jump : (m : ModuleContents) (p : ProcedureContents) (s : ReachedOffsets) (at to : ℕ) (i : Instruction) (after : List ValueKind) → HasEffect m p s at i after → target_of i ≡ Some to → IsAtEdge m p s at to after
 edge_jump m p s at to i after h is = record { kinds = h.kinds; has = h.has; edge = jumps i to after h.there h.effect is }
 
-pub edge_caught : (m : ModuleContents) (p : ProcedureContents) (s : Search) (at : ℕ) (kinds : List Kind) (i : Instruction) (h : Handler) → table s at ≡ Some kinds → instruction_at p.code at ≡ Some i → Contains p.handlers h → h.start ≤ at → at < h.end → IsAtEdge m p s at h.target []
+pub edge_caught : (m : ModuleContents) (p : ProcedureContents) (s : ReachedOffsets) (at : ℕ) (kinds : List ValueKind) (i : Instruction) (h : Handler) → table s at ≡ Some kinds → instruction_at p.code at ≡ Some i → Contains p.handlers h → h.start ≤ at → at < h.end → IsAtEdge m p s at h.target []
 edge_caught m p s at kinds i h has is inside low high = record { kinds = kinds; has = has; edge = caught i h is inside low high }
 
 -- what an instruction of this procedure makes of kinds
-effect_own : (m : ModuleContents) (p : ProcedureContents) (i : Instruction) (kinds : List Kind) → (signature m p i).own ≡ true → effect m p i kinds ≡ exchanged (signature m p i) kinds
+effect_own : (m : ModuleContents) (p : ProcedureContents) (i : Instruction) (kinds : List ValueKind) → (signature m p i).own ≡ true → effect m p i kinds ≡ exchanged (signature m p i) kinds
 effect_own m p i kinds own = ap (λ (b : Bool). if b then exchanged (signature m p i) kinds else Misses OperandKind) own
 
-pub misses_at : (m : ModuleContents) (p : ProcedureContents) (s : Search) (busy : List ℕ) (at : ℕ) (kinds : List Kind) (i : Instruction) (wrong : CodeDefect) → IsSearching m p s busy → table s at ≡ Some kinds → instruction_at p.code at ≡ Some i → (signature m p i).own ≡ true → all_popped (signature m p i).pops kinds ≡ Misses wrong → IsOperandDefect m p at wrong
+pub misses_at : (m : ModuleContents) (p : ProcedureContents) (s : ReachedOffsets) (busy : List ℕ) (at : ℕ) (kinds : List ValueKind) (i : Instruction) (wrong : CodeDefect) → IsSearching m p s busy → table s at ≡ Some kinds → instruction_at p.code at ≡ Some i → (signature m p i).own ≡ true → all_popped (signature m p i).pops kinds ≡ Misses wrong → IsOperandDefect m p at wrong
 misses_at m p s busy at kinds i wrong g has is own e =
     misses (table s) at kinds i wrong g.flow has is (effect_own m p i kinds own ∙ ap (λ o. and_then o (λ rest. Leaves (pushed (signature m p i).pushes rest))) e)
 
-pub misses_own : (m : ModuleContents) (p : ProcedureContents) (s : Search) (busy : List ℕ) (at : ℕ) (kinds : List Kind) (i : Instruction) → IsSearching m p s busy → table s at ≡ Some kinds → instruction_at p.code at ≡ Some i → (signature m p i).own ≡ false → IsOperandDefect m p at OperandKind
+pub misses_own : (m : ModuleContents) (p : ProcedureContents) (s : ReachedOffsets) (busy : List ℕ) (at : ℕ) (kinds : List ValueKind) (i : Instruction) → IsSearching m p s busy → table s at ≡ Some kinds → instruction_at p.code at ≡ Some i → (signature m p i).own ≡ false → IsOperandDefect m p at OperandKind
 misses_own m p s busy at kinds i g has is own =
     misses (table s) at kinds i OperandKind g.flow has is (ap (λ (b : Bool). if b then exchanged (signature m p i) kinds else Misses OperandKind) own)
 
 -- what an instruction pushes is met, and where it pushes nothing there is no new list
-pub pushed_met : (m : ModuleContents) (p : ProcedureContents) (s : Search) (busy : List ℕ) (more : List (List Kind)) (at : ℕ) (kinds rest after : List Kind) (i : Instruction) → IsSearching m p s busy → table s at ≡ Some kinds → instruction_at p.code at ≡ Some i → (signature m p i).own ≡ true → all_popped (signature m p i).pops kinds ≡ Leaves rest → pushed (signature m p i).pushes rest ≡ after → ((k : ℕ) → length s.operands ≤ k → k < length more → list_of more k ≡ after) → (k : ℕ) → length s.operands ≤ k → k < length more → IsMet m p (list_of more k)
+pub pushed_met : (m : ModuleContents) (p : ProcedureContents) (s : ReachedOffsets) (busy : List ℕ) (more : List (List ValueKind)) (at : ℕ) (kinds rest after : List ValueKind) (i : Instruction) → IsSearching m p s busy → table s at ≡ Some kinds → instruction_at p.code at ≡ Some i → (signature m p i).own ≡ true → all_popped (signature m p i).pops kinds ≡ Leaves rest → pushed (signature m p i).pushes rest ≡ after → ((k : ℕ) → length s.operands ≤ k → k < length more → list_of more k ≡ after) → (k : ℕ) → length s.operands ≤ k → k < length more → IsMet m p (list_of more k)
 pushed_met m p s busy more at kinds rest after i g has is own e is_after new k low high =
     subst (IsMet m p) (sym (new k low high))
     (Depth.left (table s) at kinds i after g.flow has is (effect_own m p i kinds own ∙ ap (λ o. and_then o (λ rest. Leaves (pushed (signature m p i).pushes rest))) e ∙ ap Leaves is_after))
 
-pub none_added : (m : ModuleContents) (p : ProcedureContents) (lists more : List (List Kind)) → more ≡ lists → (k : ℕ) → length lists ≤ k → k < length more → IsMet m p (list_of more k)
-none_added m p lists more same k low high = absurd (omega (arith, ap length same))
-
 -- the list that an instruction leaves, where the lists grew
-pub applied : (m : ModuleContents) (p : ProcedureContents) (s new : Search) (at : ℕ) → IsSearching m p s (at ∷ []) → IsLonger s.operands new.operands → length new.operands ≤ length s.operands + 1 → new.shapes ≡ s.shapes → new.work ≡ s.work → ((k : ℕ) → length s.operands ≤ k → k < length new.operands → IsMet m p (list_of new.operands k)) → IsApplied m p s new at
+pub applied : (m : ModuleContents) (p : ProcedureContents) (s new : ReachedOffsets) (at : ℕ) → IsSearching m p s (at ∷ []) → IsLonger s.operands new.operands → length new.operands ≤ length s.operands + 1 → new.shapes ≡ s.shapes → new.work ≡ s.work → ((k : ℕ) → length s.operands ≤ k → k < length new.operands → IsMet m p (list_of new.operands k)) → IsApplied m p s new at
 applied m p s new at g longer few shapes work met = record {
   searching = going_longer m p s new (at ∷ []) g longer shapes work met;
   keeps = λ offset kinds h. same_table m p s new (at ∷ []) g longer shapes work met offset ∙ h;
@@ -322,7 +316,7 @@ applied m p s new at g longer few shapes work met = record {
   left = omega (arith, same_left m p s new (at ∷ []) g longer shapes work met);
 }
 
-pub has_effect : (m : ModuleContents) (p : ProcedureContents) (s new : Search) (at : ℕ) (kinds rest after : List Kind) (i : Instruction) → IsApplied m p s new at → table s at ≡ Some kinds → instruction_at p.code at ≡ Some i → (signature m p i).own ≡ true → all_popped (signature m p i).pops kinds ≡ Leaves rest → pushed (signature m p i).pushes rest ≡ after → HasEffect m p new at i after
+pub has_effect : (m : ModuleContents) (p : ProcedureContents) (s new : ReachedOffsets) (at : ℕ) (kinds rest after : List ValueKind) (i : Instruction) → IsApplied m p s new at → table s at ≡ Some kinds → instruction_at p.code at ≡ Some i → (signature m p i).own ≡ true → all_popped (signature m p i).pops kinds ≡ Leaves rest → pushed (signature m p i).pushes rest ≡ after → HasEffect m p new at i after
 has_effect m p s new at kinds rest after i a has is own e is_after = record {
   there = is;
   kinds = kinds;
@@ -331,7 +325,7 @@ has_effect m p s new at kinds rest after i a has is own e is_after = record {
 }
 
 -- an offset from which each edge was followed is kept
-pub all_followed : (m : ModuleContents) (p : ProcedureContents) (s new : Search) (at : ℕ) (i : Instruction) (after : List Kind) → HasEffect m p s at i after → ((to : ℕ) → target_of i ≡ Some to → table s to ≡ Some after) → ((h : Handler) → Contains p.handlers h → h.start ≤ at → at < h.end → table s h.target ≡ Some []) → ((offset : ℕ) (kinds : List Kind) → table s offset ≡ Some kinds → table new offset ≡ Some kinds) → (goes_on i ≡ true → table new (at + width_of i) ≡ Some after) → IsSearching m p new (at ∷ []) → IsSearching m p new []
+pub all_followed : (m : ModuleContents) (p : ProcedureContents) (s new : ReachedOffsets) (at : ℕ) (i : Instruction) (after : List ValueKind) → HasEffect m p s at i after → ((to : ℕ) → target_of i ≡ Some to → table s to ≡ Some after) → ((h : Handler) → Contains p.handlers h → h.start ≤ at → at < h.end → table s h.target ≡ Some []) → ((offset : ℕ) (kinds : List ValueKind) → table s offset ≡ Some kinds → table new offset ≡ Some kinds) → (goes_on i ≡ true → table new (at + width_of i) ≡ Some after) → IsSearching m p new (at ∷ []) → IsSearching m p new []
 all_followed m p s new at i after e to_targets to_handlers still to_next g =
     looked_at m p new at g (λ kinds has.
     let some : Some e.kinds ≡ Some kinds = sym (still at e.kinds e.has) ∙ has in
@@ -346,7 +340,7 @@ all_followed m p s new at i after e to_targets to_handlers still to_next g =
       caught = λ h there low high. still h.target [] (to_handlers h there low high);
     })
 
-pub steps_more : (m : ModuleContents) (p : ProcedureContents) (old between new : Search) (at to list : ℕ) → KeepsSearching m p old between at → Flowed m p between new at to list → KeepsSearching m p old new at
+pub steps_more : (m : ModuleContents) (p : ProcedureContents) (old between new : ReachedOffsets) (at to list : ℕ) → KeepsSearching m p old between at → Flowed m p between new at to list → KeepsSearching m p old new at
 steps_more m p old between new at to list f h = record {
   searching = h.searching;
   keeps = λ offset kinds e. h.keeps offset kinds (f.keeps offset kinds e);
@@ -355,7 +349,7 @@ steps_more m p old between new at to list f h = record {
 }
 
 -- handlers that wait still do where lists were kept
-pub waiting_kept : (p : ProcedureContents) (c : Coverage) (s new : Search) → ((offset : ℕ) (kinds : List Kind) → table s offset ≡ Some kinds → table new offset ≡ Some kinds) → IsWaiting p c s → IsWaiting p c new
+pub waiting_kept : (p : ProcedureContents) (c : Coverage) (s new : ReachedOffsets) → ((offset : ℕ) (kinds : List ValueKind) → table s offset ≡ Some kinds → table new offset ≡ Some kinds) → IsWaiting p c s → IsWaiting p c new
 waiting_kept p c s new keeps w = record {
   coverage = w.coverage;
   real = w.real;
@@ -363,7 +357,7 @@ waiting_kept p c s new keeps w = record {
 }
 
 -- control went to one that waited, and that waits no more
-pub waiting_less : (p : ProcedureContents) (c rest : Coverage) (s new : Search) (h : Handler) → IsWaiting p c s → IsCoverage rest → ((x : Handler) → Waits rest x → Waits c x) → ((x : Handler) → Waits c x → (x ≡ h) ⊎ Waits rest x) → ((offset : ℕ) (kinds : List Kind) → table s offset ≡ Some kinds → table new offset ≡ Some kinds) → table new h.target ≡ Some [] → IsWaiting p rest new
+pub waiting_less : (p : ProcedureContents) (c rest : Coverage) (s new : ReachedOffsets) (h : Handler) → IsWaiting p c s → IsCoverage rest → ((x : Handler) → Waits rest x → Waits c x) → ((x : Handler) → Waits c x → (x ≡ h) ⊎ Waits rest x) → ((offset : ℕ) (kinds : List ValueKind) → table s offset ≡ Some kinds → table new offset ≡ Some kinds) → table new h.target ≡ Some [] → IsWaiting p rest new
 waiting_less p c rest s new h w good within others keeps arrives = record {
   coverage = good;
   real = λ x waits. w.real x (within x waits);
@@ -377,14 +371,14 @@ waiting_less p c rest s new h w good within others keeps arrives = record {
 }
 
 -- none that covers an offset waits any more
-pub all_entered : (p : ProcedureContents) (c : Coverage) (s : Search) (at : ℕ) → IsWaiting p c s → ((x : Handler) → Waits c x → x.start ≤ at → at < x.end → ⊥) → (h : Handler) → Contains p.handlers h → h.start ≤ at → at < h.end → table s h.target ≡ Some []
+pub all_entered : (p : ProcedureContents) (c : Coverage) (s : ReachedOffsets) (at : ℕ) → IsWaiting p c s → ((x : Handler) → Waits c x → x.start ≤ at → at < x.end → ⊥) → (h : Handler) → Contains p.handlers h → h.start ≤ at → at < h.end → table s h.target ≡ Some []
 all_entered p c s at w none h there low high = elim (w.waits_or_entered h at there low high) [
   | inl waits ↦ absurd (none h waits low high)
   | inr has ↦ has
 ]
 
 -- at the start all wait
-pub waiting_start : (p : ProcedureContents) (c : Coverage) (s : Search) (handlers : List Handler) → handlers ≡ p.handlers → IsCoverage c → ((h : Handler) → Waits c h → Contains handlers h) → ((h : Handler) (at : ℕ) → Contains handlers h → at < h.end → Waits c h) → IsWaiting p c s
+pub waiting_start : (p : ProcedureContents) (c : Coverage) (s : ReachedOffsets) (handlers : List Handler) → handlers ≡ p.handlers → IsCoverage c → ((h : Handler) → Waits c h → Contains handlers h) → ((h : Handler) (at : ℕ) → Contains handlers h → at < h.end → Waits c h) → IsWaiting p c s
 waiting_start p c s handlers same good real all = record {
   coverage = good;
   real = λ h waits. subst (λ hs. Contains hs h) same (real h waits);
@@ -401,15 +395,12 @@ pub no_items : {A : Type 0} (xs : List A) → length xs ≡ 0 → xs ≡ []
 no_items [] e = refl
 no_items (x ∷ xs) e = absurd (omega arith)
 
-pub run_finished : (m : ModuleContents) (p : ProcedureContents) (s : Search) → IsSearching m p s [] → length s.work ≡ 0 → FlowsWell m p
-run_finished m p s g e = search_finished m p s g (no_items s.work e)
-
 -- a offset is taken from those that wait
-module _ (m : ModuleContents) (p : ProcedureContents) (s new : Search) (at : ℕ) (g : IsSearching m p s []) (operands : new.operands ≡ s.operands) (shapes : new.shapes ≡ s.shapes) (work : s.work ≡ new.work ++ at ∷ []) where
+module _ (m : ModuleContents) (p : ProcedureContents) (s new : ReachedOffsets) (at : ℕ) (g : IsSearching m p s []) (operands : new.operands ≡ s.operands) (shapes : new.shapes ≡ s.shapes) (work : s.work ≡ new.work ++ at ∷ []) where
   taken_table : (offset : ℕ) → table new offset ≡ table s offset
   taken_table offset = ap (λ (v : List (Option ℕ)). row new.operands (get_or v offset None)) shapes ∙ ap (λ ls. row ls (get_or s.shapes offset None)) operands
 
-  taken_kept : (offset : ℕ) (kinds : List Kind) → IsFollowed m p s offset kinds → IsFollowed m p new offset kinds
+  taken_kept : (offset : ℕ) (kinds : List ValueKind) → IsFollowed m p s offset kinds → IsFollowed m p new offset kinds
   taken_kept offset kinds k = record {
     instruction = k.instruction;
     there = k.there;
@@ -465,7 +456,7 @@ all_unset (suc n) = ap suc (all_unset n)
 pub empty_falls : (m : ModuleContents) (p : ProcedureContents) → code_length p.code ≡ 0 → IsOperandDefect m p 0 FallsOffEnd
 empty_falls m p e = subst (λ t. IsOperandDefect m p t FallsOffEnd) e (falls (updated nowhere 0 (Some [])) [] starts (subst (λ t. updated nowhere 0 (Some []) t ≡ Some []) (sym e) (changed_at nowhere 0 [])))
 
-module _ (m : ModuleContents) (p : ProcedureContents) (s : Search) (n : ℕ) (size : code_length p.code ≡ suc n) (boundaries : KeepsBoundaries p) (operands : s.operands ≡ [] ∷ []) (shapes : s.shapes ≡ set (replicate (suc n) None) 0 (Some 0)) (work : s.work ≡ 0 ∷ []) where
+module _ (m : ModuleContents) (p : ProcedureContents) (s : ReachedOffsets) (n : ℕ) (size : code_length p.code ≡ suc n) (boundaries : KeepsBoundaries p) (operands : s.operands ≡ [] ∷ []) (shapes : s.shapes ≡ set (replicate (suc n) None) 0 (Some 0)) (work : s.work ≡ 0 ∷ []) where
   start_table : (offset : ℕ) → table s offset ≡ row ([] ∷ []) (get_or (Some 0 ∷ replicate n None) offset None)
   start_table offset = ap (λ v. row s.operands (get_or v offset None)) shapes ∙ ap (λ ls. row ls (get_or (Some 0 ∷ replicate n None) offset None)) operands
 
@@ -473,7 +464,7 @@ module _ (m : ModuleContents) (p : ProcedureContents) (s : Search) (n : ℕ) (si
   other_none zero = refl
   other_none (suc k) = ap (row ([] ∷ [])) (all_none n k) ∙ ap (λ (b : Bool). if b then Some [] else None) (sym (not_zero k))
 
-  only_first : (offset : ℕ) (kinds : List Kind) → table s offset ≡ Some kinds → offset ≡ 0
+  only_first : (offset : ℕ) (kinds : List ValueKind) → table s offset ≡ Some kinds → offset ≡ 0
   only_first zero kinds h = refl
   only_first (suc k) kinds h = absurd (let f : None ≡ Some kinds = sym (start_table (suc k) ∙ ap (row ([] ∷ [])) (all_none n k)) ∙ h in cc)
 

@@ -1,7 +1,5 @@
 -- Trees in which each node is the greater one of its children.
-use Rattle.std.proofs.Common.{◌≡◌, ◌≢◌, ◌⊎◌, inl, inr, ℕ, suc, zero, ◌+◌, ◌*◌, ◌/◌, ◌<◌, ◌≤◌, List, length, get_or, set, replicate, refl, sym, ap, ◌∙◌, subst, arith}
-use Rattle.std.proofs.lemmas.List.{length-replicate, get_or-set_same, get_or-set_other}
-use Rattle.std.proofs.Math.ListN.{length-set}
+use Rattle.std.proofs.Common.{◌≡◌, ◌≢◌, ◌⊎◌, inl, inr, ℕ, suc, zero, ◌+◌, ◌*◌, ◌/◌, ◌<◌, ◌≤◌, List, length, refl, ap, ◌∙◌, arith}
 use Rattle.verifier.specs.Coverage.{IsGreater, IsTree, doubled, node}
 
 -- ---- widths
@@ -19,36 +17,11 @@ pub record IsWidth (width : ℕ) : Type 0 where
   pub height : ℕ
   pub full : width ≡ doubled height 1
 
-pub width_one : IsWidth 1
-width_one = record { height = 0; full = refl }
-
 pub width_twice : (width : ℕ) → IsWidth width → IsWidth (width * 2)
 width_twice width w = record { height = suc w.height; full = omega (arith, w.full, doubled_twice w.height 1) }
 
 pub tree_positive : (nodes : List ℕ) (width : ℕ) → IsTree nodes width → 0 < width
 tree_positive nodes width t = omega (arith, t.full, doubled_most t.height 1)
-
--- ---- zeros
-
-zeros_at : (n k : ℕ) → ◌≡◌ {A = ℕ} (get_or (replicate n 0) k 0) 0
-zeros_at zero k = refl
-zeros_at (suc n) zero = refl
-zeros_at (suc n) (suc k) = zeros_at n k
-
-pub zeros_node : (nodes : List ℕ) (n k : ℕ) → nodes ≡ replicate n 0 → node nodes k ≡ 0
-zeros_node nodes n k e = ap (λ (l : List ℕ). node l k) e ∙ zeros_at n k
-
-pub zeros_tree : (nodes : List ℕ) (width : ℕ) → IsWidth width → nodes ≡ replicate (2 * width) 0 → IsTree nodes width
-zeros_tree nodes width w e = record {
-  height = w.height;
-  full = w.full;
-  long = omega (arith, ap length e, length-replicate {A = ℕ} (2 * width) 0);
-  greatest = λ i a b.
-      let here = zeros_node nodes (2 * width) i e in
-      let one = zeros_node nodes (2 * width) (i + i) e in
-      let other = zeros_node nodes (2 * width) (i + i + 1) e in
-      record { low = omega (arith, here, one); high = omega (arith, here, other); is = inl (here ∙ sym one) };
-}
 
 -- ---- the way down
 
@@ -179,61 +152,3 @@ pub record IsMending (old nodes : List ℕ) (width index number n : ℕ) : Type 
   pub greatest : (i : ℕ) → 0 < i → i < width → i ≢ n / 2 → IsGreater (node nodes i) (node nodes (i + i)) (node nodes (i + i + 1))
   pub changed : node nodes (width + index) ≡ number
   pub others : (k : ℕ) → k ≢ index → node nodes (width + k) ≡ node old (width + k)
-
--- a node that was not written has the same children
-same_children : (nodes : List ℕ) (at value i : ℕ) → IsGreater (node nodes i) (node nodes (i + i)) (node nodes (i + i + 1)) → i ≢ at → i + i ≢ at → i + i + 1 ≢ at → IsGreater (node (set nodes at value) i) (node (set nodes at value) (i + i)) (node (set nodes at value) (i + i + 1))
-same_children nodes at value i g a b c =
-    let here = get_or-set_other nodes at i value 0 a in
-    let one = get_or-set_other nodes at (i + i) value 0 b in
-    let other = get_or-set_other nodes at (i + i + 1) value 0 c in
-    subst (λ x. IsGreater x (node (set nodes at value) (i + i)) (node (set nodes at value) (i + i + 1))) (sym here)
-    (subst (λ x. IsGreater (node nodes i) x (node (set nodes at value) (i + i + 1))) (sym one)
-    (subst (λ x. IsGreater (node nodes i) (node nodes (i + i)) x) (sym other) g))
-
-pub mending_start : (nodes : List ℕ) (width index number : ℕ) → IsTree nodes width → index < width → IsMending nodes (set nodes (width + index) number) width index number (width + index)
-mending_start nodes width index number t h = record {
-  inside = omega arith;
-  positive = omega arith;
-  long = length-set nodes (width + index) number ∙ t.long;
-  greatest = λ i a b c. same_children nodes (width + index) number i (t.greatest i a b) (λ e. omega (arith, e)) (λ e. c (omega (arith, e))) (λ e. c (omega (arith, e)));
-  changed = get_or-set_same nodes (width + index) number 0 (omega (arith, t.long));
-  others = λ k ne. get_or-set_other nodes (width + index) (width + k) number 0 (λ e. ne (omega (arith, e)));
-}
-
-pub mending_step : (old nodes : List ℕ) (width index number n most : ℕ) → IsMending old nodes width index number n → 1 < n → IsGreater most (node nodes (n / 2 + n / 2)) (node nodes (n / 2 + n / 2 + 1)) → IsMending old (set nodes (n / 2) most) width index number (n / 2)
-mending_step old nodes width index number n most m h g =
-    let at = n / 2 in
-    let inside : at < width = omega (arith, m.inside) in
-    let positive : 0 < at = omega arith in
-    let here = get_or-set_same nodes at most 0 (omega (arith, m.long)) in
-    let one = get_or-set_other nodes at (at + at) most 0 (λ e. omega (arith, e)) in
-    let other = get_or-set_other nodes at (at + at + 1) most 0 (λ e. omega (arith, e)) in
-    let mended : IsGreater (node (set nodes at most) at) (node (set nodes at most) (at + at)) (node (set nodes at most) (at + at + 1)) =
-    subst (λ x. IsGreater x (node (set nodes at most) (at + at)) (node (set nodes at most) (at + at + 1))) (sym here)
-    (subst (λ x. IsGreater most x (node (set nodes at most) (at + at + 1))) (sym one)
-    (subst (λ x. IsGreater most (node nodes (at + at)) x) (sym other) g)) in
-    record {
-      inside = omega arith;
-      positive = positive;
-      long = length-set nodes at most ∙ m.long;
-      greatest = λ i a b c. elim (cases i at) [
-        | inl e ↦ subst (λ j. IsGreater (node (set nodes at most) j) (node (set nodes at most) (j + j)) (node (set nodes at most) (j + j + 1))) (sym e) mended
-        | inr ne ↦ same_children nodes at most i (m.greatest i a b ne) ne (λ e. c (omega (arith, e))) (λ e. c (omega (arith, e)))
-      ];
-      changed = get_or-set_other nodes at (width + index) most 0 (λ e. omega (arith, e)) ∙ m.changed;
-      others = λ k ne. get_or-set_other nodes at (width + k) most 0 (λ e. omega (arith, e)) ∙ m.others k ne;
-    }
-  where
-    cases : (a b : ℕ) → (a ≡ b) ⊎ (a ≢ b)
-    cases zero zero = inl refl
-    cases zero (suc b) = inr (λ e. omega (arith, e))
-    cases (suc a) zero = inr (λ e. omega (arith, e))
-    cases (suc a) (suc b) = elim (cases a b) [ inl e ↦ inl (ap suc e) | inr ne ↦ inr (λ e. ne (omega (arith, e))) ]
-
-pub mended : (old nodes : List ℕ) (width index number n : ℕ) → IsTree old width → IsMending old nodes width index number n → n ≤ 1 → IsTree nodes width
-mended old nodes width index number n t m h = record {
-  height = t.height;
-  full = t.full;
-  long = m.long;
-  greatest = λ i a b. m.greatest i a b (λ e. omega (arith, e));
-}

@@ -4,7 +4,7 @@ use Rattle.std.specs.Prelude.{◌≡◌, ℕ, zero, suc, ◌+◌, ◌≤◌, ◌
 use Rattle.std.specs.List.Sorted.{IsNonDecreasingBy, IsPermutation}
 use Rattle.modules.specs.declared.declaration.Handler.{Handler}
 use Rattle.verifier.specs.declared.coverage.Coverage.{Coverage}
-use Rattle.verifier.specs.declared.ends.Ends.{Ends}
+use Rattle.verifier.specs.declared.ends.MaximumTree.{MaximumTree}
 
 -- ---- numbers
 
@@ -12,7 +12,7 @@ abbrev pub node : List ℕ → ℕ → ℕ
 node nodes i = slice_index_or nodes i 0
 
 -- a number of the tree
-abbrev pub leaf : Ends → ℕ → ℕ
+abbrev pub leaf : MaximumTree → ℕ → ℕ
 leaf ends k = node ends.nodes.items (ends.width + k)
 
 -- a number that is doubled so many times

@@ -5,7 +5,7 @@ use Rattle.std.specs.List.{Contains}
 use Rattle.modules.specs.Contents.{ProcedureContents, ModuleContents}
 use Rattle.modules.specs.Code.{width_of, code_length, instruction_at, offset_at}
 use Rattle.modules.specs.declared.instruction.Instruction.{Instruction}
-use Rattle.modules.specs.declared.value.Kind.{Kind}
+use Rattle.modules.specs.declared.value.ValueKind.{ValueKind}
 use Rattle.modules.specs.declared.declaration.Handler.{Handler}
 use Rattle.modules.specs.Targets.{goes_on, target_of}
 use Rattle.verifier.specs.Flow.{Edge, Flow, Leaves, effect, IsOperandDefect}
@@ -13,31 +13,31 @@ use Rattle.verifier.specs.Coverage.{IsCoverage, Waits}
 use Rattle.verifier.specs.Depth.{IsMet}
 use Rattle.verifier.specs.Index.{index_of}
 use Rattle.verifier.specs.Operands.{list_of}
-use Rattle.verifier.specs.declared.search.Search.{Search}
+use Rattle.verifier.specs.declared.search.ReachedOffsets.{ReachedOffsets}
 use Rattle.verifier.specs.declared.search.FlowRefusal.{FlowRefusal}
-use Rattle.verifier.specs.declared.search.Place.{Place}
-use Rattle.verifier.specs.declared.body.Body.{Body}
+use Rattle.verifier.specs.declared.search.ListedOffset.{ListedOffset}
+use Rattle.verifier.specs.declared.body.IndexedProcedure.{IndexedProcedure}
 use Rattle.verifier.specs.declared.coverage.Coverage.{Coverage}
 
 -- a procedure that the search may look at: the index is that of its code, which has less than 4 GiB
-pub record IsSearchableBody (b : Body) : Type 0 where
+pub record IsSearchableBody (b : IndexedProcedure) : Type 0 where
   pub index : b.index ≡ index_of b.procedure.now.code
   pub short : code_length b.procedure.now.code < 2 ^ 32
 
 -- ---- the table that was found so far
 
-abbrev pub row : List (List Kind) → Option ℕ → Option (List Kind)
+abbrev pub row : List (List ValueKind) → Option ℕ → Option (List ValueKind)
 row lists None = None
 row lists (Some list) = Some (list_of lists list)
 
-abbrev pub table : Search → ℕ → Option (List Kind)
+abbrev pub table : ReachedOffsets → ℕ → Option (List ValueKind)
 table s offset = row s.operands (slice_index_or s.shapes offset None)
 
 -- a offset whose instruction finds its operands, and from which each edge was followed
-pub record IsFollowed (m : ModuleContents) (p : ProcedureContents) (s : Search) (at : ℕ) (kinds : List Kind) : Type 0 where
+pub record IsFollowed (m : ModuleContents) (p : ProcedureContents) (s : ReachedOffsets) (at : ℕ) (kinds : List ValueKind) : Type 0 where
   pub instruction : Instruction
   pub there : instruction_at p.code at ≡ Some instruction
-  pub after : List Kind
+  pub after : List ValueKind
   pub finds : effect m p instruction kinds ≡ Leaves after
   pub next : goes_on instruction ≡ true → table s (at + width_of instruction) ≡ Some after
   pub jumps : (to : ℕ) → target_of instruction ≡ Some to → table s to ≡ Some after
@@ -50,100 +50,100 @@ unset (None ∷ shapes) = suc (unset shapes)
 unset (Some list ∷ shapes) = unset shapes
 
 -- how many offsets may still be looked at: each without a list, and each that waits
-abbrev pub left : Search → ℕ
+abbrev pub left : ReachedOffsets → ℕ
 left s = unset s.shapes + length s.work
 
 -- the list 0 is there and empty
-abbrev pub StartsWithEmpty : List (List Kind) → Type 0
+abbrev pub StartsWithEmpty : List (List ValueKind) → Type 0
 StartsWithEmpty lists = (0 < length lists) × (list_of lists 0 ≡ [])
 
 -- each list is one that an instruction finds or leaves, and none that is so is longer than all of them
-abbrev pub AreMet : ModuleContents → ProcedureContents → List (List Kind) → Type 0
+abbrev pub AreMet : ModuleContents → ProcedureContents → List (List ValueKind) → Type 0
 AreMet m p lists = (k : ℕ) → k < length lists → IsMet m p (list_of lists k)
 
-pub record HaveLongest (m : ModuleContents) (p : ProcedureContents) (lists : List (List Kind)) : Type 0 where
+pub record HaveLongest (m : ModuleContents) (p : ProcedureContents) (lists : List (List ValueKind)) : Type 0 where
   pub met : AreMet m p lists
-  pub longest : (kinds : List Kind) → IsMet m p kinds → (k : ℕ) × ((k < length lists) × (length kinds ≤ length (list_of lists k)))
+  pub longest : (kinds : List ValueKind) → IsMet m p kinds → (k : ℕ) × ((k < length lists) × (length kinds ≤ length (list_of lists k)))
 
 -- a search at work: its table is one of the flow, its lists are met, and each offset that has a list waits, is being looked at, or
 -- is kept
-pub record IsSearching (m : ModuleContents) (p : ProcedureContents) (s : Search) (busy : List ℕ) : Type 0 where
+pub record IsSearching (m : ModuleContents) (p : ProcedureContents) (s : ReachedOffsets) (busy : List ℕ) : Type 0 where
   pub root : StartsWithEmpty s.operands
   pub sized : length s.shapes ≡ code_length p.code
   pub numbers : (offset list : ℕ) → slice_index_or s.shapes offset None ≡ Some list → list < length s.operands
-  pub begins : (offset : ℕ) (kinds : List Kind) → table s offset ≡ Some kinds → (i : Instruction) × (instruction_at p.code offset ≡ Some i)
+  pub begins : (offset : ℕ) (kinds : List ValueKind) → table s offset ≡ Some kinds → (i : Instruction) × (instruction_at p.code offset ≡ Some i)
   pub first : table s 0 ≡ Some []
   pub flow : Flow m p (table s)
   pub met : AreMet m p s.operands
-  pub pending : (at : ℕ) (kinds : List Kind) → table s at ≡ Some kinds → Contains s.work at ⊎ (Contains busy at ⊎ IsFollowed m p s at kinds)
-  pub waits : (at : ℕ) → Contains s.work at → (kinds : List Kind) × (table s at ≡ Some kinds)
+  pub pending : (at : ℕ) (kinds : List ValueKind) → table s at ≡ Some kinds → Contains s.work at ⊎ (Contains busy at ⊎ IsFollowed m p s at kinds)
+  pub waits : (at : ℕ) → Contains s.work at → (kinds : List ValueKind) × (table s at ≡ Some kinds)
 
 -- ---- steps
 
 -- a search in which one more offset waits
-abbrev pub waiting : Search → ℕ → Search
+abbrev pub waiting : ReachedOffsets → ℕ → ReachedOffsets
 waiting s at = record { operands = s.operands; shapes = s.shapes; work = s.work ++ at ∷ [] }
 
 -- an edge from a offset that has a list
-pub record IsAtEdge (m : ModuleContents) (p : ProcedureContents) (s : Search) (at to : ℕ) (after : List Kind) : Type 0 where
-  pub kinds : List Kind
+pub record IsAtEdge (m : ModuleContents) (p : ProcedureContents) (s : ReachedOffsets) (at to : ℕ) (after : List ValueKind) : Type 0 where
+  pub kinds : List ValueKind
   pub has : table s at ≡ Some kinds
   pub edge : Edge m p at kinds to after
 
 -- control went to a offset with a list
-pub record Flowed (m : ModuleContents) (p : ProcedureContents) (old new : Search) (at to list : ℕ) : Type 0 where
+pub record Flowed (m : ModuleContents) (p : ProcedureContents) (old new : ReachedOffsets) (at to list : ℕ) : Type 0 where
   pub searching : IsSearching m p new (at ∷ [])
-  pub keeps : (offset : ℕ) (kinds : List Kind) → table old offset ≡ Some kinds → table new offset ≡ Some kinds
+  pub keeps : (offset : ℕ) (kinds : List ValueKind) → table old offset ≡ Some kinds → table new offset ≡ Some kinds
   pub arrives : table new to ≡ Some (list_of old.operands list)
   pub same : new.operands ≡ old.operands
   pub left : left new ≤ left old
 
 -- control went on from a offset: lists were kept, and none was made
-pub record KeepsSearching (m : ModuleContents) (p : ProcedureContents) (old new : Search) (at : ℕ) : Type 0 where
+pub record KeepsSearching (m : ModuleContents) (p : ProcedureContents) (old new : ReachedOffsets) (at : ℕ) : Type 0 where
   pub searching : IsSearching m p new (at ∷ [])
-  pub keeps : (offset : ℕ) (kinds : List Kind) → table old offset ≡ Some kinds → table new offset ≡ Some kinds
+  pub keeps : (offset : ℕ) (kinds : List ValueKind) → table old offset ≡ Some kinds → table new offset ≡ Some kinds
   pub same : new.operands ≡ old.operands
   pub left : left new ≤ left old
 
 -- an instruction changed the list of its offset
-pub record IsApplied (m : ModuleContents) (p : ProcedureContents) (old new : Search) (at : ℕ) : Type 0 where
+pub record IsApplied (m : ModuleContents) (p : ProcedureContents) (old new : ReachedOffsets) (at : ℕ) : Type 0 where
   pub searching : IsSearching m p new (at ∷ [])
-  pub keeps : (offset : ℕ) (kinds : List Kind) → table old offset ≡ Some kinds → table new offset ≡ Some kinds
+  pub keeps : (offset : ℕ) (kinds : List ValueKind) → table old offset ≡ Some kinds → table new offset ≡ Some kinds
   pub few : length new.operands ≤ length old.operands + 1
   pub left : left new ≤ left old
 
 -- a offset whose instruction leaves a list
-pub record HasEffect (m : ModuleContents) (p : ProcedureContents) (s : Search) (at : ℕ) (i : Instruction) (after : List Kind) : Type 0 where
+pub record HasEffect (m : ModuleContents) (p : ProcedureContents) (s : ReachedOffsets) (at : ℕ) (i : Instruction) (after : List ValueKind) : Type 0 where
   pub there : instruction_at p.code at ≡ Some i
-  pub kinds : List Kind
+  pub kinds : List ValueKind
   pub has : table s at ≡ Some kinds
   pub effect : effect m p i kinds ≡ Leaves after
 
 -- a offset that has a list and an instruction
-pub record HasInstruction (p : ProcedureContents) (s : Search) (at : ℕ) : Type 0 where
+pub record HasInstruction (p : ProcedureContents) (s : ReachedOffsets) (at : ℕ) : Type 0 where
   pub instruction : Instruction
   pub there : instruction_at p.code at ≡ Some instruction
-  pub kinds : List Kind
+  pub kinds : List ValueKind
   pub has : table s at ≡ Some kinds
 
 -- a place is that of an offset with its instruction and its list
-pub record IsPlace (p : ProcedureContents) (s : Search) (place : Place) : Type 0 where
+pub record IsPlace (p : ProcedureContents) (s : ReachedOffsets) (place : ListedOffset) : Type 0 where
   pub number : offset_at p.code place.number ≡ place.at
   pub list : table s place.at ≡ Some (list_of s.operands place.list)
   pub inside : place.list < length s.operands
 
 -- a search at work that goes straight on to a place, or to none
-abbrev pub IsSearchingNext : ModuleContents → ProcedureContents → Search → Option Place → Type 0
+abbrev pub IsSearchingNext : ModuleContents → ProcedureContents → ReachedOffsets → Option ListedOffset → Type 0
 IsSearchingNext m p s None = IsSearching m p s []
 IsSearchingNext m p s (Some place) = (IsSearching m p s (place.at ∷ [])) × (HasInstruction p s place.at × IsPlace p s place)
 
 -- 1 where there is a place to go straight on to
-abbrev pub count : Option Place → ℕ
+abbrev pub count : Option ListedOffset → ℕ
 count None = 0
 count (Some place) = 1
 
 -- the handlers that wait are the procedure's, and control went to each other one that covers an offset
-pub record IsWaiting (p : ProcedureContents) (c : Coverage) (s : Search) : Type 0 where
+pub record IsWaiting (p : ProcedureContents) (c : Coverage) (s : ReachedOffsets) : Type 0 where
   pub coverage : IsCoverage c
   pub real : (h : Handler) → Waits c h → Contains p.handlers h
   pub waits_or_entered : (h : Handler) (at : ℕ) → Contains p.handlers h → h.start ≤ at → at < h.end → Waits c h ⊎ (table s h.target ≡ Some [])

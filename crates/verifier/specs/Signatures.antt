@@ -7,8 +7,8 @@ use Rattle.modules.specs.Machine.{header_of, machine_code}
 use Rattle.modules.specs.Values.{kind_of_slot}
 use Rattle.modules.specs.declared.instruction.Instruction.{Instruction}
 use Rattle.modules.specs.declared.instruction.Instruction.TheVariants.{Push, PushBoolean, Pop, Load, Store, LoadGlobal, StoreGlobal, LoadElement, StoreElement, LoadGlobalElement, StoreGlobalElement, Clear, Compute, Negate, Not, Compare, SameBoolean, OtherBoolean, Jump, JumpIfFalse, Call, Return, ReturnValue, Receive, Send, Throw}
-use Rattle.modules.specs.declared.value.Kind.{Kind}
-use Rattle.modules.specs.declared.value.Kind.TheVariants.{Int, Boolean}
+use Rattle.modules.specs.declared.value.ValueKind.{ValueKind}
+use Rattle.modules.specs.declared.value.ValueKind.TheVariants.{Int, Boolean}
 use Rattle.modules.specs.declared.declaration.Slot.{Slot}
 use Rattle.modules.specs.declared.declaration.Slot.TheVariants as slot
 use Rattle.common.specs.declared.direction.Direction.{Direction}
@@ -20,13 +20,13 @@ use Rattle.common.specs.declared.direction.Direction.TheVariants.{Input, Output}
 pub record Signature : Type 0 where
   pub there : Bool
   pub own : Bool
-  pub pops : List (Option Kind)
-  pub pushes : Option Kind
+  pub pops : List (Option ValueKind)
+  pub pushes : Option ValueKind
 
 -- ---- the pieces of a row
 
 -- pop these kinds, and push one
-abbrev pub exchange : List Kind → Option Kind → Signature
+abbrev pub exchange : List ValueKind → Option ValueKind → Signature
 exchange kinds pushes = record { there = true; own = true; pops = map (λ kind. Some kind) kinds; pushes = pushes }
 
 -- the same, of what is there or not
@@ -52,15 +52,15 @@ is_output (Some Output) = true
 is_output _ = false
 
 -- the kind of a slot or a global
-abbrev pub slot_kind : Option Slot → Kind
+abbrev pub slot_kind : Option Slot → ValueKind
 slot_kind None = Int
 slot_kind (Some slot) = kind_of_slot slot
 
 -- what goes by the kind of a scalar, or of an array
-abbrev scalar : Option Slot → (Kind → Signature) → Signature
+abbrev scalar : Option Slot → (ValueKind → Signature) → Signature
 scalar slot signature = naming (is_scalar slot) (signature (slot_kind slot))
 
-abbrev array : Option Slot → (Kind → Signature) → Signature
+abbrev array : Option Slot → (ValueKind → Signature) → Signature
 array slot signature = naming (is_array slot) (signature (slot_kind slot))
 
 -- a call pops the arguments, the last one first, and its return pushes the value, if there is one
@@ -69,7 +69,7 @@ called None = exchange [] None
 called (Some callee) = exchange (reverse (header_of callee).parameters) callee.returned
 
 -- a return pops the value that is due
-abbrev pub value_kinds : Option Kind → List Kind
+abbrev pub value_kinds : Option ValueKind → List ValueKind
 value_kinds None = []
 value_kinds (Some kind) = kind ∷ []
 

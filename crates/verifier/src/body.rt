@@ -11,26 +11,26 @@ use std::alloc::{AllocError, Global};
 
 /// A procedure of a module, and the index of its code.
 #[derive(Drop)]
-pub(crate) struct Body<'a> {
+pub(crate) struct IndexedProcedure<'a> {
     pub program: &'a PackedModule,
     pub procedure: &'a Procedure,
     pub index: Index,
 }
 
-impl<'a> Body<'a> {
+impl<'a> IndexedProcedure<'a> {
     /// A procedure whose code has less than 4 GiB.
     pub(crate) fn new(
         alloc: Global,
         program: &'a PackedModule,
         procedure: &'a Procedure,
-    ) -> Result<Body<'a>, AllocError>
+    ) -> Result<IndexedProcedure<'a>, AllocError>
         requires { code_length procedure.now.code < 2 ^ 32 }
         ensures body { IfOk result (λ body. IsSearchableBody body) }
         ensures program { IfOk result (λ body. body.program.now ≡ program.now) }
         ensures procedure { IfOk result (λ body. body.procedure.now ≡ procedure.now) }
     {
         let index = Index::of(alloc, procedure.code())?;
-        Ok(Body {
+        Ok(IndexedProcedure {
             program,
             procedure,
             index,

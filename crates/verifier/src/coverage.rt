@@ -5,7 +5,7 @@ ghost use Rattle.std.specs.List.{Contains};
 ghost use Rattle.std.specs.Prelude.{IfNone, IfOk, IfSome, length, ℕ, ◌<◌, ◌^◌, ◌≡◌, ◌⊎◌, ◌≤◌};
 ghost use Rattle.verifier.specs.Coverage.{IsCoverage, IsSortedByStart, Waits, left};
 
-use crate::ends::Ends;
+use crate::ends::MaximumTree;
 use modules::Handler;
 use std::alloc::{AllocError, Global};
 
@@ -15,7 +15,7 @@ pub(crate) struct Coverage {
     // In the order of their starts.
     pub handlers: Vec<Handler>,
     // The end of each handler that waits, and 0 for each other one.
-    pub ends: Ends,
+    pub ends: MaximumTree,
 }
 
 impl Coverage {
@@ -28,7 +28,7 @@ impl Coverage {
             Contains handlers.now h → at < h.end → Waits c h) }
     {
         let handlers = sort_by_start(alloc, handlers)?;
-        let mut ends = Ends::new(alloc, handlers.len())?;
+        let mut ends = MaximumTree::new(alloc, handlers.len())?;
         for index in 0..handlers.len() {
             ends.set(index, handlers[index].end);
         }

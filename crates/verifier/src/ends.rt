@@ -7,15 +7,15 @@ use std::alloc::{AllocError, Global};
 
 /// Numbers as the leaves of a tree, in which each node is the greater one of its two children.
 #[derive(Drop)]
-pub(crate) struct Ends {
+pub(crate) struct MaximumTree {
     // The children of the node n are 2 n and 2 n + 1, and the leaves begin at the width.
     pub nodes: Vec<u32>,
     pub width: usize,
 }
 
-impl Ends {
+impl MaximumTree {
     /// At least so many numbers, each of them 0.
-    pub(crate) fn new(alloc: Global, count: usize) -> Result<Ends, AllocError>
+    pub(crate) fn new(alloc: Global, count: usize) -> Result<MaximumTree, AllocError>
         requires { count ≤ 2 ^ 32 }
         ensures tree { IfOk result (λ ends. IsTree ends.nodes.items ends.width) }
         ensures room { IfOk result (λ ends. count ≤ ends.width) }
@@ -25,7 +25,7 @@ impl Ends {
         while width < count {
             width *= 2;
         }
-        Ok(Ends {
+        Ok(MaximumTree {
             nodes: vec![in alloc; 0; 2 * width]?,
             width,
         })

@@ -8,19 +8,19 @@ ghost use Rattle.verifier.specs.Refusals.{IsCodeRefusal};
 ghost use Rattle.verifier.specs.Search.{IsSearchableBody};
 ghost use Rattle.verifier.specs.Verified.{HasCodes, AddsVerifiedCode, IsRefusalOf};
 
-use crate::body::Body;
+use crate::body::IndexedProcedure;
 use crate::fault::{CodeRefusal, VerifyFault};
 use crate::fixed::find_body_refusal;
 use crate::index::Index;
 use crate::parameters::PackedModule;
 use crate::positions::Code;
-use crate::search::{FlowRefusal, Search, find_defect};
+use crate::search::{FlowRefusal, ReachedOffsets, find_defect};
 use common::OrNoMemory;
 use std::alloc::Global;
 
 /// What is kept of the procedures of a module: the code of each, and the index of that code.
 #[derive(Drop)]
-pub(crate) struct Kept {
+pub(crate) struct CheckedCode {
     pub codes: Vec<Code>,
     pub indexes: Vec<Index>,
 }
@@ -29,7 +29,10 @@ pub(crate) struct Kept {
 ///
 /// A defect that an instruction or a handler has by itself is reported before each one of the flow. So past one of
 /// the flow the search goes on, for those alone.
-pub(crate) fn look_for_defects(alloc: Global, program: &PackedModule) -> Result<Kept, VerifyFault>
+pub(crate) fn look_for_defects(
+    alloc: Global,
+    program: &PackedModule,
+) -> Result<CheckedCode, VerifyFault>
     ensures accepted { IfOk result (λ kept. HasCodes program.now kept.codes.items
         kept.indexes.items) }
     ensures rejected { IfErr result (IfRefused (IsCodeRefusal program.now)) }
@@ -37,11 +40,11 @@ pub(crate) fn look_for_defects(alloc: Global, program: &PackedModule) -> Result<
     let procedures = program.procedures();
     let mut codes = Vec::with_capacity(alloc, procedures.len())?;
     let mut indexes = Vec::with_capacity(alloc, procedures.len())?;
-    let mut search = Search::new(alloc)?;
+    let mut search = ReachedOffsets::new(alloc)?;
     let mut found = None;
     let mut number = 0;
     for procedure in procedures {
-        let body = Body::new(alloc, program, procedure)?;
+        let body = IndexedProcedure::new(alloc, program, procedure)?;
         if let Some(refusal) = find_body_refusal(&body, number) {
             return Err(OrNoMemory::Refused(refusal));
         }
@@ -50,7 +53,7 @@ pub(crate) fn look_for_defects(alloc: Global, program: &PackedModule) -> Result<
         number += 1;
     }
     match found {
-        None => Ok(Kept { codes, indexes }),
+        None => Ok(CheckedCode { codes, indexes }),
         Some(refusal) => Err(OrNoMemory::Refused(refusal)),
     }
 }
@@ -59,8 +62,8 @@ pub(crate) fn look_for_defects(alloc: Global, program: &PackedModule) -> Result<
 // none, the procedure's code is added.
 fn look_for_flow_refusal(
     alloc: Global,
-    search: &mut Search,
-    body: &Body,
+    search: &mut ReachedOffsets,
+    body: &IndexedProcedure,
     number: u32,
     found: Option<CodeRefusal>,
     codes: &mut Vec<Code>,

@@ -9,7 +9,7 @@ ghost use Rattle.verifier.specs.Operands.{packed};
 ghost use Rattle.verifier.specs.Parameters.{parameter_blocks};
 
 use crate::operands::bit_of;
-use modules::{Channel, Global as Variable, Kind, Module, Procedure, Slot};
+use modules::{Channel, Global as Variable, Module, Procedure, Slot, ValueKind};
 use std::alloc::{AllocError, Global};
 use std::marker::Model;
 

@@ -3,7 +3,7 @@
 ghost use Rattle.modules.specs.Code.{code_length, instruction_at, offset_at, width_of};
 ghost use Rattle.modules.specs.Contents.{ModuleContents, ProcedureContents};
 ghost use Rattle.modules.specs.declared.declaration.Handler.{Handler};
-ghost use Rattle.modules.specs.declared.value.Kind.{Kind};
+ghost use Rattle.modules.specs.declared.value.ValueKind.{ValueKind};
 ghost use Rattle.common.specs.Answers.{IfRefused};
 ghost use Rattle.common.specs.declared.fault.OrNoMemory.TheVariants.{Refused};
 ghost use Rattle.std.specs.List.{Contains};
@@ -15,7 +15,7 @@ ghost use Rattle.verifier.specs.Operands.{list_of};
 ghost use Rattle.verifier.specs.Boundaries.{IsBoundary, KeepsBoundaries};
 ghost use Rattle.verifier.specs.Search.{Flowed, HasEffect, HaveLongest, HasInstruction, IsApplied, IsAtEdge, IsSearchableBody, IsPlace, IsSearchingNext, IsSearching, IsOperandFlowRefusal, IsWaiting, KeepsSearching, count, left, table, waiting};
 
-use crate::body::Body;
+use crate::body::IndexedProcedure;
 use crate::coverage::Coverage;
 use crate::effects::{exchange, is_own};
 use crate::fault::CodeDefect;
@@ -45,7 +45,7 @@ fn refuse(defect: CodeDefect, offset: u32) -> FlowFault
 
 /// An offset that has a list: the numbers of the instruction that begins there and of the list.
 #[derive(Clone, Copy)]
-pub(crate) struct Place {
+pub(crate) struct ListedOffset {
     at: u32,
     number: u32,
     list: u32,
@@ -53,22 +53,22 @@ pub(crate) struct Place {
 
 /// The lists of the offsets that control reaches, and the offsets that are still to be looked at.
 #[derive(Drop)]
-pub(crate) struct Search {
+pub(crate) struct ReachedOffsets {
     operands: Operands,
     // The number of the list of each offset that has one.
     shapes: Numbers,
     work: Work,
 }
 
-impl Search {
+impl ReachedOffsets {
     /// A search that has not begun.
-    pub(crate) fn new(alloc: Global) -> Result<Search, AllocError>
+    pub(crate) fn new(alloc: Global) -> Result<ReachedOffsets, AllocError>
         ensures { IfOk result (λ search. search.operands ≡ [] ∷ []) }
     {
         let operands = Operands::new(alloc)?;
         let shapes = Numbers::new(alloc, 0)?;
         let work = Work::new(alloc)?;
-        Ok(Search {
+        Ok(ReachedOffsets {
             operands,
             shapes,
             work,
@@ -77,7 +77,13 @@ impl Search {
 
     // Control goes from an offset to another one with a list. Answers whether it is the first there; then that offset is
     // still to be looked at.
-    fn arrive(&mut self, body: &Body, at: u32, to: u32, list: u32) -> Result<bool, FlowFault>
+    fn arrive(
+        &mut self,
+        body: &IndexedProcedure,
+        at: u32,
+        to: u32,
+        list: u32,
+    ) -> Result<bool, FlowFault>
         requires searching { IsSearching body.now.program.now body.now.procedure.now self.old
             (at ∷ []) }
         requires edge { IsAtEdge body.now.program.now body.now.procedure.now self.old at to
@@ -108,7 +114,13 @@ impl Search {
     }
 
     // Control goes from an offset to another one with a list, and that one waits if control is the first there.
-    fn reach(&mut self, body: &Body, at: u32, to: u32, list: u32) -> Result<(), FlowFault>
+    fn reach(
+        &mut self,
+        body: &IndexedProcedure,
+        at: u32,
+        to: u32,
+        list: u32,
+    ) -> Result<(), FlowFault>
         requires searching { IsSearching body.now.program.now body.now.procedure.now self.old
             (at ∷ []) }
         requires edge { IsAtEdge body.now.program.now body.now.procedure.now self.old at to
@@ -131,7 +143,7 @@ impl Search {
     // The list that an instruction at an offset leaves.
     fn apply(
         &mut self,
-        body: &Body,
+        body: &IndexedProcedure,
         at: u32,
         instruction: Instruction,
         list: u32,
@@ -166,7 +178,7 @@ impl Search {
     // Control jumps, where it may.
     fn jump(
         &mut self,
-        body: &Body,
+        body: &IndexedProcedure,
         at: u32,
         instruction: Instruction,
         list: u32,
@@ -192,7 +204,12 @@ impl Search {
     }
 
     // Control goes to each handler whose range holds the offset. Where it went before, it need not go again.
-    fn raise(&mut self, body: &Body, coverage: &mut Coverage, at: u32) -> Result<(), FlowFault>
+    fn raise(
+        &mut self,
+        body: &IndexedProcedure,
+        coverage: &mut Coverage,
+        at: u32,
+    ) -> Result<(), FlowFault>
         requires searching { IsSearching body.now.program.now body.now.procedure.now self.old
             (at ∷ []) }
         requires there { HasInstruction body.now.procedure.now self.old at }
@@ -217,12 +234,12 @@ impl Search {
     // instruction where control is the first there: it is to be looked at next.
     fn go_on(
         &mut self,
-        body: &Body,
+        body: &IndexedProcedure,
         at: u32,
         number: u32,
         instruction: Instruction,
         list: u32,
-    ) -> Result<Option<Place>, FlowFault>
+    ) -> Result<Option<ListedOffset>, FlowFault>
         requires searching { IsSearching body.now.program.now body.now.procedure.now self.old
             (at ∷ []) }
         requires effect { HasEffect body.now.program.now body.now.procedure.now self.old at
@@ -238,7 +255,7 @@ impl Search {
         requires room { length self.old.operands + left self.old ≤ 2 ^ 32 }
         ensures next { IfOk result (IsSearchingNext body.now.program.now body.now.procedure.now
             self.new) }
-        ensures keeps { OnOk result ((offset : ℕ) (kinds : List Kind) → table self.old offset
+        ensures keeps { OnOk result ((offset : ℕ) (kinds : List ValueKind) → table self.old offset
             ≡ Some kinds → table self.new offset ≡ Some kinds) }
         ensures same { OnOk result (self.new.operands ≡ self.old.operands) }
         ensures left { IfOk result (λ next. left self.new + count next ≤ left self.old) }
@@ -251,7 +268,7 @@ impl Search {
         let to = at + instruction.width() as u32;
         if self.arrive(body, at, to, list)? {
             let number = number + 1;
-            Ok(Some(Place {
+            Ok(Some(ListedOffset {
                 at: to,
                 number,
                 list,
@@ -264,11 +281,11 @@ impl Search {
     // Looks at a place: control goes on from it along each edge.
     fn visit(
         &mut self,
-        body: &Body,
+        body: &IndexedProcedure,
         coverage: &mut Coverage,
-        place: Place,
+        place: ListedOffset,
         instruction: Instruction,
-    ) -> Result<Option<Place>, FlowFault>
+    ) -> Result<Option<ListedOffset>, FlowFault>
         requires searching { IsSearching body.now.program.now body.now.procedure.now self.old
             (place.at ∷ []) }
         requires place { IsPlace body.now.procedure.now self.old place }
@@ -286,7 +303,7 @@ impl Search {
         ensures rejected { IfErr result (IfRefused
             (IsOperandFlowRefusal body.now.program.now body.now.procedure.now)) }
     {
-        let Place { at, number, list } = place;
+        let ListedOffset { at, number, list } = place;
         let after = self.apply(body, at, instruction, list)?;
         self.jump(body, at, instruction, after)?;
         self.raise(body, coverage, at)?;
@@ -297,10 +314,10 @@ impl Search {
     // Looks at a place.
     fn look(
         &mut self,
-        body: &Body,
+        body: &IndexedProcedure,
         coverage: &mut Coverage,
-        place: Place,
-    ) -> Result<Option<Place>, FlowFault>
+        place: ListedOffset,
+    ) -> Result<Option<ListedOffset>, FlowFault>
         requires searching { IsSearching body.now.program.now body.now.procedure.now self.old
             (place.at ∷ []) }
         requires there { HasInstruction body.now.procedure.now self.old place.at }
@@ -322,7 +339,7 @@ impl Search {
     }
 
     // The place of an offset that has a list.
-    fn place_at(&self, body: &Body, at: u32) -> Place
+    fn place_at(&self, body: &IndexedProcedure, at: u32) -> ListedOffset
         requires searching { IsSearching body.now.program.now body.now.procedure.now self.now
             (at ∷ []) }
         requires there { HasInstruction body.now.procedure.now self.now at }
@@ -336,13 +353,18 @@ impl Search {
         let Some(list) = self.shapes.at(at as usize) else {
             unreachable!()
         };
-        Place { at, number, list }
+        ListedOffset { at, number, list }
     }
 
     // Looks at an offset that has a list, and at those to which control goes straight on from there. It is not inlined, so that the
     // loop has all registers for itself.
     #[inline(never)]
-    fn follow(&mut self, body: &Body, coverage: &mut Coverage, at: u32) -> Result<(), FlowFault>
+    fn follow(
+        &mut self,
+        body: &IndexedProcedure,
+        coverage: &mut Coverage,
+        at: u32,
+    ) -> Result<(), FlowFault>
         requires searching { IsSearching body.now.program.now body.now.procedure.now self.old
             (at ∷ []) }
         requires there { HasInstruction body.now.procedure.now self.old at }
@@ -367,7 +389,7 @@ impl Search {
     }
 
     // Looks at each offset that waits, until none does.
-    fn run(&mut self, body: &Body, coverage: &mut Coverage) -> Result<(), FlowFault>
+    fn run(&mut self, body: &IndexedProcedure, coverage: &mut Coverage) -> Result<(), FlowFault>
         requires searching { IsSearching body.now.program.now body.now.procedure.now self.old [] }
         requires boundaries { KeepsBoundaries body.now.procedure.now }
         requires waiting { IsWaiting body.now.procedure.now coverage.old self.old }
@@ -388,7 +410,11 @@ impl Search {
 
 /// Looks for a defect of the flow of a procedure whose targets are right, and answers the greatest number of operands where there
 /// is none. Memory that the search has is used again.
-pub(crate) fn find_defect(alloc: Global, search: &mut Search, body: &Body) -> Result<u32, FlowFault>
+pub(crate) fn find_defect(
+    alloc: Global,
+    search: &mut ReachedOffsets,
+    body: &IndexedProcedure,
+) -> Result<u32, FlowFault>
     requires boundaries { KeepsBoundaries body.now.procedure.now }
     requires body { IsSearchableBody body.now }
     requires few { length body.now.procedure.now.handlers < 2 ^ 32 }

@@ -10,7 +10,7 @@ ghost use Rattle.verifier.specs.Positions.{positioned};
 
 use crate::fault::VerifyFault;
 use crate::index::Index;
-use crate::looking::{Kept, look_for_defects};
+use crate::looking::{CheckedCode, look_for_defects};
 use crate::parameters::PackedModule;
 use crate::positions::Code;
 use modules::{Instruction, Module};
@@ -97,7 +97,7 @@ pub fn verify(alloc: Global, program: Module) -> Result<Verified, VerifyFault>
     ensures rejected { IfErr result (IfRefused (IsCodeRefusal program)) }
 {
     let packed = PackedModule::new(alloc, program)?;
-    let Kept { codes, indexes } = look_for_defects(alloc, &packed)?;
+    let CheckedCode { codes, indexes } = look_for_defects(alloc, &packed)?;
     Ok(Verified {
         inner: packed.into_module(),
         codes,

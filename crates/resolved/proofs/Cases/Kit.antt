@@ -5,8 +5,9 @@ use Rattle.std.specs.Prelude.{ℤ, Some, None, slice_index_or, if◌then◌else�
 use Rattle.std.specs.List.{list_all}
 use Rattle.principals.specs.ActsFor.{PrincipalHierarchy}
 use Rattle.labels.specs.Label.{Label}
-use Rattle.labels.specs.Constraints.{holds, label_lattice}
-use Rattle.labels.specs.declared.sent.Pair.{Pair}
+use Rattle.lattices.specs.Constraints.{holds}
+use Rattle.labels.specs.LabelLattice.{label_lattice}
+use Rattle.common.specs.declared.sent.Pair.{Pair}
 use Rattle.resolved.specs.declared.expression.Base.TheVariants.{Int}
 use Rattle.resolved.specs.declared.expression.Variable.TheVariants.{Local}
 use Rattle.resolved.specs.declared.expression.Operator.TheVariants.{Compare}

@@ -2,7 +2,7 @@ use Rattle.std.proofs.Common.{◌≡◌, ◌∙◌, ◌<◌, ℕ, sym, subst, Li
 use Rattle.std.specs.Prelude.{Contains, Option, flat_map}
 use Rattle.labels.specs.Label.{ReaderPolicy, Covers, flows}
 use Rattle.labels.specs.LabelTable.{label_at}
-use Rattle.labels.specs.Constraints.{label_lattice}
+use Rattle.labels.specs.LabelLattice.{label_lattice}
 use Rattle.resolved.specs.declared.target.Target.{Target}
 use Rattle.solver.specs.declared.constraints.Constraint.{Constraint}
 use Rattle.checker.specs.Reported.{reported_by}

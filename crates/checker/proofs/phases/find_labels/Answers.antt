@@ -1,6 +1,6 @@
 use Rattle.std.proofs.Common.{ℕ, subst}
 use Rattle.labels.specs.Label.{Label}
-use Rattle.labels.specs.Constraints.{label_lattice}
+use Rattle.labels.specs.LabelLattice.{label_lattice}
 use Rattle.resolved.specs.CoreOf.{program_of}
 use Rattle.gathering.specs.Names.{unwritten_number}
 use Rattle.solver.specs.Constraints.{IsSolution, constraints_of, values_of}

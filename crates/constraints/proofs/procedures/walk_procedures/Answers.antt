@@ -10,7 +10,7 @@ use Rattle.constraints.proofs.procedures.walk_procedures.Goals as goal
 
 pub loop-i-init : goal.loop-i-init
 loop-i-init c =
-    passed-none c.args.table.now.core.now c.args.table.now.core.now.labels (entries_of c.args.ends.now) _ _ (alike-exits c.args.ends.now (program_paths (program_of c.args.table.now.core.now)) (paths-found (program_of c.args.table.now.core.now) c.args.ends.now c.requires.mapped)) refl c.args.table.now.count c.new.ensures.items
+    passed-none c.args.table.now.core.now c.args.table.now.core.now.labels (entries_of c.args.ends.now) _ _ (alike-exits c.args.ends.now (program_paths (program_of c.args.table.now.core.now)) (paths-found (program_of c.args.table.now.core.now) c.args.ends.now c.requires.mapped)) refl c.args.table.now.count c.in_ok-with_capacity.ensures.items
     (c.in_ok-vec.ensures.items_if_clones_equal (λ y e. e))
     (omega (arith, c.len.ensures, c.args.table.now.core.now.exceptions.ok.0))
     c.in_ok-new.ensures.calls c.in_ok-new.ensures.moments c.in_ok-new.ensures.count

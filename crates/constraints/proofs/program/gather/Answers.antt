@@ -1,6 +1,6 @@
 use Rattle.std.proofs.Common.{◌≡◌, ◌*◌, ◌≤◌, [], length, refl, subst, sym, map}
 use Rattle.std.specs.Prelude.{◌↔◌}
-use Rattle.labels.specs.Constraints.{label_lattice}
+use Rattle.labels.specs.LabelLattice.{label_lattice}
 use Rattle.path_map.specs.EndsOf.{AreEndsOf}
 use Rattle.resolved.specs.CoreOf.{program_of}
 use Rattle.resolved.specs.declared.program.Core.{Core}

@@ -4,7 +4,11 @@ use Rattle.constraints.specs.Merging.{AreSpreadSoFar, row_of, rows_of}
 use Rattle.constraints.specs.Spreading.{AreRowsOf, all_calls}
 use Rattle.constraints.specs.declared.spreading.Made.{Made}
 use Rattle.constraints.proofs.Bodies.{procedures-numbered}
+use Rattle.gathering.specs.Names.{real_unknowns}
+use Rattle.resolved.specs.CoreOf.{program_of}
+use Rattle.constraints.specs.Following.{AreWays, IsOver}
 use Rattle.constraints.proofs.CallRows.{calls-more, calls-upto}
+use Rattle.constraints.proofs.Paths.{over-same, over-then}
 use Rattle.constraints.proofs.LaidRows.{shared-all}
 use Rattle.constraints.proofs.PartRows.{so-far-next, taken-none}
 use Rattle.constraints.proofs.Spread.{whole-none}
@@ -17,11 +21,10 @@ loop-i-init c = record {
   spread = record {
     spread = [];
     are_spread = whole-none c.args.table.now.core.now c.args.table.now.core.now.labels c.args.journal.now (Declares c.args.table.now.core.now) [] c.args.made.now.number refl;
-    are_taken = taken-none (rows_of c.in_ok-kept.kept) c.args.made.now.constraints.items;
+    are_taken = taken-none (IsOver c.in_ok-following.following) (over-same c.in_ok-following.following) (rows_of c.in_ok-kept.kept.items) c.args.made.now.constraints.items;
   };
   count = c.in_ok-kept.ensures.count;
   few = omega arith;
-  sound = c.in_ok-kept.ensures.sound;
 }
 
 pub loop-i-preserved : goal.loop-i-preserved
@@ -30,6 +33,7 @@ loop-i-preserved c =
     let table = c.args.table.now.core.now.labels in
     let journal = c.args.journal.now in
     let rows = c.deref-row-items.result.now in
+    let following = c.in_ok-following.following in
     let i = c.loop-i.i in
     let begun : Made = record { number = c.loop-i.made.number; constraints = c.new.result } in
     let own : Made = c.spread_row.new.made in
@@ -37,7 +41,7 @@ loop-i-preserved c =
     let so_far = c.loop-i.invariant.spread in
     record {
       spread =
-          so-far-next core table journal (all_calls (take i rows)) (all_calls (take (i + 1) rows)) (rows_of c.in_ok-kept.kept) (rows_of c.loop-i.kept) (rows_of c.take_all.new.kept) own.constraints.items
+          so-far-next (IsOver following) (over-same following) (over-then following) core table journal (all_calls (take i rows)) (all_calls (take (i + 1) rows)) (rows_of c.in_ok-kept.kept.items) (rows_of c.loop-i.kept.items) (rows_of c.take_all.new.kept.items) own.constraints.items
           c.args.made.now c.loop-i.made made so_far
           (calls-next core table journal rows c.len.result i c.row-item.result c.deref-in-loop-i.result.now c.deref.result.now c.args.made.now.number so_far.spread begun own
           c.loop-i-test.true c.row-item.is c.deref-in-loop-i.ensures.value (subst (AreRowsOf c.len.result c.deref.result.now) (sym c.deref-row-items.ensures.value) c.in_ok-rows.ensures)
@@ -47,7 +51,6 @@ loop-i-preserved c =
       few =
           let more = calls-more rows i c.row-item.result c.deref-in-loop-i.result.now c.loop-i-test.true c.row-item.is c.deref-in-loop-i.ensures.value in
           omega (arith, c.loop-i.invariant.few, c.in_ok-spread_row.ensures.few, more);
-      sound = c.in_ok-take_all.ensures.sound;
     }
 
 pub spread_row-requires-clause-room : goal.spread_row-requires-clause-room
@@ -72,12 +75,16 @@ returns c =
     let journal = c.args.journal.now in
     let are = subst (AreRowsOf c.len.result c.deref.result.now) (sym c.deref-row-items.ensures.value) c.in_ok-rows.ensures in
     let so_far = c.loop-i.invariant.spread in
-    let whole : AreSpreadSoFar core table journal journal.calls.items (rows_of c.in_ok-kept.kept) (rows_of c.loop-i.kept) c.args.made.now c.loop-i.made = record {
+    let following = c.in_ok-following.following in
+    let base = c.args.made.now.constraints.items in
+    let ways : AreWays (real_unknowns (program_of core)) base following =
+    subst (λ n. AreWays n base following) c.args.table.now.count (subst (λ list. AreWays c.args.table.now.unknowns list following) c.deref-2.ensures.value c.in_ok-following.ensures) in
+    let whole : AreSpreadSoFar (IsOver following) core table journal journal.calls.items (rows_of c.in_ok-kept.kept.items) (rows_of c.loop-i.kept.items) c.args.made.now c.loop-i.made = record {
       spread = so_far.spread;
       are_spread = calls-all core table journal c.deref-row-items.result.now c.len.result c.loop-i.i journal.calls.items c.args.made.now.number c.loop-i.made.number so_far.spread
           c.loop-i-test.false (c.len.ensures ∙ core.procedures.ok.0)
           (subst (λ list. AreRowsOf c.len.result list c.deref-row-items.result.now) c.deref.ensures.value are) so_far.are_spread;
       are_taken = so_far.are_taken;
     } in
-    shared-all core table journal journal.calls.items (rows_of c.in_ok-kept.kept) (rows_of c.loop-i.kept) (length c.loop-i.kept.rows.items) c.args.made.now c.loop-i.made c.lay_out.new.made
-    c.in_ok-kept.ensures.nothing (length-map c.loop-i.kept.rows.items (row_of c.loop-i.kept.lists.lists.items)) c.loop-i.invariant.count whole c.in_ok-lay_out.ensures.laid c.in_ok-lay_out.ensures.few
+    shared-all (IsOver following) core table journal journal.calls.items (rows_of c.in_ok-kept.kept.items) (rows_of c.loop-i.kept.items) (length c.loop-i.kept.items) c.args.made.now c.loop-i.made
+    c.lay_out.new.made (λ a b over. over (real_unknowns (program_of core)) base ways) c.in_ok-kept.ensures.nothing (length-map c.loop-i.kept.items row_of) c.loop-i.invariant.count whole c.in_ok-lay_out.ensures.laid c.in_ok-lay_out.ensures.few

@@ -1,5 +1,5 @@
 use Rattle.std.proofs.Common.{arith, ◌≡◌, refl, ap, ℕ, zero, suc, List, [], ◌∷◌, true, false, ℤ, pos, negsuc, ⊎_elim}
-use Rattle.labels.specs.declared.sent.Pair.{Pair}
+use Rattle.common.specs.declared.sent.Pair.{Pair}
 use Rattle.labels.specs.Sent.{IsPrefix}
 use Rattle.resolved.specs.Meaning.{frame_limit}
 use Rattle.resolved.specs.Labelled.{channel_label}

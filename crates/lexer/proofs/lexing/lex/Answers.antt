@@ -1,4 +1,4 @@
-use Rattle.std.proofs.Common.{◌≡◌, Option, Some, None, Ok, Err, refl, sym, ap, subst, ◌∙◌, arith, rules}
+use Rattle.std.proofs.Common.{◌≡◌, Option, Some, None, Ok, Err, refl, sym, ap, subst, ◌∙◌, rules}
 use Rattle.std.proofs.lemmas.List.{map-append}
 use Rattle.std.specs.Str.{chars, IsUtf8}
 use Rattle.lexer.specs.declared.token.Kind.{Kind}
@@ -8,22 +8,13 @@ use Rattle.lexer.specs.Cut.{IsCut, IsStuck, IsTextRefused}
 use Rattle.lexer.specs.Listing.{IsRefusedAtCharacter}
 use Rattle.lexer.specs.Scan.{Reads}
 use Rattle.lexer.specs.Terminal.{terminal_of, terminals_of}
-use Rattle.lexer.proofs.Growing.{IsCutSoFar, GrowsBy, begin, gap, token, shorter_by, refused, cut_to_end}
+use Rattle.lexer.proofs.Growing.{IsCutSoFar, GrowsBy, begin, gap, token, refused, cut_to_end}
 use Rattle.lexer.proofs.Listed.{Listed, listed, refused_at}
 use Rattle.lexer.proofs.Cutting.{has_one_cut, not_cut_and_refused, has_one_refusal}
 use Rattle.lexer.proofs.lexing.lex.Goals as goal
 
 pub loop-first-init : goal.loop-first-init
-loop-first-init c = (c.utf8.src, subst (λ ts. IsCutSoFar c.args.src.now c.args.src.now (terminals_of ts)) (sym c.new-tokens.ensures.items) (begin c.args.src.now))
-
-pub overflow_sub-end : goal.overflow_sub-end
-overflow_sub-end c =
-    let left_ok : IsUtf8 c.in_ok-kind.field-0.rest.now = search rules in
-    let read = refuse-answer (λ p. Reads (chars c.loop-first.rest.now) p.kind (chars p.rest.now)) (IsStuck _ (chars c.loop-first.rest.now))
-    c.cut_piece.result (Ok c.in_ok-kind.field-0) c.in_ok-kind.ensures.cases c.cut_piece.ensures in
-    let shorter = shorter_by c.loop-first.rest.now c.in_ok-kind.field-0.rest.now c.in_ok-kind.field-0.kind c.loop-first.invariant.0 left_ok read in
-    let within = c.loop-first.invariant.1.within in
-    omega arith
+loop-first-init c = (c.utf8.src, subst (λ ts. IsCutSoFar c.args.src.now c.args.src.now (terminals_of ts)) (sym c.in_ok-tokens.ensures.items) (begin c.args.src.now))
 
 -- the cut with the token that was pushed
 pushed : (c : goal.In_ok-push) → GrowsBy c.args.src.now c.loop-first.rest.now c.in_ok-kind.field-0.rest.now (terminals_of c.push.new.self.items)
@@ -72,17 +63,17 @@ reported c =
 
 pub returns-in_err-kind-clause-complete : goal.returns-in_err-kind-clause-complete
 returns-in_err-kind-clause-complete c = λ tokens cut.
-    let e : c.from_residual.result ≡ Err c.in_err-kind.field-0.0 = search rules in
+    let e : c.from_residual-in_err-kind.result ≡ Err c.in_err-kind.field-0.0 = search rules in
     rw e (refused-weaker (IsTextRefused c.args.src.now) (λ _. ⊥) (λ r h. not_cut_and_refused c.args.src.now tokens r cut h) c.in_err-kind.field-0.0 (reported c))
 
 pub returns-in_err-kind-clause-refuses : goal.returns-in_err-kind-clause-refuses
 returns-in_err-kind-clause-refuses c = λ refusal first.
-    let e : c.from_residual.result ≡ Err c.in_err-kind.field-0.0 = search rules in
+    let e : c.from_residual-in_err-kind.result ≡ Err c.in_err-kind.field-0.0 = search rules in
     rw e (refused-weaker (IsTextRefused c.args.src.now) (λ r. r ≡ refusal) (λ r h. has_one_refusal c.args.src.now r refusal h first) c.in_err-kind.field-0.0 (reported c))
 
 pub returns-in_err-kind-clause-refused_at_character : goal.returns-in_err-kind-clause-refused_at_character
 returns-in_err-kind-clause-refused_at_character c =
-    let e : c.from_residual.result ≡ Err c.in_err-kind.field-0.0 = search rules in
+    let e : c.from_residual-in_err-kind.result ≡ Err c.in_err-kind.field-0.0 = search rules in
     rw e (refused-weaker (IsTextRefused c.args.src.now) (IsRefusedAtCharacter c.args.src.now) (λ r h. refused_at c.args.src.now r c.utf8.src h) c.in_err-kind.field-0.0 (reported c))
 
 -- the whole cut

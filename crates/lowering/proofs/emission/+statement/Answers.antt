@@ -90,11 +90,11 @@ pub push_if-push_block-requires-2 : goal.push_if-push_block-requires-2
 push_if-push_block-requires-2 t c =
     let program = program_of c.args.core.now in
     let loop : Loop = record { behind = c.args.around.behind; test = c.args.around.test } in
-    let yes_block = block_of c.args.yes_block.now in
-    let no_block = block_of c.args.no_block.now in
-    let room : length c.args.code.now.items + (branch_size false (expression_of c.args.condition.now)
+    let yes_block = block_of c.args.branches.now.yes_block.now in
+    let no_block = block_of c.args.branches.now.no_block.now in
+    let room : length c.args.code.now.items + (branch_size false (expression_of c.args.branches.now.condition.now)
     + (block_size program yes_block + (jump_size (jumps_over yes_block no_block) + block_size program no_block))) < 4294967296 = c.requires in
-    let tested = branch_grown c.args.code.now.items c.push_branch.new.code.items false _ (expression_of c.args.condition.now) c.in_ok-push_branch.ensures in
+    let tested = branch_grown c.args.code.now.items c.push_branch.new.code.items false _ (expression_of c.args.branches.now.condition.now) c.in_ok-push_branch.ensures in
     let first = block_grown program loop yes_block c.push_branch.new.code.items c.push_block.new.code.items c.args.table.now.items c.push_block.new.table.items c.in_ok-push_block.ensures in
     let over = jump_grown c.jumps_over-jumps.result _ c.push_block.new.code.items c.push_jump.new.code.items c.in_ok-push_jump.ensures in
     (omega arith, omega (arith, room, tested, first, over, ap jump_size c.jumps_over-jumps.ensures))
@@ -103,9 +103,9 @@ pub push_if-returns : goal.push_if-returns
 push_if-returns t c =
     let program = program_of c.args.core.now in
     let loop : Loop = record { behind = c.args.around.behind; test = c.args.around.test } in
-    let e = expression_of c.args.condition.now in
-    let yes_block = block_of c.args.yes_block.now in
-    let no_block = block_of c.args.no_block.now in
+    let e = expression_of c.args.branches.now.condition.now in
+    let yes_block = block_of c.args.branches.now.yes_block.now in
+    let no_block = block_of c.args.branches.now.no_block.now in
     let second : c.next_place.result + c.branch_size.result + c.block_size.result + c.jump_size.result
     ≡ length c.args.code.now.items + branch_size false e + block_size program yes_block + jump_size (jumps_over yes_block no_block) =
     omega (arith, c.next_place.ensures, ap length c.deref.ensures.value, c.branch_size.ensures, c.block_size.ensures, c.jump_size.ensures, ap jump_size c.jumps_over-jumps.ensures) in

@@ -13,7 +13,7 @@ abbrev pub decreases-push_block : goal.decreases-push_block
 decreases-push_block l = 4 * block_nodes (block_of l.block.now) + 1
 
 abbrev pub decreases-push_if : goal.decreases-push_if
-decreases-push_if l = 4 * (block_nodes (block_of l.yes_block.now) + block_nodes (block_of l.no_block.now)) + 2
+decreases-push_if l = 4 * (block_nodes (block_of l.branches.now.yes_block.now) + block_nodes (block_of l.branches.now.no_block.now)) + 2
 
 abbrev pub decreases-push_while : goal.decreases-push_while
 decreases-push_while l = 4 * block_nodes (block_of l.body.now) + 2

@@ -11,7 +11,7 @@ use Rattle.principals.specs.HierarchyText.{Declares, IsEntryRefusal, IsFirstRefu
 use Rattle.principals.specs.Named.{IsKeptName}
 use Rattle.principals.specs.Reading.{entry_of, entries_of}
 use Rattle.principals.specs.Table.{names_of}
-use Rattle.principals.specs.declared.reading.Statement.{Statement}
+use Rattle.principals.specs.declared.reading.HierarchyStatement.{HierarchyStatement}
 use Rattle.principals.proofs.Building.{built_name, built_pair, built_described, built_refused, built_same, entries_around, entries_more}
 use Rattle.principals.proofs.declaring.hierarchy_of.Goals as goal
 use Rattle.principals.proofs.declaring.hierarchy_of.Goals.{in-Declares+in_ok-declare-in-Declares, in-Relates+in_ok-pair-in-Relates+in_ok-push-in-Relates}
@@ -83,7 +83,7 @@ close-requires-clause-named c =
     let statements = c.args.statements.now in
     let past : length statements ≤ c.loop-statement.statement-index = omega arith in
     subst (All IsKeptName) (sym c.loop-statement.invariant.same_names)
-    (subst (λ (x : List Statement). All IsKeptName (declared (entries_of x))) (sym (take_all c.loop-statement.statement-index statements past)) c.requires)
+    (subst (λ (x : List HierarchyStatement). All IsKeptName (declared (entries_of x))) (sym (take_all c.loop-statement.statement-index statements past)) c.requires)
 
 pub returns-clause-described : goal.returns-clause-described
 returns-clause-described c =

@@ -13,4 +13,4 @@ returns-clause-contains g c pairs a b h = written a b h
 
 pub returns-clause-least : goal.returns-clause-least
 returns-clause-least g c pairs reflexive transitive contains a b h =
-    ActsFor-least g.R.Relation.related pairs reflexive transitive contains h
+    ActsFor-least g.R.PrincipalRelation.related pairs reflexive transitive contains h

@@ -2,11 +2,11 @@ use Rattle.std.proofs.Common.{◌≡◌, ℕ, ◌<◌, ◌+◌, ◌++◌, ◌∷
 use Rattle.std.proofs.lemmas.List.{take-append-drop, drop_more, take_more, take_all, map-append, map_push}
 use Rattle.lexer.specs.declared.token.Token.{Token}
 use Rattle.lexer.specs.declared.token.Kind.TheVariants.{Boolean}
-use Rattle.principals.specs.declared.reading.Progress.{Progress}
+use Rattle.principals.specs.declared.reading.ItemState.{ItemState}
 use Rattle.lexer.specs.Terminal.{terminal_of, terminals_of}
 use Rattle.principals.specs.HierarchyText.{Entry}
 use Rattle.principals.specs.Reading.{ReadingState, Fresh, Ended, next, run, finished_entries, state_of, entry_of, entries_of}
-use Rattle.principals.specs.declared.reading.Statement.{Statement}
+use Rattle.principals.specs.declared.reading.HierarchyStatement.{HierarchyStatement}
 use Rattle.principals.proofs.Automaton.{run-push, read_is_open, is_prefix, stops, run_ends}
 use Rattle.principals.proofs.reading.read_statements.Goals as goal
 use Rattle.principals.proofs.reading.read_statements.Goals.{In-Some, in-Some-finish+in_ok-push, in_default-finish}
@@ -34,7 +34,7 @@ cut tokens i d h =
 
 -- the token that is read past the end of the list
 abbrev past : Token
-past = record { kind = Boolean; text = record { ref_ptr = (0, 0); now = [] }; span = record { start = 0; end = 0 } }
+past = record { kind = Boolean; text = record { ref_ptr = (0, 0); now = [] }; start = 0 }
 
 after_token : (c : In-Some) (now : List Entry) →
     now ≡ entries_of c.loop-token.statements.items ++ finished_entries (state_of c.loop-token.progress) (terminal_of (get_or c.args.tokens.now c.loop-token.token-index past)) →
@@ -46,7 +46,7 @@ after_token c now h =
 pub loop-token-preserved : goal.loop-token-preserved
 loop-token-preserved c =
     let items = c.loop-token.statements.items in
-    let at_branch : (p : Progress) (statements : List Statement) → c.match-finish.progress ≡ p → c.match-finish.statements.items ≡ statements →
+    let at_branch : (p : ItemState) (statements : List HierarchyStatement) → c.match-finish.progress ≡ p → c.match-finish.statements.items ≡ statements →
     run Fresh (terminals_of (take (c.loop-token.token-index + 1) c.args.tokens.now)) ≡ Some (state_of p, entries_of statements) →
     run Fresh (terminals_of (take (c.loop-token.token-index + 1) c.args.tokens.now)) ≡ Some (state_of c.match-finish.progress, entries_of c.match-finish.statements.items) =
     λ p statements e f h. h ∙ (λ i. Some (state_of (sym e i), entries_of (sym f i))) in

@@ -1,6 +1,6 @@
 use Rattle.std.proofs.Common.{ap, subst, ◌∷◌, []}
 use Rattle.std.specs.Prelude.{Contains}
-use Rattle.principals.proofs.Closure.{Contains-first}
+use Rattle.common.proofs.Elements.{Contains-first}
 use Rattle.solver.specs.Reach.{edge}
 use Rattle.solver.proofs.broken.earlier_of_edge.Goals as goal
 

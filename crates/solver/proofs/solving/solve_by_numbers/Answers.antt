@@ -1,5 +1,5 @@
 use Rattle.std.proofs.Common.{◌≡◌, refl, sym, ap, ◌∙◌, subst, length, arith, None, Some}
-use Rattle.labels.specs.Constraints.{IsRefusedAt}
+use Rattle.lattices.specs.Constraints.{IsRefusedAt}
 use Rattle.solver.specs.Breaker.{IsFirstBreaker}
 use Rattle.solver.specs.Broken.{is_below, written_at}
 use Rattle.solver.specs.Rows.{reached_by}

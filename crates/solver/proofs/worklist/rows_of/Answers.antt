@@ -1,6 +1,6 @@
 use Rattle.std.proofs.Common.{◌≡◌, ◌+◌, ap, ◌∙◌, sym, subst, arith, length, set, false, ◌∷◌, ℕ, List}
 use Rattle.std.specs.Prelude.{Contains}
-use Rattle.principals.proofs.Closure.{Contains-first}
+use Rattle.common.proofs.Elements.{Contains-first}
 use Rattle.solver.specs.Work.{AreSoFar, IsWork}
 use Rattle.solver.proofs.Comparing.{slice_get-inside}
 use Rattle.solver.proofs.Queued.{next-none, next-some}

@@ -11,14 +11,14 @@ use Rattle.common.specs.Answers.{IfRefused}
 use Rattle.types.specs.Finding.{IsRefusalOf, along}
 use Rattle.types.specs.Labels.{optional_label_finding}
 use Rattle.types.specs.Resolution.{end_label_of, next_parameter, parameters_finding, setting_within, throws_finding}
-use Rattle.types.specs.Statements.{block_finding}
+use Rattle.types.specs.Statements.{behind_block, block_finding}
 use Rattle.types.specs.VariableEntries.{VariableEntries}
 use Rattle.types.specs.Views.{item_scope, item_scope_of, point_of, setting_of, taken, throws_view, top_view}
 use Rattle.types.proofs.LabelNumbers.{extends_through, still_inside, same_label, same_written, result_still_inside, same_result, thrown_still_inside, same_thrown}
 use Rattle.types.proofs.Later.{setting_same}
 use Rattle.types.proofs.Procedures.{same_scope, optional_in_scope, optional_wrong_in_scope, parameters_in_scope, parameters_few, parameters_need, throws_need, parameters_wrong, end_wrong, throws_wrong, block_wrong, procedure_found}
 use Rattle.types.proofs.procedure.resolve_procedure.Goals as goal
-use Rattle.types.proofs.procedure.resolve_procedure.Goals.{After-deref, After-deref-2, After-deref-3, After-resolve_block, After-len}
+use Rattle.types.proofs.procedure.resolve_procedure.Goals.{After-deref, After-deref-2, After-deref-3, After-resolve_body, After-len}
 
 -- ---- with the begin label: what it was found to be, and that the globals are as they were and no slot is taken
 
@@ -122,13 +122,13 @@ thrown_taken c =
 
 -- ---- where the body begins
 
-entered_globals : (c : After-resolve_block) → c.make_end_label.new.variables.globals ≡ c.declare_parameters.new.self.variables.globals
+entered_globals : (c : After-resolve_body) → c.make_end_label.new.variables.globals ≡ c.declare_parameters.new.self.variables.globals
 entered_globals c = c.in_ok-end_label.ensures.more.globals ∙ c.in_ok-throws.ensures.more.globals ∙ c.in_ok-end.ensures.more.globals
 
-entered_slots : (c : After-resolve_block) → c.make_end_label.new.variables.slots ≡ c.declare_parameters.new.self.variables.slots
+entered_slots : (c : After-resolve_body) → c.make_end_label.new.variables.slots ≡ c.declare_parameters.new.self.variables.slots
 entered_slots c = c.in_ok-end_label.ensures.more.slots ∙ c.in_ok-throws.ensures.more.slots ∙ c.in_ok-end.ensures.more.slots
 
-block_is : (c : After-resolve_block) → c.add_optional_label.new.variables.globals ≡ c.args.variables.globals →
+block_is : (c : After-resolve_body) → c.add_optional_label.new.variables.globals ≡ c.args.variables.globals →
     block_finding (setting_of (record c.declare_parameters.new.self { variables = c.make_end_label.new.variables }))
     (point_of (record c.declare_parameters.new.self { variables = c.make_end_label.new.variables })) (procedure_tree c.args.written.now).body
     ≡ block_finding (setting_within (item_scope c.args.place.now c.args.variables) (top_view c.args.place.now.top.now).signatures (procedure_tree c.args.written.now))
@@ -147,19 +147,19 @@ block_is c globals =
 
 -- ---- behind the body: labels keep their numbers
 
-last_of_fifth : (c : After-len) → Extends c.resolve_throws.new.variables.labels c.resolve_block.new.self.variables.labels
+last_of_fifth : (c : After-len) → Extends c.resolve_throws.new.variables.labels c.resolve_body.new.self.variables.labels
 last_of_fifth c =
-    extends_through c.resolve_throws.new.variables.labels c.make_end_label.new.variables.labels c.resolve_block.new.self.variables.labels
+    extends_through c.resolve_throws.new.variables.labels c.make_end_label.new.variables.labels c.resolve_body.new.self.variables.labels
     c.in_ok-end_label.ensures.more.extended c.in_ok-statements.ensures.later.labels
 
-last_of_second : (c : After-len) → Extends c.add_optional_label.new.variables.labels c.resolve_block.new.self.variables.labels
+last_of_second : (c : After-len) → Extends c.add_optional_label.new.variables.labels c.resolve_body.new.self.variables.labels
 last_of_second c =
-    extends_through c.add_optional_label.new.variables.labels c.resolve_throws.new.variables.labels c.resolve_block.new.self.variables.labels
+    extends_through c.add_optional_label.new.variables.labels c.resolve_throws.new.variables.labels c.resolve_body.new.self.variables.labels
     (thrown_labels (goal.at.overflow_cast-procedure c).After-deref-3) (last_of_fifth c)
 
-last_of_first : (c : After-len) → Extends c.resolve_result.new.variables.labels c.resolve_block.new.self.variables.labels
+last_of_first : (c : After-len) → Extends c.resolve_result.new.variables.labels c.resolve_body.new.self.variables.labels
 last_of_first c =
-    extends_through c.resolve_result.new.variables.labels c.add_optional_label.new.variables.labels c.resolve_block.new.self.variables.labels
+    extends_through c.resolve_result.new.variables.labels c.add_optional_label.new.variables.labels c.resolve_body.new.self.variables.labels
     c.in_ok-begin.ensures.more.extended (last_of_second c)
 
 -- ---- there is room
@@ -178,9 +178,9 @@ resolve_throws-requires c = record { room = omega (arith, declared_taken c, thro
 pub make_end_label-requires-clause-room : goal.make_end_label-requires-clause-room
 make_end_label-requires-clause-room c = omega (arith, thrown_taken c, c.requires.room)
 
-pub resolve_block-requires : goal.resolve_block-requires
-resolve_block-requires c =
-    let so_far = thrown_taken (goal.at.resolve_block-requires c).After-deref-3 in
+pub resolve_body-requires : goal.resolve_body-requires
+resolve_body-requires c =
+    let so_far = thrown_taken (goal.at.resolve_body-requires c).After-deref-3 in
     record { room = omega (arith, so_far, ap length c.in_ok-end_label.ensures.more.slots, c.in_ok-end_label.ensures.more.few, c.requires.room) }
 
 pub overflow_cast-procedure : goal.overflow_cast-procedure
@@ -224,7 +224,7 @@ returns-in_err-statements-clause-made c =
     let p = err_from_is_err_and c.from_residual-in_err-statements.result c.from_residual-in_err-statements.ensures.1 in
     let fault = c.in_err-statements.field-0.0 in
     rw (p.1, p.2) (block_wrong _ _ _ _ _ c.in_ok-value.ensures.made (begun at.After-deref) _ (declared at.After-deref-2) _ (ended at.After-deref-2) _ (thrown at.After-deref-3) fault
-    (subst (λ one. IfRefused (IsRefusalOf one) fault) (block_is at.After-resolve_block (begun_globals at.After-deref)) c.in_err-statements.ensures.made))
+    (subst (λ one. IfRefused (IsRefusalOf one) fault) (block_is at.After-resolve_body (begun_globals at.After-deref)) c.in_err-statements.ensures.made))
 
 -- ---- the procedure
 
@@ -236,7 +236,7 @@ returns-clause-made c =
     let fourth = c.add_optional_label-2.new.variables.labels in
     let fifth = c.resolve_throws.new.variables.labels in
     let sixth = c.make_end_label.new.variables.labels in
-    let last = c.resolve_block.new.self.variables.labels in
+    let last = c.resolve_body.new.self.variables.labels in
     let entered = label_at second c.make_begin_label-begin_label.result in
     let ends : label_at sixth c.in_ok-end_label.end_label ≡ end_label_of (written_at fourth c.in_ok-end.end) entered (throws_view fifth c.in_ok-throws.throws) =
     c.in_ok-end_label.ensures.label
@@ -245,8 +245,8 @@ returns-clause-made c =
     (map (thrown_entry fifth) (c.deref-3.ensures.value i))) in
     let counted : c.len.result ≡ length (procedure_tree c.args.written.now).parameters = omega (arith, length-map c.args.written.now.parameters.items parameter_tree) in
     let found = procedure_found _ _ _ _ _ c.in_ok-value.ensures.made (begun at.After-deref)
-    _ (declared at.After-deref-2) _ (ended at.After-deref-2) _ (thrown at.After-deref-3) (point_of c.resolve_block.new.self) (block_of c.in_ok-statements.statements.items)
-    (sym (block_is at.After-resolve_block (begun_globals at.After-deref)) ∙ c.in_ok-statements.ensures.made) (string_bytes c.in_ok-from_str.field-0) entered (label_at sixth c.in_ok-end_label.end_label) c.len.result
+    _ (declared at.After-deref-2) _ (ended at.After-deref-2) _ (thrown at.After-deref-3) (behind_block (point_of c.declare_parameters.new.self) (point_of c.resolve_body.new.self)) (block_of c.in_ok-statements.statements.items)
+    (sym (block_is at.After-resolve_body (begun_globals at.After-deref)) ∙ c.in_ok-statements.ensures.made) (string_bytes c.in_ok-from_str.field-0) entered (label_at sixth c.in_ok-end_label.end_label) c.len.result
     c.in_ok-from_str.ensures.ok c.make_begin_label-begin_label.ensures.label ends counted in
     rw c.take_slots-slots.ensures.rest (found ∙ (λ i. Ok (record {
       at = c.args.written.now.name.at;
@@ -257,14 +257,14 @@ returns-clause-made c =
       throws = sym (same_thrown fifth last (last_of_fifth at.After-len) c.in_ok-throws.throws.items c.in_ok-throws.ensures.inside) i;
       parameters = c.len.result;
       slots = sym c.take_slots-slots.ensures.slots i;
-      loops = c.resolve_block.new.self.loops;
+      loops = c.resolve_body.new.self.loops;
       body = block_of c.in_ok-statements.statements.items;
     })))
 
 pub returns-clause-inside : goal.returns-clause-inside
 returns-clause-inside c =
     let at = (goal.at.returns-clause-inside c).After-len in
-    let last = c.resolve_block.new.self.variables.labels in
+    let last = c.resolve_body.new.self.variables.labels in
     rw c.take_slots-slots.ensures.rest (record {
       of_result = result_still_inside c.resolve_result.new.variables.labels last (last_of_first at) c.in_ok-value.value c.in_ok-value.ensures.inside;
       of_begin = still_inside c.add_optional_label.new.variables.labels last (last_of_second at) c.make_begin_label-begin_label.result c.make_begin_label-begin_label.ensures.inside;
@@ -277,8 +277,8 @@ pub returns-clause-more : goal.returns-clause-more
 returns-clause-more c =
     let at = goal.at.returns-clause-more c in
     rw c.take_slots-slots.ensures.rest (record {
-      extended = extends_through c.args.variables.labels c.add_optional_label.new.variables.labels c.resolve_block.new.self.variables.labels (begun_labels at.After-deref) (last_of_second at.After-len);
+      extended = extends_through c.args.variables.labels c.add_optional_label.new.variables.labels c.resolve_body.new.self.variables.labels (begun_labels at.After-deref) (last_of_second at.After-len);
       few = omega (arith, thrown_taken at.After-deref-3, ap length c.in_ok-end_label.ensures.more.slots, c.in_ok-end_label.ensures.more.few, c.in_ok-statements.ensures.grows);
-      globals = c.in_ok-statements.ensures.later.globals ∙ entered_globals at.After-resolve_block ∙ declared_globals at.After-deref-2;
+      globals = c.in_ok-statements.ensures.later.globals ∙ entered_globals at.After-resolve_body ∙ declared_globals at.After-deref-2;
       slots = sym c.requires.none;
     })

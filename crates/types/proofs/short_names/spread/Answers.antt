@@ -5,7 +5,7 @@ use Rattle.std.specs.BTreeMap.{IsOrdered}
 use Rattle.std.specs.Cmp.{nat_cmp_total}
 use Rattle.std.specs.Map.Iter.{deref_pair}
 use Rattle.std.specs.Ordering.{nat_cmp}
-use Rattle.types.specs.declared.short_names.Place.TheVariants.{Taken}
+use Rattle.types.specs.declared.short_names.Bucket.TheVariants.{Taken}
 use Rattle.types.proofs.Places.{AreKnown, known_filled, known_next, known_places}
 use Rattle.types.proofs.short_names.spread.Goals as goal
 

@@ -2,7 +2,7 @@ use Rattle.std.proofs.Common.{◌≡◌, ap, sym, ◌∙◌, subst}
 use Rattle.std.proofs.lemmas.Result.{IfOk-weaker}
 use Rattle.labels.specs.Label.{Label}
 use Rattle.labels.specs.Canonical.{written_label}
-use Rattle.labels.specs.Constraints.{label_lattice}
+use Rattle.labels.specs.LabelLattice.{label_lattice}
 use Rattle.labels.specs.LabelTable.{labels_of}
 use Rattle.solver.specs.Constraints.{AreAlike, values_of}
 use Rattle.solver.proofs.LabelValues.{joined-labels, written-alike}

@@ -1,6 +1,6 @@
 use Rattle.std.proofs.Common.{sym, ap, subst, [], ◌∷◌}
 use Rattle.std.specs.Prelude.{Contains}
-use Rattle.principals.proofs.Closure.{Contains-first}
+use Rattle.common.proofs.Elements.{Contains-first}
 use Rattle.solver.specs.Queue.{Added}
 use Rattle.solver.specs.Reach.{edge}
 use Rattle.solver.specs.declared.edges.Edge.{Edge}

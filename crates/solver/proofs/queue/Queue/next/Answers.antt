@@ -1,7 +1,7 @@
 use Rattle.std.proofs.Common.{◌≡◌, sym, subst, [], arith}
 use Rattle.std.specs.Prelude.{Contains}
 use Rattle.std.proofs.lemmas.List.{nil_from_length}
-use Rattle.principals.proofs.Closure.{Contains-first}
+use Rattle.common.proofs.Elements.{Contains-first}
 use Rattle.solver.specs.Queue.{none, some}
 use Rattle.solver.proofs.queue.Queue.next.Goals as goal
 

@@ -1,7 +1,7 @@
 use Rattle.std.proofs.Common.{subst, length, arith, get_or}
 use Rattle.std.proofs.lemmas.List.{take_all}
 use Rattle.std.proofs.lemmas.List.Elements.{Contains-get_or}
-use Rattle.principals.proofs.Closure.{none_in_nil}
+use Rattle.common.proofs.Elements.{none_in_nil}
 use Rattle.solver.specs.Reach.{AllMarked, edge, same}
 use Rattle.solver.specs.declared.edges.Edge.{Edge}
 use Rattle.solver.specs.declared.constraints.Atom.TheVariants.{Unknown, Written}

@@ -1,7 +1,7 @@
 use Rattle.std.proofs.Common.{◌≡◌, map, take, refl, ap, ◌∙◌, List, arith}
 use Rattle.std.proofs.lemmas.List.{take_all}
 use Rattle.stack.specs.Slab.{cells_in, spans_of}
-use Rattle.stack.specs.declared.shape.Span.{Span}
+use Rattle.stack.specs.declared.shape.CellRange.{CellRange}
 use Rattle.modules.specs.declared.declaration.Slot.{Slot}
 use Rattle.stack.proofs.Cuts.{of_step, step_within, shape_is, counts_are}
 use Rattle.stack.proofs.shape.Shape.of.Goals as goal
@@ -26,5 +26,5 @@ invariant_of-result c =
 pub returns : goal.returns
 returns c =
     let whole : take c.loop-slot.slot-index c.args.slots.now ≡ c.args.slots.now = take_all c.loop-slot.slot-index c.args.slots.now c.loop-slot-test.false in
-    ap (map (λ (span : Span). span.count)) c.loop-slot.invariant.spans_are ∙ counts_are 0 (map cells_in (take c.loop-slot.slot-index c.args.slots.now))
+    ap (map (λ (span : CellRange). span.count)) c.loop-slot.invariant.spans_are ∙ counts_are 0 (map cells_in (take c.loop-slot.slot-index c.args.slots.now))
     ∙ ap (λ (slots : List Slot). map cells_in slots) whole

@@ -1,5 +1,5 @@
 use Rattle.std.proofs.Common.{refl, ◌+◌, ◌<◌, ◌^◌, sym, ap, ◌∙◌, slice_get, List, arith}
-use Rattle.stack.specs.declared.shape.Span.{Span}
+use Rattle.stack.specs.declared.shape.CellRange.{CellRange}
 use Rattle.stack.proofs.Cuts.{placed, by_span_in, by_span_out, span_within}
 use Rattle.stack.proofs.shape.Shape.place.Goals as goal
 
@@ -10,7 +10,7 @@ returns-in_default c =
 pub overflow_add-result : goal.overflow_add-result
 overflow_add-result c =
     let small : c.in-Some.span.start + c.args.index < 2 ^ 64 = span_within c.self.inside.spans.items c.args.slot c.args.index c.in-Some.span c.self.invariant
-    (ap (λ (xs : List Span). slice_get xs c.args.slot) (sym c.deref.ensures.value) ∙ sym c.in-Some.ensures) c.if-index-span.true in
+    (ap (λ (xs : List CellRange). slice_get xs c.args.slot) (sym c.deref.ensures.value) ∙ sym c.in-Some.ensures) c.if-index-span.true in
     omega arith
 
 pub returns-then-index-span : goal.returns-then-index-span

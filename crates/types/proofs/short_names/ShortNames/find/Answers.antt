@@ -1,5 +1,5 @@
 use Rattle.std.proofs.Common.{◌≡◌, get_or, sym, ap, ◌∙◌}
-use Rattle.types.specs.declared.short_names.Place.TheVariants.{Open, Taken}
+use Rattle.types.specs.declared.short_names.Bucket.TheVariants.{Open, Taken}
 use Rattle.types.specs.Places.{place_of}
 use Rattle.types.proofs.Places.{taken_tells}
 use Rattle.types.proofs.short_names.ShortNames.find.Goals as goal

@@ -1,6 +1,6 @@
 use Rattle.std.proofs.Common.{sym, ap, subst, ◌∙◌}
 use Rattle.std.specs.Prelude.{set}
-use Rattle.types.specs.declared.short_names.Place.TheVariants.{Open}
+use Rattle.types.specs.declared.short_names.Bucket.TheVariants.{Open}
 use Rattle.types.specs.Places.{ArePlaces}
 use Rattle.types.proofs.Places.{places_without}
 use Rattle.types.proofs.short_names.ShortNames.remove.Goals as goal

@@ -1,4 +1,4 @@
-use Rattle.modules.specs.declared.value.Kind.TheVariants.{Int, Boolean}
+use Rattle.modules.specs.declared.value.ValueKind.TheVariants.{Int, Boolean}
 use Rattle.verifier.proofs.Shared.{above_there}
 use Rattle.verifier.proofs.operands.Operands.find_longer.Goals as goal
 

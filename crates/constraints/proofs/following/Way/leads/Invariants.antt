@@ -1,0 +1,11 @@
+use Rattle.std.proofs.Common.{List, ℕ}
+use Rattle.solver.specs.declared.constraints.Atom.TheVariants.{Unknown}
+use Rattle.constraints.specs.Added.{Stored}
+use Rattle.constraints.specs.Following.{IsWay}
+use Rattle.constraints.specs.Merging.{IsFollowed}
+use Rattle.constraints.proofs.following.Way.leads.Given as goal
+
+abbrev pub invariant-loop-turn : goal.invariant-loop-turn
+invariant-loop-turn l = record {
+  at : (real : ℕ) (base : List Stored) → IsWay real base l.self → IsFollowed real base (Unknown l.from) (Unknown l.at);
+}

@@ -1,5 +1,0 @@
-use Rattle.labels.proofs.Constraints.{least-fits}
-use Rattle.labels.proofs.constraint_laws.least_values_fit_if_any_do.Goals as goal
-
-pub returns : goal.returns
-returns g c = λ l laws cs values others least fits. least-fits l laws cs values least others fits

@@ -1,5 +1,0 @@
-use Rattle.labels.proofs.FlowTests.{IsLattice-flows}
-use Rattle.labels.proofs.lattices.LabelLatticeLattice.keep_laws.Goals as goal
-
-pub returns : goal.returns
-returns c = IsLattice-flows c.args.self.now.hierarchy.now

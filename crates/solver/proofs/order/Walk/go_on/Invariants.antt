@@ -1,6 +1,0 @@
-use Rattle.std.proofs.Common.{length, ◌*◌, ◌+◌}
-use Rattle.std.specs.List.{sum}
-use Rattle.solver.proofs.order.Walk.go_on.Given as goal
-
-abbrev pub decreases-loop-unknown : goal.decreases-loop-unknown
-decreases-loop-unknown l = 2 * sum l.self.left.items + length l.self.way.items

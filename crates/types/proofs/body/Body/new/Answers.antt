@@ -1,9 +1,0 @@
-use Rattle.types.specs.Views.{found_in, or_else}
-use Rattle.types.proofs.body.Body.new.Goals as goal
-
-pub returns-clause-point : goal.returns-clause-point
-returns-clause-point c = λ i. record {
-  names = λ name. or_else (c.new.ensures i name) (found_in c.args.place.now.top.now.names name);
-  slots = c.args.variables.slots;
-  loops = 0;
-}
