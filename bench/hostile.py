@@ -4,10 +4,11 @@
     bench/hostile.py PROGRAM [KIB..]
 
 PROGRAM is the built program. For each size (256, 512 and 1024 KiB unless others are given) and each shape it prints a line: the
-seconds that `check` takes, how many times that of the benign source of the size it is, how many times that of the same shape at half
-the size, and the most memory, also as bytes for each byte of the source beyond what the benign one takes. The least time of three runs
-counts, and a run is cut off after 120 seconds. Behind a shape that takes more than its bound of the benign source's time stands
-`TOO SLOW`, and behind one that takes more than its bound of memory `TOO LARGE`; the status is 1 where there is one.
+seconds of the processor that `check` takes, how many times those of the benign source of the size they are, how many times those of the
+same shape at half the size, and the most memory, also as bytes for each byte of the source beyond what the benign one takes, and how
+many times that of half the size it is. The least time of three runs counts, and a run is cut off after 120 seconds. Behind a shape that
+takes more than its bound of the benign source's time stands `TOO SLOW`, and behind one that takes more than its bound of memory `TOO
+LARGE`; the status is 1 where there is one.
 """
 
 import itertools
@@ -482,7 +483,7 @@ SHAPES = [
     (flows_along_names, 20, 400),
     (all_names_flow_to_the_last, 20, 400),
     (exceptions_of_calls, 20, 400),
-    (exceptions_of_calls_at_many_labels, 20, 400),
+    (exceptions_of_calls_at_many_labels, 20, 20),
     (exceptions_of_calls_in_tries, 20, 400),
     (exceptions_handed_on, 20, 400),
     (exceptions_of_many_callees, 20, 20),
@@ -495,7 +496,7 @@ SHAPES = [
 
 
 def measured(program, folder, hierarchy, source):
-    """The least time of a check, and the most memory in MB; or none where it was cut off."""
+    """The least time of the processor that a check takes, and the most memory in MB; or none where it was cut off."""
     (folder / "h").write_text(hierarchy)
     (folder / "s").write_text(source)
     least, most = None, 0
@@ -509,13 +510,13 @@ def measured(program, folder, hierarchy, source):
             if number:
                 ran.returncode = os.waitstatus_to_exitcode(status)
                 most = max(most, used.ru_maxrss // 1024)
+                took = used.ru_utime + used.ru_stime
             elif time.perf_counter() - start > LIMIT:
                 ran.kill()
                 ran.wait()
                 return None
             else:
                 time.sleep(0.0005)
-        took = time.perf_counter() - start
         least = took if least is None else min(least, took)
     return least, most
 
@@ -527,12 +528,15 @@ def judged(program, folder, kib, base, shape, bounds, before):
     if found is None:
         return f"{kib} KiB {shape.__name__}: cut off after {LIMIT} s, TOO SLOW", False
     took, most = found
-    growth = f", {took / before[shape]:.1f} times half the size" if shape in before else ""
-    before[shape] = took
+    growth = larger = ""
+    if shape in before:
+        growth = f", {took / before[shape][0]:.1f} times half the size"
+        larger = f", {most / before[shape][1]:.2f} times half the size"
+    before[shape] = took, most
     more = max(0, most - base[1]) / kib * 1024
     marks = (", TOO SLOW" if took > bounds[0] * base[0] else "") + (", TOO LARGE" if more > bounds[1] else "")
     times = f"{took:.3f} s, {took / base[0]:.1f} times the benign one{growth}"
-    return f"{kib} KiB {shape.__name__}: {times}, {most} MB, {more:.0f} bytes a byte more{marks}", not marks
+    return f"{kib} KiB {shape.__name__}: {times}, {most} MB{larger}, {more:.0f} bytes a byte more{marks}", not marks
 
 
 def main(words):

@@ -82,7 +82,7 @@ flowc_outcome flowc_explain(const uint8_t *hierarchy, size_t hierarchy_size, con
                             uint8_t *out, size_t out_size);
 
 /* Puts the listing of a module into `out`: a line for each channel, with its direction, name and label, and the code. Statuses: DONE;
- * REFUSED, where the bytes spell no module or its code has a defect, with the words in `out`; NO_MEMORY; TOO_SHORT. */
+ * REFUSED, where the bytes spell no module or its code is refused, with the words in `out`; NO_MEMORY; TOO_SHORT. */
 flowc_outcome flowc_list(const uint8_t *module, size_t module_size, uint8_t *out, size_t out_size);
 
 /* A host: it holds sessions, each a run of a module on a world of its own. Before its first use the handle is zeros, as

@@ -59,7 +59,7 @@ def explain(hierarchy: Text, source: Text) -> str:
 
 
 def listing(module: bytes) -> str:
-    """The channels and the code of a module. Raises Refused where the bytes spell no module, or one with a defect."""
+    """The channels and the code of a module. Raises Refused where the bytes spell no module, or one that is refused."""
     outcome, result = _calls.ask_bytes(library.flowc_list, words_of(bytes(module)), 4096)
     if outcome.status == _calls.REFUSED:
         raise Refused(outcome, result.decode())

@@ -1,4 +1,4 @@
--- Each phase lets a text pass or refuses it, for one cause at one byte.
+-- Each phase lets a text pass or refuses it, for one reason at one byte.
 use Rattle.std.proofs.Common.{◌≡◌, ℕ, ◌≤◌, refl, sym, ap, ◌∙◌, subst, Bool, true, false, List, [], ◌∷◌, length, ◌⊎◌, inl, inr, ⊎_elim, arith}
 use Rattle.std.specs.Prelude.{Ok, Err}
 use Rattle.std.specs.Str.{is_utf8}
@@ -33,36 +33,36 @@ use Rattle.types.specs.Resolution.{resolution}
 use Rattle.acceptance.specs.Accepted.{IsText, IsTreeOf, IsResolvedFrom, IsAccepted, HasHierarchy, StandFor}
 use Rattle.acceptance.specs.Refused.{IsNoText, TooLong, NotUtf8, IsHierarchyRefused, Unreadable, Wrong, IsSourceRefused, NoText, NoTokens, NoTree, WrongName, WrongEnd, WrongFlow, AreTextsRefusedAt, Hierarchy, Source}
 use Rattle.acceptance.specs.Laws.{Verdict, Accepted, Refused, IsVerdict, HasVerdict, HasOneVerdict}
-use Rattle.acceptance.specs.declared.cause.Cause.{Cause}
-use Rattle.acceptance.specs.declared.cause.Cause.TheVariants as causes
-use Rattle.acceptance.specs.declared.cause.Text.{Text}
-use Rattle.acceptance.specs.declared.cause.Text.TheVariants as texts
+use Rattle.acceptance.specs.declared.kind.RefusalKind.{RefusalKind}
+use Rattle.acceptance.specs.declared.kind.RefusalKind.TheVariants as kinds
+use Rattle.acceptance.specs.declared.kind.Text.{Text}
+use Rattle.acceptance.specs.declared.kind.Text.TheVariants as texts
 use Rattle.acceptance.proofs.Demands.{one_last}
 use Rattle.common.specs.declared.limits.TheConstants.{MAX_TEXT}
 
--- two causes at two bytes are the same
-abbrev pub Same : Cause → ℕ → Cause → ℕ → Type 0
-Same cause at other there = (cause ≡ other) × (at ≡ there)
+-- two kinds of refusal at two bytes are the same
+abbrev pub Same : RefusalKind → ℕ → RefusalKind → ℕ → Type 0
+Same kind at other there = (kind ≡ other) × (at ≡ there)
 
 -- ---- bytes that are no text
 
-no_text_once : (bytes : List ℕ) (cause other : Cause) (at there : ℕ) → IsNoText bytes cause at → IsNoText bytes other there → Same cause at other there
+no_text_once : (bytes : List ℕ) (kind other : RefusalKind) (at there : ℕ) → IsNoText bytes kind at → IsNoText bytes other there → Same kind at other there
 no_text_once bytes _ _ _ _ (TooLong long) (TooLong again) = (refl, refl)
 no_text_once bytes _ _ _ _ (TooLong long) (NotUtf8 short not_utf8) = absurd (omega (arith, long, short))
 no_text_once bytes _ _ _ _ (NotUtf8 short not_utf8) (TooLong long) = absurd (omega (arith, long, short))
 no_text_once bytes _ _ _ _ (NotUtf8 short not_utf8) (NotUtf8 again others) = (refl, refl)
 
-text_or_none : (bytes : List ℕ) (cause : Cause) (at : ℕ) → IsNoText bytes cause at → IsText bytes → ⊥
+text_or_none : (bytes : List ℕ) (kind : RefusalKind) (at : ℕ) → IsNoText bytes kind at → IsText bytes → ⊥
 text_or_none bytes _ _ (TooLong long) text = omega (arith, long, text.short)
 text_or_none bytes _ _ (NotUtf8 short not_utf8) text = not_utf8 text.characters
 
-readable : (bytes : List ℕ) → IsText bytes ⊎ ((cause : Cause) × (at : ℕ) × IsNoText bytes cause at)
+readable : (bytes : List ℕ) → IsText bytes ⊎ ((kind : RefusalKind) × (at : ℕ) × IsNoText bytes kind at)
 readable bytes =
-    ⊎_elim (λ fits. by_characters (is_utf8 bytes) refl fits.1) (λ long. inr (causes.TextTooLong, 0, TooLong long.1)) (leb_tells (length bytes) MAX_TEXT)
+    ⊎_elim (λ fits. by_characters (is_utf8 bytes) refl fits.1) (λ long. inr (kinds.TextTooLong, 0, TooLong long.1)) (leb_tells (length bytes) MAX_TEXT)
   where
-    by_characters : (b : Bool) → is_utf8 bytes ≡ b → length bytes ≤ MAX_TEXT → IsText bytes ⊎ ((cause : Cause) × (at : ℕ) × IsNoText bytes cause at)
+    by_characters : (b : Bool) → is_utf8 bytes ≡ b → length bytes ≤ MAX_TEXT → IsText bytes ⊎ ((kind : RefusalKind) × (at : ℕ) × IsNoText bytes kind at)
     by_characters true e short = inl (record { short = short; characters = e })
-    by_characters false e short = inr (causes.NotUtf8, 0, NotUtf8 short (λ f. let i : false ≡ true = sym e ∙ f in cc))
+    by_characters false e short = inr (kinds.NotUtf8, 0, NotUtf8 short (λ f. let i : false ≡ true = sym e ∙ f in cc))
 
 -- ---- the source: what a phase let pass is not what an earlier one refused
 
@@ -112,36 +112,36 @@ module _ (h : PrincipalHierarchy) (source : List ℕ) where
   lexed_later : (refusal : LexRefusal) → lexer.IsTextRefused source refusal → (tree : ProgramTree) → IsTreeOf source tree → ⊥
   lexed_later refusal refused tree of = cut_refused source of.tokens refusal of.cut refused
 
-  source_once : (cause other : Cause) (at there : ℕ) → IsSourceRefused h source cause at → IsSourceRefused h source other there → Same cause at other there
-  source_once cause other at there (NoText _ _ one) (NoText _ _ two) = no_text_once source cause other at there one two
-  source_once cause other at there (NoText _ _ one) (NoTokens text _ _) = absurd (text_or_none source cause at one text)
-  source_once cause other at there (NoText _ _ one) (NoTree text _ _ _ _) = absurd (text_or_none source cause at one text)
-  source_once cause _ at _ (NoText _ _ one) (WrongName tree of refusal e) = absurd (text_or_none source cause at one of.text)
-  source_once cause _ at _ (NoText _ _ one) (WrongEnd program from refusal others e) = absurd (text_or_none source cause at one from.tree_of.text)
-  source_once cause _ at _ (NoText _ _ one) (WrongFlow program from ended policy chain last refused) = absurd (text_or_none source cause at one from.tree_of.text)
-  source_once cause other at there (NoTokens text _ _) (NoText _ _ two) = absurd (text_or_none source other there two text)
+  source_once : (kind other : RefusalKind) (at there : ℕ) → IsSourceRefused h source kind at → IsSourceRefused h source other there → Same kind at other there
+  source_once kind other at there (NoText _ _ one) (NoText _ _ two) = no_text_once source kind other at there one two
+  source_once kind other at there (NoText _ _ one) (NoTokens text _ _) = absurd (text_or_none source kind at one text)
+  source_once kind other at there (NoText _ _ one) (NoTree text _ _ _ _) = absurd (text_or_none source kind at one text)
+  source_once kind _ at _ (NoText _ _ one) (WrongName tree of refusal e) = absurd (text_or_none source kind at one of.text)
+  source_once kind _ at _ (NoText _ _ one) (WrongEnd program from refusal others e) = absurd (text_or_none source kind at one from.tree_of.text)
+  source_once kind _ at _ (NoText _ _ one) (WrongFlow program from ended policy chain last refused) = absurd (text_or_none source kind at one from.tree_of.text)
+  source_once kind other at there (NoTokens text _ _) (NoText _ _ two) = absurd (text_or_none source other there two text)
   source_once _ _ _ _ (NoTokens _ refusal refused) (NoTokens _ again refused_too) =
       let same : refusal ≡ again = has_one_refusal source refusal again refused refused_too in
-      (ap (λ (r : LexRefusal). causes.Lex r.defect) same, ap (λ (r : LexRefusal). r.at) same)
-  source_once cause other at there (NoTokens _ refusal refused) (NoTree _ tokens cut _ _) = absurd (cut_refused source tokens refusal cut refused)
-  source_once cause _ at _ (NoTokens _ refusal refused) (WrongName tree of wrong e) = absurd (lexed_later refusal refused tree of)
-  source_once cause _ at _ (NoTokens _ refusal refused) (WrongEnd program from wrong others e) = absurd (lexed_later refusal refused from.tree from.tree_of)
-  source_once cause _ at _ (NoTokens _ refusal refused) (WrongFlow program from ended policy chain last unmet) = absurd (lexed_later refusal refused from.tree from.tree_of)
-  source_once cause other at there (NoTree text _ _ _ _) (NoText _ _ two) = absurd (text_or_none source other there two text)
-  source_once cause other at there (NoTree _ tokens cut _ _) (NoTokens _ refusal refused) = absurd (cut_refused source tokens refusal cut refused)
+      (ap (λ (r : LexRefusal). kinds.Lex r.kind) same, ap (λ (r : LexRefusal). r.at) same)
+  source_once kind other at there (NoTokens _ refusal refused) (NoTree _ tokens cut _ _) = absurd (cut_refused source tokens refusal cut refused)
+  source_once kind _ at _ (NoTokens _ refusal refused) (WrongName tree of wrong e) = absurd (lexed_later refusal refused tree of)
+  source_once kind _ at _ (NoTokens _ refusal refused) (WrongEnd program from wrong others e) = absurd (lexed_later refusal refused from.tree from.tree_of)
+  source_once kind _ at _ (NoTokens _ refusal refused) (WrongFlow program from ended policy chain last unmet) = absurd (lexed_later refusal refused from.tree from.tree_of)
+  source_once kind other at there (NoTree text _ _ _ _) (NoText _ _ two) = absurd (text_or_none source other there two text)
+  source_once kind other at there (NoTree _ tokens cut _ _) (NoTokens _ refusal refused) = absurd (cut_refused source tokens refusal cut refused)
   source_once _ _ _ _ (NoTree _ tokens cut refusal refused) (NoTree _ others cut_too again refused_too) =
       let one : tokens ≡ others = has_one_cut source tokens others cut cut_too in
       let same : refusal ≡ again = one_refusal others refusal again (subst (λ ts. parser.AreTokensRefused ts refusal) one refused) refused_too in
-      (ap (λ (r : ParseRefusal). causes.Parse r.defect) same, ap (λ (r : ParseRefusal). r.at) same)
-  source_once cause _ at _ (NoTree _ tokens cut refusal refused) (WrongName tree of wrong e) = absurd (tree_refused source tree tokens refusal of cut refused)
-  source_once cause _ at _ (NoTree _ tokens cut refusal refused) (WrongEnd program from wrong others e) = absurd (tree_refused source from.tree tokens refusal from.tree_of cut refused)
-  source_once cause _ at _ (NoTree _ tokens cut refusal refused) (WrongFlow program from ended policy chain last unmet) = absurd (tree_refused source from.tree tokens refusal from.tree_of cut refused)
+      (ap (λ (r : ParseRefusal). kinds.Parse r.kind) same, ap (λ (r : ParseRefusal). r.at) same)
+  source_once kind _ at _ (NoTree _ tokens cut refusal refused) (WrongName tree of wrong e) = absurd (tree_refused source tree tokens refusal of cut refused)
+  source_once kind _ at _ (NoTree _ tokens cut refusal refused) (WrongEnd program from wrong others e) = absurd (tree_refused source from.tree tokens refusal from.tree_of cut refused)
+  source_once kind _ at _ (NoTree _ tokens cut refusal refused) (WrongFlow program from ended policy chain last unmet) = absurd (tree_refused source from.tree tokens refusal from.tree_of cut refused)
   source_once _ other _ there (WrongName tree of wrong e) (NoText _ _ two) = absurd (text_or_none source other there two of.text)
   source_once _ other _ there (WrongName tree of wrong e) (NoTokens _ refusal refused) = absurd (lexed_later refusal refused tree of)
   source_once _ other _ there (WrongName tree of wrong e) (NoTree _ tokens cut refusal refused) = absurd (tree_refused source tree tokens refusal of cut refused)
   source_once _ _ _ _ (WrongName tree of wrong e) (WrongName other of_too again f) =
       let same : wrong ≡ again = same_refusal tree other wrong again of of_too e f in
-      (ap (λ (refusal : TypeRefusal). causes.Name refusal.defect) same, ap (λ (refusal : TypeRefusal). refusal.at) same)
+      (ap (λ (refusal : TypeRefusal). kinds.Name refusal.kind) same, ap (λ (refusal : TypeRefusal). refusal.at) same)
   source_once _ _ _ _ (WrongName tree of wrong e) (WrongEnd program from refusal others f) = absurd (named_refused tree wrong program of e from)
   source_once _ _ _ _ (WrongName tree of wrong e) (WrongFlow program from ended policy chain last unmet) = absurd (named_refused tree wrong program of e from)
   source_once _ other _ there (WrongEnd program from wrong others e) (NoText _ _ two) = absurd (text_or_none source other there two from.tree_of.text)
@@ -150,7 +150,7 @@ module _ (h : PrincipalHierarchy) (source : List ℕ) where
   source_once _ _ _ _ (WrongEnd program from wrong others e) (WrongName tree of refusal f) = absurd (named_refused tree refusal program of f from)
   source_once _ _ _ _ (WrongEnd program from wrong others e) (WrongEnd other from_too again more f) =
       let same : wrong ≡ again = same_end program other wrong again others more (same_program program other from from_too) e f in
-      (ap (λ (refusal : EndRefusal). causes.End refusal.defect) same, ap (λ (refusal : EndRefusal). refusal.at) same)
+      (ap (λ (refusal : EndRefusal). kinds.End refusal.kind) same, ap (λ (refusal : EndRefusal). refusal.at) same)
   source_once _ _ _ _ (WrongEnd program from wrong others e) (WrongFlow other from_too ended policy chain last unmet) =
       absurd (ended_refused program other wrong others (same_program program other from from_too) e ended)
   source_once _ other _ there (WrongFlow program from ended policy chain last unmet) (NoText _ _ two) = absurd (text_or_none source other there two from.tree_of.text)
@@ -163,10 +163,10 @@ module _ (h : PrincipalHierarchy) (source : List ℕ) where
       (refl, ap (λ (d : Demand). d.at) (same_flow program other policy other_policy chain others last again (same_program program other from from_too) unmet unmet_too))
 
   -- an accepted source is not refused
-  pub accepted_refused : (program : Program) (cause : Cause) (at : ℕ) → IsAccepted h source program → IsSourceRefused h source cause at → ⊥
-  accepted_refused program cause at accepted (NoText _ _ no_text) = text_or_none source cause at no_text accepted.resolved.tree_of.text
-  accepted_refused program cause at accepted (NoTokens _ refusal refused) = lexed_later refusal refused accepted.resolved.tree accepted.resolved.tree_of
-  accepted_refused program cause at accepted (NoTree _ tokens cut refusal refused) = tree_refused source accepted.resolved.tree tokens refusal accepted.resolved.tree_of cut refused
+  pub accepted_refused : (program : Program) (kind : RefusalKind) (at : ℕ) → IsAccepted h source program → IsSourceRefused h source kind at → ⊥
+  accepted_refused program kind at accepted (NoText _ _ no_text) = text_or_none source kind at no_text accepted.resolved.tree_of.text
+  accepted_refused program kind at accepted (NoTokens _ refusal refused) = lexed_later refusal refused accepted.resolved.tree accepted.resolved.tree_of
+  accepted_refused program kind at accepted (NoTree _ tokens cut refusal refused) = tree_refused source accepted.resolved.tree tokens refusal accepted.resolved.tree_of cut refused
   accepted_refused program _ _ accepted (WrongName tree of wrong e) = named_refused tree wrong program of e accepted.resolved
   accepted_refused program _ _ accepted (WrongEnd other from wrong others e) =
       ended_refused other program wrong others (same_program other program from accepted.resolved) e accepted.ended
@@ -176,17 +176,17 @@ module _ (h : PrincipalHierarchy) (source : List ℕ) where
   -- ---- each phase lets the source pass or refuses it
 
   abbrev Refusal : Type 0
-  Refusal = (cause : Cause) × (at : ℕ) × IsSourceRefused h source cause at
+  Refusal = (kind : RefusalKind) × (at : ℕ) × IsSourceRefused h source kind at
 
   checked : (program : Program) → IsResolvedFrom h source program → ((found : Program) × IsAccepted h source found) ⊎ Refusal
   checked program from = by_ends (end_faults program) refl
     where
       by_ends : (faults : List EndRefusal) → end_faults program ≡ faults → ((found : Program) × IsAccepted h source found) ⊎ Refusal
-      by_ends (refusal ∷ others) e = inr (causes.End refusal.defect, refusal.at, WrongEnd program from refusal others e)
+      by_ends (refusal ∷ others) e = inr (kinds.End refusal.kind, refusal.at, WrongEnd program from refusal others e)
       by_ends [] e =
           ⊎_elim
           (λ labelled. inl (program, record { resolved = from; ended = e; labelled = labelled }))
-          (λ unmet. inr (causes.FlowNotAllowed, unmet.2.at, WrongFlow program from e unmet.0 unmet.1 unmet.2 unmet.3))
+          (λ unmet. inr (kinds.FlowNotAllowed, unmet.2.at, WrongFlow program from e unmet.0 unmet.1 unmet.2 unmet.3))
           (labelled-or_refused program)
 
   named : (tree : ProgramTree) → IsTreeOf source tree → ((found : Program) × IsAccepted h source found) ⊎ Refusal
@@ -194,20 +194,20 @@ module _ (h : PrincipalHierarchy) (source : List ℕ) where
     where
       by_finding : (finding : Finding Program) → resolution h tree ≡ finding → ((found : Program) × IsAccepted h source found) ⊎ Refusal
       by_finding (Ok program) e = checked program (record { tree = tree; tree_of = of; resolved = e })
-      by_finding (Err refusal) e = inr (causes.Name refusal.defect, refusal.at, WrongName tree of refusal e)
+      by_finding (Err refusal) e = inr (kinds.Name refusal.kind, refusal.at, WrongName tree of refusal e)
 
   parsed : (text : IsText source) (tokens : List Terminal) → IsCut source tokens → ((found : Program) × IsAccepted h source found) ⊎ Refusal
   parsed text tokens cut =
       ⊎_elim
       (λ found. named found.0 (record { text = text; tokens = tokens; cut = cut; spelled = found.1 }))
-      (λ found. inr (causes.Parse found.0.defect, found.0.at, NoTree text tokens cut found.0 found.1))
+      (λ found. inr (kinds.Parse found.0.kind, found.0.at, NoTree text tokens cut found.0 found.1))
       (spelled_or_refused tokens (listed source tokens (IsUtf8-from_is_utf8 source text.characters) cut).terminated)
 
   lexed : IsText source → ((found : Program) × IsAccepted h source found) ⊎ Refusal
   lexed text =
       ⊎_elim
       (λ found. parsed text found.0 found.1)
-      (λ found. inr (causes.Lex found.0.defect, found.0.at, NoTokens text found.0 found.1))
+      (λ found. inr (kinds.Lex found.0.kind, found.0.at, NoTokens text found.0 found.1))
       (is_cut_or_refused source (IsUtf8-from_is_utf8 source text.characters))
 
   read : ((found : Program) × IsAccepted h source found) ⊎ Refusal
@@ -223,27 +223,27 @@ pub record HierarchyLaws : Type 0 where
 module _ (laws : HierarchyLaws) where
   -- ---- the hierarchy
 
-  hierarchy_once : (text : List ℕ) (cause other : Cause) (at there : ℕ) → IsHierarchyRefused text cause at → IsHierarchyRefused text other there → Same cause at other there
-  hierarchy_once text cause other at there (Unreadable _ _ one) (Unreadable _ _ two) = no_text_once text cause other at there one two
-  hierarchy_once text cause other at there (Unreadable _ _ one) (Wrong is_text refusal refused) = absurd (text_or_none text cause at one is_text)
-  hierarchy_once text cause other at there (Wrong is_text refusal refused) (Unreadable _ _ two) = absurd (text_or_none text other there two is_text)
+  hierarchy_once : (text : List ℕ) (kind other : RefusalKind) (at there : ℕ) → IsHierarchyRefused text kind at → IsHierarchyRefused text other there → Same kind at other there
+  hierarchy_once text kind other at there (Unreadable _ _ one) (Unreadable _ _ two) = no_text_once text kind other at there one two
+  hierarchy_once text kind other at there (Unreadable _ _ one) (Wrong is_text refusal refused) = absurd (text_or_none text kind at one is_text)
+  hierarchy_once text kind other at there (Wrong is_text refusal refused) (Unreadable _ _ two) = absurd (text_or_none text other there two is_text)
   hierarchy_once text _ _ _ _ (Wrong _ refusal refused) (Wrong _ again refused_too) =
       let same : refusal ≡ again = laws.one_refusal text refusal again refused refused_too in
-      (ap (λ (r : HierarchyRefusal). causes.Hierarchy r.defect) same, ap (λ (r : HierarchyRefusal). r.at) same)
+      (ap (λ (r : HierarchyRefusal). kinds.Hierarchy r.kind) same, ap (λ (r : HierarchyRefusal). r.at) same)
 
-  hierarchy_or_refused : (text : List ℕ) (h : PrincipalHierarchy) (cause : Cause) (at : ℕ) → HasHierarchy text h → IsHierarchyRefused text cause at → ⊥
-  hierarchy_or_refused text h cause at has (Unreadable _ _ no_text) =
-      text_or_none text cause at no_text (record { short = has.hierarchy_of.has_entries.fits; characters = has.characters })
-  hierarchy_or_refused text h cause at has (Wrong is_text refusal refused) = laws.not_both text h refusal has.hierarchy_of refused
+  hierarchy_or_refused : (text : List ℕ) (h : PrincipalHierarchy) (kind : RefusalKind) (at : ℕ) → HasHierarchy text h → IsHierarchyRefused text kind at → ⊥
+  hierarchy_or_refused text h kind at has (Unreadable _ _ no_text) =
+      text_or_none text kind at no_text (record { short = has.hierarchy_of.has_entries.fits; characters = has.characters })
+  hierarchy_or_refused text h kind at has (Wrong is_text refusal refused) = laws.not_both text h refusal has.hierarchy_of refused
 
-  hierarchy_read : (text : List ℕ) → ((h : PrincipalHierarchy) × HasHierarchy text h) ⊎ ((cause : Cause) × (at : ℕ) × IsHierarchyRefused text cause at)
+  hierarchy_read : (text : List ℕ) → ((h : PrincipalHierarchy) × HasHierarchy text h) ⊎ ((kind : RefusalKind) × (at : ℕ) × IsHierarchyRefused text kind at)
   hierarchy_read text = ⊎_elim reads (λ none. inr (none.0, none.1, Unreadable none.0 none.1 none.2)) (readable text)
     where
-      reads : IsText text → ((h : PrincipalHierarchy) × HasHierarchy text h) ⊎ ((cause : Cause) × (at : ℕ) × IsHierarchyRefused text cause at)
+      reads : IsText text → ((h : PrincipalHierarchy) × HasHierarchy text h) ⊎ ((kind : RefusalKind) × (at : ℕ) × IsHierarchyRefused text kind at)
       reads is_text =
           ⊎_elim
           (λ found. inl (found.0, record { characters = is_text.characters; hierarchy_of = found.1 }))
-          (λ found. inr (causes.Hierarchy found.0.defect, found.0.at, Wrong is_text found.0 found.1))
+          (λ found. inr (kinds.Hierarchy found.0.kind, found.0.at, Wrong is_text found.0 found.1))
           (laws.read_or_refused text (IsUtf8-from_is_utf8 text is_text.characters))
 
   -- ---- both texts
@@ -261,29 +261,29 @@ module _ (laws : HierarchyLaws) where
   same_hierarchy : (text : List ℕ) (h other : PrincipalHierarchy) → HasHierarchy text h → HasHierarchy text other → h ≡ other
   same_hierarchy text h other one two = laws.one_hierarchy text h other one.hierarchy_of two.hierarchy_of
 
-  refused_once : (hierarchy source : List ℕ) (text again : Text) (cause other : Cause) (at there : ℕ) →
-      AreTextsRefusedAt hierarchy source text cause at → AreTextsRefusedAt hierarchy source again other there → Refused text cause at ≡ Refused again other there
-  refused_once hierarchy source _ _ cause other at there (Hierarchy _ _ one) (Hierarchy _ _ two) =
-      let same = hierarchy_once hierarchy cause other at there one two in
+  refused_once : (hierarchy source : List ℕ) (text again : Text) (kind other : RefusalKind) (at there : ℕ) →
+      AreTextsRefusedAt hierarchy source text kind at → AreTextsRefusedAt hierarchy source again other there → Refused text kind at ≡ Refused again other there
+  refused_once hierarchy source _ _ kind other at there (Hierarchy _ _ one) (Hierarchy _ _ two) =
+      let same = hierarchy_once hierarchy kind other at there one two in
       ap (λ c. Refused texts.Hierarchy c at) same.0 ∙ ap (Refused texts.Hierarchy other) same.1
-  refused_once hierarchy source _ _ cause other at there (Hierarchy _ _ one) (Source h has _ _ two) = absurd (hierarchy_or_refused hierarchy h cause at has one)
-  refused_once hierarchy source _ _ cause other at there (Source h has _ _ one) (Hierarchy _ _ two) = absurd (hierarchy_or_refused hierarchy h other there has two)
-  refused_once hierarchy source _ _ cause other at there (Source h has _ _ one) (Source k has_too _ _ two) =
-      let same = source_once k source cause other at there (subst (λ p. IsSourceRefused p source cause at) (same_hierarchy hierarchy h k has has_too) one) two in
+  refused_once hierarchy source _ _ kind other at there (Hierarchy _ _ one) (Source h has _ _ two) = absurd (hierarchy_or_refused hierarchy h kind at has one)
+  refused_once hierarchy source _ _ kind other at there (Source h has _ _ one) (Hierarchy _ _ two) = absurd (hierarchy_or_refused hierarchy h other there has two)
+  refused_once hierarchy source _ _ kind other at there (Source h has _ _ one) (Source k has_too _ _ two) =
+      let same = source_once k source kind other at there (subst (λ p. IsSourceRefused p source kind at) (same_hierarchy hierarchy h k has has_too) one) two in
       ap (λ c. Refused texts.Source c at) same.0 ∙ ap (Refused texts.Source other) same.1
 
-  accepted_or_refused : (hierarchy source : List ℕ) (program : Program) (text : Text) (cause : Cause) (at : ℕ) →
-      StandFor hierarchy source program → AreTextsRefusedAt hierarchy source text cause at → ⊥
-  accepted_or_refused hierarchy source program _ cause at stand (Hierarchy _ _ refused) = hierarchy_or_refused hierarchy stand.principals cause at stand.has refused
-  accepted_or_refused hierarchy source program _ cause at stand (Source h has _ _ refused) =
-      accepted_refused stand.principals source program cause at stand.accepted
-      (subst (λ p. IsSourceRefused p source cause at) (same_hierarchy hierarchy h stand.principals has stand.has) refused)
+  accepted_or_refused : (hierarchy source : List ℕ) (program : Program) (text : Text) (kind : RefusalKind) (at : ℕ) →
+      StandFor hierarchy source program → AreTextsRefusedAt hierarchy source text kind at → ⊥
+  accepted_or_refused hierarchy source program _ kind at stand (Hierarchy _ _ refused) = hierarchy_or_refused hierarchy stand.principals kind at stand.has refused
+  accepted_or_refused hierarchy source program _ kind at stand (Source h has _ _ refused) =
+      accepted_refused stand.principals source program kind at stand.accepted
+      (subst (λ p. IsSourceRefused p source kind at) (same_hierarchy hierarchy h stand.principals has stand.has) refused)
 
   pub has_one_verdict : HasOneVerdict
   has_one_verdict hierarchy source (Accepted program) (Accepted other) one two =
       let same = same_hierarchy hierarchy one.principals two.principals one.has two.has in
       let accepted = subst (λ p. IsAccepted p source program) same one.accepted in
       ap Accepted (same_program two.principals source program other accepted.resolved two.accepted.resolved)
-  has_one_verdict hierarchy source (Accepted program) (Refused text cause at) one two = absurd (accepted_or_refused hierarchy source program text cause at one two)
-  has_one_verdict hierarchy source (Refused text cause at) (Accepted program) one two = absurd (accepted_or_refused hierarchy source program text cause at two one)
-  has_one_verdict hierarchy source (Refused text cause at) (Refused again other there) one two = refused_once hierarchy source text again cause other at there one two
+  has_one_verdict hierarchy source (Accepted program) (Refused text kind at) one two = absurd (accepted_or_refused hierarchy source program text kind at one two)
+  has_one_verdict hierarchy source (Refused text kind at) (Accepted program) one two = absurd (accepted_or_refused hierarchy source program text kind at two one)
+  has_one_verdict hierarchy source (Refused text kind at) (Refused again other there) one two = refused_once hierarchy source text again kind other at there one two

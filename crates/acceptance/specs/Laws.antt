@@ -1,4 +1,4 @@
--- The law of verdicts: two texts stand for one program, or one of them is refused for one cause at one byte, and not both. And laws
+-- The law of verdicts: two texts stand for one program, or one of them is refused for one reason at one byte, and not both. And laws
 -- of the programs that sources are resolved to.
 -- Source: our own.
 use Rattle.std.specs.Prelude.{◌≡◌, ℕ, List, All}
@@ -8,17 +8,17 @@ use Rattle.resolved.specs.Names.{HasNames}
 use Rattle.resolved.specs.Program.{Program}
 use Rattle.acceptance.specs.Accepted.{IsResolvedFrom, StandFor}
 use Rattle.acceptance.specs.Refused.{AreTextsRefusedAt}
-use Rattle.acceptance.specs.declared.cause.Cause.{Cause}
-use Rattle.acceptance.specs.declared.cause.Text.{Text}
+use Rattle.acceptance.specs.declared.kind.RefusalKind.{RefusalKind}
+use Rattle.acceptance.specs.declared.kind.Text.{Text}
 
 -- what is to be said of two texts
 pub data Verdict : Type 0 where
   Accepted : Program → Verdict
-  Refused : Text → Cause → (at : ℕ) → Verdict
+  Refused : Text → RefusalKind → (at : ℕ) → Verdict
 
 abbrev pub IsVerdict : (hierarchy source : List ℕ) → Verdict → Type 0
 IsVerdict hierarchy source (Accepted program) = StandFor hierarchy source program
-IsVerdict hierarchy source (Refused text cause at) = AreTextsRefusedAt hierarchy source text cause at
+IsVerdict hierarchy source (Refused text kind at) = AreTextsRefusedAt hierarchy source text kind at
 
 abbrev pub HasVerdict : Type 0
 HasVerdict = (hierarchy source : List ℕ) → (verdict : Verdict) × IsVerdict hierarchy source verdict

@@ -1,4 +1,4 @@
 pub mod Accepted
-pub mod Causes
+pub mod RefusalKinds
 pub mod Refused
 pub mod Laws

@@ -1,4 +1,4 @@
--- Why the first of two texts that is wrong is refused, and the byte at which that stands: one clause for each cause. Each phase looks
+-- Why the first of two texts that is wrong is refused, and the byte at which that stands: one clause for each reason. Each phase looks
 -- at what the ones before it let pass.
 -- Source: our own.
 use Rattle.std.specs.Prelude.{◌≡◌, ℕ, ◌≤◌, ◌<◌, List, [], ◌∷◌, length, IsTrue, Err}
@@ -22,42 +22,42 @@ use Rattle.resolved.specs.Flow as flow
 use Rattle.types.specs.Resolution.{resolution}
 use Rattle.types.specs.declared.fault.TypeRefusal.{TypeRefusal}
 use Rattle.acceptance.specs.Accepted.{IsText, IsTreeOf, IsResolvedFrom, HasHierarchy}
-use Rattle.acceptance.specs.declared.cause.Cause.{Cause}
-use Rattle.acceptance.specs.declared.cause.Cause.TheVariants as causes
-use Rattle.acceptance.specs.declared.cause.Text.{Text}
-use Rattle.acceptance.specs.declared.cause.Text.TheVariants as texts
+use Rattle.acceptance.specs.declared.kind.RefusalKind.{RefusalKind}
+use Rattle.acceptance.specs.declared.kind.RefusalKind.TheVariants as kinds
+use Rattle.acceptance.specs.declared.kind.Text.{Text}
+use Rattle.acceptance.specs.declared.kind.Text.TheVariants as texts
 use Rattle.common.specs.declared.limits.TheConstants.{MAX_TEXT}
 
 -- bytes that are no text are refused at their begin: that they are too long comes before that they are not UTF-8
-pub data IsNoText (bytes : List ℕ) : Cause → (at : ℕ) → Type 0 where
-  TooLong : MAX_TEXT < length bytes → IsNoText bytes causes.TextTooLong 0
-  NotUtf8 : length bytes ≤ MAX_TEXT → ¬ IsTrue (is_utf8 bytes) → IsNoText bytes causes.NotUtf8 0
+pub data IsNoText (bytes : List ℕ) : RefusalKind → (at : ℕ) → Type 0 where
+  TooLong : MAX_TEXT < length bytes → IsNoText bytes kinds.TextTooLong 0
+  NotUtf8 : length bytes ≤ MAX_TEXT → ¬ IsTrue (is_utf8 bytes) → IsNoText bytes kinds.NotUtf8 0
 
 -- why the text of a hierarchy is refused
-pub data IsHierarchyRefused (text : List ℕ) : Cause → (at : ℕ) → Type 0 where
-  Unreadable : (cause : Cause) (at : ℕ) → IsNoText text cause at → IsHierarchyRefused text cause at
+pub data IsHierarchyRefused (text : List ℕ) : RefusalKind → (at : ℕ) → Type 0 where
+  Unreadable : (kind : RefusalKind) (at : ℕ) → IsNoText text kind at → IsHierarchyRefused text kind at
   Wrong : IsText text → (refusal : HierarchyRefusal) → IsRefusedText text refusal
-      → IsHierarchyRefused text (causes.Hierarchy refusal.defect) refusal.at
+      → IsHierarchyRefused text (kinds.Hierarchy refusal.kind) refusal.at
 
 -- why a source is refused under a hierarchy: the first fault of its tokens, of its tree, of names, types and sizes, or of the ends,
 -- or the first demand that no labelling meets
-pub data IsSourceRefused (h : PrincipalHierarchy) (source : List ℕ) : Cause → (at : ℕ) → Type 0 where
-  NoText : (cause : Cause) (at : ℕ) → IsNoText source cause at → IsSourceRefused h source cause at
+pub data IsSourceRefused (h : PrincipalHierarchy) (source : List ℕ) : RefusalKind → (at : ℕ) → Type 0 where
+  NoText : (kind : RefusalKind) (at : ℕ) → IsNoText source kind at → IsSourceRefused h source kind at
   NoTokens : IsText source → (refusal : LexRefusal) → lexer.IsTextRefused source refusal
-      → IsSourceRefused h source (causes.Lex refusal.defect) refusal.at
+      → IsSourceRefused h source (kinds.Lex refusal.kind) refusal.at
   NoTree : IsText source → (tokens : List Terminal) → IsCut source tokens → (refusal : ParseRefusal)
-      → parser.AreTokensRefused tokens refusal → IsSourceRefused h source (causes.Parse refusal.defect) refusal.at
+      → parser.AreTokensRefused tokens refusal → IsSourceRefused h source (kinds.Parse refusal.kind) refusal.at
   WrongName : (tree : ProgramTree) → IsTreeOf source tree → (refusal : TypeRefusal) → resolution h tree ≡ Err refusal
-      → IsSourceRefused h source (causes.Name refusal.defect) refusal.at
+      → IsSourceRefused h source (kinds.Name refusal.kind) refusal.at
   WrongEnd : (program : Program) → IsResolvedFrom h source program → (refusal : EndRefusal) (others : List EndRefusal)
-      → end_faults program ≡ refusal ∷ others → IsSourceRefused h source (causes.End refusal.defect) refusal.at
+      → end_faults program ≡ refusal ∷ others → IsSourceRefused h source (kinds.End refusal.kind) refusal.at
   WrongFlow : (program : Program) → IsResolvedFrom h source program → end_faults program ≡ [] → (policy : ReaderPolicy)
       (chain : List Demand) (last : Demand) → flow.IsProgramRefused program policy chain last
-      → IsSourceRefused h source causes.FlowNotAllowed last.at
+      → IsSourceRefused h source kinds.FlowNotAllowed last.at
 
 -- the first of two texts that is wrong: the source is looked at where the other text has a hierarchy
-pub data AreTextsRefusedAt (hierarchy source : List ℕ) : Text → Cause → (at : ℕ) → Type 0 where
-  Hierarchy : (cause : Cause) (at : ℕ) → IsHierarchyRefused hierarchy cause at
-      → AreTextsRefusedAt hierarchy source texts.Hierarchy cause at
-  Source : (h : PrincipalHierarchy) → HasHierarchy hierarchy h → (cause : Cause) (at : ℕ) → IsSourceRefused h source cause at
-      → AreTextsRefusedAt hierarchy source texts.Source cause at
+pub data AreTextsRefusedAt (hierarchy source : List ℕ) : Text → RefusalKind → (at : ℕ) → Type 0 where
+  Hierarchy : (kind : RefusalKind) (at : ℕ) → IsHierarchyRefused hierarchy kind at
+      → AreTextsRefusedAt hierarchy source texts.Hierarchy kind at
+  Source : (h : PrincipalHierarchy) → HasHierarchy hierarchy h → (kind : RefusalKind) (at : ℕ) → IsSourceRefused h source kind at
+      → AreTextsRefusedAt hierarchy source texts.Source kind at

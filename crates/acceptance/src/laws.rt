@@ -6,7 +6,7 @@ ghost use Rattle.resolved.specs.Isolated.{Isolated};
 ghost use Rattle.resolved.specs.Program.{Program};
 ghost use Rattle.std.specs.Prelude.{List, ℕ};
 
-/// Every two lists of bytes have one verdict: they stand for one program, or the first text that is wrong is refused, for one cause
+/// Every two lists of bytes have one verdict: they stand for one program, or the first text that is wrong is refused, for one reason
 /// at one byte; and not both.
 pub fn one_verdict()
     ensures some { HasVerdict }
@@ -27,7 +27,7 @@ pub fn resolved_programs_have_names()
     types::laws::hierarchies_and_channel_labels_are_kept();
 }
 
-/// A program that two texts stand for is isolated: for every principal, all worlds that agree for it and any two bounds on the turns
+/// A program that two texts stand for is isolated: for every principal, all worlds that agree for it and any two bounds on the rounds
 /// of loops, one of the lists that it sees is a prefix of the other.
 pub fn accepted_programs_are_isolated()
     ensures { (hierarchy source : List ℕ) (program : Program) → StandFor hierarchy source program →

@@ -1,13 +1,13 @@
 //! Which two texts stand for a program, and why others do not: what a check has to decide. It holds
-//! definitions, their laws, and the numbers and words by which causes are reported.
+//! definitions, their laws, and the numbers and words by which kinds of refusal are reported.
 #![tactic(auto)]
 
-pub mod cause;
+pub mod kind;
 pub mod laws;
 
-pub use cause::{Cause, Text};
-pub use lexer::LexDefect;
-pub use parser::ParseDefect;
-pub use principals::HierarchyDefect;
-pub use resolved::EndDefect;
-pub use types::TypeDefect;
+pub use kind::{RefusalKind, Text};
+pub use lexer::LexRefusalKind;
+pub use parser::ParseRefusalKind;
+pub use principals::HierarchyRefusalKind;
+pub use resolved::EndRefusalKind;
+pub use types::TypeRefusalKind;

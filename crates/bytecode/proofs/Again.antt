@@ -4,7 +4,7 @@ use Rattle.std.specs.Int.{w32, to_be_bytes}
 use Rattle.std.specs.List.{AllByRecursion}
 use Rattle.std.proofs.lemmas.Bool.{lt-ltb, eq-eqb}
 use Rattle.std.proofs.lemmas.List.{append-nil}
-use Rattle.modules.specs.declared.fault.FormatDefect.TheVariants.{BadValue}
+use Rattle.modules.specs.declared.fault.FormatRefusalKind.TheVariants.{BadValue}
 use Rattle.modules.specs.Form.{number_at, stop_at, Coding, Form, Byte, Number, Text, Nothing, Marked, Checked, Then, Counted, Code, Named, spelled_each, spelled_instruction, spelled_code, spelled, FitEach, IsCoded, Fits, ◌>>=◌, Read, bytes_at, each_at, meant, operand_at, instruction_in, code_at, read}
 use Rattle.bytecode.proofs.Steps.{bytes_again, number_again}
 use Rattle.bytecode.proofs.Coherent.{Coherent}
@@ -60,16 +60,16 @@ again Text coherent x rest fits =
     ∙ ap (λ (r : Read ℕ). r >>= λ size. bytes_at size.0 size.1) (number_again (length x) (x ++ rest) fits)
     ∙ bytes_again x rest (length x) refl
 again (Nothing a) coherent x rest fits = ap (λ b. Ok (b, rest)) (sym fits)
-again (Marked {A} defect n form) coherent x rest fits =
+again (Marked {A} kind n form) coherent x rest fits =
     let left = spelled form x ++ rest in
     let complete = (to_be_bytes w32 n ++ spelled form x) ++ rest in
     let number : number_at complete ≡ Ok (n, left) = ap number_at (append_assoc (to_be_bytes w32 n) (spelled form x) rest) ∙ number_again n left coherent.0 in
-    let fault : Read A = Err (stop_at defect complete) in
+    let fault : Read A = Err (stop_at kind complete) in
     ap (λ (r : Read ℕ). r >>= λ found. cond (eqb found.0 n) (read form found.1) fault) number
     ∙ ap (λ (b : Bool). cond b (read form left) fault) (eq-eqb n n refl)
     ∙ again form coherent.1 x rest fits
-again (Checked {A} defect test form) coherent x rest fits =
-    let fault : Read A = Err (stop_at defect (spelled form x ++ rest)) in
+again (Checked {A} kind test form) coherent x rest fits =
+    let fault : Read A = Err (stop_at kind (spelled form x ++ rest)) in
     let found : Read A = Ok (x, rest) in
     ap (λ (r : Read A). r >>= λ y. cond (test y.0) (Ok y) fault) (again form coherent x rest fits.0)
     ∙ ap (λ (b : Bool). cond b found fault) fits.1

@@ -5,7 +5,7 @@ use Rattle.std.proofs.lemmas.List.{append-nil, get_or_past, nil_from_length}
 use Rattle.modules.specs.Contents.{ModuleContents}
 use Rattle.modules.specs.Form.{Form, Spells, spelled, Read, read, read_all, stop_at, ◌>>=◌}
 use Rattle.modules.specs.Format.{module_file}
-use Rattle.modules.specs.declared.fault.FormatDefect.TheVariants.{Trailing}
+use Rattle.modules.specs.declared.fault.FormatRefusalKind.TheVariants.{Trailing}
 use Rattle.modules.specs.declared.fault.ReadRefusal.{ReadRefusal}
 use Rattle.bytecode.specs.Decoded.{first_refusal, refusal_of}
 use Rattle.bytecode.specs.Laws.{BytesAreSpelledOrRefused}
@@ -50,7 +50,7 @@ one_spelling {A} form coherent x y a b more others h k e =
 read_or_refused : (bytes : List ℕ) → IsBytes bytes → (r : Result ModuleContents ReadRefusal) → read_all module_file bytes ≡ r
     → ((m : ModuleContents) × Spells module_file m bytes) ⊎ ((refusal : FormatRefusal) × (first_refusal bytes ≡ Some refusal))
 read_or_refused bytes fits (Ok m) e = inl (m, module_taken bytes m fits e)
-read_or_refused bytes fits (Err stop) e = inr (record { defect = stop.defect; offset = length bytes - stop.left }, ap (refusal_of bytes) e)
+read_or_refused bytes fits (Err stop) e = inr (record { kind = stop.kind; offset = length bytes - stop.left }, ap (refusal_of bytes) e)
 
 pub spelled_or_refused : BytesAreSpelledOrRefused
 spelled_or_refused bytes each =

@@ -3,10 +3,10 @@ use Rattle.std.proofs.Common.{◌≡◌, ℕ, zero, suc, ◌-◌, ◌≤◌, Boo
 use Rattle.std.proofs.lemmas.List.{length-drop}
 use Rattle.std.specs.Int.{w32, from_be_bytes}
 use Rattle.modules.specs.declared.fault.ReadRefusal.{ReadRefusal}
-use Rattle.modules.specs.declared.fault.FormatDefect.TheVariants.{BadValue, Trailing}
+use Rattle.modules.specs.declared.fault.FormatRefusalKind.TheVariants.{BadValue, Trailing}
 use Rattle.modules.specs.Form.{Coding, Form, Byte, Number, Text, Nothing, Marked, Checked, Then, Counted, Code, Named, stop_at, short, ◌>>=◌, Read, number_at, bytes_at, each_at, meant, operand_at, instruction_in, code_at, spelled_instruction, read, read_all}
 
--- at most so many bytes are left, after the value or at the refusal
+-- at most this many bytes are left, after the value or at the refusal
 abbrev IsInside : {A : Type 0} → ℕ → Read A → Type 0
 IsInside n (Ok x) = length x.1 ≤ n
 IsInside n (Err stop) = stop.left ≤ n
@@ -70,12 +70,12 @@ inside Byte (b ∷ bytes) = omega arith
 inside Number bytes = number_inside bytes
 inside Text bytes = next_at (length bytes) (number_at bytes) (λ size. bytes_at size.0 size.1) (number_inside bytes) (λ size. bytes_inside size.0 size.1)
 inside (Nothing a) bytes = omega arith
-inside (Marked defect n form) bytes =
-    bound (length bytes) (number_at bytes) (λ found. cond (eqb found.0 n) (read form found.1) (Err (stop_at defect bytes))) (number_inside bytes)
-    (λ found le. tested (length bytes) (eqb found.0 n) (read form found.1) (stop_at defect bytes) (fewer (length found.1) (length bytes) (read form found.1) le (inside form found.1)) (omega arith))
-inside (Checked defect test form) bytes =
-    bound (length bytes) (read form bytes) (λ found. cond (test found.0) (Ok found) (Err (stop_at defect bytes))) (inside form bytes)
-    (λ found le. tested (length bytes) (test found.0) (Ok found) (stop_at defect bytes) le (omega arith))
+inside (Marked kind n form) bytes =
+    bound (length bytes) (number_at bytes) (λ found. cond (eqb found.0 n) (read form found.1) (Err (stop_at kind bytes))) (number_inside bytes)
+    (λ found le. tested (length bytes) (eqb found.0 n) (read form found.1) (stop_at kind bytes) (fewer (length found.1) (length bytes) (read form found.1) le (inside form found.1)) (omega arith))
+inside (Checked kind test form) bytes =
+    bound (length bytes) (read form bytes) (λ found. cond (test found.0) (Ok found) (Err (stop_at kind bytes))) (inside form bytes)
+    (λ found le. tested (length bytes) (test found.0) (Ok found) (stop_at kind bytes) le (omega arith))
 inside (Then first second) bytes =
     next_at (length bytes) (read first bytes) (λ a. read (second a.0) a.1 >>= λ b. Ok ((a.0, b.0), b.1)) (inside first bytes)
     (λ a. bound (length a.1) (read (second a.0) a.1) (λ b. Ok ((a.0, b.0), b.1)) (inside (second a.0) a.1) (λ b le. le))

@@ -13,13 +13,13 @@ use Rattle.modules.specs.declared.value.ValueKind.{ValueKind}
 use Rattle.modules.specs.declared.value.ValueKind.TheVariants as kind
 use Rattle.modules.specs.declared.declaration.Slot.TheVariants as slot
 use Rattle.modules.specs.declared.declaration.Global.TheVariants as global
-use Rattle.modules.specs.declared.fault.FormatDefect.TheVariants.{BadValue}
+use Rattle.modules.specs.declared.fault.FormatRefusalKind.TheVariants.{BadValue}
 use Rattle.modules.specs.Contents.{ProcedureContents}
 use Rattle.modules.specs.Code.{width_of}
 use Rattle.modules.specs.Form.{Form, Number, Checked, Fits}
 use Rattle.modules.specs.declared.opcode.Operand.{Operand}
 use Rattle.modules.specs.declared.opcode.Operand.TheVariants.{Absent, Int, Boolean, Number as Numbered}
-use Rattle.modules.specs.Opcodes.{row_of, opcode_of, operand_of, operand_width, numbered, plain, with_opcode, instruction_of, examples, has_instruction, width_in, width_after, instructions}
+use Rattle.modules.specs.Opcodes.{entry_of, opcode_of, operand_of, operand_width, numbered, plain, with_opcode, instruction_of, examples, has_instruction, width_in, width_after, instructions}
 use Rattle.modules.specs.Format.{name_after, number_below, principals, pair_after, hierarchy, exceptions, direction_of, direction_byte, direction, reader_after, policy_after, label, channel_after, channels, kind_of, kind_byte, variable_kind, of_scalar, first_value, global_of, global_fields, global_after, globals, slot_fields, slot_after, slots, returned_of, returned_byte, returned, handler, handlers, procedure, procedures, main, declared, program, contents, version_number, version, module_file}
 use Rattle.bytecode.proofs.Steps.{IsBytes}
 use Rattle.bytecode.proofs.Coherent.{IsLawful, Coherent}
@@ -102,13 +102,13 @@ three_widths (Boolean b) n e = inr (inl (sym e))
 three_widths (Int z) n e = inr (inr (sym e))
 three_widths (Numbered k) n e = inr (inr (sym e))
 
-width_if : (has : Bool) (x : Instruction) (n : ℕ) → cond has (Some (operand_width (row_of x).operand)) None ≡ Some n → operand_width (row_of x).operand ≡ n
+width_if : (has : Bool) (x : Instruction) (n : ℕ) → cond has (Some (operand_width (entry_of x).operand)) None ≡ Some n → operand_width (entry_of x).operand ≡ n
 width_if true x n e = cc
 width_if false x n e = absurd cc
 
 width_found : (version : Version) (example : Option Instruction) (n : ℕ) → width_in version example ≡ Some n → (n ≡ 0) ⊎ ((n ≡ 1) ⊎ (n ≡ 4))
 width_found version None n e = absurd cc
-width_found version (Some x) n e = three_widths (row_of x).operand n (width_if (has_instruction version x) x n e)
+width_found version (Some x) n e = three_widths (entry_of x).operand n (width_if (has_instruction version x) x n e)
 
 pub one_width : (version : Version) (byte n : ℕ) → width_after version byte ≡ Some n → (n ≡ 0) ⊎ ((n ≡ 1) ⊎ (n ≡ 4))
 one_width version byte n e = width_found version (with_opcode byte examples) n e

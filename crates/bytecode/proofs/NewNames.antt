@@ -17,7 +17,7 @@ use Rattle.modules.specs.Contents.{ChannelContents}
 use Rattle.modules.specs.Form.{Form, Named, Then, Counted, Checked, Text, Read, read, each_at, number_at}
 use Rattle.modules.specs.declared.fault.ReadRefusal.{ReadRefusal}
 use Rattle.bytecode.proofs.Loop.{ReadingFails, each_fails, each_goes_on}
-use Rattle.modules.specs.declared.fault.FormatDefect.TheVariants.{BadValue}
+use Rattle.modules.specs.declared.fault.FormatRefusalKind.TheVariants.{BadValue}
 use Rattle.modules.specs.Format.{any, exceptions, channels, declared, is_built_in, channel_after, channel_names, direction, label, is_among, is_new_name, name_after}
 
 not_utf8 : (text : List ℕ) (b : Bool) → is_utf8 text ≡ b → ¬ IsUtf8 text → b ≡ false

@@ -4,7 +4,7 @@ use Rattle.std.specs.Int.{w32, to_be_bytes}
 use Rattle.std.specs.List.{AllByRecursion}
 use Rattle.std.proofs.lemmas.Bool.{ltb-true, eqb-true}
 use Rattle.std.proofs.lemmas.List.{append-nil}
-use Rattle.modules.specs.declared.fault.FormatDefect.TheVariants.{BadValue}
+use Rattle.modules.specs.declared.fault.FormatRefusalKind.TheVariants.{BadValue}
 use Rattle.modules.specs.Form.{Coding, Form, Byte, Number, Text, Nothing, Marked, Checked, Then, Counted, Code, Named, spelled_each, spelled_instruction, spelled_code, spelled, FitEach, IsCoded, Fits, stop_at, ◌>>=◌, number_at, bytes_at, each_at, meant, operand_at, instruction_in, code_at, read}
 use Rattle.bytecode.proofs.Steps.{IsBytes, bytes_rest, step, passed, same_value, bytes_taken_at, number_taken_at}
 use Rattle.bytecode.proofs.Coherent.{IsLawful, Coherent}
@@ -157,10 +157,10 @@ taken Text coherent bytes x rest fits e =
 taken (Nothing a) coherent bytes x rest fits e =
     let both = same_value (a, bytes) (x, rest) e in
     record { fits = sym (ap (λ p. p.0) both); joined = ap (λ p. p.1) both; after = subst IsBytes (ap (λ p. p.1) both) fits }
-taken (Marked defect n form) coherent bytes x rest fits e =
-    let s = step (number_at bytes) (λ found. cond (eqb found.0 n) (read form found.1) (Err (stop_at defect bytes))) (x, rest) e in
+taken (Marked kind n form) coherent bytes x rest fits e =
+    let s = step (number_at bytes) (λ found. cond (eqb found.0 n) (read form found.1) (Err (stop_at kind bytes))) (x, rest) e in
     let t = number_taken_at bytes s.0.0 s.0.1 fits s.1 in
-    let p = passed (eqb s.0.0 n) (read form s.0.1) (stop_at defect bytes) (x, rest) s.2 in
+    let p = passed (eqb s.0.0 n) (read form s.0.1) (stop_at kind bytes) (x, rest) s.2 in
     let n-is : s.0.0 ≡ n = eqb-true _ _ p.0 in
     let u = taken form coherent.1 s.0.1 x rest t.0.after p.1 in
     record {
@@ -168,12 +168,12 @@ taken (Marked defect n form) coherent bytes x rest fits e =
       joined = t.0.joined ∙ ap (λ (k : ℕ). to_be_bytes w32 k ++ s.0.1) n-is ∙ ap (λ (w : List ℕ). to_be_bytes w32 n ++ w) u.joined ∙ sym (append_assoc (to_be_bytes w32 n) (spelled form x) rest);
       after = u.after;
     }
-taken (Checked {A} defect test form) coherent bytes x rest fits e =
-    let s = step (read form bytes) (λ found. cond (test found.0) (Ok found) (Err (stop_at defect bytes))) (x, rest) e in
-    let p = passed (test s.0.0) (Ok s.0) (stop_at defect bytes) (x, rest) s.2 in
+taken (Checked {A} kind test form) coherent bytes x rest fits e =
+    let s = step (read form bytes) (λ found. cond (test found.0) (Ok found) (Err (stop_at kind bytes))) (x, rest) e in
+    let p = passed (test s.0.0) (Ok s.0) (stop_at kind bytes) (x, rest) s.2 in
     let t = taken form coherent bytes s.0.0 s.0.1 fits s.1 in
     let both = same_value s.0 (x, rest) p.1 in
-    subst (λ (q : A × List ℕ). Takes (Checked defect test form) bytes q.0 q.1) both (record { fits = (t.fits, p.0); joined = t.joined; after = t.after })
+    subst (λ (q : A × List ℕ). Takes (Checked kind test form) bytes q.0 q.1) both (record { fits = (t.fits, p.0); joined = t.joined; after = t.after })
 taken (Then {A} {B} first second) coherent bytes x rest fits e =
     let s = step (read first bytes) (λ a. read (second a.0) a.1 >>= λ b. Ok ((a.0, b.0), b.1)) (x, rest) e in
     let u = step (read (second s.0.0) s.0.1) (λ b. Ok ((s.0.0, b.0), b.1)) (x, rest) s.2 in

@@ -18,7 +18,7 @@ use Rattle.modules.specs.declared.declaration.Slot.{Slot}
 use Rattle.modules.specs.declared.declaration.Global.{Global}
 use Rattle.modules.specs.declared.declaration.Global.TheVariants as global
 use Rattle.modules.specs.declared.declaration.Handler.{Handler}
-use Rattle.modules.specs.declared.fault.FormatDefect.TheVariants.{BadValue}
+use Rattle.modules.specs.declared.fault.FormatRefusalKind.TheVariants.{BadValue}
 use Rattle.modules.specs.Contents.{ChannelContents, ProcedureContents, ModuleContents}
 use Rattle.modules.specs.Code.{code_length, width_of}
 use Rattle.modules.specs.Form.{Form, Number, Checked, Fits, FitEach, spelled, spelled_each, spelled_code}

@@ -6,10 +6,10 @@ use Rattle.modules.specs.Format.{module_file}
 use Rattle.modules.specs.declared.fault.ReadRefusal.{ReadRefusal}
 use Rattle.bytecode.specs.declared.fault.FormatRefusal.{FormatRefusal}
 
--- a defect with its offset from the start of the bytes, if reading met one
+-- a refusal with its offset from the start of the bytes, if reading met one
 abbrev pub refusal_of : {A : Type 0} → List ℕ → Result A ReadRefusal → Option FormatRefusal
 refusal_of bytes (Ok x) = None
-refusal_of bytes (Err stop) = Some (record { defect = stop.defect; offset = length bytes - stop.left })
+refusal_of bytes (Err stop) = Some (record { kind = stop.kind; offset = length bytes - stop.left })
 
 -- the first refusal of bytes as a module file, in reading order
 abbrev pub first_refusal : List ℕ → Option FormatRefusal

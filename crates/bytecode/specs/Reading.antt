@@ -16,7 +16,7 @@ Decodes view result read = Answers (λ x. read ≡ Ok (view x)) (λ stop. read �
 abbrev pub texts : List (String Global) → List (List ℕ)
 texts names = map (λ name. string_bytes name) names
 
--- the fields behind the version of a module that was read
+-- the fields after the version of a module that was read
 abbrev pub fields_of : Contents → FieldsOfVersion
 fields_of contents = (
   contents.hierarchy,

@@ -10,7 +10,7 @@ use crate::hierarchy::read_label;
 use crate::names::{read_exceptions, read_name, take, take_built_in};
 use crate::reading::{FieldFault, read_byte, read_number, refuse};
 use common::Direction;
-use modules::FormatDefect;
+use modules::FormatRefusalKind;
 use modules::channel::Channel;
 use principals::Hierarchy;
 use std::alloc::Global;
@@ -25,11 +25,11 @@ fn read_direction(bytes: &[u8]) -> Result<(Direction, &[u8]), FieldFault>
     match direction {
         0 => Ok((Direction::Input, rest)),
         1 => Ok((Direction::Output, rest)),
-        _ => Err(refuse(FormatDefect::BadValue, bytes)),
+        _ => Err(refuse(FormatRefusalKind::BadValue, bytes)),
     }
 }
 
-/// A channel whose name is not taken, with a label among so many principals.
+/// A channel whose name is not taken, with a label among this many principals.
 #[tactic(auto, unfolding(modules::specs::Format::channel_after))]
 fn read_channel<'a>(
     alloc: Global,
@@ -46,7 +46,7 @@ fn read_channel<'a>(
     Ok((Channel::new(direction, name, label), rest))
 }
 
-/// So many channels, none of whose names is taken before.
+/// This many channels, none of whose names is taken before.
 fn read_channels(
     alloc: Global,
     principals: u32,
@@ -70,7 +70,7 @@ fn read_channels(
     Ok((channels, rest))
 }
 
-/// The channels behind their count, none of whose names is taken before.
+/// The channels after their count, none of whose names is taken before.
 fn read_counted_channels(
     alloc: Global,
     principals: u32,

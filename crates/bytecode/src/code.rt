@@ -10,7 +10,7 @@ ghost use Rattle.std.specs.Prelude.{[], IfOk, IfSome, Ok, ◌≡◌, ◌≤◌};
 use crate::reading::{FieldFault, read_byte, read_number, read_text, refuse};
 use modules::instruction::Instruction;
 use modules::opcode::{instruction_of, numbered_instruction, width_after};
-use modules::{FormatDefect, Version};
+use modules::{FormatRefusalKind, Version};
 use std::alloc::Global;
 
 /// The instruction with a number at the front, if there is one that ends within the room that is left in its code. Each version has it.
@@ -50,14 +50,14 @@ fn read_instruction(
     }
     let (opcode, rest) = read_byte(bytes)?;
     let Some(width) = width_after(version, opcode) else {
-        return Err(refuse(FormatDefect::BadValue, bytes));
+        return Err(refuse(FormatRefusalKind::BadValue, bytes));
     };
     if room as usize <= width {
-        return Err(refuse(FormatDefect::BadValue, bytes));
+        return Err(refuse(FormatRefusalKind::BadValue, bytes));
     }
     let (operand, after) = read_text(width, rest)?;
     let Some(instruction) = instruction_of(opcode, operand) else {
-        return Err(refuse(FormatDefect::BadValue, rest));
+        return Err(refuse(FormatRefusalKind::BadValue, rest));
     };
     Ok((instruction, after))
 }
@@ -90,7 +90,7 @@ fn read_instructions(
     Ok((code, rest))
 }
 
-/// The code of a version behind its length.
+/// The code of a version after its length.
 pub(crate) fn read_code(
     alloc: Global,
     version: Version,

@@ -20,7 +20,7 @@ use modules::contents::Contents;
 use modules::declaration::Global as Variable;
 use modules::module::Module;
 use modules::procedure::Procedure;
-use modules::{FormatDefect, Version};
+use modules::{FormatRefusalKind, Version};
 use std::alloc::Global;
 
 /// The first four bytes of a module, `FLOB`, as a number.
@@ -44,7 +44,7 @@ fn read_main<'a>(procedures: &[Procedure], bytes: &'a [u8]) -> Result<(u32, &'a 
         Some(procedure) if procedure.parameters() == 0 && procedure.returned().is_none() => Ok((
             number, rest,
         )),
-        _ => Err(refuse(FormatDefect::BadValue, bytes)),
+        _ => Err(refuse(FormatRefusalKind::BadValue, bytes)),
     }
 }
 
@@ -69,7 +69,7 @@ fn read_program(
     Ok((program, rest))
 }
 
-/// The contents of a module of the version, behind magic and version.
+/// The contents of a module of the version, after magic and version.
 #[tactic(auto, unfolding(modules::specs::Format::contents))]
 fn read_contents(
     alloc: Global,
@@ -104,18 +104,18 @@ fn read_version(bytes: &[u8]) -> Result<(Version, &[u8]), FieldFault>
     match number {
         1 => Ok((Version::One, rest)),
         2 => Ok((Version::Two, rest)),
-        _ => Err(refuse(FormatDefect::Version, bytes)),
+        _ => Err(refuse(FormatRefusalKind::Version, bytes)),
     }
 }
 
-/// The contents of a module behind magic and version, which are tested.
+/// The contents of a module after magic and version, which are tested.
 #[tactic(auto, unfolding(modules::specs::Format::module_file))]
 fn read_file(alloc: Global, bytes: &[u8]) -> Result<(Contents, &[u8]), FieldFault>
     ensures { Decodes (λ x. (contents_of x.0, x.1.now)) result (read module_file bytes.now) }
 {
     let (magic, rest) = read_number(bytes)?;
     if magic != MAGIC {
-        return Err(refuse(FormatDefect::Magic, bytes));
+        return Err(refuse(FormatRefusalKind::Magic, bytes));
     }
     let (version, rest) = read_version(rest)?;
     read_contents(alloc, version, rest)
@@ -127,7 +127,7 @@ fn read_all_of_file(alloc: Global, bytes: &[u8]) -> Result<Contents, FieldFault>
 {
     let (contents, rest) = read_file(alloc, bytes)?;
     if !rest.is_empty() {
-        return Err(refuse(FormatDefect::Trailing, rest));
+        return Err(refuse(FormatRefusalKind::Trailing, rest));
     }
     Ok(contents)
 }
@@ -153,7 +153,7 @@ pub fn decode(alloc: Global, bytes: &[u8]) -> Result<Module, FormatFault>
         Err(OrNoMemory::Refused(stop)) => {
             let offset = bytes.len() - stop.left;
             Err(OrNoMemory::Refused(FormatRefusal {
-                defect: stop.defect,
+                kind: stop.kind,
                 offset,
             }))
         }

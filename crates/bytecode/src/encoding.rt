@@ -16,7 +16,7 @@ use modules::value::ValueKind;
 use principals::Hierarchy;
 use std::alloc::{AllocError, Global};
 
-/// Writes code behind its length.
+/// Writes code after its length.
 fn put_code(out: &mut Vec<u8>, code: &[Instruction]) -> Result<(), AllocError>
     requires { IsShort (code_bytes code.now) }
     ensures { OnOk result (out.new.items ≡ out.old.items
@@ -49,7 +49,7 @@ impl Field for Procedure {
     }
 }
 
-/// Writes names behind their count.
+/// Writes names after their count.
 fn put_names(out: &mut Vec<u8>, names: &[String]) -> Result<(), AllocError>
     requires few { IsShort (texts names.now) }
     requires each { All IsShort (texts names.now) }

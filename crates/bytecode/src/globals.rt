@@ -8,7 +8,7 @@ ghost use Rattle.std.specs.Prelude.{◌<◌, ◌≡◌, ◌≤◌};
 
 use crate::limit::{cells_of_size, is_size};
 use crate::reading::{Element, FieldFault, read_byte, read_each, read_number, refuse};
-use modules::FormatDefect;
+use modules::FormatRefusalKind;
 use modules::declaration::Global as Variable;
 use modules::value::ValueKind;
 use std::alloc::Global;
@@ -22,7 +22,7 @@ pub(crate) fn read_kind(bytes: &[u8]) -> Result<(ValueKind, &[u8]), FieldFault>
     match kind {
         0 => Ok((ValueKind::Int, rest)),
         1 => Ok((ValueKind::Boolean, rest)),
-        _ => Err(refuse(FormatDefect::BadValue, bytes)),
+        _ => Err(refuse(FormatRefusalKind::BadValue, bytes)),
     }
 }
 
@@ -38,7 +38,7 @@ fn read_first_value(kind: ValueKind, size: u32, bytes: &[u8]) -> Result<(u32, &[
         ValueKind::Int => Ok((value, rest)),
         ValueKind::Boolean => {
             if value > 1 {
-                return Err(refuse(FormatDefect::BadValue, bytes));
+                return Err(refuse(FormatRefusalKind::BadValue, bytes));
             }
             Ok((value, rest))
         }
@@ -57,7 +57,7 @@ fn global_of(kind: ValueKind, size: u32, first: u32) -> Variable
     }
 }
 
-/// A global's field, after globals of so many cells.
+/// A global's field, after globals of this many cells.
 struct GlobalField;
 
 impl Element for GlobalField {
@@ -80,7 +80,7 @@ impl Element for GlobalField {
         let (kind, rest) = read_kind(bytes)?;
         let (size, after) = read_number(rest)?;
         if !is_size(*cells, size) {
-            return Err(refuse(FormatDefect::BadValue, rest));
+            return Err(refuse(FormatRefusalKind::BadValue, rest));
         }
         let (first, after) = read_first_value(kind, size, after)?;
         *cells += cells_of_size(size);
@@ -88,7 +88,7 @@ impl Element for GlobalField {
     }
 }
 
-/// The globals behind their count.
+/// The globals after their count.
 #[tactic(auto, unfolding(modules::specs::Format::globals))]
 pub(crate) fn read_globals(
     alloc: Global,

@@ -8,35 +8,35 @@ use crate::names::read_first_names;
 use crate::reading::{Element, FieldFault, read_each, read_number, refuse};
 use common::limits::MAX_PRINCIPALS;
 use labels::{Label, Policy};
-use modules::FormatDefect;
+use modules::FormatRefusalKind;
 use principals::Hierarchy;
 use std::alloc::Global;
 
-/// The number of one of so many things.
+/// The number of one of this many things.
 #[tactic(auto, unfolding(modules::specs::Format::number_below))]
 fn read_number_below(count: u32, bytes: &[u8]) -> Result<(u32, &[u8]), FieldFault>
     ensures { Decodes (λ x. (x.0, x.1.now)) result (read (number_below count) bytes.now) }
 {
     let (number, rest) = read_number(bytes)?;
     if number >= count {
-        return Err(refuse(FormatDefect::BadValue, bytes));
+        return Err(refuse(FormatRefusalKind::BadValue, bytes));
     }
     Ok((number, rest))
 }
 
-/// The names of the principals behind their count.
+/// The names of the principals after their count.
 #[tactic(auto, unfolding(modules::specs::Format::principals))]
 fn read_principals(alloc: Global, bytes: &[u8]) -> Result<(Vec<String>, &[u8]), FieldFault>
     ensures { Decodes (λ x. (texts x.0.items, x.1.now)) result (read principals bytes.now) }
 {
     let (count, rest) = read_number(bytes)?;
     if count > MAX_PRINCIPALS {
-        return Err(refuse(FormatDefect::BadValue, bytes));
+        return Err(refuse(FormatRefusalKind::BadValue, bytes));
     }
     read_first_names(alloc, count, rest)
 }
 
-/// A pair's field among so many principals.
+/// A pair's field among this many principals.
 #[derive(Drop)]
 struct PairField {
     principals: u32,
@@ -65,13 +65,13 @@ impl Element for PairField {
         if let Some(last) = before.last()
             && *last >= pair
         {
-            return Err(refuse(FormatDefect::NotCanonical, bytes));
+            return Err(refuse(FormatRefusalKind::NotCanonical, bytes));
         }
         Ok((pair, rest))
     }
 }
 
-/// A reader's field among so many principals, in a policy of the owner.
+/// A reader's field among this many principals, in a policy of the owner.
 #[derive(Drop)]
 struct ReaderField {
     principals: u32,
@@ -98,18 +98,18 @@ impl Element for ReaderField {
     ) -> Result<(u32, &'a [u8]), FieldFault> {
         let (reader, rest) = read_number_below(self.principals, bytes)?;
         if reader == self.owner {
-            return Err(refuse(FormatDefect::NotCanonical, bytes));
+            return Err(refuse(FormatRefusalKind::NotCanonical, bytes));
         }
         if let Some(last) = before.last()
             && *last >= reader
         {
-            return Err(refuse(FormatDefect::NotCanonical, bytes));
+            return Err(refuse(FormatRefusalKind::NotCanonical, bytes));
         }
         Ok((reader, rest))
     }
 }
 
-/// A policy's field among so many principals.
+/// A policy's field among this many principals.
 #[derive(Drop)]
 struct PolicyField {
     principals: u32,
@@ -139,13 +139,13 @@ impl Element for PolicyField {
         if let Some(last) = before.last()
             && *last >= policy
         {
-            return Err(refuse(FormatDefect::NotCanonical, bytes));
+            return Err(refuse(FormatRefusalKind::NotCanonical, bytes));
         }
         Ok((policy, rest))
     }
 }
 
-/// The readers of a policy behind their count.
+/// The readers of a policy after their count.
 fn read_readers(
     alloc: Global,
     principals: u32,
@@ -159,7 +159,7 @@ fn read_readers(
     read_each(alloc, &ReaderField { principals, owner }, (), count, rest)
 }
 
-/// The policies of a label behind their count.
+/// The policies of a label after their count.
 #[tactic(auto, unfolding(modules::specs::Format::label))]
 fn read_policies(
     alloc: Global,
@@ -172,7 +172,7 @@ fn read_policies(
     read_each(alloc, &PolicyField { principals }, (), count, rest)
 }
 
-/// A label among so many principals.
+/// A label among this many principals.
 pub(crate) fn read_label(
     alloc: Global,
     principals: u32,
@@ -184,7 +184,7 @@ pub(crate) fn read_label(
     Ok((Label::of(policies), rest))
 }
 
-/// The written pairs among so many principals, behind their count.
+/// The written pairs among this many principals, after their count.
 fn read_pairs(
     alloc: Global,
     principals: u32,

@@ -10,7 +10,7 @@ ghost use Rattle.std.specs.String.{string_bytes};
 use crate::reading::{FieldFault, read_number, read_text, refuse};
 use common::exceptions::{ARITH_NAME, BOUNDS_NAME, END_NAME};
 use lexer::is_name;
-use modules::FormatDefect;
+use modules::FormatRefusalKind;
 use std::alloc::{AllocError, Global};
 use std::collections::BTreeSet;
 
@@ -43,7 +43,7 @@ pub(crate) fn read_name<'a>(
     let (size, rest) = read_number(bytes)?;
     let (name, rest) = read_text(size as usize, rest)?;
     let Some(name) = read_new_name(taken, name) else {
-        return Err(refuse(FormatDefect::BadValue, bytes));
+        return Err(refuse(FormatRefusalKind::BadValue, bytes));
     };
     Ok((String::from_str(alloc, name)?, rest))
 }
@@ -61,7 +61,7 @@ pub(crate) fn take(
     Ok(())
 }
 
-/// So many names, none of which is taken before. They are taken then.
+/// This many names, none of which is taken before. They are taken then.
 pub(crate) fn read_names<'a>(
     alloc: Global,
     taken: &mut BTreeSet<String>,
@@ -86,7 +86,7 @@ pub(crate) fn read_names<'a>(
     Ok((names, rest))
 }
 
-/// So many names, where none is taken before.
+/// This many names, where none is taken before.
 pub(crate) fn read_first_names(
     alloc: Global,
     count: u32,
@@ -110,7 +110,7 @@ pub(crate) fn take_built_in(alloc: Global) -> Result<BTreeSet<String>, AllocErro
     Ok(taken)
 }
 
-/// The declared exceptions behind their count, where the built-in ones are taken.
+/// The declared exceptions after their count, where the built-in ones are taken.
 #[tactic(auto, unfolding(modules::specs::Format::exceptions))]
 pub(crate) fn read_exceptions<'a>(
     alloc: Global,

@@ -13,7 +13,7 @@ use crate::reading::{Element, FieldFault, read_byte, read_each, read_number, ref
 use modules::declaration::{Handler, Slot};
 use modules::procedure::Procedure;
 use modules::value::ValueKind;
-use modules::{FormatDefect, Version};
+use modules::{FormatRefusalKind, Version};
 use std::alloc::Global;
 
 /// A handler's field, whatever handlers stand before it.
@@ -50,7 +50,7 @@ impl Element for HandlerField {
     }
 }
 
-/// The handlers behind their count.
+/// The handlers after their count.
 #[tactic(auto, unfolding(modules::specs::Format::handlers))]
 fn read_handlers(alloc: Global, bytes: &[u8]) -> Result<(Vec<Handler>, &[u8]), FieldFault>
     ensures { Decodes (λ x. (x.0.items, x.1.now)) result (read handlers bytes.now) }
@@ -69,7 +69,7 @@ fn slot_of(kind: ValueKind, size: u32) -> Slot
     }
 }
 
-/// A slot's field, after slots of so many cells. The first slots are parameters, so many of them.
+/// A slot's field, after slots of this many cells. The first slots are parameters, this many of them.
 #[derive(Drop)]
 struct SlotField {
     parameters: u32,
@@ -96,14 +96,14 @@ impl Element for SlotField {
         let (size, after) = read_number(rest)?;
         let may_be_array = self.parameters as usize <= before.len();
         if !(is_size(*cells, size) && (may_be_array || size == 0)) {
-            return Err(refuse(FormatDefect::BadValue, rest));
+            return Err(refuse(FormatRefusalKind::BadValue, rest));
         }
         *cells += cells_of_size(size);
         Ok((slot_of(kind, size), after))
     }
 }
 
-/// The slots behind their count, the first of which are parameters.
+/// The slots after their count, the first of which are parameters.
 #[tactic(auto, unfolding(modules::specs::Format::slots))]
 fn read_slots(
     alloc: Global,
@@ -114,7 +114,7 @@ fn read_slots(
 {
     let (count, rest) = read_number(bytes)?;
     if count < parameters {
-        return Err(refuse(FormatDefect::BadValue, bytes));
+        return Err(refuse(FormatRefusalKind::BadValue, bytes));
     }
     read_each(alloc, &SlotField { parameters }, 0, count, rest)
 }
@@ -129,7 +129,7 @@ fn read_returned(bytes: &[u8]) -> Result<(Option<ValueKind>, &[u8]), FieldFault>
         0 => Ok((None, rest)),
         1 => Ok((Some(ValueKind::Int), rest)),
         2 => Ok((Some(ValueKind::Boolean), rest)),
-        _ => Err(refuse(FormatDefect::BadValue, bytes)),
+        _ => Err(refuse(FormatRefusalKind::BadValue, bytes)),
     }
 }
 
@@ -166,7 +166,7 @@ impl Element for ProcedureField {
     }
 }
 
-/// The procedures of a file of the version, behind their count.
+/// The procedures of a file of the version, after their count.
 #[tactic(auto, unfolding(modules::specs::Format::procedures))]
 pub(crate) fn read_procedures(
     alloc: Global,

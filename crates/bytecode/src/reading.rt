@@ -7,25 +7,25 @@ ghost use Rattle.std.specs.Prelude.{[], IfOk, List, ℕ, ◌++◌, ◌∷◌, �
 
 use byteorder::{BigEndian, ByteOrder};
 use common::OrNoMemory;
-use modules::fault::{FormatDefect, ReadRefusal};
+use modules::fault::{FormatRefusalKind, ReadRefusal};
 use std::alloc::Global;
 
 /// Why a field was not read.
 pub(crate) type FieldFault = OrNoMemory<ReadRefusal>;
 
 /// The refusal of the field that `bytes` begin with.
-pub(crate) fn refuse(defect: FormatDefect, bytes: &[u8]) -> FieldFault
-    ensures { result ≡ Refused (stop_at defect bytes.now) }
+pub(crate) fn refuse(kind: FormatRefusalKind, bytes: &[u8]) -> FieldFault
+    ensures { result ≡ Refused (stop_at kind bytes.now) }
 {
     OrNoMemory::Refused(ReadRefusal {
-        defect,
+        kind,
         left: bytes.len(),
     })
 }
 
 /// The end of the bytes inside a field or before it.
 pub(crate) const SHORT: ReadRefusal = ReadRefusal {
-    defect: FormatDefect::Short,
+    kind: FormatRefusalKind::Short,
     left: 0,
 };
 
@@ -50,7 +50,7 @@ pub(crate) fn read_number(bytes: &[u8]) -> Result<(u32, &[u8]), FieldFault>
     Ok((BigEndian::read_u32(front), rest))
 }
 
-/// So many bytes.
+/// This many bytes.
 pub(crate) fn read_text(count: usize, bytes: &[u8]) -> Result<(&[u8], &[u8]), FieldFault>
     ensures { Decodes (λ x. (x.0.now, x.1.now)) result (bytes_at count bytes.now) }
 {
@@ -82,7 +82,7 @@ pub(crate) trait Element {
         ensures holds { IfOk result (λ x. holds self.now state.new (before.now ++ x.0 ∷ [])) };
 }
 
-/// So many fields, one after the other. Nothing is reserved by the count, and the list takes no more memory than it needs.
+/// This many fields, one after the other. Nothing is reserved by the count, and the list takes no more memory than it needs.
 pub(crate) fn read_each<'a, E: Element>(
     alloc: Global,
     element: &E,

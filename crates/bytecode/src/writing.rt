@@ -12,7 +12,7 @@ use labels::Policy;
 use modules::channel::Channel;
 use modules::declaration::{Global as Variable, Handler, Slot};
 use modules::instruction::Instruction;
-use modules::opcode::{Operand, row_of};
+use modules::opcode::{Operand, entry_of};
 use modules::value::ValueKind;
 use std::alloc::AllocError;
 
@@ -25,7 +25,7 @@ pub(crate) fn put_number(out: &mut Vec<u8>, number: u32) -> Result<(), AllocErro
     out.extend_from_slice(&bytes)
 }
 
-/// Writes a text behind its length.
+/// Writes a text after its length.
 pub(crate) fn put_text(out: &mut Vec<u8>, text: &str) -> Result<(), AllocError>
     requires { IsShort text.now }
     ensures { OnOk result (out.new.items ≡ out.old.items ++ text_bytes text.now) }
@@ -207,7 +207,7 @@ fn put_operand(out: &mut Vec<u8>, operand: Operand) -> Result<(), AllocError>
 pub(crate) fn put_instruction(out: &mut Vec<u8>, instruction: Instruction) -> Result<(), AllocError>
     ensures { OnOk result (out.new.items ≡ out.old.items ++ instruction_bytes instruction) }
 {
-    let row = row_of(instruction);
-    out.push(row.byte)?;
-    put_operand(out, row.operand)
+    let entry = entry_of(instruction);
+    out.push(entry.byte)?;
+    put_operand(out, entry.operand)
 }

@@ -13,13 +13,13 @@ use Rattle.channels.specs.Table.{Inputs, table_of}
 use Rattle.common.specs.Answers.{IfRefused, IsCast}
 use Rattle.common.specs.declared.fault.OrNoMemory.{OrNoMemory}
 use Rattle.common.proofs.Casting.{cast-refused}
-use Rattle.channels.specs.declared.defect.WorldRefusal.{WorldRefusal}
+use Rattle.channels.specs.declared.kind.WorldRefusal.{WorldRefusal}
 use Rattle.std.specs.List.{list_all, list_any}
 use Rattle.std.specs.Str.{bytes_eq}
 use Rattle.std.proofs.lemmas.Slice.Eq.{bytes_eq-Decides}
-use Rattle.channels.specs.WorldText.{Table, table_after, table_with, table_defect, entry_defect, given_by, gives_to, numbers_of, numbers_given, has_form, is_int, defect_of, world_of, numbers_in, input_of, texts_of, lines_of, words_of, defect_at, IsRightBefore, IsWorldRefusal}
-use Rattle.channels.specs.declared.defect.WorldDefect.{WorldDefect}
-use Rattle.channels.specs.declared.defect.WorldDefect.TheVariants.{Syntax, UnknownChannel, RepeatedChannel, NumberOutOfRange}
+use Rattle.channels.specs.WorldText.{Table, table_after, table_with, table_refusal, entry_refusal, given_by, gives_to, numbers_of, numbers_given, has_form, is_int, kind_of, world_of, numbers_in, input_of, texts_of, lines_of, words_of, kind_at, IsRightBefore, IsWorldRefusal}
+use Rattle.channels.specs.declared.kind.WorldRefusalKind.{WorldRefusalKind}
+use Rattle.channels.specs.declared.kind.WorldRefusalKind.TheVariants.{Syntax, UnknownChannel, RepeatedChannel, NumberOutOfRange}
 
 pub bytes_eq_sym : (xs ys : List ℕ) → bytes_eq xs ys ≡ bytes_eq ys xs
 bytes_eq_sym xs ys = go (bytes_eq xs ys) (bytes_eq ys xs) (bytes_eq-Decides xs ys) (bytes_eq-Decides ys xs)
@@ -39,16 +39,16 @@ any_given (line ∷ lines) name = go (gives_to name line) (any_given lines name)
     go false e = e
 
 -- the tests of a line by its channel, as the table has it
-by_entry : (known repeated : Bool) (given : Option (List ℤ)) (numbers : List ℤ) → repeated ≡ is_some given → entry_defect (cond known (Some given) None) numbers ≡ cond (not known) (Some UnknownChannel) (cond repeated (Some RepeatedChannel) (cond (list_all is_int numbers) None (Some NumberOutOfRange)))
+by_entry : (known repeated : Bool) (given : Option (List ℤ)) (numbers : List ℤ) → repeated ≡ is_some given → entry_refusal (cond known (Some given) None) numbers ≡ cond (not known) (Some UnknownChannel) (cond repeated (Some RepeatedChannel) (cond (list_all is_int numbers) None (Some NumberOutOfRange)))
 by_entry false repeated given numbers e = refl
 by_entry true repeated None numbers e = rw e refl
 by_entry true repeated (Some given) numbers e = rw e refl
 
 -- what is wrong with a line by the table is what is wrong with it after the lines before
-pub defect_same : (names : List (List ℕ)) (before : List (List (List ℕ))) (line : List (List ℕ)) (table : Table) → ((name : List ℕ) → table name ≡ table_after names before name) → table_defect table line ≡ defect_of names before line
-defect_same names before [] table same = refl
-defect_same names before (name ∷ rest) table same =
-    rw (same name) (ap (λ (o : Option WorldDefect). cond (not (has_form (name ∷ rest))) (Some Syntax) o)
+pub refusal_same : (names : List (List ℕ)) (before : List (List (List ℕ))) (line : List (List ℕ)) (table : Table) → ((name : List ℕ) → table name ≡ table_after names before name) → table_refusal table line ≡ kind_of names before line
+refusal_same names before [] table same = refl
+refusal_same names before (name ∷ rest) table same =
+    rw (same name) (ap (λ (o : Option WorldRefusalKind). cond (not (has_form (name ∷ rest))) (Some Syntax) o)
     (by_entry (list_any (λ input. bytes_eq name input) names) (list_any (λ line. gives_to name line) before) (given_by before name) (numbers_of (name ∷ rest)) (any_given before name)))
 
 -- what one more line gives
@@ -69,7 +69,7 @@ or_none None = refl
 or_none (Some given) = refl
 
 -- a right line of a name finds an entry without numbers
-entry_open : (form : Bool) (entry : Option (Option (List ℤ))) (numbers : List ℤ) → cond (not form) (Some Syntax) (entry_defect entry numbers) ≡ None → entry ≡ Some None
+entry_open : (form : Bool) (entry : Option (Option (List ℤ))) (numbers : List ℤ) → cond (not form) (Some Syntax) (entry_refusal entry numbers) ≡ None → entry ≡ Some None
 entry_open false entry numbers e = absurd (let no : Some Syntax ≡ None = e in cc)
 entry_open true None numbers e = absurd (let no : Some UnknownChannel ≡ None = e in cc)
 entry_open true (Some None) numbers e = refl
@@ -80,7 +80,7 @@ open_parts true given e = (refl, cc)
 open_parts false given e = absurd (let no : ◌≡◌ {A = Option (Option (List ℤ))} None (Some None) = e in cc)
 
 -- the table after a right line
-pub table_more : (names : List (List ℕ)) (before : List (List (List ℕ))) (line : List (List ℕ)) (table : Table) → ((name : List ℕ) → table name ≡ table_after names before name) → table_defect table line ≡ None → (name : List ℕ) → table_with table line name ≡ table_after names (before ++ line ∷ []) name
+pub table_more : (names : List (List ℕ)) (before : List (List (List ℕ))) (line : List (List ℕ)) (table : Table) → ((name : List ℕ) → table name ≡ table_after names before name) → table_refusal table line ≡ None → (name : List ℕ) → table_with table line name ≡ table_after names (before ++ line ∷ []) name
 table_more names before [] table same right name =
     same name ∙ ap (λ (o : Option (List ℤ)). cond (list_any (λ input. bytes_eq name input) names) (Some o) None) (sym (or_none (given_by before name)) ∙ sym (given_push before [] name))
 table_more names before (first ∷ rest) table same right name = go (bytes_eq first name) refl
@@ -172,14 +172,14 @@ module _ (text : List ℕ) (lines : List (Bor (List ℕ))) (cut : texts_of lines
   line_is = ap (λ (ls : List (List (List ℕ))). get_or ls k []) lines_are ∙ line_there lines k within ∙ sym words_are
 
   module _ (names : List (List ℕ)) (table : Table) (same : (name : List ℕ) → table name ≡ table_after names (take k (lines_of text)) name) where
-    defect_here : defect_at names (lines_of text) k ≡ table_defect table words
-    defect_here = ap (defect_of names (take k (lines_of text))) line_is ∙ sym (defect_same names (take k (lines_of text)) words table same)
+    refusal_here : kind_at names (lines_of text) k ≡ table_refusal table words
+    refusal_here = ap (kind_of names (take k (lines_of text))) line_is ∙ sym (refusal_same names (take k (lines_of text)) words table same)
 
     -- a right line more
-    pub right_more : IsRightBefore names (lines_of text) k → table_defect table words ≡ None → IsRightBefore names (lines_of text) (k + 1)
-    right_more before right = below_more _ _ before (defect_here ∙ right)
+    pub right_more : IsRightBefore names (lines_of text) k → table_refusal table words ≡ None → IsRightBefore names (lines_of text) (k + 1)
+    right_more before right = below_more _ _ before (refusal_here ∙ right)
 
-    pub table_on : (new : Table) → table_defect table words ≡ None → ((name : List ℕ) → new name ≡ table_with table words name) → (name : List ℕ) → new name ≡ table_after names (take (k + 1) (lines_of text)) name
+    pub table_on : (new : Table) → table_refusal table words ≡ None → ((name : List ℕ) → new name ≡ table_with table words name) → (name : List ℕ) → new name ≡ table_after names (take (k + 1) (lines_of text)) name
     table_on new right with_line name =
         let more : take (k + 1) (lines_of text) ≡ take k (lines_of text) ++ words ∷ [] =
         take_more (lines_of text) k [] line_within ∙ ap (λ (l : List (List ℕ)). take k (lines_of text) ++ l ∷ []) line_is in
@@ -187,11 +187,11 @@ module _ (text : List ℕ) (lines : List (Bor (List ℕ))) (cut : texts_of lines
         ∙ ap (λ (ls : List (List (List ℕ))). table_after names ls name) (sym more)
 
     -- the first wrong line
-    pub line_reported : (given : OrNoMemory WorldDefect) (number : ℕ) (fault : OrNoMemory WorldRefusal) → number ≡ k + 1
-        → IsRightBefore names (lines_of text) k → IsCast (λ (defect : WorldDefect) (refusal : WorldRefusal). refusal ≡ record { line = number; defect = defect }) given fault
-        → IfRefused (λ defect. table_defect table words ≡ Some defect) given → IfRefused (IsWorldRefusal names (lines_of text)) fault
+    pub line_reported : (given : OrNoMemory WorldRefusalKind) (number : ℕ) (fault : OrNoMemory WorldRefusal) → number ≡ k + 1
+        → IsRightBefore names (lines_of text) k → IsCast (λ (kind : WorldRefusalKind) (refusal : WorldRefusal). refusal ≡ record { line = number; kind = kind }) given fault
+        → IfRefused (λ kind. table_refusal table words ≡ Some kind) given → IfRefused (IsWorldRefusal names (lines_of text)) fault
     line_reported given number fault e before is h = cast-refused given _ _ first fault is h
       where
-        first : (defect : WorldDefect) (refusal : WorldRefusal) → refusal ≡ record { line = number; defect = defect } → table_defect table words ≡ Some defect → IsWorldRefusal names (lines_of text) refusal
-        first defect refusal placed wrong =
-            subst (IsWorldRefusal names (lines_of text)) (sym placed) (record { place = k; line_is = e; there = line_within; wrong = defect_here ∙ wrong; first = before })
+        first : (kind : WorldRefusalKind) (refusal : WorldRefusal) → refusal ≡ record { line = number; kind = kind } → table_refusal table words ≡ Some kind → IsWorldRefusal names (lines_of text) refusal
+        first kind refusal placed wrong =
+            subst (IsWorldRefusal names (lines_of text)) (sym placed) (record { index = k; line_is = e; there = line_within; wrong = refusal_here ∙ wrong; first = before })

@@ -44,7 +44,7 @@ numbers_more ws k d h =
 pub all_more : (xs : List ℤ) (z : ℤ) → list_all is_int xs ≡ true → is_int z ≡ true → list_all is_int (xs ++ z ∷ []) ≡ true
 all_more xs z h e = list_all-append is_int xs (z ∷ []) ∙ rw (h, e) refl
 
--- the words behind the sign of a line are numbers
+-- the words after the sign of a line are numbers
 pub form_numbers : (ws : List (Bor (List ℕ))) → 2 ≤ length ws → has_form (texts_of ws) ≡ true → list_all is_number (texts_of (take (length ws - 2) (drop 2 ws))) ≡ true
 form_numbers [] h form = absurd (omega arith)
 form_numbers (a ∷ []) h form = absurd (omega arith)

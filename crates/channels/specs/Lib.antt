@@ -2,5 +2,5 @@ pub mod Sink
 pub mod World
 pub mod WorldText
 pub mod Table
-pub mod Defects
+pub mod RefusalKinds
 pub mod View

@@ -8,9 +8,9 @@ use Rattle.std.specs.Str.{bytes_eq}
 use Rattle.std.specs.Str.Parse.{digits_value}
 use Rattle.lexer.specs.Words.{is_name_text}
 use Rattle.channels.specs.World.{InputNumbers}
-use Rattle.channels.specs.declared.defect.WorldRefusal.{WorldRefusal}
-use Rattle.channels.specs.declared.defect.WorldDefect.{WorldDefect}
-use Rattle.channels.specs.declared.defect.WorldDefect.TheVariants.{Syntax, UnknownChannel, RepeatedChannel, NumberOutOfRange}
+use Rattle.channels.specs.declared.kind.WorldRefusal.{WorldRefusal}
+use Rattle.channels.specs.declared.kind.WorldRefusalKind.{WorldRefusalKind}
+use Rattle.channels.specs.declared.kind.WorldRefusalKind.TheVariants.{Syntax, UnknownChannel, RepeatedChannel, NumberOutOfRange}
 
 -- what a list of texts holds, without references
 abbrev pub texts_of : List (Bor (List ℕ)) → List (List ℕ)
@@ -61,21 +61,21 @@ numbers_of (name ∷ []) = []
 numbers_of (name ∷ sign ∷ numbers) = map number_of numbers
 
 -- what is wrong with a line for a module with these inputs, after these lines
-abbrev pub defect_of : List (List ℕ) → List (List (List ℕ)) → List (List ℕ) → Option WorldDefect
-defect_of inputs before [] = None
-defect_of inputs before (name ∷ rest) =
+abbrev pub kind_of : List (List ℕ) → List (List (List ℕ)) → List (List ℕ) → Option WorldRefusalKind
+kind_of inputs before [] = None
+kind_of inputs before (name ∷ rest) =
     if not (has_form (name ∷ rest)) then Some Syntax
     else (if not (list_any (λ input. bytes_eq name input) inputs) then Some UnknownChannel
     else (if list_any (λ line. gives_to name line) before then Some RepeatedChannel
     else (if list_all is_int (numbers_of (name ∷ rest)) then None else Some NumberOutOfRange)))
 
 -- what is wrong with the line at a place, counted from 0
-abbrev pub defect_at : List (List ℕ) → List (List (List ℕ)) → ℕ → Option WorldDefect
-defect_at inputs lines place = defect_of inputs (take place lines) (slice_index_or lines place [])
+abbrev pub kind_at : List (List ℕ) → List (List (List ℕ)) → ℕ → Option WorldRefusalKind
+kind_at inputs lines index = kind_of inputs (take index lines) (slice_index_or lines index [])
 
 -- no line before this one is wrong
 abbrev pub IsRightBefore : List (List ℕ) → List (List (List ℕ)) → ℕ → Type 0
-IsRightBefore inputs lines end = (place : ℕ) → place < end → defect_at inputs lines place ≡ None
+IsRightBefore inputs lines end = (index : ℕ) → index < end → kind_at inputs lines index ≡ None
 
 -- every line is right
 abbrev pub IsWorldText : List (List ℕ) → List (List (List ℕ)) → Type 0
@@ -83,11 +83,11 @@ IsWorldText inputs lines = IsRightBefore inputs lines (length lines)
 
 -- the refusal names the first wrong line, by its number from 1, and what is wrong with it
 pub record IsWorldRefusal (inputs : List (List ℕ)) (lines : List (List (List ℕ))) (refusal : WorldRefusal) : Type 0 where
-  pub place : ℕ
-  pub line_is : refusal.line ≡ place + 1
-  pub there : place < length lines
-  pub wrong : defect_at inputs lines place ≡ Some refusal.defect
-  pub first : IsRightBefore inputs lines place
+  pub index : ℕ
+  pub line_is : refusal.line ≡ index + 1
+  pub there : index < length lines
+  pub wrong : kind_at inputs lines index ≡ Some refusal.kind
+  pub first : IsRightBefore inputs lines index
 
 -- the numbers that lines give to a channel: those of the line that names it, and none where no line does
 abbrev pub numbers_given : List (List (List ℕ)) → List ℕ → List ℤ
@@ -115,16 +115,16 @@ abbrev pub table_after : List (List ℕ) → List (List (List ℕ)) → Table
 table_after inputs before name =
     if list_any (λ input. bytes_eq name input) inputs then Some (given_by before name) else None
 
-abbrev pub entry_defect : Option (Option (List ℤ)) → List ℤ → Option WorldDefect
-entry_defect None numbers = Some UnknownChannel
-entry_defect (Some (Some given)) numbers = Some RepeatedChannel
-entry_defect (Some None) numbers = if list_all is_int numbers then None else Some NumberOutOfRange
+abbrev pub entry_refusal : Option (Option (List ℤ)) → List ℤ → Option WorldRefusalKind
+entry_refusal None numbers = Some UnknownChannel
+entry_refusal (Some (Some given)) numbers = Some RepeatedChannel
+entry_refusal (Some None) numbers = if list_all is_int numbers then None else Some NumberOutOfRange
 
 -- what is wrong with a line by a table
-abbrev pub table_defect : Table → List (List ℕ) → Option WorldDefect
-table_defect table [] = None
-table_defect table (name ∷ rest) =
-    if not (has_form (name ∷ rest)) then Some Syntax else entry_defect (table name) (numbers_of (name ∷ rest))
+abbrev pub table_refusal : Table → List (List ℕ) → Option WorldRefusalKind
+table_refusal table [] = None
+table_refusal table (name ∷ rest) =
+    if not (has_form (name ∷ rest)) then Some Syntax else entry_refusal (table name) (numbers_of (name ∷ rest))
 
 -- a table after a right line
 abbrev pub table_with : Table → List (List ℕ) → Table

@@ -4,7 +4,7 @@ ghost use Rattle.common.specs.Answers.{IfRefused};
 ghost use Rattle.std.specs.Prelude.{◌≡◌, IfErr, IfOk, OnOk};
 ghost use Rattle.std.specs.String.{string_bytes};
 
-use crate::defect::WorldFault;
+use crate::kind::WorldFault;
 use crate::world_read::{inputs_of, names_of, read_lines};
 use modules::Module;
 use std::alloc::Global;

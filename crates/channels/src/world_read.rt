@@ -5,7 +5,7 @@ ghost use Rattle.channels.specs.WorldText.{IsWorldRefusal, IsWorldText, input_of
 ghost use Rattle.common.specs.Answers.{IfRefused, IsCast};
 ghost use Rattle.std.specs.Prelude.{[], ◌≡◌, ℕ, List, IfErr, IfOk, OnOk, filter, map};
 
-use crate::defect::{WorldDefect, WorldFault, WorldRefusal};
+use crate::kind::{WorldFault, WorldRefusal, WorldRefusalKind};
 use crate::world::InputList;
 use crate::world_table::{Inputs, entry_of, read_line};
 use crate::world_text::{lines_of, words_of};
@@ -67,13 +67,13 @@ pub fn read_lines<'a>(
 }
 
 // A fault of a line as that of the text.
-fn at_line(fault: OrNoMemory<WorldDefect>, line: usize) -> WorldFault
-    ensures { IsCast (λ defect refusal. refusal ≡ record { line = line; defect = defect })
+fn at_line(fault: OrNoMemory<WorldRefusalKind>, line: usize) -> WorldFault
+    ensures { IsCast (λ kind refusal. refusal ≡ record { line = line; kind = kind })
         fault result }
 {
     match fault {
         OrNoMemory::NoMemory => OrNoMemory::NoMemory,
-        OrNoMemory::Refused(defect) => OrNoMemory::Refused(WorldRefusal { line, defect }),
+        OrNoMemory::Refused(kind) => OrNoMemory::Refused(WorldRefusal { line, kind }),
     }
 }
 

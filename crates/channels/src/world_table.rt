@@ -1,12 +1,12 @@
 ghost use Rattle.channels.specs.Table.{table_of};
 ghost use Rattle.channels.specs.WorldText as spec;
-ghost use Rattle.channels.specs.WorldText.{table_defect, table_with, texts_of};
+ghost use Rattle.channels.specs.WorldText.{table_refusal, table_with, texts_of};
 ghost use Rattle.common.specs.Answers.{IfRefused};
 ghost use Rattle.std.specs.List.{list_all};
 ghost use Rattle.std.specs.Option.{option_map};
 ghost use Rattle.std.specs.Prelude.{◌≡◌, ℕ, List, IfErr, IfOk, IsTrue, None, OnOk, Some, if◌then◌else◌, map};
 
-use crate::defect::WorldDefect;
+use crate::kind::WorldRefusalKind;
 use crate::world_text::{has_form, number_of};
 use common::OrNoMemory;
 use std::alloc::{AllocError, Global};
@@ -47,27 +47,27 @@ pub fn read_line<'a>(
     alloc: Global,
     inputs: &mut Inputs<'a>,
     words: &[&'a str],
-) -> Result<(), OrNoMemory<WorldDefect>>
+) -> Result<(), OrNoMemory<WorldRefusalKind>>
     ensures accepted { OnOk result
-        (table_defect (table_of inputs.old) (texts_of words.now) ≡ None) }
+        (table_refusal (table_of inputs.old) (texts_of words.now) ≡ None) }
     ensures table { OnOk result ((name : List ℕ) → table_of inputs.new name
         ≡ table_with (table_of inputs.old) (texts_of words.now) name) }
-    ensures rejected { IfErr result (IfRefused (λ defect.
-        table_defect (table_of inputs.old) (texts_of words.now) ≡ Some defect)) }
+    ensures rejected { IfErr result (IfRefused (λ kind.
+        table_refusal (table_of inputs.old) (texts_of words.now) ≡ Some kind)) }
 {
     if !has_form(words) {
-        return Err(OrNoMemory::Refused(WorldDefect::Syntax));
+        return Err(OrNoMemory::Refused(WorldRefusalKind::Syntax));
     }
     let [name, _, rest @ ..] = words else {
         return Ok(());
     };
     match entry_of(inputs, name) {
-        None => return Err(OrNoMemory::Refused(WorldDefect::UnknownChannel)),
-        Some(Some(_)) => return Err(OrNoMemory::Refused(WorldDefect::RepeatedChannel)),
+        None => return Err(OrNoMemory::Refused(WorldRefusalKind::UnknownChannel)),
+        Some(Some(_)) => return Err(OrNoMemory::Refused(WorldRefusalKind::RepeatedChannel)),
         Some(None) => {}
     }
     let Some(numbers) = numbers_of(alloc, rest)? else {
-        return Err(OrNoMemory::Refused(WorldDefect::NumberOutOfRange));
+        return Err(OrNoMemory::Refused(WorldRefusalKind::NumberOutOfRange));
     };
     inputs.insert(*name, Some(numbers))?;
     Ok(())

@@ -8,8 +8,8 @@ use Rattle.resolved.specs.EndFaults.{end_faults}
 use Rattle.resolved.specs.Labelled.{Labelled}
 use Rattle.acceptance.specs.Accepted.{IsAccepted, IsResolvedFrom}
 use Rattle.acceptance.specs.Refused.{IsSourceRefused, WrongFlow}
-use Rattle.acceptance.specs.declared.cause.Cause.TheVariants as causes
-use Rattle.acceptance.specs.declared.cause.Text.TheVariants as texts
+use Rattle.acceptance.specs.declared.kind.RefusalKind.TheVariants as kinds
+use Rattle.acceptance.specs.declared.kind.Text.TheVariants as texts
 use Rattle.acceptance.proofs.Phases.{accepted_refused}
 use Rattle.checker.specs.Reported.{AsksForFlow, IsNotAccepted, IsSourceFault, refusal_at}
 use Rattle.checker.specs.Steps.{RefusesProgram}
@@ -27,7 +27,7 @@ accepted-from h source core kept same from ended labelled = record {
 
 -- a refused source is not accepted
 pub refused-not-accepted : (h : PrincipalHierarchy) (source : List ℕ) (refusal : Refusal) → IsSourceFault h source refusal → IsNotAccepted h source
-refused-not-accepted h source refusal fault program accepted = accepted_refused h source program refusal.cause fault.at accepted fault.refused
+refused-not-accepted h source refusal fault program accepted = accepted_refused h source program refusal.kind fault.at accepted fault.refused
 
 -- a program that is refused for a flow
 module _ (h : PrincipalHierarchy) (source bytes : List ℕ) (core : Core) (flow : RefusedFlow) (same : bytes ≡ source) (from : IsResolvedFrom h source (program_of core))
@@ -39,13 +39,13 @@ module _ (h : PrincipalHierarchy) (source bytes : List ℕ) (core : Core) (flow 
   unended = subst (λ c. end_faults (program_of c) ≡ []) (sym refused.0) ended
 
   abbrev reported : Refusal
-  reported = refusal_at texts.Source bytes causes.FlowNotAllowed flow.at (Some flow)
+  reported = refusal_at texts.Source bytes kinds.FlowNotAllowed flow.at (Some flow)
 
   pub flow-fault : IsSourceFault h source reported
   flow-fault = record {
     text_is = refl;
     at = flow.at;
-    refused = subst (IsSourceRefused h source causes.FlowNotAllowed) (sym refused.1.at_is)
+    refused = subst (IsSourceRefused h source kinds.FlowNotAllowed) (sym refused.1.at_is)
         (WrongFlow (program_of flow.core) resolved unended flow.policy refused.1.chain refused.1.last refused.1.refused);
     place_of = rw same refl;
   }

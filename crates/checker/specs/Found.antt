@@ -7,26 +7,26 @@ use Rattle.parser.specs.declared.fault.ParseRefusal.{ParseRefusal}
 use Rattle.types.specs.declared.fault.TypeRefusal.{TypeRefusal}
 use Rattle.resolved.specs.declared.fault.EndRefusal.{EndRefusal}
 use Rattle.acceptance.specs.Refused.{IsSourceRefused}
-use Rattle.acceptance.specs.declared.cause.Cause.TheVariants as causes
+use Rattle.acceptance.specs.declared.kind.RefusalKind.TheVariants as kinds
 use Rattle.checker.specs.declared.found.PhaseRefusal.{PhaseRefusal}
 
 -- what the phases refuse
 abbrev pub of_lex : LexRefusal → PhaseRefusal
-of_lex refusal = record { cause = causes.Lex refusal.defect; at = refusal.at }
+of_lex refusal = record { kind = kinds.Lex refusal.kind; at = refusal.at }
 
 abbrev pub of_parse : ParseRefusal → PhaseRefusal
-of_parse refusal = record { cause = causes.Parse refusal.defect; at = refusal.at }
+of_parse refusal = record { kind = kinds.Parse refusal.kind; at = refusal.at }
 
 abbrev pub of_name : TypeRefusal → PhaseRefusal
-of_name refusal = record { cause = causes.Name refusal.defect; at = refusal.at }
+of_name refusal = record { kind = kinds.Name refusal.kind; at = refusal.at }
 
 abbrev pub of_end : EndRefusal → PhaseRefusal
-of_end refusal = record { cause = causes.End refusal.defect; at = refusal.at }
+of_end refusal = record { kind = kinds.End refusal.kind; at = refusal.at }
 
 -- the source is refused so
 abbrev pub IsFound : PrincipalHierarchy → (source : List ℕ) → PhaseRefusal → Type 0
-IsFound h source found = IsSourceRefused h source found.cause found.at
+IsFound h source found = IsSourceRefused h source found.kind found.at
 
--- the source is refused before its labels are looked at: for another cause than that a flow is not allowed
+-- the source is refused before its labels are looked at: for another reason than that a flow is not allowed
 abbrev pub IsBeforeLabels : PhaseRefusal → Type 0
-IsBeforeLabels found = found.cause ≢ causes.FlowNotAllowed
+IsBeforeLabels found = found.kind ≢ kinds.FlowNotAllowed

@@ -11,23 +11,23 @@ use Rattle.resolved.specs.Flow.{IsProgramRefused, ReportedStep, reported_step}
 use Rattle.lattices.specs.Constraints.{reported_steps}
 use Rattle.acceptance.specs.Accepted.{HasHierarchy, IsAccepted, IsResolvedFrom, StandFor}
 use Rattle.acceptance.specs.Refused.{AreTextsRefusedAt, IsHierarchyRefused, IsSourceRefused}
-use Rattle.acceptance.specs.declared.cause.Cause.{Cause}
-use Rattle.acceptance.specs.declared.cause.Cause.TheVariants as causes
-use Rattle.acceptance.specs.declared.cause.Text.{Text}
-use Rattle.acceptance.specs.declared.cause.Text.TheVariants as texts
+use Rattle.acceptance.specs.declared.kind.RefusalKind.{RefusalKind}
+use Rattle.acceptance.specs.declared.kind.RefusalKind.TheVariants as kinds
+use Rattle.acceptance.specs.declared.kind.Text.{Text}
+use Rattle.acceptance.specs.declared.kind.Text.TheVariants as texts
 use Rattle.lexer.specs.Position.{place_at}
 use Rattle.solver.specs.Rule.{rule_number}
 use Rattle.checker.specs.declared.fault.RefusedFlow.{RefusedFlow}
 use Rattle.checker.specs.declared.fault.Refusal.{Refusal}
 use Rattle.checker.specs.declared.fault.Step.{Step}
 
--- the refusal of a text for a cause at one of its bytes, with a flow or without one
-abbrev pub refusal_at : Text → List ℕ → Cause → (at : ℕ) → Option RefusedFlow → Refusal
-refusal_at text bytes cause at flow = record { text = text; cause = cause; at = place_at bytes at; flow = flow }
+-- the refusal of a text for a reason at one of its bytes, with a flow or without one
+abbrev pub refusal_at : Text → List ℕ → RefusalKind → (at : ℕ) → Option RefusedFlow → Refusal
+refusal_at text bytes kind at flow = record { text = text; kind = kind; at = place_at bytes at; flow = flow }
 
 -- a refusal has a flow exactly where it is that one is not allowed
 abbrev pub HasFlow : Refusal → Type 0
-HasFlow refusal = (refusal.cause ≡ causes.FlowNotAllowed) ↔ IsSome refusal.flow
+HasFlow refusal = (refusal.kind ≡ kinds.FlowNotAllowed) ↔ IsSome refusal.flow
 
 -- ---- a flow
 
@@ -45,11 +45,11 @@ pub record ReportsFlow (flow : RefusedFlow) : Type 0 where
 
 -- ---- a source under a hierarchy
 
--- it is refused so: for the cause at a byte, and the place is that of the byte
+-- it is refused so: for the reason at a byte, and the place is that of the byte
 pub record IsSourceFault (h : PrincipalHierarchy) (source : List ℕ) (refusal : Refusal) : Type 0 where
   pub text_is : refusal.text ≡ texts.Source
   pub at : ℕ
-  pub refused : IsSourceRefused h source refusal.cause at
+  pub refused : IsSourceRefused h source refusal.kind at
   pub place_of : refusal.at ≡ place_at source at
 
 -- it asks for this flow: it stands for the flow's program, which has no fault of its ends and asks for the flow; and the refusal is
@@ -58,7 +58,7 @@ pub record AsksForFlow (h : PrincipalHierarchy) (source : List ℕ) (refusal : R
   pub resolved : IsResolvedFrom h source (program_of flow.core)
   pub ended : end_faults (program_of flow.core) ≡ []
   pub reported : ReportsFlow flow
-  pub refusal_is : refusal ≡ refusal_at texts.Source source causes.FlowNotAllowed flow.at (Some flow)
+  pub refusal_is : refusal ≡ refusal_at texts.Source source kinds.FlowNotAllowed flow.at (Some flow)
 
 -- no program is accepted of it
 abbrev pub IsNotAccepted : PrincipalHierarchy → (source : List ℕ) → Type 0
@@ -66,12 +66,12 @@ IsNotAccepted h source = (program : Program) → ¬ IsAccepted h source program
 
 -- ---- the text of a hierarchy
 
--- it is refused so: for the cause at a byte, at the place of that byte, and with no flow
+-- it is refused so: for the reason at a byte, at the place of that byte, and with no flow
 pub record IsHierarchyFault (text : List ℕ) (refusal : Refusal) : Type 0 where
-  pub cause : Cause
+  pub kind : RefusalKind
   pub at : ℕ
-  pub refused : IsHierarchyRefused text cause at
-  pub refusal_is : refusal ≡ refusal_at texts.Hierarchy text cause at None
+  pub refused : IsHierarchyRefused text kind at
+  pub refusal_is : refusal ≡ refusal_at texts.Hierarchy text kind at None
 
 -- it has no hierarchy
 abbrev pub HasNoHierarchy : (text : List ℕ) → Type 0
@@ -84,10 +84,10 @@ abbrev pub text_among : (hierarchy source : List ℕ) → Text → List ℕ
 text_among hierarchy source texts.Hierarchy = hierarchy
 text_among hierarchy source texts.Source = source
 
--- the first of two texts that is wrong is the refusal's; it is refused for its cause at a byte, and its place is that of the byte
+-- the first of two texts that is wrong is the refusal's; it is refused for its reason at a byte, and its place is that of the byte
 pub record IsFirstFault (hierarchy source : List ℕ) (refusal : Refusal) : Type 0 where
   pub at : ℕ
-  pub refused : AreTextsRefusedAt hierarchy source refusal.text refusal.cause at
+  pub refused : AreTextsRefusedAt hierarchy source refusal.text refusal.kind at
   pub place_of : refusal.at ≡ place_at (text_among hierarchy source refusal.text) at
 
 -- the source asks for this flow under the hierarchy of the other text

@@ -11,7 +11,7 @@ ghost use Rattle.std.specs.Prelude.{IfErr, IfOk, [], ◌≡◌};
 ghost use Rattle.syntax.specs.Tree.{program_tree};
 
 use crate::found::PhaseRefusal;
-use acceptance::Cause;
+use acceptance::RefusalKind;
 use common::OrNoMemory;
 use common::limits::MAX_TEXT;
 use lexer::lex;
@@ -51,7 +51,7 @@ pub(crate) fn analyse(
 {
     if source.len() > MAX_TEXT {
         return Err(OrNoMemory::Refused(PhaseRefusal {
-            cause: Cause::TextTooLong,
+            kind: RefusalKind::TextTooLong,
             at: 0,
         }));
     }

@@ -1,10 +1,10 @@
 //! Why a source was not accepted.
 
-ghost use Rattle.acceptance.specs.Causes.{cause_words};
+ghost use Rattle.acceptance.specs.RefusalKinds.{refusal_kind_words};
 ghost use Rattle.checker.specs.Reported as reported;
 ghost use Rattle.std.specs.Prelude.{Some, ◌≡◌};
 
-use acceptance::{Cause, Text};
+use acceptance::{RefusalKind, Text};
 use common::OrNoMemory;
 use labels::Policy;
 use lexer::{Place, place};
@@ -38,13 +38,13 @@ pub struct RefusedFlow {
     pub steps: Vec<Step>,
 }
 
-/// Why a source, or the hierarchy text before it, is refused: for this cause at this place of it.
+/// Why a source, or the hierarchy text before it, is refused: for this reason at this place of it.
 #[derive(Drop)]
 pub struct Refusal {
     pub text: Text,
-    pub cause: Cause,
+    pub kind: RefusalKind,
     pub at: Place,
-    /// The flow that is not allowed, where that is the cause.
+    /// The flow that is not allowed, where that is the reason.
     pub flow: Option<RefusedFlow>,
 }
 
@@ -52,35 +52,35 @@ pub struct Refusal {
 pub type Fault = OrNoMemory<Refusal>;
 
 impl fmt::Display for Refusal {
-    ghost output = { λ refusal. Some (cause_words refusal.cause) };
+    ghost output = { λ refusal. Some (refusal_kind_words refusal.kind) };
 
     fn fmt<W: fmt::Write>(&self, f: &mut fmt::Formatter<W>) -> fmt::Result {
-        write!(f, "{}", self.cause.words())
+        write!(f, "{}", self.kind.words())
     }
 }
 
 // A flow is left out: the place says where it arrives.
 impl fmt::Debug for Refusal {
     fn fmt<W: fmt::Write>(&self, f: &mut fmt::Formatter<W>) -> fmt::Result {
-        write!(f, "{:?} {:?} {:?}", self.text, self.cause, self.at)
+        write!(f, "{:?} {:?} {:?}", self.text, self.kind, self.at)
     }
 }
 
 impl Error for Refusal {}
 
-/// The refusal of a text for a cause at one of its bytes, with the flow where one is not allowed.
+/// The refusal of a text for a reason at one of its bytes, with the flow where one is not allowed.
 pub(crate) fn refusal_at(
     text: Text,
     bytes: &[u8],
-    cause: Cause,
+    kind: RefusalKind,
     at: usize,
     flow: Option<RefusedFlow>,
 ) -> Refusal
-    ensures { result ≡ reported.refusal_at text bytes.now cause at flow }
+    ensures { result ≡ reported.refusal_at text bytes.now kind at flow }
 {
     Refusal {
         text,
-        cause,
+        kind,
         at: place(bytes, at),
         flow,
     }

@@ -3,7 +3,7 @@
 ghost use Rattle.checker.specs.Found.{of_end, of_lex, of_name, of_parse};
 ghost use Rattle.std.specs.Prelude.{◌≡◌};
 
-use acceptance::Cause;
+use acceptance::RefusalKind;
 use lexer::LexRefusal;
 use parser::ParseRefusal;
 use path_map::EndRefusal;
@@ -12,7 +12,7 @@ use types::TypeRefusal;
 /// Why a phase refuses a source, and the byte at which that stands.
 #[derive(Clone, Copy)]
 pub(crate) struct PhaseRefusal {
-    pub cause: Cause,
+    pub kind: RefusalKind,
     pub at: usize,
 }
 
@@ -21,7 +21,7 @@ impl From<LexRefusal> for PhaseRefusal {
 
     fn from(refusal: LexRefusal) -> PhaseRefusal {
         PhaseRefusal {
-            cause: Cause::Lex(refusal.defect),
+            kind: RefusalKind::Lex(refusal.kind),
             at: refusal.at,
         }
     }
@@ -32,7 +32,7 @@ impl From<ParseRefusal> for PhaseRefusal {
 
     fn from(refusal: ParseRefusal) -> PhaseRefusal {
         PhaseRefusal {
-            cause: Cause::Parse(refusal.defect),
+            kind: RefusalKind::Parse(refusal.kind),
             at: refusal.at,
         }
     }
@@ -43,7 +43,7 @@ impl From<TypeRefusal> for PhaseRefusal {
 
     fn from(refusal: TypeRefusal) -> PhaseRefusal {
         PhaseRefusal {
-            cause: Cause::Name(refusal.defect),
+            kind: RefusalKind::Name(refusal.kind),
             at: refusal.at,
         }
     }
@@ -54,7 +54,7 @@ impl From<EndRefusal> for PhaseRefusal {
 
     fn from(refusal: EndRefusal) -> PhaseRefusal {
         PhaseRefusal {
-            cause: Cause::End(refusal.defect),
+            kind: RefusalKind::End(refusal.kind),
             at: refusal.at,
         }
     }

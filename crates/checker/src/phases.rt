@@ -19,7 +19,7 @@ use crate::fault::{Fault, RefusedFlow, refusal_at};
 use crate::flow::flow_of;
 use crate::found::PhaseRefusal;
 use acceptance::laws::resolved_programs_have_names;
-use acceptance::{Cause, Text};
+use acceptance::{RefusalKind, Text};
 use common::OrNoMemory;
 use constraints::gather;
 use path_map::Ends;
@@ -61,9 +61,9 @@ pub fn check(alloc: Global, hierarchy: &Hierarchy, source: &str) -> Result<Check
     let analysed = match analyse(alloc, hierarchy, source) {
         Ok(analysed) => analysed,
         Err(OrNoMemory::NoMemory) => return Err(OrNoMemory::NoMemory),
-        Err(OrNoMemory::Refused(PhaseRefusal { cause, at })) => {
+        Err(OrNoMemory::Refused(PhaseRefusal { kind, at })) => {
             let bytes = source.as_bytes();
-            let refusal = refusal_at(Text::Source, bytes, cause, at, None);
+            let refusal = refusal_at(Text::Source, bytes, kind, at, None);
             return Err(OrNoMemory::Refused(refusal));
         }
     };
@@ -73,7 +73,13 @@ pub fn check(alloc: Global, hierarchy: &Hierarchy, source: &str) -> Result<Check
         Err(OrNoMemory::NoMemory) => Err(OrNoMemory::NoMemory),
         Err(OrNoMemory::Refused(flow)) => {
             let (bytes, at) = (source.as_bytes(), flow.at);
-            let refusal = refusal_at(Text::Source, bytes, Cause::FlowNotAllowed, at, Some(flow));
+            let refusal = refusal_at(
+                Text::Source,
+                bytes,
+                RefusalKind::FlowNotAllowed,
+                at,
+                Some(flow),
+            );
             Err(OrNoMemory::Refused(refusal))
         }
     }

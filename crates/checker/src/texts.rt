@@ -15,7 +15,7 @@ use crate::checked::Checked;
 use crate::fault::{Fault, refusal_at};
 use crate::phases::check;
 use acceptance::laws::one_verdict;
-use acceptance::{Cause, Text};
+use acceptance::{RefusalKind, Text};
 use common::OrNoMemory;
 use common::limits::MAX_TEXT;
 use principals::Hierarchy;
@@ -73,8 +73,8 @@ pub fn read_hierarchy(alloc: Global, bytes: &[u8]) -> Result<Hierarchy, Fault>
         Ok(principals) => Ok(principals),
         Err(OrNoMemory::NoMemory) => Err(OrNoMemory::NoMemory),
         Err(OrNoMemory::Refused(refusal)) => {
-            let cause = Cause::Hierarchy(refusal.defect);
-            let refused = refusal_at(Text::Hierarchy, bytes, cause, refusal.at, None);
+            let kind = RefusalKind::Hierarchy(refusal.kind);
+            let refused = refusal_at(Text::Hierarchy, bytes, kind, refusal.at, None);
             Err(OrNoMemory::Refused(refused))
         }
     }
@@ -86,13 +86,13 @@ fn text_of(text: Text, bytes: &[u8]) -> Result<&str, Fault>
     ensures text { OnOk result (IsText bytes.now) }
     ensures none { IfErr result (IfRefused (IsUnread text bytes.now)) }
 {
-    let cause = if bytes.len() > MAX_TEXT {
-        Cause::TextTooLong
+    let kind = if bytes.len() > MAX_TEXT {
+        RefusalKind::TextTooLong
     } else {
         match str::from_utf8(bytes) {
             Ok(read) => return Ok(read),
-            Err(_) => Cause::NotUtf8,
+            Err(_) => RefusalKind::NotUtf8,
         }
     };
-    Err(OrNoMemory::Refused(refusal_at(text, bytes, cause, 0, None)))
+    Err(OrNoMemory::Refused(refusal_at(text, bytes, kind, 0, None)))
 }

@@ -199,7 +199,7 @@ not_help : (program : Text) (rest : List Text) → fault_of flowc_command (progr
 unfolding clap_on_literals
 not_help program rest e = some_kind _ _ (first_turn program (codes "help") rest e)
 
--- a property of the words behind a name that is known
+-- a property of the words after a name that is known
 at : (P : List Text → Type 0) (program name : Text) (rest : List Text) (known : Text) → known ≡ name
     → (fault_of flowc_command (program ∷ known ∷ rest) ≡ [] → P (program ∷ known ∷ rest))
     → fault_of flowc_command (program ∷ name ∷ rest) ≡ [] → P (program ∷ name ∷ rest)

@@ -1,5 +1,5 @@
 -- What a list contains, by its first element and the rest.
-use Rattle.std.proofs.Common.{◌≡◌, ℕ, List, [], ◌∷◌, ◌⊎◌, refl, inl, inr, ⊎_elim, arith, not-suc-le-zero}
+use Rattle.std.proofs.Common.{◌≡◌, List, [], ◌∷◌, ◌⊎◌, refl, inl, inr, ⊎_elim, arith, not-suc-le-zero}
 use Rattle.std.specs.Prelude.{Contains}
 use Rattle.std.proofs.lemmas.List.Elements.{Contains-append_cases, Contains-append_right, Contains-push_cases}
 

@@ -1,4 +1,4 @@
-//! The exceptions that every program has, by their numbers and their names. The declared ones have the numbers behind.
+//! The exceptions that every program has, by their numbers and their names. The declared ones have the numbers after.
 
 /// The number of the exception that a division by zero raises.
 pub const ARITH: u32 = 0;

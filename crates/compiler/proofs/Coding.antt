@@ -9,7 +9,7 @@ use Rattle.modules.specs.Format.{module_file}
 use Rattle.layout.specs.Offsets.{laid_out}
 use Rattle.layout.specs.Runs.{graph_after_steps}
 use Rattle.layout.specs.SameRuns.{SameInterface, SameRuns}
-use Rattle.verifier.specs.Refusals.{HasNoDefect}
+use Rattle.verifier.specs.Refusals.{IsNotRefused}
 use Rattle.verifier.specs.Safety.{IsNeverStuck}
 use Rattle.lowering.specs.Interface.{HasInterfaceOf}
 use Rattle.lowering.specs.SameMeaning.{SameMeaning}
@@ -28,14 +28,14 @@ module _ (program : Program) (graph m : ModuleContents) (interface : HasInterfac
     exceptions = same.exceptions ∙ interface.exceptions;
   }
 
-  pub code_of_module : (code : List ℕ) → m ≡ laid_out graph → SameRuns graph m → SameMeaning program (graph_after_steps graph) → HasNoDefect (laid_out graph) → IsNeverStuck (laid_out graph) →
+  pub code_of_module : (code : List ℕ) → m ≡ laid_out graph → SameRuns graph m → SameMeaning program (graph_after_steps graph) → IsNotRefused (laid_out graph) → IsNeverStuck (laid_out graph) →
       Spells module_file m code → IsolatedUnderLarger program → IsCodeOf program code
-  code_of_module code is runs kept no_defect never_stuck spelled isolated =
+  code_of_module code is runs kept not_refused never_stuck spelled isolated =
       let meaning = layout-keeps program graph m kept runs in
       record {
         contents = m;
         spelled = spelled;
-        no_defect = subst HasNoDefect (sym is) no_defect;
+        not_refused = subst IsNotRefused (sym is) not_refused;
         never_stuck = subst IsNeverStuck (sym is) never_stuck;
         interface = same-interface;
         kept = meaning;

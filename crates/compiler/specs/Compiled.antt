@@ -8,7 +8,7 @@ use Rattle.modules.specs.Form.{Spells}
 use Rattle.modules.specs.Format.{module_file}
 use Rattle.modules.specs.Isolated.{StaysIsolated}
 use Rattle.modules.specs.Machine.{after_steps}
-use Rattle.verifier.specs.Refusals.{HasNoDefect}
+use Rattle.verifier.specs.Refusals.{IsNotRefused}
 use Rattle.verifier.specs.Safety.{IsNeverStuck}
 use Rattle.lowering.specs.Interface.{HasInterfaceOf}
 use Rattle.lowering.specs.SameMeaning.{SameMeaning}
@@ -20,7 +20,7 @@ use Rattle.acceptance.specs.Accepted.{StandFor}
 pub record IsCodeOf (program : Program) (code : List ℕ) : Type 0 where
   pub contents : ModuleContents
   pub spelled : Spells module_file contents code
-  pub no_defect : HasNoDefect contents
+  pub not_refused : IsNotRefused contents
   pub never_stuck : IsNeverStuck contents
   pub interface : HasInterfaceOf program contents
   pub kept : SameMeaning program (after_steps contents)

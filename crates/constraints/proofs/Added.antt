@@ -67,36 +67,36 @@ raised-once found exceptions are =
     let second : is_one_of exceptions 1 ≡ found.bounds = sym (are 1) ∙ one-raised found.arith found.bounds in
     rw (first, second) (once-list found.arith found.bounds)
 
-flows-list : (atoms : List NamedAtom) (takers : walk.Takers) (a b : Bool)
-    → flows atoms takers (thrown_ends (raised_list a b)) ≡ flow_if a atoms (takers (Throw 0)) ++ flow_if b atoms (takers (Throw 1))
-flows-list atoms takers true true = ap (λ cs. flow atoms (takers (Throw 0)) ++ cs) (append-nil (flow atoms (takers (Throw 1))))
-flows-list atoms takers true false = refl
-flows-list atoms takers false true = append-nil (flow atoms (takers (Throw 1)))
-flows-list atoms takers false false = refl
+flows-list : (atoms : List NamedAtom) (exit_unknowns : walk.ExitUnknowns) (a b : Bool)
+    → flows atoms exit_unknowns (thrown_ends (raised_list a b)) ≡ flow_if a atoms (exit_unknowns (Throw 0)) ++ flow_if b atoms (exit_unknowns (Throw 1))
+flows-list atoms exit_unknowns true true = ap (λ cs. flow atoms (exit_unknowns (Throw 0)) ++ cs) (append-nil (flow atoms (exit_unknowns (Throw 1))))
+flows-list atoms exit_unknowns true false = refl
+flows-list atoms exit_unknowns false true = append-nil (flow atoms (exit_unknowns (Throw 1)))
+flows-list atoms exit_unknowns false false = refl
 
-pub raised-flows : (atoms : List NamedAtom) (takers : walk.Takers) (found : Raises) (exceptions : List ℕ) → AreRaised found exceptions
-    → raised_flows atoms takers exceptions ≡ flow_if found.arith atoms (takers (Throw 0)) ++ flow_if found.bounds atoms (takers (Throw 1))
-raised-flows atoms takers found exceptions are =
-    ap (λ es. flows atoms takers (thrown_ends es)) (raised-once found exceptions are) ∙ flows-list atoms takers found.arith found.bounds
+pub raised-flows : (atoms : List NamedAtom) (exit_unknowns : walk.ExitUnknowns) (found : Raises) (exceptions : List ℕ) → AreRaised found exceptions
+    → raised_flows atoms exit_unknowns exceptions ≡ flow_if found.arith atoms (exit_unknowns (Throw 0)) ++ flow_if found.bounds atoms (exit_unknowns (Throw 1))
+raised-flows atoms exit_unknowns found exceptions are =
+    ap (λ es. flows atoms exit_unknowns (thrown_ends es)) (raised-once found exceptions are) ∙ flows-list atoms exit_unknowns found.arith found.bounds
 
 pub left-same : (core : Core) (table : List Label) (atoms : List NamedAtom) (given found : List Atom)
     → found ≡ given → IsLeft core table atoms given → IsLeft core table atoms found
 left-same core table atoms given found same is = ap (left_parts table) same ∙ is
 
-pub raised-added : (core : Core) (table : List Label) (atoms : List NamedAtom) (takers : walk.Takers) (found : Raises) (exceptions : List ℕ) (arith bounds : Option ℕ) (old middle new : List Stored)
-    → AreRaised found exceptions → arith ≡ takers (Throw 0) → bounds ≡ takers (Throw 1)
+pub raised-added : (core : Core) (table : List Label) (atoms : List NamedAtom) (exit_unknowns : walk.ExitUnknowns) (found : Raises) (exceptions : List ℕ) (arith bounds : Option ℕ) (old middle new : List Stored)
+    → AreRaised found exceptions → arith ≡ exit_unknowns (Throw 0) → bounds ≡ exit_unknowns (Throw 1)
     → AreAdded core table (flow_if found.arith atoms arith) old middle → AreAdded core table (flow_if found.bounds atoms bounds) middle new
-    → AreAdded core table (raised_flows atoms takers exceptions) old new
-raised-added core table atoms takers found exceptions arith bounds old middle new are is is' first second =
-    added-same core table (raised_flows atoms takers exceptions) (flow_if found.arith atoms arith ++ flow_if found.bounds atoms bounds) old new
-    (raised-flows atoms takers found exceptions are ∙ ap (λ o. flow_if found.arith atoms o ++ flow_if found.bounds atoms (takers (Throw 1))) (sym is)
+    → AreAdded core table (raised_flows atoms exit_unknowns exceptions) old new
+raised-added core table atoms exit_unknowns found exceptions arith bounds old middle new are is is' first second =
+    added-same core table (raised_flows atoms exit_unknowns exceptions) (flow_if found.arith atoms arith ++ flow_if found.bounds atoms bounds) old new
+    (raised-flows atoms exit_unknowns found exceptions are ∙ ap (λ o. flow_if found.arith atoms o ++ flow_if found.bounds atoms (exit_unknowns (Throw 1))) (sym is)
     ∙ ap (λ o. flow_if found.arith atoms arith ++ flow_if found.bounds atoms o) (sym is'))
     (added-then core table (flow_if found.arith atoms arith) (flow_if found.bounds atoms bounds) old middle new first second)
 
--- a flow to the taker of an end
-pub flow-added : (core : Core) (table : List Label) (atoms : List NamedAtom) (taker wanted : Option ℕ) (old new : List Stored)
-    → taker ≡ wanted → AreAdded core table (flow atoms taker) old new → AreAdded core table (flow atoms wanted) old new
-flow-added core table atoms taker wanted old new is added = added-same core table (flow atoms wanted) (flow atoms taker) old new (ap (flow atoms) (sym is)) added
+-- a flow to the exit unknown of an end
+pub flow-added : (core : Core) (table : List Label) (atoms : List NamedAtom) (exit_unknown wanted : Option ℕ) (old new : List Stored)
+    → exit_unknown ≡ wanted → AreAdded core table (flow atoms exit_unknown) old new → AreAdded core table (flow atoms wanted) old new
+flow-added core table atoms exit_unknown wanted old new is added = added-same core table (flow atoms wanted) (flow atoms exit_unknown) old new (ap (flow atoms) (sym is)) added
 
 -- the left side of the pc alone
 pub alone-left : (core : Core) (table : List Label) (named : NamedAtom) (pc : Atom) (left : List Atom)

@@ -27,31 +27,31 @@ use Rattle.path_map.specs.Exits.{exits_of, Exits}
 use Rattle.path_map.specs.Paths.{block_paths, program_paths}
 use Rattle.path_map.proofs.Procedures.{next-procedure}
 use Rattle.gathering.specs.Names.{NamedAtom, NamedConstraint, Real, real_unknowns}
-use Rattle.gathering.specs.Walk.{at_end, constraints_from, declares, end_constraints, end_takers, has_one_end, inner_atom, inner_block, made_by_block, made_by_procedure, made_from, nowhere, procedure_constraints, program_constraints, rule_constraint, thrown_constraints, thrown_number, unknown_count}
+use Rattle.gathering.specs.Walk.{at_end, constraints_from, declares, end_constraints, end_exit_unknowns, has_one_end, inner_atom, inner_block, made_by_block, made_by_procedure, made_from, nowhere, procedure_constraints, program_constraints, rule_constraint, thrown_constraints, thrown_number, unknown_count}
 use Rattle.gathering.proofs.Counted.{unknowns-counted}
 use Rattle.solver.specs.declared.constraints.Atom.{Atom}
 use Rattle.constraints.specs.Added.{AreAdded, IsPart, Stored}
 use Rattle.constraints.specs.LeftSides.{scope_of}
-use Rattle.constraints.specs.Procedures.{AreDeclaredTakers, HasPassedProcedure, StaysInPlace, IsOf, IsProcedureWalked, end_takers_of, number_in}
+use Rattle.constraints.specs.Procedures.{AreDeclaredExitUnknowns, HasPassedProcedure, StaysInPlace, IsOf, IsProcedureWalked, end_exit_unknowns_of, number_in}
 use Rattle.constraints.specs.Ready.{AreThrownInside, IsBlockReady, IsProcedureReady, exception_count, most_unknowns}
-use Rattle.constraints.specs.Takers.{AreLevelled, AreWithin, no_entry, takers_of}
+use Rattle.constraints.specs.ExitUnknowns.{AreLevelled, AreWithin, no_entry, exit_unknowns_of}
 use Rattle.constraints.specs.Thinned.{AreNoted, Thinned, ThinnedWhole}
 use Rattle.constraints.specs.Journals.{AreOrdered, AreUpTo, IsUpToDate, entry_from, moments_at, noted_all}
 use Rattle.constraints.specs.declared.journal.Journal.{Journal}
 use Rattle.constraints.specs.Walked.{HasPassed, IsBlockWalked}
 use Rattle.constraints.specs.declared.progress.Progress.{Progress}
-use Rattle.constraints.specs.declared.takers.Taker.{Taker}
-use Rattle.constraints.specs.declared.takers.Takers.{Takers}
+use Rattle.constraints.specs.declared.exit_unknowns.ExitUnknown.{ExitUnknown}
+use Rattle.constraints.specs.declared.exit_unknowns.ExitUnknowns.{ExitUnknowns}
 use Rattle.constraints.proofs.Added.{added-none, added-same, added-then}
 use Rattle.constraints.proofs.Noted.{declared-ones, noted-journal, undeclared-stay}
 use Rattle.constraints.proofs.Thinned.{thinned-exact, walks-exact, walks-noted, walks-same, walks-then, whole-same, whole-then}
 use Rattle.constraints.proofs.Ready.{thrown-inside}
 use Rattle.constraints.proofs.Small.{program-small}
-use Rattle.constraints.proofs.Declared.{taken-within, takers-at-end, thrown-numbers}
+use Rattle.constraints.proofs.Declared.{taken-within, exit_unknowns-at-end, thrown-numbers}
 
 -- ---- a procedure
-levelled : (n barrier : ℕ) (only : Bool) (thrown : List Taker) → AreWithin (suc barrier) thrown
-    → AreLevelled (end_takers_of n barrier (suc barrier) only) thrown
+levelled : (n barrier : ℕ) (only : Bool) (thrown : List ExitUnknown) → AreWithin (suc barrier) thrown
+    → AreLevelled (end_exit_unknowns_of n barrier (suc barrier) only) thrown
 levelled n barrier true thrown within = record { barrier_is_within = omega arith; entries_are_within = within }
 levelled n barrier false thrown within = record { barrier_is_within = omega arith; entries_are_within = within }
 
@@ -68,9 +68,9 @@ ends-none core table f n only constraints is one =
     (ap (λ b. if b then [] else own_end_constraints scope n (λ x. thrown_number (here scope).throws (suc n) x)) (sym is ∙ one))
     (added-none core table constraints)
 
-pub ends-added : (core : Core) (table : List Label) (f n level : ℕ) (only : Bool) (procedure : Procedure) (throws : List Thrown) (had taken given : List Taker) (old middle new : List Stored)
+pub ends-added : (core : Core) (table : List Label) (f n level : ℕ) (only : Bool) (procedure : Procedure) (throws : List Thrown) (had taken given : List ExitUnknown) (old middle new : List Stored)
     → IsOf core f procedure → only ≡ has_one_end (scope_of core f) → only ≡ false
-    → AreDeclaredTakers (here (scope_of core f)).throws (suc n) level had taken → throws ≡ procedure.throws.items → given ≡ taken
+    → AreDeclaredExitUnknowns (here (scope_of core f)).throws (suc n) level had taken → throws ≡ procedure.throws.items → given ≡ taken
     → AreAdded core table (rule_constraint (scope_of core f) procedure.at 13 (inner_atom n ∷ []) (ToEnd f)) old middle
     → (procedure.at ≡ (here (scope_of core f)).at → AreAdded core table (thrown_constraints (scope_of core f) (number_in given) (map (thrown_entry core.labels) throws)) middle new)
     → AreAdded core table (end_constraints (scope_of core f) n) old new
@@ -89,14 +89,14 @@ ends-added core table f n level only procedure throws had taken given old middle
     ∙ ap (λ at. end at ++ thrown_constraints scope (number_in given) (map (thrown_entry core.labels) throws)) (sym at_is)))))
     (added-then core table (end procedure.at) (thrown_constraints scope (number_in given) (map (thrown_entry core.labels) throws)) old middle new first (second at_is))
 
-pub procedure-passed : (core : Core) (table : List Label) (entries : List Exits) (f barrier level start count : ℕ) (procedure : Procedure) (throws noted : List Thrown) (noting : List Taker) (block : List S.Statement) (pc : Atom) (takers : Takers) (only : Bool) (left : List Exits) (old middle walked new : Progress)
+pub procedure-passed : (core : Core) (table : List Label) (entries : List Exits) (f barrier level start count : ℕ) (procedure : Procedure) (throws noted : List Thrown) (noting : List ExitUnknown) (block : List S.Statement) (pc : Atom) (exit_unknowns : ExitUnknowns) (only : Bool) (left : List Exits) (old middle walked new : Progress)
     → IsOf core f procedure
     → drop old.index entries ≡ map exits_of (block_paths (program_of core) (here (scope_of core f)).body) ++ left
     → AreWithin barrier old.thrown.items
     → level ≡ barrier + 1 → start ≡ old.number + 1 → count ≡ length procedure.throws.items
     → throws ≡ procedure.throws.items → block ≡ procedure.body.items
     → only ≡ has_one_end (scope_of core f)
-    → takers ≡ end_takers_of old.number barrier level only
+    → exit_unknowns ≡ end_exit_unknowns_of old.number barrier level only
     → IsPart core table (renamed Real (label_of (program_of core) (ToBegin f))) pc
     → middle.index ≡ old.index → middle.number ≡ start + count → middle.constraints.items ≡ old.constraints.items
     → middle.journal.calls ≡ old.journal.calls
@@ -104,14 +104,14 @@ pub procedure-passed : (core : Core) (table : List Label) (entries : List Exits)
     (map (λ (declared : Thrown). declared.exception) noted) x (moments_at old.journal.moments.items x))
     → length middle.journal.moments.items ≡ length old.journal.moments.items → noting ≡ middle.thrown.items → noted ≡ throws
     → length middle.thrown.items ≡ length old.thrown.items
-    → ((b : ℕ) → b < level → AreWithin b old.thrown.items → AreDeclaredTakers (map (thrown_entry core.labels) throws) start level old.thrown.items middle.thrown.items)
-    → IsBlockWalked core table entries f pc takers (block_of block) middle walked
+    → ((b : ℕ) → b < level → AreWithin b old.thrown.items → AreDeclaredExitUnknowns (map (thrown_entry core.labels) throws) start level old.thrown.items middle.thrown.items)
+    → IsBlockWalked core table entries f pc exit_unknowns (block_of block) middle walked
     → StaysInPlace walked new
-    → ((l : ℕ) (had : List Taker) → IsOf core f procedure → only ≡ has_one_end (scope_of core f)
-    → AreDeclaredTakers (here (scope_of core f)).throws (suc old.number) l had walked.thrown.items
+    → ((l : ℕ) (had : List ExitUnknown) → IsOf core f procedure → only ≡ has_one_end (scope_of core f)
+    → AreDeclaredExitUnknowns (here (scope_of core f)).throws (suc old.number) l had walked.thrown.items
     → AreAdded core table (end_constraints (scope_of core f) old.number) walked.constraints.items new.constraints.items)
     → HasPassedProcedure core table entries f (suc barrier) left old new
-procedure-passed core table entries f barrier level start count procedure throws noted noting block pc takers only left old middle walked new is goes within level_is start_is count_is throws_are block_is one takers_are stands index_is number_is constraints_are calls moments counted_is noting_is noted_is wide takes walks kept ended =
+procedure-passed core table entries f barrier level start count procedure throws noted noting block pc exit_unknowns only left old middle walked new is goes within level_is start_is count_is throws_are block_is one exit_unknowns_are stands index_is number_is constraints_are calls moments counted_is noting_is noted_is wide takes walks kept ended =
     let program : Program = program_of core in
     let scope : Scope = scope_of core f in
     let declared : List ThrownEntry = (here scope).throws in
@@ -125,27 +125,27 @@ procedure-passed core table entries f barrier level start count procedure throws
     let below : barrier < level = omega (arith, level_is) in
     let below_suc : barrier < suc barrier = omega arith in
     let upto : barrier ≤ suc barrier = omega arith in
-    let taken : AreDeclaredTakers declared (suc n) (suc barrier) old.thrown.items middle.thrown.items =
-    subst (λ list. AreDeclaredTakers list (suc n) (suc barrier) old.thrown.items middle.thrown.items) declared_is
-    (subst (λ k. AreDeclaredTakers (map (thrown_entry core.labels) throws) k (suc barrier) old.thrown.items middle.thrown.items) start_suc
-    (subst (λ l. AreDeclaredTakers (map (thrown_entry core.labels) throws) start l old.thrown.items middle.thrown.items) level_suc (takes barrier below within))) in
+    let taken : AreDeclaredExitUnknowns declared (suc n) (suc barrier) old.thrown.items middle.thrown.items =
+    subst (λ list. AreDeclaredExitUnknowns list (suc n) (suc barrier) old.thrown.items middle.thrown.items) declared_is
+    (subst (λ k. AreDeclaredExitUnknowns (map (thrown_entry core.labels) throws) k (suc barrier) old.thrown.items middle.thrown.items) start_suc
+    (subst (λ l. AreDeclaredExitUnknowns (map (thrown_entry core.labels) throws) start l old.thrown.items middle.thrown.items) level_suc (takes barrier below within))) in
     let inside : AreWithin (suc barrier) middle.thrown.items = taken-within declared (suc n) barrier (suc barrier) old.thrown.items middle.thrown.items upto within taken in
-    let takers_suc : takers ≡ end_takers_of n barrier (suc barrier) only = takers_are ∙ ap (λ l. end_takers_of n barrier l only) level_suc in
-    let passed : HasPassed core table entries pc (λ named. inner_block scope named (takers_of takers middle.thrown.items) middle.number body) (made_by_block body) left middle walked =
+    let exit_unknowns_suc : exit_unknowns ≡ end_exit_unknowns_of n barrier (suc barrier) only = exit_unknowns_are ∙ ap (λ l. end_exit_unknowns_of n barrier l only) level_suc in
+    let passed : HasPassed core table entries pc (λ named. inner_block scope named (exit_unknowns_of exit_unknowns middle.thrown.items) middle.number body) (made_by_block body) left middle walked =
     walks left (ap (λ k. drop k entries) index_is ∙ (goes ∙ ap (λ b. map exits_of (block_paths program b) ++ left) (sym body_is)))
-    (subst (λ t. AreLevelled t middle.thrown.items) (sym takers_suc) (levelled n barrier only middle.thrown.items inside)) in
-    let same : takers_of takers middle.thrown.items ≡ end_takers scope n =
-    ap (λ t. takers_of t middle.thrown.items) takers_suc
-    ∙ (takers-at-end declared n barrier (suc barrier) only old.thrown.items middle.thrown.items below_suc within inside taken
+    (subst (λ t. AreLevelled t middle.thrown.items) (sym exit_unknowns_suc) (levelled n barrier only middle.thrown.items inside)) in
+    let same : exit_unknowns_of exit_unknowns middle.thrown.items ≡ end_exit_unknowns scope n =
+    ap (λ t. exit_unknowns_of t middle.thrown.items) exit_unknowns_suc
+    ∙ (exit_unknowns-at-end declared n barrier (suc barrier) only old.thrown.items middle.thrown.items below_suc within inside taken
     ∙ ap (λ b. if b then nowhere else at_end n declared) one) in
     let counted : count ≡ length declared = count_is ∙ (sym (length-map procedure.throws.items (thrown_entry core.labels)) ∙ ap (λ (p : ProcedureEntry). length p.throws) (sym is)) in
     let number_suc : middle.number ≡ suc n + length declared = omega (arith, number_is, start_is, counted) in
-    let inside_it : List NamedConstraint = inner_block scope begin (end_takers scope n) (suc n + length declared) (here scope).body in
+    let inside_it : List NamedConstraint = inner_block scope begin (end_exit_unknowns scope n) (suc n + length declared) (here scope).body in
     let first : Thinned core table inside_it middle walked =
-    walks-same core table inside_it (inner_block scope begin (takers_of takers middle.thrown.items) middle.number body) middle walked
+    walks-same core table inside_it (inner_block scope begin (exit_unknowns_of exit_unknowns middle.thrown.items) middle.number body) middle walked
     (ap (λ t. inner_block scope begin t (suc n + length declared) (here scope).body) (sym same)
-    ∙ (ap (λ k. inner_block scope begin (takers_of takers middle.thrown.items) k (here scope).body) (sym number_suc)
-    ∙ ap (inner_block scope begin (takers_of takers middle.thrown.items) middle.number) (sym body_is)))
+    ∙ (ap (λ k. inner_block scope begin (exit_unknowns_of exit_unknowns middle.thrown.items) k (here scope).body) (sym number_suc)
+    ∙ ap (inner_block scope begin (exit_unknowns_of exit_unknowns middle.thrown.items) middle.number) (sym body_is)))
     (passed.added begin stands) in
     let taking : IsUpToDate old.journal old.thrown.items → AreNoted old.journal middle.journal middle.thrown.items =
     noted-journal old.journal middle.journal old.thrown.items middle.thrown.items (map (λ (d : Thrown). d.exception) noted) calls
@@ -163,7 +163,7 @@ procedure-passed core table entries f barrier level start count procedure throws
       added = walks-then core table inside_it (end_constraints scope n) old walked new
           (walks-then core table [] inside_it old middle walked (walks-noted core table old middle constraints_are taking) first)
           (walks-exact core table (end_constraints scope n) walked new
-          (ended (suc barrier) old.thrown.items is one (subst (AreDeclaredTakers declared (suc n) (suc barrier) old.thrown.items) (sym passed.thrown_is) taken))
+          (ended (suc barrier) old.thrown.items is one (subst (AreDeclaredExitUnknowns declared (suc n) (suc barrier) old.thrown.items) (sym passed.thrown_is) taken))
           kept.journal_is kept.thrown_is);
       entries_left = ap (λ k. drop k entries) kept.index_is ∙ passed.entries_left;
       number_is = omega (arith, number_suc, made, walked_number, kept_number, own);
@@ -172,14 +172,14 @@ procedure-passed core table entries f barrier level start count procedure throws
     }
 
 -- what the walk past its body asks for, where its declared exceptions were taken
-pub body-ready : (core : Core) (entries : List Exits) (f barrier level start : ℕ) (procedure : Procedure) (throws : List Thrown) (block : List S.Statement) (takers : Takers) (only : Bool) (old middle : Progress)
+pub body-ready : (core : Core) (entries : List Exits) (f barrier level start : ℕ) (procedure : Procedure) (throws : List Thrown) (block : List S.Statement) (exit_unknowns : ExitUnknowns) (only : Bool) (old middle : Progress)
     → IsProcedureReady core entries f barrier procedure old
     → level ≡ barrier + 1 → throws ≡ procedure.throws.items → block ≡ procedure.body.items
-    → takers ≡ end_takers_of old.number barrier level only
+    → exit_unknowns ≡ end_exit_unknowns_of old.number barrier level only
     → middle.index ≡ old.index → middle.number ≡ (old.number + 1) + length procedure.throws.items → length middle.thrown.items ≡ length old.thrown.items
-    → ((b : ℕ) → b < level → AreWithin b old.thrown.items → AreDeclaredTakers (map (thrown_entry core.labels) throws) start level old.thrown.items middle.thrown.items)
-    → IsBlockReady core entries f takers (block_of block) middle
-body-ready core entries f barrier level start procedure throws block takers only old middle ready level_is throws_are block_is takers_are index_is number_is wide takes =
+    → ((b : ℕ) → b < level → AreWithin b old.thrown.items → AreDeclaredExitUnknowns (map (thrown_entry core.labels) throws) start level old.thrown.items middle.thrown.items)
+    → IsBlockReady core entries f exit_unknowns (block_of block) middle
+body-ready core entries f barrier level start procedure throws block exit_unknowns only old middle ready level_is throws_are block_is exit_unknowns_are index_is number_is wide takes =
     let program : Program = program_of core in
     let entry : ProcedureEntry = here (scope_of core f) in
     let body_is : block_of block ≡ entry.body = ap block_of block_is ∙ ap (λ (p : ProcedureEntry). p.body) (sym ready.is) in
@@ -189,11 +189,11 @@ body-ready core entries f barrier level start procedure throws block takers only
     let inside : AreWithin level middle.thrown.items =
     taken-within (map (thrown_entry core.labels) throws) start barrier level old.thrown.items middle.thrown.items upto ready.within (takes barrier below ready.within) in
     let inside_suc : AreWithin (suc barrier) middle.thrown.items = subst (λ l. AreWithin l middle.thrown.items) level_suc inside in
-    let takers_suc : takers ≡ end_takers_of old.number barrier (suc barrier) only = takers_are ∙ ap (λ l. end_takers_of old.number barrier l only) level_suc in
+    let exit_unknowns_suc : exit_unknowns ≡ end_exit_unknowns_of old.number barrier (suc barrier) only = exit_unknowns_are ∙ ap (λ l. end_exit_unknowns_of old.number barrier l only) level_suc in
     record {
       left = ready.left;
       goes_on = ap (λ k. drop k entries) index_is ∙ (ready.goes_on ∙ ap (λ b. map exits_of (block_paths program b) ++ ready.left) (sym body_is));
-      levelled = subst (λ t. AreLevelled t middle.thrown.items) (sym takers_suc) (levelled old.number barrier only middle.thrown.items inside_suc);
+      levelled = subst (λ t. AreLevelled t middle.thrown.items) (sym exit_unknowns_suc) (levelled old.number barrier only middle.thrown.items inside_suc);
       wide = omega (arith, wide, ready.wide);
       fitting = subst (λ b. block_fits program entry b ≡ true) (sym body_is) (procedure_parts program entry ready.fitting).body_fits;
       room =
@@ -203,11 +203,11 @@ body-ready core entries f barrier level start procedure throws block takers only
           let own : made_by_procedure (scope_of core f) ≡ suc (length entry.throws + made_by_block entry.body) = refl in
           omega (arith, ready.room, made, count, own, number_is);
       deep =
-          let level_at : takers.level ≡ suc barrier = ap (λ (t : Takers). t.level) takers_suc ∙ end-level old.number barrier only in
+          let level_at : exit_unknowns.level ≡ suc barrier = ap (λ (t : ExitUnknowns). t.level) exit_unknowns_suc ∙ end-level old.number barrier only in
           omega (arith, ready.deep, level_at, number_is);
     }
   where
-    end-level : (n b : ℕ) (only : Bool) → (end_takers_of n b (suc b) only).level ≡ suc b
+    end-level : (n b : ℕ) (only : Bool) → (end_exit_unknowns_of n b (suc b) only).level ≡ suc b
     end-level n b true = refl
     end-level n b false = refl
 
@@ -303,7 +303,7 @@ replicate-read (suc n) zero = refl
 replicate-read (suc n) (suc x) = replicate-read n x
 
 -- the next call of a walk before which nothing was noted
-none-noted : (journal : Journal) (thrown : List Taker) (n : ℕ)
+none-noted : (journal : Journal) (thrown : List ExitUnknown) (n : ℕ)
     → journal.calls.items ≡ [] → ((x : ℕ) → moments_at journal.moments.items x ≡ []) → length journal.moments.items ≡ n → thrown ≡ replicate n no_entry
     → IsUpToDate journal thrown
 none-noted journal thrown n calls moments rows thrown_are = record {
@@ -330,7 +330,7 @@ passed-none core table entries n progress mapped index number constraints thrown
   entries_left = ap (λ k. drop k entries) index ∙ mapped;
   number_is = omega (arith, number);
   low = omega arith;
-  within = λ x. subst (λ (e : Taker). e.level ≤ 0) (sym (ap (λ list. get_or list x no_entry) thrown ∙ replicate-read n x)) (omega arith);
+  within = λ x. subst (λ (e : ExitUnknown). e.level ≤ 0) (sym (ap (λ list. get_or list x no_entry) thrown ∙ replicate-read n x)) (omega arith);
   wide =
       let width : length progress.thrown.items ≡ n = ap length thrown ∙ length-replicate n no_entry in
       omega (arith, width, count, length-map core.exceptions.items string_bytes);

@@ -9,19 +9,19 @@ use Rattle.gathering.specs.Walk as walk
 use Rattle.gathering.specs.Walk.{flow, single}
 use Rattle.path_map.specs.Exits.{single_end}
 
--- the flow to the taker of the one end, if there is one only
-abbrev pub single_flow : (pc : NamedAtom) → walk.Takers → Option Exit → List NamedConstraint
-single_flow pc takers None = []
-single_flow pc takers (Some exit) = flow (pc ∷ []) (takers exit)
+-- the flow to the exit unknown of the one end, if there is one only
+abbrev pub single_flow : (pc : NamedAtom) → walk.ExitUnknowns → Option Exit → List NamedConstraint
+single_flow pc exit_unknowns None = []
+single_flow pc exit_unknowns (Some exit) = flow (pc ∷ []) (exit_unknowns exit)
 
-pub single-is : (ends : List Exit) (pc : NamedAtom) (takers : walk.Takers) → single (one_end ends) pc takers ends ≡ single_flow pc takers (single_end ends)
-single-is [] pc takers = none (one_end [])
+pub single-is : (ends : List Exit) (pc : NamedAtom) (exit_unknowns : walk.ExitUnknowns) → single (one_end ends) pc exit_unknowns ends ≡ single_flow pc exit_unknowns (single_end ends)
+single-is [] pc exit_unknowns = none (one_end [])
   where
-    none : (b : Bool) → single b pc takers [] ≡ []
+    none : (b : Bool) → single b pc exit_unknowns [] ≡ []
     none true = refl
     none false = refl
-single-is (exit ∷ rest) pc takers = go (list_all (same_exit exit) rest)
+single-is (exit ∷ rest) pc exit_unknowns = go (list_all (same_exit exit) rest)
   where
-    go : (b : Bool) → single b pc takers (exit ∷ rest) ≡ single_flow pc takers (if b then Some exit else None)
+    go : (b : Bool) → single b pc exit_unknowns (exit ∷ rest) ≡ single_flow pc exit_unknowns (if b then Some exit else None)
     go true = refl
     go false = refl

@@ -27,64 +27,64 @@ use Rattle.gathering.proofs.Rerouted.{outer-joined}
 use Rattle.constraints.specs.Added.{AreAdded, Stored}
 use Rattle.constraints.specs.Journals.{AreOrdered, AreUpTo, IsUpToDate, entry_at, entry_from, moments_at, raised_flow}
 use Rattle.constraints.specs.LeftSides.{scope_of}
-use Rattle.constraints.specs.Takers.{no_entry, taker_of, takers_of}
+use Rattle.constraints.specs.ExitUnknowns.{no_entry, exit_unknown_of, exit_unknowns_of}
 use Rattle.constraints.specs.Thinned.{Thinned, ThinnedNow}
 use Rattle.constraints.specs.Walks.{kept_call, kept_ends}
 use Rattle.constraints.specs.declared.journal.Called.{Called}
 use Rattle.constraints.specs.declared.journal.Journal.{Journal}
 use Rattle.constraints.specs.declared.journal.Moment.{Moment}
 use Rattle.constraints.specs.declared.progress.Progress.{Progress}
-use Rattle.constraints.specs.declared.takers.Taker.{Taker}
-use Rattle.constraints.specs.declared.takers.Takers.{Takers}
+use Rattle.constraints.specs.declared.exit_unknowns.ExitUnknown.{ExitUnknown}
+use Rattle.constraints.specs.declared.exit_unknowns.ExitUnknowns.{ExitUnknowns}
 use Rattle.constraints.proofs.Called.{flows-append}
 use Rattle.constraints.proofs.Thinned.{raised-by}
 
 -- ---- the flows of exceptions
 flow-only : (left : List NamedAtom) (o : Option ℕ) (c : NamedConstraint) → Contains (flow left o) c
-    → (taker : ℕ) × (o ≡ Some taker) × (c ≡ (record { at = 0; rule = 0; left = left; target = None; right = inner_atom taker }))
+    → (exit_unknown : ℕ) × (o ≡ Some exit_unknown) × (c ≡ (record { at = 0; rule = 0; left = left; target = None; right = inner_atom exit_unknown }))
 flow-only left None c h = absurd (none_in_nil c h)
 flow-only left (Some k) c h = ⊎_elim (λ same. (k, refl, sym same)) (λ none. absurd (none_in_nil c none))
     (Contains-cons_cases (record { at = 0; rule = 0; left = left; target = None; right = inner_atom k }) [] c h)
 
-flow-there : (left : List NamedAtom) (o : Option ℕ) (taker : ℕ) → o ≡ Some taker
-    → Contains (flow left o) (record { at = 0; rule = 0; left = left; target = None; right = inner_atom taker })
-flow-there left o taker is = subst (λ o'. Contains (flow left o') (record { at = 0; rule = 0; left = left; target = None; right = inner_atom taker })) (sym is)
-    (Contains-first (record { at = 0; rule = 0; left = left; target = None; right = inner_atom taker }) [])
+flow-there : (left : List NamedAtom) (o : Option ℕ) (exit_unknown : ℕ) → o ≡ Some exit_unknown
+    → Contains (flow left o) (record { at = 0; rule = 0; left = left; target = None; right = inner_atom exit_unknown })
+flow-there left o exit_unknown is = subst (λ o'. Contains (flow left o') (record { at = 0; rule = 0; left = left; target = None; right = inner_atom exit_unknown })) (sym is)
+    (Contains-first (record { at = 0; rule = 0; left = left; target = None; right = inner_atom exit_unknown }) [])
 
-module _ (program : Program) (callee own : ℕ) (takers : walk.Takers) where
+module _ (program : Program) (callee own : ℕ) (exit_unknowns : walk.ExitUnknowns) where
   -- one of the flows of these exceptions
   record IsFlowOf (xs : List ℕ) (c : NamedConstraint) : Type 0 where
     exception : ℕ
     among : Contains xs exception
-    taker : ℕ
-    takes : takers (Throw exception) ≡ Some taker
-    is : c ≡ raised_flow program callee own exception taker
+    exit_unknown : ℕ
+    takes : exit_unknowns (Throw exception) ≡ Some exit_unknown
+    is : c ≡ raised_flow program callee own exception exit_unknown
 
-  flows-only : (xs : List ℕ) (c : NamedConstraint) → Contains (call_flows program callee own takers (thrown_ends xs)) c → IsFlowOf xs c
+  flows-only : (xs : List ℕ) (c : NamedConstraint) → Contains (call_flows program callee own exit_unknowns (thrown_ends xs)) c → IsFlowOf xs c
   flows-only [] c h = absurd (none_in_nil c h)
   flows-only (x ∷ xs) c h = ⊎_elim
       (λ k.
-      let found = flow-only (inner_atom own ∷ named_atoms (call_atoms program callee (Throw x))) (takers (Throw x)) c k in
-      record { exception = x; among = Contains-first x xs; taker = found.0; takes = found.1; is = found.2 })
+      let found = flow-only (inner_atom own ∷ named_atoms (call_atoms program callee (Throw x))) (exit_unknowns (Throw x)) c k in
+      record { exception = x; among = Contains-first x xs; exit_unknown = found.0; takes = found.1; is = found.2 })
       (λ k.
       let rest = flows-only xs c k in
-      record { exception = rest.exception; among = Contains-later x xs rest.exception rest.among; taker = rest.taker; takes = rest.takes; is = rest.is })
-      (Contains-append_cases (flow (inner_atom own ∷ named_atoms (call_atoms program callee (Throw x))) (takers (Throw x))) (call_flows program callee own takers (thrown_ends xs)) c h)
+      record { exception = rest.exception; among = Contains-later x xs rest.exception rest.among; exit_unknown = rest.exit_unknown; takes = rest.takes; is = rest.is })
+      (Contains-append_cases (flow (inner_atom own ∷ named_atoms (call_atoms program callee (Throw x))) (exit_unknowns (Throw x))) (call_flows program callee own exit_unknowns (thrown_ends xs)) c h)
 
-  flows-there : (xs : List ℕ) (x taker : ℕ) → Contains xs x → takers (Throw x) ≡ Some taker
-      → Contains (call_flows program callee own takers (thrown_ends xs)) (raised_flow program callee own x taker)
-  flows-there [] x taker h takes = absurd (none_in_nil x h)
-  flows-there (y ∷ ys) x taker h takes =
-      let first : List NamedConstraint = flow (inner_atom own ∷ named_atoms (call_atoms program callee (Throw y))) (takers (Throw y)) in
-      let rest : List NamedConstraint = call_flows program callee own takers (thrown_ends ys) in
+  flows-there : (xs : List ℕ) (x exit_unknown : ℕ) → Contains xs x → exit_unknowns (Throw x) ≡ Some exit_unknown
+      → Contains (call_flows program callee own exit_unknowns (thrown_ends xs)) (raised_flow program callee own x exit_unknown)
+  flows-there [] x exit_unknown h takes = absurd (none_in_nil x h)
+  flows-there (y ∷ ys) x exit_unknown h takes =
+      let first : List NamedConstraint = flow (inner_atom own ∷ named_atoms (call_atoms program callee (Throw y))) (exit_unknowns (Throw y)) in
+      let rest : List NamedConstraint = call_flows program callee own exit_unknowns (thrown_ends ys) in
       ⊎_elim
-      (λ same. Contains-append_left first rest (raised_flow program callee own x taker)
-      (subst (λ z. Contains first (raised_flow program callee own z taker)) same
-      (flow-there (inner_atom own ∷ named_atoms (call_atoms program callee (Throw y))) (takers (Throw y)) taker (subst (λ z. takers (Throw z) ≡ Some taker) (sym same) takes))))
-      (λ k. Contains-append_right first rest (raised_flow program callee own x taker) (flows-there ys x taker k takes))
+      (λ same. Contains-append_left first rest (raised_flow program callee own x exit_unknown)
+      (subst (λ z. Contains first (raised_flow program callee own z exit_unknown)) same
+      (flow-there (inner_atom own ∷ named_atoms (call_atoms program callee (Throw y))) (exit_unknowns (Throw y)) exit_unknown (subst (λ z. exit_unknowns (Throw z) ≡ Some exit_unknown) (sym same) takes))))
+      (λ k. Contains-append_right first rest (raised_flow program callee own x exit_unknown) (flows-there ys x exit_unknown k takes))
       (Contains-cons_cases y ys x h)
 
-  flows-inner : (xs : List ℕ) (c : NamedConstraint) → Contains (call_flows program callee own takers (thrown_ends xs)) c → IsTrue (is_inner is_inner_name c.right)
+  flows-inner : (xs : List ℕ) (c : NamedConstraint) → Contains (call_flows program callee own exit_unknowns (thrown_ends xs)) c → IsTrue (is_inner is_inner_name c.right)
   flows-inner xs c h =
       let found = flows-only xs c h in
       ap (λ (z : NamedConstraint). is_inner is_inner_name z.right) found.is
@@ -96,13 +96,13 @@ append-five a b c d e f =
     ∙ ap (λ xs. a ++ xs) (append_assoc b (c ++ (d ++ e)) f
     ∙ ap (λ xs. b ++ xs) (append_assoc c (d ++ e) f ∙ ap (λ xs. c ++ xs) (append_assoc d e f))))
 
-declared_flows : Scope → (callee n : ℕ) → walk.Takers → List NamedConstraint
-declared_flows scope callee n takers = call_flows scope.program callee n takers (thrown_ends (declared_by (procedure_at scope.program callee).throws))
+declared_flows : Scope → (callee n : ℕ) → walk.ExitUnknowns → List NamedConstraint
+declared_flows scope callee n exit_unknowns = call_flows scope.program callee n exit_unknowns (thrown_ends (declared_by (procedure_at scope.program callee).throws))
 
-call-splits : (scope : Scope) (pc : NamedAtom) (takers : walk.Takers) (n at callee : ℕ) (arguments : List Expression) (target : Option Variable)
-    → call_constraints scope pc takers n at callee arguments target ≡ kept_call scope pc takers n at callee arguments target ++ declared_flows scope callee n takers
+call-splits : (scope : Scope) (pc : NamedAtom) (exit_unknowns : walk.ExitUnknowns) (n at callee : ℕ) (arguments : List Expression) (target : Option Variable)
+    → call_constraints scope pc exit_unknowns n at callee arguments target ≡ kept_call scope pc exit_unknowns n at callee arguments target ++ declared_flows scope callee n exit_unknowns
 unfolding declared_flows
-call-splits scope pc takers n at callee arguments target =
+call-splits scope pc exit_unknowns n at callee arguments target =
     let program : Program = scope.program in
     let raised : List ℕ = raised_once (raises_all arguments) in
     let declared : List ℕ = declared_by (procedure_at program callee).throws in
@@ -110,14 +110,14 @@ call-splits scope pc takers n at callee arguments target =
     let b : List NamedConstraint = rule_constraint scope at 6 (inner_atom n ∷ []) (ToBegin callee) in
     let c : List NamedConstraint = argument_constraints scope at n callee 0 arguments in
     let d : List NamedConstraint = target_constraint scope at 6 (inner_atom n ∷ named_atoms (call_atoms program callee Normal ++ one (label_of program (ToValue callee)))) target in
-    let e : List NamedConstraint = call_flows program callee n takers (kept_ends arguments) in
-    let f : List NamedConstraint = call_flows program callee n takers (thrown_ends declared) in
-    let ends : call_flows program callee n takers (call_ends program callee arguments) ≡ e ++ f =
-    ap (λ es. call_flows program callee n takers (Normal ∷ es)) (thrown-append raised declared) ∙ flows-append program callee n takers (kept_ends arguments) (thrown_ends declared) in
+    let e : List NamedConstraint = call_flows program callee n exit_unknowns (kept_ends arguments) in
+    let f : List NamedConstraint = call_flows program callee n exit_unknowns (thrown_ends declared) in
+    let ends : call_flows program callee n exit_unknowns (call_ends program callee arguments) ≡ e ++ f =
+    ap (λ es. call_flows program callee n exit_unknowns (Normal ∷ es)) (thrown-append raised declared) ∙ flows-append program callee n exit_unknowns (kept_ends arguments) (thrown_ends declared) in
     ap (λ x. a ++ (b ++ (c ++ (d ++ x)))) ends ∙ append-five a b c d e f
 
 -- ---- the entries at the next call
-from-upto : (ms : List Moment) (last call : ℕ) (old : Taker) → AreUpTo last ms → last ≤ call → entry_from ms call old ≡ entry_from ms last old
+from-upto : (ms : List Moment) (last call : ℕ) (old : ExitUnknown) → AreUpTo last ms → last ≤ call → entry_from ms call old ≡ entry_from ms last old
 from-upto [] last call old upto least = refl
 from-upto (m ∷ ms) last call old upto least =
     let first : m.call ≤ last = upto m (Contains-first m ms) in
@@ -127,20 +127,20 @@ from-upto (m ∷ ms) last call old upto least =
     ∙ from-upto ms last call m.entry (λ y k. upto y (Contains-later m ms y k)) least
     ∙ sym (ap (λ b. entry_from ms last (if b then m.entry else old)) there)
 
-module _ (core : Core) (table : List Label) (procedure : ℕ) (pc : NamedAtom) (takers : Takers) (thrown : List Taker) (number at callee : ℕ) (arguments : List Expression) (target : Option Variable) where
+module _ (core : Core) (table : List Label) (procedure : ℕ) (pc : NamedAtom) (exit_unknowns : ExitUnknowns) (thrown : List ExitUnknown) (number at callee : ℕ) (arguments : List Expression) (target : Option Variable) where
   abbrev called_at : (call : ℕ) → Called
-  called_at call = record { callee = callee; barrier = takers.ends.raised; own = number; call = call }
+  called_at call = record { callee = callee; barrier = exit_unknowns.ends.raised; own = number; call = call }
 
   call-thinned : (old new : List Stored) (before after : Journal)
-      → AreAdded core table (kept_call (scope_of core procedure) pc (takers_of takers thrown) number at callee arguments target) old new
+      → AreAdded core table (kept_call (scope_of core procedure) pc (exit_unknowns_of exit_unknowns thrown) number at callee arguments target) old new
       → after.calls.items ≡ before.calls.items ++ called_at (length before.calls.items) ∷ [] → after.moments ≡ before.moments
       → IsUpToDate before thrown
-      → ThinnedNow core table (call_constraints (scope_of core procedure) pc (takers_of takers thrown) number at callee arguments target) old new before after thrown
+      → ThinnedNow core table (call_constraints (scope_of core procedure) pc (exit_unknowns_of exit_unknowns thrown) number at callee arguments target) old new before after thrown
   unfolding declared_flows
   call-thinned old new before after added calls moments ready =
       let program : Program = program_of core in
       let scope : Scope = scope_of core procedure in
-      let t : walk.Takers = takers_of takers thrown in
+      let t : walk.ExitUnknowns = exit_unknowns_of exit_unknowns thrown in
       let last : ℕ = length before.calls.items in
       let declared : List ℕ = declared_by (procedure_at program callee).throws in
       let whole : List NamedConstraint = call_constraints scope pc t number at callee arguments target in
@@ -177,9 +177,9 @@ module _ (core : Core) (table : List Label) (procedure : ℕ) (pc : NamedAtom) (
               among = there;
               entry = entry.0;
               declared = entry.1;
-              taker = found.taker;
-              takes = ap (taker_of takers.ends.raised) (now entry.0.exception) ∙ (ap (λ x. t (Throw x)) entry.2 ∙ found.takes);
-              is = found.is ∙ ap (λ x. raised_flow program callee number x found.taker) (sym entry.2);
+              exit_unknown = found.exit_unknown;
+              takes = ap (exit_unknown_of exit_unknowns.ends.raised) (now entry.0.exception) ∙ (ap (λ x. t (Throw x)) entry.2 ∙ found.takes);
+              is = found.is ∙ ap (λ x. raised_flow program callee number x found.exit_unknown) (sym entry.2);
             }))
             (Contains-append_cases kept flows c (subst (λ list. Contains list c) splits h));
         only = λ c raised. ⊎_elim
@@ -188,19 +188,19 @@ module _ (core : Core) (table : List Label) (procedure : ℕ) (pc : NamedAtom) (
               among = k;
               entry = raised.entry;
               declared = raised.declared;
-              taker = raised.taker;
-              takes = ap (taker_of raised.called.barrier) (sym (entries raised.entry.exception raised.called.call)) ∙ raised.takes;
+              exit_unknown = raised.exit_unknown;
+              takes = ap (exit_unknown_of raised.called.barrier) (sym (entries raised.entry.exception raised.called.call)) ∙ raised.takes;
               is = raised.is;
             }))
             (λ same.
             let x : ℕ = raised.entry.exception in
             let declares : Contains (procedure_at program callee).throws raised.entry = subst (λ (k : Called). Contains (procedure_at program k.callee).throws raised.entry) (sym same) raised.declared in
-            let takes : t (Throw x) ≡ Some raised.taker =
-            sym (ap (taker_of takers.ends.raised) (now x)) ∙ subst (λ (k : Called). taker_of k.barrier (entry_at after x k.call) ≡ Some raised.taker) (sym same) raised.takes in
-            let is : c ≡ raised_flow program callee number x raised.taker = subst (λ (k : Called). c ≡ raised_flow program k.callee k.own x raised.taker) (sym same) raised.is in
+            let takes : t (Throw x) ≡ Some raised.exit_unknown =
+            sym (ap (exit_unknown_of exit_unknowns.ends.raised) (now x)) ∙ subst (λ (k : Called). exit_unknown_of k.barrier (entry_at after x k.call) ≡ Some raised.exit_unknown) (sym same) raised.takes in
+            let is : c ≡ raised_flow program callee number x raised.exit_unknown = subst (λ (k : Called). c ≡ raised_flow program k.callee k.own x raised.exit_unknown) (sym same) raised.is in
             inr (subst (λ list. Contains list c) (sym splits) (Contains-append_right kept flows c
             (subst (λ z. Contains flows z) (sym is)
-            (flows-there program callee number t declared x raised.taker (contained_map (λ (e : ThrownEntry). e.exception) (procedure_at program callee).throws raised.entry declares) takes)))))
+            (flows-there program callee number t declared x raised.exit_unknown (contained_map (λ (e : ThrownEntry). e.exception) (procedure_at program callee).throws raised.entry declares) takes)))))
             (cases raised.called raised.among);
         keeps = λ c raised. raised-by core before after c (λ other h. (earlier other h, λ x. entries x other.call)) raised;
         owns = λ other h. ⊎_elim (λ k. inl k)
@@ -222,10 +222,10 @@ module _ (core : Core) (table : List Label) (procedure : ℕ) (pc : NamedAtom) (
       }
 
   pub call-walked : (old new : Progress) → thrown ≡ old.thrown.items → new.thrown.items ≡ old.thrown.items
-      → AreAdded core table (kept_call (scope_of core procedure) pc (takers_of takers thrown) number at callee arguments target) old.constraints.items new.constraints.items
+      → AreAdded core table (kept_call (scope_of core procedure) pc (exit_unknowns_of exit_unknowns thrown) number at callee arguments target) old.constraints.items new.constraints.items
       → new.journal.calls.items ≡ old.journal.calls.items ++ called_at (length old.journal.calls.items) ∷ [] → new.journal.moments ≡ old.journal.moments
-      → Thinned core table (call_constraints (scope_of core procedure) pc (takers_of takers thrown) number at callee arguments target) old new
+      → Thinned core table (call_constraints (scope_of core procedure) pc (exit_unknowns_of exit_unknowns thrown) number at callee arguments target) old new
   call-walked old new lent kept added calls moments ready =
-      subst (ThinnedNow core table (call_constraints (scope_of core procedure) pc (takers_of takers thrown) number at callee arguments target)
+      subst (ThinnedNow core table (call_constraints (scope_of core procedure) pc (exit_unknowns_of exit_unknowns thrown) number at callee arguments target)
       old.constraints.items new.constraints.items old.journal new.journal) (lent ∙ sym kept)
       (call-thinned old.constraints.items new.constraints.items old.journal new.journal added calls moments (subst (IsUpToDate old.journal) (sym lent) ready))

@@ -64,34 +64,34 @@ argument-next core table f at k callee parameter xs i x old middle new inside is
     (added-then core table (argument_constraints scope at k callee 0 before) (last parameter) old middle new first second)
 
 -- flows of several ends
-pub flows-append : (program : Program) (callee own : ℕ) (takers : walk.Takers) (xs ys : List Exit)
-    → call_flows program callee own takers (xs ++ ys) ≡ call_flows program callee own takers xs ++ call_flows program callee own takers ys
-flows-append program callee own takers [] ys = refl
-flows-append program callee own takers (x ∷ xs) ys =
-    ap (λ cs. flow (inner_atom own ∷ named_atoms (call_atoms program callee x)) (takers x) ++ cs) (flows-append program callee own takers xs ys)
-    ∙ sym (append_assoc (flow (inner_atom own ∷ named_atoms (call_atoms program callee x)) (takers x)) (call_flows program callee own takers xs) (call_flows program callee own takers ys))
+pub flows-append : (program : Program) (callee own : ℕ) (exit_unknowns : walk.ExitUnknowns) (xs ys : List Exit)
+    → call_flows program callee own exit_unknowns (xs ++ ys) ≡ call_flows program callee own exit_unknowns xs ++ call_flows program callee own exit_unknowns ys
+flows-append program callee own exit_unknowns [] ys = refl
+flows-append program callee own exit_unknowns (x ∷ xs) ys =
+    ap (λ cs. flow (inner_atom own ∷ named_atoms (call_atoms program callee x)) (exit_unknowns x) ++ cs) (flows-append program callee own exit_unknowns xs ys)
+    ∙ sym (append_assoc (flow (inner_atom own ∷ named_atoms (call_atoms program callee x)) (exit_unknowns x)) (call_flows program callee own exit_unknowns xs) (call_flows program callee own exit_unknowns ys))
 
 -- the exceptions of the arguments
-called-list : (program : Program) (callee k : ℕ) (takers : walk.Takers) (a b : Bool)
-    → call_flows program callee k takers (thrown_ends (raised_list a b))
-    ≡ flow_if a (inner_atom k ∷ named_atoms (call_atoms program callee (Throw 0))) (takers (Throw 0))
-    ++ flow_if b (inner_atom k ∷ named_atoms (call_atoms program callee (Throw 1))) (takers (Throw 1))
-called-list program callee k takers true true =
-    ap (λ cs. flow (inner_atom k ∷ named_atoms (call_atoms program callee (Throw 0))) (takers (Throw 0)) ++ cs)
-    (append-nil (flow (inner_atom k ∷ named_atoms (call_atoms program callee (Throw 1))) (takers (Throw 1))))
-called-list program callee k takers true false = refl
-called-list program callee k takers false true = append-nil (flow (inner_atom k ∷ named_atoms (call_atoms program callee (Throw 1))) (takers (Throw 1)))
-called-list program callee k takers false false = refl
+called-list : (program : Program) (callee k : ℕ) (exit_unknowns : walk.ExitUnknowns) (a b : Bool)
+    → call_flows program callee k exit_unknowns (thrown_ends (raised_list a b))
+    ≡ flow_if a (inner_atom k ∷ named_atoms (call_atoms program callee (Throw 0))) (exit_unknowns (Throw 0))
+    ++ flow_if b (inner_atom k ∷ named_atoms (call_atoms program callee (Throw 1))) (exit_unknowns (Throw 1))
+called-list program callee k exit_unknowns true true =
+    ap (λ cs. flow (inner_atom k ∷ named_atoms (call_atoms program callee (Throw 0))) (exit_unknowns (Throw 0)) ++ cs)
+    (append-nil (flow (inner_atom k ∷ named_atoms (call_atoms program callee (Throw 1))) (exit_unknowns (Throw 1))))
+called-list program callee k exit_unknowns true false = refl
+called-list program callee k exit_unknowns false true = append-nil (flow (inner_atom k ∷ named_atoms (call_atoms program callee (Throw 1))) (exit_unknowns (Throw 1)))
+called-list program callee k exit_unknowns false false = refl
 
-pub called-raised : (core : Core) (table : List Label) (callee k : ℕ) (takers : walk.Takers) (found : Raises) (exceptions : List ℕ) (old middle new : List Stored)
+pub called-raised : (core : Core) (table : List Label) (callee k : ℕ) (exit_unknowns : walk.ExitUnknowns) (found : Raises) (exceptions : List ℕ) (old middle new : List Stored)
     → AreRaised found exceptions
-    → AreAdded core table (flow_if found.arith (inner_atom k ∷ named_atoms (call_atoms (program_of core) callee (Throw 0))) (takers (Throw 0))) old middle
-    → AreAdded core table (flow_if found.bounds (inner_atom k ∷ named_atoms (call_atoms (program_of core) callee (Throw 1))) (takers (Throw 1))) middle new
-    → AreAdded core table (call_flows (program_of core) callee k takers (thrown_ends (raised_once exceptions))) old new
-called-raised core table callee k takers found exceptions old middle new are first second =
+    → AreAdded core table (flow_if found.arith (inner_atom k ∷ named_atoms (call_atoms (program_of core) callee (Throw 0))) (exit_unknowns (Throw 0))) old middle
+    → AreAdded core table (flow_if found.bounds (inner_atom k ∷ named_atoms (call_atoms (program_of core) callee (Throw 1))) (exit_unknowns (Throw 1))) middle new
+    → AreAdded core table (call_flows (program_of core) callee k exit_unknowns (thrown_ends (raised_once exceptions))) old new
+called-raised core table callee k exit_unknowns found exceptions old middle new are first second =
     let program : Program = program_of core in
-    let one : List NamedConstraint = flow_if found.arith (inner_atom k ∷ named_atoms (call_atoms program callee (Throw 0))) (takers (Throw 0)) in
-    let two : List NamedConstraint = flow_if found.bounds (inner_atom k ∷ named_atoms (call_atoms program callee (Throw 1))) (takers (Throw 1)) in
-    added-same core table (call_flows program callee k takers (thrown_ends (raised_once exceptions))) (one ++ two) old new
-    (ap (λ es. call_flows program callee k takers (thrown_ends es)) (raised-once found exceptions are) ∙ called-list program callee k takers found.arith found.bounds)
+    let one : List NamedConstraint = flow_if found.arith (inner_atom k ∷ named_atoms (call_atoms program callee (Throw 0))) (exit_unknowns (Throw 0)) in
+    let two : List NamedConstraint = flow_if found.bounds (inner_atom k ∷ named_atoms (call_atoms program callee (Throw 1))) (exit_unknowns (Throw 1)) in
+    added-same core table (call_flows program callee k exit_unknowns (thrown_ends (raised_once exceptions))) (one ++ two) old new
+    (ap (λ es. call_flows program callee k exit_unknowns (thrown_ends es)) (raised-once found exceptions are) ∙ called-list program callee k exit_unknowns found.arith found.bounds)
     (added-then core table one two old middle new first second)

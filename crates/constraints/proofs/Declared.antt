@@ -1,4 +1,4 @@
--- The takers of declared exceptions, and the demands on them.
+-- The exit unknowns of declared exceptions, and the demands on them.
 use Rattle.std.proofs.Common.{◌≡◌, refl, sym, ap, ◌∙◌, subst, ℕ, suc, ◌+◌, ◌<◌, ◌≤◌, List, [], ◌∷◌, ◌++◌, map, take, length, get_or, Bool, true, false, arith, eq-eqb, eqb-true}
 use Rattle.std.specs.Prelude.{Some, None, if◌then◌else◌, ◌==◌, ◌||◌}
 use Rattle.std.proofs.lemmas.Bool.{lt-ltb, le-ltb, or_right}
@@ -17,16 +17,16 @@ use Rattle.gathering.specs.Names.{NamedConstraint}
 use Rattle.gathering.specs.Walk.{at_end, declares, inner_atom, nowhere, rule_constraint, thrown_constraints, thrown_number}
 use Rattle.constraints.specs.Added.{AreAdded, Stored}
 use Rattle.constraints.specs.LeftSides.{scope_of}
-use Rattle.constraints.specs.Procedures.{AreDeclaredTakers, declared_entry, end_takers_of, number_in}
-use Rattle.constraints.specs.Takers.{AreWithin, entry_after, no_entry, taker_of, takers_of}
-use Rattle.constraints.specs.declared.takers.Taker.{Taker}
+use Rattle.constraints.specs.Procedures.{AreDeclaredExitUnknowns, declared_entry, end_exit_unknowns_of, number_in}
+use Rattle.constraints.specs.ExitUnknowns.{AreWithin, entry_after, no_entry, exit_unknown_of, exit_unknowns_of}
+use Rattle.constraints.specs.declared.exit_unknowns.ExitUnknown.{ExitUnknown}
 use Rattle.constraints.proofs.Added.{added-same, added-then}
 
-abbrev entry_at : (n level : ℕ) → Taker
+abbrev entry_at : (n level : ℕ) → ExitUnknown
 entry_at n level = record { number = n; level = level }
 
 -- ---- one more
-declared-append : (xs : List ThrownEntry) (x : ThrownEntry) (n level e : ℕ) (old : Taker) → (old.level == level) ≡ false
+declared-append : (xs : List ThrownEntry) (x : ThrownEntry) (n level e : ℕ) (old : ExitUnknown) → (old.level == level) ≡ false
     → declared_entry (xs ++ x ∷ []) n level e old ≡ entry_after x.exception (entry_at (n + length xs) level) e (declared_entry xs n level e old)
 declared-append [] x n level e old free =
     let same : n + 0 ≡ n = omega arith in
@@ -57,7 +57,7 @@ declared-append (y ∷ xs) x n level e old free =
     go true rest = taken (e == x.exception)
     go false rest = rest ∙ ap (λ k. entry_after x.exception (entry_at k level) e (declared_entry xs (suc n) level e old)) total
 
-pub declared-next : (labels : List Label) (throws : List Thrown) (i : ℕ) (x : Thrown) (n number level e : ℕ) (before after old : Taker)
+pub declared-next : (labels : List Label) (throws : List Thrown) (i : ℕ) (x : Thrown) (n number level e : ℕ) (before after old : ExitUnknown)
     → i < length throws → x ≡ get_or throws i x → number ≡ n + i → (old.level == level) ≡ false
     → before ≡ declared_entry (map (thrown_entry labels) (take i throws)) n level e old
     → after ≡ entry_after x.exception (entry_at number level) e before
@@ -72,52 +72,52 @@ declared-next labels throws i x n number level e before after old inside is coun
     ∙ ap (λ list. declared_entry list n level e old) (sym (map_next (thrown_entry labels) throws i x inside is)))))
 
 -- a level that no entry has
-pub level-free : (barrier level : ℕ) (old : Taker) → barrier < level → old.level ≤ barrier → (old.level == level) ≡ false
+pub level-free : (barrier level : ℕ) (old : ExitUnknown) → barrier < level → old.level ≤ barrier → (old.level == level) ≡ false
 level-free barrier level old below within = go (old.level == level) refl
   where
     go : (b : Bool) → (old.level == level) ≡ b → b ≡ false
     go true is = let same : old.level ≡ level = eqb-true old.level level is in absurd (omega (arith, same, below, within))
     go false is = refl
 
--- ---- the takers of a procedure's ends
-declared-taker : (throws : List ThrownEntry) (n barrier level e : ℕ) (old : Taker) → barrier < level → old.level ≤ barrier
-    → taker_of barrier (declared_entry throws n level e old) ≡ (if declares throws e then Some (thrown_number throws n e) else None)
-declared-taker [] n barrier level e old below within = ap (λ b. if b then Some old.number else None) (le-ltb barrier old.level within)
-declared-taker (x ∷ xs) n barrier level e old below within =
-    go (e == x.exception) (declared-taker xs (suc n) barrier level e old below within)
+-- ---- the exit unknowns of a procedure's ends
+declared-exit_unknown : (throws : List ThrownEntry) (n barrier level e : ℕ) (old : ExitUnknown) → barrier < level → old.level ≤ barrier
+    → exit_unknown_of barrier (declared_entry throws n level e old) ≡ (if declares throws e then Some (thrown_number throws n e) else None)
+declared-exit_unknown [] n barrier level e old below within = ap (λ b. if b then Some old.number else None) (le-ltb barrier old.level within)
+declared-exit_unknown (x ∷ xs) n barrier level e old below within =
+    go (e == x.exception) (declared-exit_unknown xs (suc n) barrier level e old below within)
   where
     go : (test : Bool)
-        → taker_of barrier (declared_entry xs (suc n) level e old) ≡ (if declares xs e then Some (thrown_number xs (suc n) e) else None)
-        → taker_of barrier (if test then entry_at n level else declared_entry xs (suc n) level e old)
+        → exit_unknown_of barrier (declared_entry xs (suc n) level e old) ≡ (if declares xs e then Some (thrown_number xs (suc n) e) else None)
+        → exit_unknown_of barrier (if test then entry_at n level else declared_entry xs (suc n) level e old)
         ≡ (if test || declares xs e then Some (if test then n else thrown_number xs (suc n) e) else None)
     go true rest = ap (λ b. if b then Some n else None) (lt-ltb barrier level below)
     go false rest = rest
 
-pub takers-at-end : (throws : List ThrownEntry) (n barrier level : ℕ) (only : Bool) (old new : List Taker) → barrier < level → AreWithin barrier old
-    → AreWithin level new → AreDeclaredTakers throws (suc n) level old new
-    → takers_of (end_takers_of n barrier level only) new ≡ (if only then nowhere else at_end n throws)
-takers-at-end throws n barrier level true old new below within levelled taken = λ i exit. each exit i
+pub exit_unknowns-at-end : (throws : List ThrownEntry) (n barrier level : ℕ) (only : Bool) (old new : List ExitUnknown) → barrier < level → AreWithin barrier old
+    → AreWithin level new → AreDeclaredExitUnknowns throws (suc n) level old new
+    → exit_unknowns_of (end_exit_unknowns_of n barrier level only) new ≡ (if only then nowhere else at_end n throws)
+exit_unknowns-at-end throws n barrier level true old new below within levelled taken = λ i exit. each exit i
   where
-    each : (exit : Exit) → takers_of (end_takers_of n barrier level true) new exit ≡ nowhere exit
+    each : (exit : Exit) → exit_unknowns_of (end_exit_unknowns_of n barrier level true) new exit ≡ nowhere exit
     each Normal = refl
     each Return = refl
     each Break = refl
     each Continue = refl
     each (Throw e) =
-        let entry : Taker = get_or new e no_entry in
+        let entry : ExitUnknown = get_or new e no_entry in
         ap (λ b. if b then Some entry.number else None) (le-ltb level entry.level (levelled e))
-takers-at-end throws n barrier level false old new below within levelled taken = λ i exit. each exit i
+exit_unknowns-at-end throws n barrier level false old new below within levelled taken = λ i exit. each exit i
   where
-    each : (exit : Exit) → takers_of (end_takers_of n barrier level false) new exit ≡ at_end n throws exit
+    each : (exit : Exit) → exit_unknowns_of (end_exit_unknowns_of n barrier level false) new exit ≡ at_end n throws exit
     each Normal = refl
     each Return = refl
     each Break = refl
     each Continue = refl
     each (Throw e) =
-        ap (taker_of barrier) (taken e) ∙ declared-taker throws (suc n) barrier level e (get_or old e no_entry) below (within e)
+        ap (exit_unknown_of barrier) (taken e) ∙ declared-exit_unknown throws (suc n) barrier level e (get_or old e no_entry) below (within e)
 
 -- no level is above that of the procedure
-declared-within : (throws : List ThrownEntry) (n level e : ℕ) (old : Taker) → old.level ≤ level → (declared_entry throws n level e old).level ≤ level
+declared-within : (throws : List ThrownEntry) (n level e : ℕ) (old : ExitUnknown) → old.level ≤ level → (declared_entry throws n level e old).level ≤ level
 declared-within [] n level e old within = within
 declared-within (x ∷ xs) n level e old within = go (e == x.exception) (declared-within xs (suc n) level e old within)
   where
@@ -125,14 +125,14 @@ declared-within (x ∷ xs) n level e old within = go (e == x.exception) (declare
     go true rest = omega arith
     go false rest = rest
 
-pub taken-within : (throws : List ThrownEntry) (n barrier level : ℕ) (old new : List Taker) → barrier ≤ level → AreWithin barrier old
-    → AreDeclaredTakers throws n level old new → AreWithin level new
+pub taken-within : (throws : List ThrownEntry) (n barrier level : ℕ) (old new : List ExitUnknown) → barrier ≤ level → AreWithin barrier old
+    → AreDeclaredExitUnknowns throws n level old new → AreWithin level new
 taken-within throws n barrier level old new below within taken = λ e.
     let had : (get_or old e no_entry).level ≤ barrier = within e in
-    subst (λ (entry : Taker). entry.level ≤ level) (sym (taken e)) (declared-within throws n level e (get_or old e no_entry) (omega (arith, had, below)))
+    subst (λ (entry : ExitUnknown). entry.level ≤ level) (sym (taken e)) (declared-within throws n level e (get_or old e no_entry) (omega (arith, had, below)))
 
 -- ---- the demands on declared exceptions
-declared-number : (throws : List ThrownEntry) (n level e : ℕ) (old : Taker) → declares throws e ≡ true
+declared-number : (throws : List ThrownEntry) (n level e : ℕ) (old : ExitUnknown) → declares throws e ≡ true
     → (declared_entry throws n level e old).number ≡ thrown_number throws n e
 declared-number [] n level e old is = absurd (cc)
 declared-number (x ∷ xs) n level e old is = go (e == x.exception) (declared-number xs (suc n) level e old) is
@@ -151,11 +151,11 @@ thrown-same scope f g (x ∷ xs) same =
     ∙ ap (λ cs. rule_constraint scope (here scope).at 13 (inner_atom (g x.exception) ∷ []) (ToThrown scope.number x.exception) ++ cs)
     (thrown-same scope f g xs (λ e has. same e (or_right (e == x.exception) (declares xs e) has)))
 
-pub thrown-numbers : (scope : Scope) (throws : List ThrownEntry) (n level : ℕ) (old new : List Taker) → AreDeclaredTakers throws n level old new
+pub thrown-numbers : (scope : Scope) (throws : List ThrownEntry) (n level : ℕ) (old new : List ExitUnknown) → AreDeclaredExitUnknowns throws n level old new
     → thrown_constraints scope (number_in new) throws ≡ thrown_constraints scope (λ x. thrown_number throws n x) throws
 thrown-numbers scope throws n level old new taken =
     thrown-same scope (number_in new) (λ x. thrown_number throws n x) throws
-    (λ e has. ap (λ (entry : Taker). entry.number) (taken e) ∙ declared-number throws n level e (get_or old e no_entry) has)
+    (λ e has. ap (λ (entry : ExitUnknown). entry.number) (taken e) ∙ declared-number throws n level e (get_or old e no_entry) has)
 
 thrown-append : (scope : Scope) (f : ℕ → ℕ) (xs : List ThrownEntry) (x : ThrownEntry)
     → thrown_constraints scope f (xs ++ x ∷ [])

@@ -24,15 +24,15 @@ use Rattle.solver.specs.declared.constraints.Atom.{Atom}
 use Rattle.constraints.specs.Added.{IsPart}
 use Rattle.constraints.specs.Journals.{IsUpToDate, moments_at, noted_all}
 use Rattle.constraints.specs.LeftSides.{scope_of}
-use Rattle.constraints.specs.Takers.{AreLevelled, AreWithin, no_entry, takers_around, takers_of, undone}
+use Rattle.constraints.specs.ExitUnknowns.{AreLevelled, AreWithin, no_entry, exit_unknowns_around, exit_unknowns_of, undone}
 use Rattle.constraints.specs.Thinned.{AreNoted}
 use Rattle.constraints.specs.Walks.{IsSimple, loop_head_constraints}
 use Rattle.constraints.specs.Walked.{AreHandlersWalked, AreStatementsWalked, HasPassed, IsBlockWalked, IsFormWalked, IsStatementWalked, IsTried, IsWalked, branch_constraints, step_constraints}
 use Rattle.constraints.specs.declared.around.Around.{Around}
 use Rattle.constraints.specs.declared.pieces.Tried.{Tried}
 use Rattle.constraints.specs.declared.progress.Progress.{Progress}
-use Rattle.constraints.specs.declared.takers.Taker.{Taker}
-use Rattle.constraints.specs.declared.takers.Takers.{Takers}
+use Rattle.constraints.specs.declared.exit_unknowns.ExitUnknown.{ExitUnknown}
+use Rattle.constraints.specs.declared.exit_unknowns.ExitUnknowns.{ExitUnknowns}
 use Rattle.constraints.proofs.InContext.{gathered-around}
 use Rattle.constraints.proofs.Noted.{handled-ones, noted-journal}
 use Rattle.constraints.proofs.SavedEntries.{undone-length}
@@ -46,79 +46,79 @@ append-four a b c d e =
 
 module _ (core : Core) (table : List Label) (entries : List Exits) (procedure : ℕ) where
   -- a block that is reached at a pc of its own, or at this one
-  pub block-at : (pc own : Atom) (named : NamedAtom) (takers : Takers) (meant : walk.Takers) (block : Block) (left : List Exits) (old new : Progress) (thrown : List Taker) (number : ℕ)
-      → IsPart core table named own → old.thrown.items ≡ thrown → old.number ≡ number → AreLevelled takers thrown → takers_of takers thrown ≡ meant
+  pub block-at : (pc own : Atom) (named : NamedAtom) (exit_unknowns : ExitUnknowns) (meant : walk.ExitUnknowns) (block : Block) (left : List Exits) (old new : Progress) (thrown : List ExitUnknown) (number : ℕ)
+      → IsPart core table named own → old.thrown.items ≡ thrown → old.number ≡ number → AreLevelled exit_unknowns thrown → exit_unknowns_of exit_unknowns thrown ≡ meant
       → drop old.index entries ≡ map exits_of (block_paths (program_of core) block) ++ left
-      → IsBlockWalked core table entries procedure own takers block old new
+      → IsBlockWalked core table entries procedure own exit_unknowns block old new
       → HasPassed core table entries pc (λ other. inner_block (scope_of core procedure) named meant number block) (made_by_block block) left old new
-  block-at pc own named takers meant block left old new thrown number stands thrown_is number_is levelled meant_is before walked =
+  block-at pc own named exit_unknowns meant block left old new thrown number stands thrown_is number_is levelled meant_is before walked =
       passed-same core table entries pc (λ other. inner_block (scope_of core procedure) named meant number block)
-      (λ other. inner_block (scope_of core procedure) named (takers_of takers thrown) number block) (made_by_block block) (made_by_block block) left old new
+      (λ other. inner_block (scope_of core procedure) named (exit_unknowns_of exit_unknowns thrown) number block) (made_by_block block) (made_by_block block) left old new
       (λ other. ap (λ t. inner_block (scope_of core procedure) named t number block) (sym meant_is)) refl
-      (passed-at core table entries pc own named (λ other. inner_block (scope_of core procedure) other (takers_of takers thrown) number block) (made_by_block block) left old new stands
-      (walked-on core table entries own takers (block_paths (program_of core) block)
-      (λ t k other. inner_block (scope_of core procedure) other (takers_of takers t) k block) (made_by_block block) left old new thrown number thrown_is number_is levelled before walked))
+      (passed-at core table entries pc own named (λ other. inner_block (scope_of core procedure) other (exit_unknowns_of exit_unknowns thrown) number block) (made_by_block block) left old new stands
+      (walked-on core table entries own exit_unknowns (block_paths (program_of core) block)
+      (λ t k other. inner_block (scope_of core procedure) other (exit_unknowns_of exit_unknowns t) k block) (made_by_block block) left old new thrown number thrown_is number_is levelled before walked))
 
-  pub block-on : (pc : Atom) (takers : Takers) (meant : walk.Takers) (block : Block) (left : List Exits) (old new : Progress) (thrown : List Taker) (number : ℕ)
-      → old.thrown.items ≡ thrown → old.number ≡ number → AreLevelled takers thrown → takers_of takers thrown ≡ meant
+  pub block-on : (pc : Atom) (exit_unknowns : ExitUnknowns) (meant : walk.ExitUnknowns) (block : Block) (left : List Exits) (old new : Progress) (thrown : List ExitUnknown) (number : ℕ)
+      → old.thrown.items ≡ thrown → old.number ≡ number → AreLevelled exit_unknowns thrown → exit_unknowns_of exit_unknowns thrown ≡ meant
       → drop old.index entries ≡ map exits_of (block_paths (program_of core) block) ++ left
-      → IsBlockWalked core table entries procedure pc takers block old new
+      → IsBlockWalked core table entries procedure pc exit_unknowns block old new
       → HasPassed core table entries pc (λ named. inner_block (scope_of core procedure) named meant number block) (made_by_block block) left old new
-  block-on pc takers meant block left old new thrown number thrown_is number_is levelled meant_is before walked =
+  block-on pc exit_unknowns meant block left old new thrown number thrown_is number_is levelled meant_is before walked =
       passed-same core table entries pc (λ named. inner_block (scope_of core procedure) named meant number block)
-      (λ named. inner_block (scope_of core procedure) named (takers_of takers thrown) number block) (made_by_block block) (made_by_block block) left old new
+      (λ named. inner_block (scope_of core procedure) named (exit_unknowns_of exit_unknowns thrown) number block) (made_by_block block) (made_by_block block) left old new
       (λ named. ap (λ t. inner_block (scope_of core procedure) named t number block) (sym meant_is)) refl
-      (walked-on core table entries pc takers (block_paths (program_of core) block)
-      (λ t k named. inner_block (scope_of core procedure) named (takers_of takers t) k block) (made_by_block block) left old new thrown number thrown_is number_is levelled before walked)
+      (walked-on core table entries pc exit_unknowns (block_paths (program_of core) block)
+      (λ t k named. inner_block (scope_of core procedure) named (exit_unknowns_of exit_unknowns t) k block) (made_by_block block) left old new thrown number thrown_is number_is levelled before walked)
 
-  pub if-walked : (at : ℕ) (e : Expression) (yes_block no_block : Block) (pc inner : Atom) (takers : Takers) (number : ℕ) (old begun middle new : Progress)
+  pub if-walked : (at : ℕ) (e : Expression) (then_block else_block : Block) (pc inner : Atom) (exit_unknowns : ExitUnknowns) (number : ℕ) (old begun middle new : Progress)
       → number ≡ old.number → IsPart core table (inner_atom number) inner
-      → IsWalked core table entries pc takers [] (λ named. branch_constraints (scope_of core procedure) named (takers_of takers old.thrown.items) old.number e) 1 old begun
-      → IsBlockWalked core table entries procedure inner takers yes_block begun middle
-      → IsBlockWalked core table entries procedure inner takers no_block middle new
-      → IsFormWalked core table entries procedure pc takers (If at e yes_block no_block) old new
-  if-walked at e yes_block no_block pc inner takers number old begun middle new number_is stands head chosen other = λ left before levelled.
+      → IsWalked core table entries pc exit_unknowns [] (λ named. branch_constraints (scope_of core procedure) named (exit_unknowns_of exit_unknowns old.thrown.items) old.number e) 1 old begun
+      → IsBlockWalked core table entries procedure inner exit_unknowns then_block begun middle
+      → IsBlockWalked core table entries procedure inner exit_unknowns else_block middle new
+      → IsFormWalked core table entries procedure pc exit_unknowns (If at e then_block else_block) old new
+  if-walked at e then_block else_block pc inner exit_unknowns number old begun middle new number_is stands head chosen other = λ left before levelled.
       let program : Program = program_of core in
       let scope : Scope = scope_of core procedure in
-      let t : walk.Takers = takers_of takers old.thrown.items in
+      let t : walk.ExitUnknowns = exit_unknowns_of exit_unknowns old.thrown.items in
       let n : ℕ = old.number in
       let part : IsPart core table (inner_atom n) inner = subst (λ k. IsPart core table (inner_atom k) inner) number_is stands in
       let branch : NamedAtom → List NamedConstraint = λ named. branch_constraints scope named t n e in
-      let first : List NamedConstraint = inner_block scope (inner_atom n) t (suc n) yes_block in
-      let second : List NamedConstraint = inner_block scope (inner_atom n) t (suc n + made_by_block yes_block) no_block in
-      let rest : List Exits = map exits_of (block_paths program no_block) ++ left in
-      let one : HasPassed core table entries pc branch 1 (map exits_of (block_paths program yes_block) ++ rest) old begun =
-      head (map exits_of (block_paths program yes_block) ++ rest)
-      (paths-then (block_paths program yes_block) (block_paths program no_block) (drop old.index entries) left before) levelled in
-      let two : HasPassed core table entries pc (λ named. first) (made_by_block yes_block) rest begun middle =
-      block-at pc inner (inner_atom n) takers t yes_block rest begun middle old.thrown.items (suc n) part one.thrown_is (omega (arith, one.number_is)) levelled refl one.entries_left chosen in
-      let three : HasPassed core table entries pc (λ named. second) (made_by_block no_block) left middle new =
-      block-at pc inner (inner_atom n) takers t no_block left middle new old.thrown.items (suc n + made_by_block yes_block) part (two.thrown_is ∙ one.thrown_is)
+      let first : List NamedConstraint = inner_block scope (inner_atom n) t (suc n) then_block in
+      let second : List NamedConstraint = inner_block scope (inner_atom n) t (suc n + made_by_block then_block) else_block in
+      let rest : List Exits = map exits_of (block_paths program else_block) ++ left in
+      let one : HasPassed core table entries pc branch 1 (map exits_of (block_paths program then_block) ++ rest) old begun =
+      head (map exits_of (block_paths program then_block) ++ rest)
+      (paths-then (block_paths program then_block) (block_paths program else_block) (drop old.index entries) left before) levelled in
+      let two : HasPassed core table entries pc (λ named. first) (made_by_block then_block) rest begun middle =
+      block-at pc inner (inner_atom n) exit_unknowns t then_block rest begun middle old.thrown.items (suc n) part one.thrown_is (omega (arith, one.number_is)) levelled refl one.entries_left chosen in
+      let three : HasPassed core table entries pc (λ named. second) (made_by_block else_block) left middle new =
+      block-at pc inner (inner_atom n) exit_unknowns t else_block left middle new old.thrown.items (suc n + made_by_block then_block) part (two.thrown_is ∙ one.thrown_is)
       (omega (arith, one.number_is, two.number_is)) levelled refl two.entries_left other in
-      passed-same core table entries pc (λ named. statement_constraints scope named t n (If at e yes_block no_block)) (λ named. branch named ++ (first ++ second))
-      (suc (made_by_block yes_block + made_by_block no_block)) (1 + (made_by_block yes_block + made_by_block no_block)) left old new
+      passed-same core table entries pc (λ named. statement_constraints scope named t n (If at e then_block else_block)) (λ named. branch named ++ (first ++ second))
+      (suc (made_by_block then_block + made_by_block else_block)) (1 + (made_by_block then_block + made_by_block else_block)) left old new
       (λ named. sym (append_assoc (inner_constraint (named ∷ named_atoms (value_label scope e)) n)
       (raised_flows (named ∷ named_atoms (raise_atoms scope e)) t (raises e)) (first ++ second))) (omega arith)
-      (passed-then core table entries pc branch (λ named. first ++ second) 1 (made_by_block yes_block + made_by_block no_block) (map exits_of (block_paths program yes_block) ++ rest) left old begun new one
-      (passed-then core table entries pc (λ named. first) (λ named. second) (made_by_block yes_block) (made_by_block no_block) rest left begun middle new two three))
+      (passed-then core table entries pc branch (λ named. first ++ second) 1 (made_by_block then_block + made_by_block else_block) (map exits_of (block_paths program then_block) ++ rest) left old begun new one
+      (passed-then core table entries pc (λ named. first) (λ named. second) (made_by_block then_block) (made_by_block else_block) rest left begun middle new two three))
 
-  pub while-walked : (at loop : ℕ) (e : Expression) (body : Block) (pc inside : Atom) (takers inner : Takers) (number back : ℕ) (old begun middle new : Progress)
+  pub while-walked : (at loop : ℕ) (e : Expression) (body : Block) (pc inside : Atom) (exit_unknowns inner : ExitUnknowns) (number back : ℕ) (old begun middle new : Progress)
       → number ≡ old.number → back ≡ old.number + 1 → IsPart core table (inner_atom number) inside
-      → ((thrown : List Taker) → takers_of inner thrown ≡ in_loop back (takers_of takers thrown))
-      → ((thrown : List Taker) → AreLevelled takers thrown → AreLevelled inner thrown)
-      → IsWalked core table entries pc takers [] (λ named. loop_head_constraints (scope_of core procedure) named (takers_of takers old.thrown.items) old.number at loop e) 2 old begun
+      → ((thrown : List ExitUnknown) → exit_unknowns_of inner thrown ≡ in_loop back (exit_unknowns_of exit_unknowns thrown))
+      → ((thrown : List ExitUnknown) → AreLevelled exit_unknowns thrown → AreLevelled inner thrown)
+      → IsWalked core table entries pc exit_unknowns [] (λ named. loop_head_constraints (scope_of core procedure) named (exit_unknowns_of exit_unknowns old.thrown.items) old.number at loop e) 2 old begun
       → IsBlockWalked core table entries procedure inside inner body begun middle
-      → ((other : Atom) (any : Takers) → IsWalked core table entries other any [] (λ named. rule_constraint (scope_of core procedure) at 8 (inner_atom back ∷ []) (ToLoop procedure loop)) 0 middle new)
-      → IsFormWalked core table entries procedure pc takers (While at loop e body) old new
-  while-walked at loop e body pc inside takers inner number back old begun middle new number_is back_is stands takers_are levels_are head walked turn = λ left before levelled.
+      → ((other : Atom) (any : ExitUnknowns) → IsWalked core table entries other any [] (λ named. rule_constraint (scope_of core procedure) at 8 (inner_atom back ∷ []) (ToLoop procedure loop)) 0 middle new)
+      → IsFormWalked core table entries procedure pc exit_unknowns (While at loop e body) old new
+  while-walked at loop e body pc inside exit_unknowns inner number back old begun middle new number_is back_is stands exit_unknowns_are levels_are head walked loop_atom = λ left before levelled.
       let program : Program = program_of core in
       let scope : Scope = scope_of core procedure in
-      let t : walk.Takers = takers_of takers old.thrown.items in
+      let t : walk.ExitUnknowns = exit_unknowns_of exit_unknowns old.thrown.items in
       let n : ℕ = old.number in
       let turn_atom : NamedAtom = renamed Real (label_of program (ToLoop procedure loop)) in
       let back_number : back ≡ suc n = omega (arith, back_is) in
       let part : IsPart core table (inner_atom n) inside = subst (λ k. IsPart core table (inner_atom k) inside) number_is stands in
-      let meant : takers_of inner old.thrown.items ≡ in_loop (suc n) t = takers_are old.thrown.items ∙ ap (λ k. in_loop k t) back_number in
+      let meant : exit_unknowns_of inner old.thrown.items ≡ in_loop (suc n) t = exit_unknowns_are old.thrown.items ∙ ap (λ k. in_loop k t) back_number in
       let opening : NamedAtom → List NamedConstraint = λ named. loop_head_constraints scope named t n at loop e in
       let inside_it : List NamedConstraint = inner_block scope (inner_atom n) (in_loop (suc n) t) (suc (suc n)) body in
       let turning : ℕ → List NamedConstraint = λ k. rule_constraint scope at 8 (inner_atom k ∷ []) (ToLoop procedure loop) in
@@ -129,7 +129,7 @@ module _ (core : Core) (table : List Label) (entries : List Exits) (procedure : 
       (levels_are old.thrown.items levelled) meant one.entries_left walked in
       let three : HasPassed core table entries pc (λ named. turning (suc n)) 0 left middle new =
       passed-same core table entries pc (λ named. turning (suc n)) (λ named. turning back) 0 0 left middle new (λ named. ap turning (sym back_number)) refl
-      (turn pc takers left two.entries_left (levels-same takers old.thrown.items middle.thrown.items (two.thrown_is ∙ one.thrown_is) levelled)) in
+      (loop_atom pc exit_unknowns left two.entries_left (levels-same exit_unknowns old.thrown.items middle.thrown.items (two.thrown_is ∙ one.thrown_is) levelled)) in
       passed-same core table entries pc (λ named. statement_constraints scope named t n (While at loop e body)) (λ named. opening named ++ (inside_it ++ turning (suc n)))
       (suc (suc (made_by_block body))) (2 + (made_by_block body + 0)) left old new
       (λ named. sym (append-four (rule_constraint scope at 8 (named ∷ []) (ToLoop procedure loop))
@@ -138,9 +138,9 @@ module _ (core : Core) (table : List Label) (entries : List Exits) (procedure : 
       (passed-then core table entries pc opening (λ named. inside_it ++ turning (suc n)) 2 (made_by_block body + 0) (map exits_of (block_paths program body) ++ left) left old begun new one
       (passed-then core table entries pc (λ named. inside_it) (λ named. turning (suc n)) (made_by_block body) 0 left left begun middle new two three))
 
-  pub try-walked : (at : ℕ) (block : Block) (handlers : List Handler) (pc : Atom) (takers : Takers) (tried : Tried) (noting : List Taker) (old begun middle after new : Progress)
-      → IsTried takers handlers old begun tried
-      → IsBlockWalked core table entries procedure pc tried.takers block begun middle
+  pub try-walked : (at : ℕ) (block : Block) (handlers : List Handler) (pc : Atom) (exit_unknowns : ExitUnknowns) (tried : Tried) (noting : List ExitUnknown) (old begun middle after new : Progress)
+      → IsTried exit_unknowns handlers old begun tried
+      → IsBlockWalked core table entries procedure pc tried.exit_unknowns block begun middle
       → after.index ≡ middle.index → after.number ≡ middle.number → after.constraints.items ≡ middle.constraints.items
       → after.thrown.items ≡ undone tried.saved.items middle.thrown.items
       → after.journal.calls ≡ middle.journal.calls
@@ -148,12 +148,12 @@ module _ (core : Core) (table : List Label) (entries : List Exits) (procedure : 
       (map (λ (handler : Handler). handler.exception) handlers) x (moments_at middle.journal.moments.items x))
       → length after.journal.moments.items ≡ length middle.journal.moments.items → noting ≡ after.thrown.items
       → ((number : ℕ → ℕ) (other : Atom) → tried.numbers.items ≡ map (λ (handler : Handler). number handler.exception) handlers
-      → AreHandlersWalked core table entries procedure other takers number (handlers_of handlers) after new)
-      → IsFormWalked core table entries procedure pc takers (Try at block (handlers_of handlers)) old new
-  try-walked at block list pc takers tried noting old begun middle after new begins walked index_is number_is constraints_are thrown_is calls moments counted noted_are handled = λ left before levelled.
+      → AreHandlersWalked core table entries procedure other exit_unknowns number (handlers_of handlers) after new)
+      → IsFormWalked core table entries procedure pc exit_unknowns (Try at block (handlers_of handlers)) old new
+  try-walked at block list pc exit_unknowns tried noting old begun middle after new begins walked index_is number_is constraints_are thrown_is calls moments counted noted_are handled = λ left before levelled.
       let program : Program = program_of core in
       let scope : Scope = scope_of core procedure in
-      let t : walk.Takers = takers_of takers old.thrown.items in
+      let t : walk.ExitUnknowns = exit_unknowns_of exit_unknowns old.thrown.items in
       let n : ℕ = old.number in
       let handlers : Handlers = handlers_of list in
       let number : ℕ → ℕ = handler_number handlers n in
@@ -162,8 +162,8 @@ module _ (core : Core) (table : List Label) (entries : List Exits) (procedure : 
       let trying : NamedAtom → List NamedConstraint = λ named. inner_block scope named (in_try number handlers t) (n + count) block in
       let handling : List NamedConstraint = handlers_constraints scope number t ((n + count) + made_by_block block) handlers in
       let inner : HasPassed core table entries pc trying (made_by_block block) rest begun middle =
-      block-on pc tried.takers (in_try number handlers t) block rest begun middle begun.thrown.items (n + count) refl begins.number_is
-      (begins.taken levelled).levels_are (begins.taken levelled).takers_are
+      block-on pc tried.exit_unknowns (in_try number handlers t) block rest begun middle begun.thrown.items (n + count) refl begins.number_is
+      (begins.taken levelled).levels_are (begins.taken levelled).exit_unknowns_are
       (ap (λ i. drop i entries) begins.index_is ∙ paths-then (block_paths program block) (handlers_paths program handlers) (drop old.index entries) left before) walked in
       let back : after.thrown.items ≡ old.thrown.items = thrown_is ∙ (ap (undone tried.saved.items) inner.thrown_is ∙ begins.saved_is) in
       let others : (x : ℕ) → handles handlers x ≡ false → slice_index_or after.thrown.items x no_entry ≡ slice_index_or middle.thrown.items x no_entry = λ x none.
@@ -182,7 +182,7 @@ module _ (core : Core) (table : List Label) (entries : List Exits) (procedure : 
         thrown_is = back;
       } in
       let two : HasPassed core table entries pc (λ named. handling) (made_by_handlers handlers) left after new =
-      walked-on core table entries pc takers (handlers_paths program handlers) (λ thrown k named. handlers_constraints scope number (takers_of takers thrown) k handlers)
+      walked-on core table entries pc exit_unknowns (handlers_paths program handlers) (λ thrown k named. handlers_constraints scope number (exit_unknowns_of exit_unknowns thrown) k handlers)
       (made_by_handlers handlers) left after new old.thrown.items ((n + count) + made_by_block block) one.thrown_is (omega (arith, one.number_is)) levelled one.entries_left
       (handled number pc (begins.numbers_are levelled)) in
       passed-same core table entries pc (λ named. statement_constraints scope named t n (Try at block handlers)) (λ named. trying named ++ handling)
@@ -191,83 +191,83 @@ module _ (core : Core) (table : List Label) (entries : List Exits) (procedure : 
       (passed-then core table entries pc trying (λ named. handling) (count + made_by_block block) (made_by_handlers handlers) rest left old after new one two)
 
   -- a statement without inner unknowns, which takes no entry of the path map but its own
-  pub simple-walked : (tree : Statement) (pc : Atom) (takers : Takers) (around : Around) (thrown : List Taker) (old new : Progress)
+  pub simple-walked : (tree : Statement) (pc : Atom) (exit_unknowns : ExitUnknowns) (around : Around) (thrown : List ExitUnknown) (old new : Progress)
       → inner_paths (program_of core) tree ≡ [] → made_by_statement tree ≡ 0 → thrown ≡ old.thrown.items
       → new.index ≡ old.index → new.number ≡ old.number → new.thrown.items ≡ old.thrown.items → new.journal ≡ old.journal
-      → around.pc ≡ pc → takers_around around ≡ takers_of takers thrown
-      → IsSimple core table procedure around.pc (takers_around around) tree old.constraints.items new.constraints.items
-      → IsFormWalked core table entries procedure pc takers tree old new
-  simple-walked tree pc takers around thrown old new none made_none same index number thrown_is journal pc_is takers_are simple = λ left before levelled.
-      passed-same core table entries pc (λ named. statement_constraints (scope_of core procedure) named (takers_of takers old.thrown.items) old.number tree)
-      (λ named. statement_constraints (scope_of core procedure) named (takers_of takers thrown) old.number tree) (made_by_statement tree) 0 left old new
-      (λ named. ap (λ t. statement_constraints (scope_of core procedure) named (takers_of takers t) old.number tree) (sym same)) made_none
-      (alone-passed core table entries pc (λ named. statement_constraints (scope_of core procedure) named (takers_of takers thrown) old.number tree) 0 left old new
+      → around.pc ≡ pc → exit_unknowns_around around ≡ exit_unknowns_of exit_unknowns thrown
+      → IsSimple core table procedure around.pc (exit_unknowns_around around) tree old.constraints.items new.constraints.items
+      → IsFormWalked core table entries procedure pc exit_unknowns tree old new
+  simple-walked tree pc exit_unknowns around thrown old new none made_none same index number thrown_is journal pc_is exit_unknowns_are simple = λ left before levelled.
+      passed-same core table entries pc (λ named. statement_constraints (scope_of core procedure) named (exit_unknowns_of exit_unknowns old.thrown.items) old.number tree)
+      (λ named. statement_constraints (scope_of core procedure) named (exit_unknowns_of exit_unknowns thrown) old.number tree) (made_by_statement tree) 0 left old new
+      (λ named. ap (λ t. statement_constraints (scope_of core procedure) named (exit_unknowns_of exit_unknowns t) old.number tree) (sym same)) made_none
+      (alone-passed core table entries pc (λ named. statement_constraints (scope_of core procedure) named (exit_unknowns_of exit_unknowns thrown) old.number tree) 0 left old new
       (before ∙ ap (λ (paths : List (List Exit)). map exits_of paths ++ left) none) index (omega (arith, number)) thrown_is journal
-      (gathered-around core table (λ t named. statement_constraints (scope_of core procedure) named t old.number tree) around pc (takers_of takers thrown) _ _ pc_is takers_are (simple old.number)))
+      (gathered-around core table (λ t named. statement_constraints (scope_of core procedure) named t old.number tree) around pc (exit_unknowns_of exit_unknowns thrown) _ _ pc_is exit_unknowns_are (simple old.number)))
 
-  pub form-at : (s : S.Statement) (tree : Statement) (pc : Atom) (takers : Takers) (old new : Progress) → statement_of s ≡ tree
-      → IsFormWalked core table entries procedure pc takers tree old new → IsFormWalked core table entries procedure pc takers (statement_of s) old new
-  form-at s tree pc takers old new is walked = subst (λ tree'. IsFormWalked core table entries procedure pc takers tree' old new) (sym is) walked
+  pub form-at : (s : S.Statement) (tree : Statement) (pc : Atom) (exit_unknowns : ExitUnknowns) (old new : Progress) → statement_of s ≡ tree
+      → IsFormWalked core table entries procedure pc exit_unknowns tree old new → IsFormWalked core table entries procedure pc exit_unknowns (statement_of s) old new
+  form-at s tree pc exit_unknowns old new is walked = subst (λ tree'. IsFormWalked core table entries procedure pc exit_unknowns tree' old new) (sym is) walked
 
   -- a block, from its entry and its statements
-  pub block-walked : (block : Block) (pc : Atom) (takers inner : Takers) (exits : Exits) (only : Bool) (old begun new : Progress)
+  pub block-walked : (block : Block) (pc : Atom) (exit_unknowns inner : ExitUnknowns) (exits : Exits) (only : Bool) (old begun new : Progress)
       → ((first : Exits) (left : List Exits) → drop old.index entries ≡ first ∷ left → exits ≡ first)
-      → ((ends : List Exit) → IsWalked core table entries pc takers (ends ∷ []) (λ named. single (one_end ends) named (takers_of takers old.thrown.items) ends) 0 old begun)
+      → ((ends : List Exit) → IsWalked core table entries pc exit_unknowns (ends ∷ []) (λ named. single (one_end ends) named (exit_unknowns_of exit_unknowns old.thrown.items) ends) 0 old begun)
       → ((ends : List Exit) → exits ≡ exits_of ends → only ≡ one_end ends)
-      → ((thrown : List Taker) → AreLevelled takers thrown → AreLevelled inner thrown)
-      → ((thrown : List Taker) → AreWithin takers.level thrown → takers_of inner thrown ≡ within_single only (takers_of takers thrown))
+      → ((thrown : List ExitUnknown) → AreLevelled exit_unknowns thrown → AreLevelled inner thrown)
+      → ((thrown : List ExitUnknown) → AreWithin exit_unknowns.level thrown → exit_unknowns_of inner thrown ≡ within_single only (exit_unknowns_of exit_unknowns thrown))
       → AreStatementsWalked core table entries procedure pc inner block begun new
-      → IsBlockWalked core table entries procedure pc takers block old new
-  block-walked block pc takers inner exits only old begun new exits_are begins only_is levels_are takers_are walked = λ left before levelled.
+      → IsBlockWalked core table entries procedure pc exit_unknowns block old new
+  block-walked block pc exit_unknowns inner exits only old begun new exits_are begins only_is levels_are exit_unknowns_are walked = λ left before levelled.
       let program : Program = program_of core in
       let scope : Scope = scope_of core procedure in
       let ends : List Exit = block_ends program block in
-      let behind : List Exits = map exits_of (rest_paths program block) ++ left in
-      let t : walk.Takers = takers_of takers old.thrown.items in
-      let meant : takers_of inner old.thrown.items ≡ within_single (one_end ends) t =
-      takers_are old.thrown.items levelled.entries_are_within ∙ ap (λ b. within_single b t) (only_is ends (exits_are (exits_of ends) behind before)) in
-      let one : HasPassed core table entries pc (λ named. single (one_end ends) named t ends) 0 behind old begun = begins ends behind before levelled in
-      let two : HasPassed core table entries pc (λ named. block_constraints scope true named (takers_of inner old.thrown.items) old.number block) (made_by_block block) left begun new =
-      walked-on core table entries pc inner (rest_paths program block) (λ thrown k named. block_constraints scope true named (takers_of inner thrown) k block)
+      let beyond : List Exits = map exits_of (rest_paths program block) ++ left in
+      let t : walk.ExitUnknowns = exit_unknowns_of exit_unknowns old.thrown.items in
+      let meant : exit_unknowns_of inner old.thrown.items ≡ within_single (one_end ends) t =
+      exit_unknowns_are old.thrown.items levelled.entries_are_within ∙ ap (λ b. within_single b t) (only_is ends (exits_are (exits_of ends) beyond before)) in
+      let one : HasPassed core table entries pc (λ named. single (one_end ends) named t ends) 0 beyond old begun = begins ends beyond before levelled in
+      let two : HasPassed core table entries pc (λ named. block_constraints scope true named (exit_unknowns_of inner old.thrown.items) old.number block) (made_by_block block) left begun new =
+      walked-on core table entries pc inner (rest_paths program block) (λ thrown k named. block_constraints scope true named (exit_unknowns_of inner thrown) k block)
       (made_by_block block) left begun new old.thrown.items old.number one.thrown_is (omega (arith, one.number_is)) (levels_are old.thrown.items levelled) one.entries_left walked in
       passed-same core table entries pc (λ named. inner_block scope named t old.number block)
-      (λ named. single (one_end ends) named t ends ++ block_constraints scope true named (takers_of inner old.thrown.items) old.number block) (made_by_block block) (0 + made_by_block block) left old new
+      (λ named. single (one_end ends) named t ends ++ block_constraints scope true named (exit_unknowns_of inner old.thrown.items) old.number block) (made_by_block block) (0 + made_by_block block) left old new
       (λ named. ap (λ t'. single (one_end ends) named t ends ++ block_constraints scope true named t' old.number block) (sym meant)) (omega arith)
-      (passed-then core table entries pc (λ named. single (one_end ends) named t ends) (λ named. block_constraints scope true named (takers_of inner old.thrown.items) old.number block)
-      0 (made_by_block block) behind left old begun new one two)
+      (passed-then core table entries pc (λ named. single (one_end ends) named t ends) (λ named. block_constraints scope true named (exit_unknowns_of inner old.thrown.items) old.number block)
+      0 (made_by_block block) beyond left old begun new one two)
 
   -- a statement of a block, from its entry and its form
-  pub statement-walked : (tree : Statement) (pc : Atom) (takers none some inner : Takers) (exits : Exits) (only : Bool) (number : ℕ) (old begun new : Progress)
+  pub statement-walked : (tree : Statement) (pc : Atom) (exit_unknowns none some inner : ExitUnknowns) (exits : Exits) (only : Bool) (number : ℕ) (old begun new : Progress)
       → ((first : Exits) (left : List Exits) → drop old.index entries ≡ first ∷ left → exits ≡ first)
-      → ((ends : List Exit) → IsWalked core table entries pc none (ends ∷ []) (λ named. single (one_end ends) named (takers_of none old.thrown.items) ends) 0 old begun)
+      → ((ends : List Exit) → IsWalked core table entries pc none (ends ∷ []) (λ named. single (one_end ends) named (exit_unknowns_of none old.thrown.items) ends) 0 old begun)
       → ((ends : List Exit) → exits ≡ exits_of ends → only ≡ one_end ends)
-      → ((thrown : List Taker) → AreLevelled takers thrown → AreLevelled none thrown)
-      → ((thrown : List Taker) → takers_of none thrown ≡ with_normal None (takers_of takers thrown))
-      → ((thrown : List Taker) → AreLevelled takers thrown → AreLevelled some thrown)
-      → ((thrown : List Taker) → takers_of some thrown ≡ with_normal (Some number) (takers_of takers thrown))
-      → ((thrown : List Taker) → AreLevelled some thrown → AreLevelled inner thrown)
-      → ((thrown : List Taker) → AreWithin some.level thrown → takers_of inner thrown ≡ within_single only (takers_of some thrown))
+      → ((thrown : List ExitUnknown) → AreLevelled exit_unknowns thrown → AreLevelled none thrown)
+      → ((thrown : List ExitUnknown) → exit_unknowns_of none thrown ≡ with_normal None (exit_unknowns_of exit_unknowns thrown))
+      → ((thrown : List ExitUnknown) → AreLevelled exit_unknowns thrown → AreLevelled some thrown)
+      → ((thrown : List ExitUnknown) → exit_unknowns_of some thrown ≡ with_normal (Some number) (exit_unknowns_of exit_unknowns thrown))
+      → ((thrown : List ExitUnknown) → AreLevelled some thrown → AreLevelled inner thrown)
+      → ((thrown : List ExitUnknown) → AreWithin some.level thrown → exit_unknowns_of inner thrown ≡ within_single only (exit_unknowns_of some thrown))
       → IsFormWalked core table entries procedure pc inner tree begun new
-      → IsStatementWalked core table entries procedure pc takers number tree old new
-  statement-walked tree pc takers none some inner exits only number old begun new exits_are begins only_is none_levels none_is some_levels some_is levels_are takers_are walked = λ left before levelled.
+      → IsStatementWalked core table entries procedure pc exit_unknowns number tree old new
+  statement-walked tree pc exit_unknowns none some inner exits only number old begun new exits_are begins only_is none_levels none_is some_levels some_is levels_are exit_unknowns_are walked = λ left before levelled.
       let program : Program = program_of core in
       let scope : Scope = scope_of core procedure in
       let ends : List Exit = statement_ends program tree in
-      let behind : List Exits = map exits_of (inner_paths program tree) ++ left in
-      let start : List Taker = old.thrown.items in
-      let t : walk.Takers = takers_of takers start in
+      let beyond : List Exits = map exits_of (inner_paths program tree) ++ left in
+      let start : List ExitUnknown = old.thrown.items in
+      let t : walk.ExitUnknowns = exit_unknowns_of exit_unknowns start in
       let some_levelled : AreLevelled some start = some_levels start levelled in
-      let meant : takers_of inner start ≡ within_single (one_end ends) (with_normal (Some number) t) =
-      takers_are start some_levelled.entries_are_within ∙ (ap (λ b. within_single b (takers_of some start)) (only_is ends (exits_are (exits_of ends) behind before))
+      let meant : exit_unknowns_of inner start ≡ within_single (one_end ends) (with_normal (Some number) t) =
+      exit_unknowns_are start some_levelled.entries_are_within ∙ (ap (λ b. within_single b (exit_unknowns_of some start)) (only_is ends (exits_are (exits_of ends) beyond before))
       ∙ ap (within_single (one_end ends)) (some_is start)) in
-      let first : walk.Takers → NamedAtom → List NamedConstraint = λ t' named. single (one_end ends) named t' ends in
-      let second : walk.Takers → NamedAtom → List NamedConstraint = λ t' named. statement_constraints scope named t' old.number tree in
-      let one : HasPassed core table entries pc (first (takers_of none start)) 0 behind old begun = begins ends behind before (none_levels start levelled) in
-      let two : HasPassed core table entries pc (second (takers_of inner start)) (made_by_statement tree) left begun new =
-      walked-on core table entries pc inner (inner_paths program tree) (λ thrown k named. statement_constraints scope named (takers_of inner thrown) k tree)
+      let first : walk.ExitUnknowns → NamedAtom → List NamedConstraint = λ t' named. single (one_end ends) named t' ends in
+      let second : walk.ExitUnknowns → NamedAtom → List NamedConstraint = λ t' named. statement_constraints scope named t' old.number tree in
+      let one : HasPassed core table entries pc (first (exit_unknowns_of none start)) 0 beyond old begun = begins ends beyond before (none_levels start levelled) in
+      let two : HasPassed core table entries pc (second (exit_unknowns_of inner start)) (made_by_statement tree) left begun new =
+      walked-on core table entries pc inner (inner_paths program tree) (λ thrown k named. statement_constraints scope named (exit_unknowns_of inner thrown) k tree)
       (made_by_statement tree) left begun new start old.number one.thrown_is (omega (arith, one.number_is)) (levels_are start some_levelled) one.entries_left walked in
       passed-same core table entries pc (λ named. step_constraints scope named t number old.number tree)
-      (λ named. first (takers_of none start) named ++ second (takers_of inner start) named) (made_by_statement tree) (0 + made_by_statement tree) left old new
+      (λ named. first (exit_unknowns_of none start) named ++ second (exit_unknowns_of inner start) named) (made_by_statement tree) (0 + made_by_statement tree) left old new
       (λ named. ap (λ t'. first t' named ++ second (within_single (one_end ends) (with_normal (Some number) t)) named) (sym (none_is start))
-      ∙ ap (λ t'. first (takers_of none start) named ++ second t' named) (sym meant)) (omega arith)
-      (passed-then core table entries pc (first (takers_of none start)) (second (takers_of inner start)) 0 (made_by_statement tree) behind left old begun new one two)
+      ∙ ap (λ t'. first (exit_unknowns_of none start) named ++ second t' named) (sym meant)) (omega arith)
+      (passed-then core table entries pc (first (exit_unknowns_of none start)) (second (exit_unknowns_of inner start)) 0 (made_by_statement tree) beyond left old begun new one two)

@@ -20,7 +20,7 @@ pub mod Declared
 pub mod Bodies
 pub mod Ready
 pub mod Moments
-pub mod OneTaker
+pub mod OneExitUnknown
 pub mod FixedFlows
 pub mod Spread
 pub mod Paths

@@ -7,9 +7,9 @@ use Rattle.std.specs.List.Sorted.{IsPartitionedBy}
 use Rattle.std.specs.Global.{Global}
 use Rattle.std.specs.declared.vec.Vec.{Vec}
 use Rattle.constraints.specs.Journals.{AreOrdered, AreUpToCall, IsBeforeAll, entry_from, moments_at}
-use Rattle.constraints.specs.Takers.{no_entry}
+use Rattle.constraints.specs.ExitUnknowns.{no_entry}
 use Rattle.constraints.specs.declared.journal.Moment.{Moment}
-use Rattle.constraints.specs.declared.takers.Taker.{Taker}
+use Rattle.constraints.specs.declared.exit_unknowns.ExitUnknown.{ExitUnknown}
 
 pub moments-read : (rows : List (Vec Moment Global)) (i : ℕ) (d : Vec Moment Global) → i < length rows → (get_or rows i d).items ≡ moments_at rows i
 moments-read [] i d h = absurd (omega arith)
@@ -47,7 +47,7 @@ moments-more (r ∷ rows) row e each zero = each zero
 moments-more (r ∷ rows) row e each (suc k) = moments-more rows row e (λ k. each (suc k)) k
 
 -- ---- the entry at a call
-pub from-append : (xs : List Moment) (m : Moment) (call : ℕ) (old : Taker) → entry_from (xs ++ m ∷ []) call old ≡ (if nat_le m.call call then m.entry else entry_from xs call old)
+pub from-append : (xs : List Moment) (m : Moment) (call : ℕ) (old : ExitUnknown) → entry_from (xs ++ m ∷ []) call old ≡ (if nat_le m.call call then m.entry else entry_from xs call old)
 from-append [] m call old = refl
 from-append (x ∷ xs) m call old = from-append xs m call (if nat_le x.call call then x.entry else old)
 
@@ -70,21 +70,21 @@ parted call (m ∷ ms) ordered zero (suc j) d least below there =
 parted call (m ∷ ms) ordered (suc i) zero d least below there = absurd (omega arith)
 parted call (m ∷ ms) ordered (suc i) (suc j) d least below there = parted call ms ordered.1 i j d (omega arith) (omega arith) there
 
-abbrev last_from : Taker → List Moment → (k : ℕ) → Taker
+abbrev last_from : ExitUnknown → List Moment → (k : ℕ) → ExitUnknown
 last_from old [] k = old
 last_from old (m ∷ ms) zero = old
 last_from old (m ∷ ms) (suc k) = last_from m.entry ms k
 
-last-is : (call : ℕ) (old : Taker) (ms : List Moment) (k : ℕ) → AllWithin (λ m. is_up_to call m ≡ true) ms 0 k → AllWithin (λ m. is_up_to call m ≡ false) ms k (length ms)
+last-is : (call : ℕ) (old : ExitUnknown) (ms : List Moment) (k : ℕ) → AllWithin (λ m. is_up_to call m ≡ true) ms 0 k → AllWithin (λ m. is_up_to call m ≡ false) ms k (length ms)
     → entry_from ms call old ≡ last_from old ms k
 last-is call old [] zero front back = refl
 last-is call old [] (suc k) front back = refl
 last-is call old (m ∷ ms) zero front back =
-    let behind : nat_le m.call call ≡ false = back 0 m (omega arith) (omega arith) in
-    ap (λ b. entry_from ms call (if b then m.entry else old)) behind
+    let beyond : nat_le m.call call ≡ false = back 0 m (omega arith) (omega arith) in
+    ap (λ b. entry_from ms call (if b then m.entry else old)) beyond
     ∙ last-is call old ms zero (λ i d least below. absurd (omega arith)) (λ i d least below. back (suc i) d (omega arith) (omega arith)) ∙ none old ms
   where
-    none : (old : Taker) (ms : List Moment) → last_from old ms zero ≡ old
+    none : (old : ExitUnknown) (ms : List Moment) → last_from old ms zero ≡ old
     none old [] = refl
     none old (m ∷ ms) = refl
 last-is call old (m ∷ ms) (suc k) front back =
@@ -93,7 +93,7 @@ last-is call old (m ∷ ms) (suc k) front back =
     ∙ last-is call m.entry ms k (λ i d least below. front (suc i) d (omega arith) (omega arith)) (λ i d least below. back (suc i) d (omega arith) (omega arith))
 
 -- as many at two calls: the entry is the same at each call between them
-pub fixed-between : (ms : List Moment) (first last k : ℕ) → AreUpToCall first ms k → AreUpToCall last ms k → (call : ℕ) → first ≤ call → call ≤ last → (old : Taker)
+pub fixed-between : (ms : List Moment) (first last k : ℕ) → AreUpToCall first ms k → AreUpToCall last ms k → (call : ℕ) → first ≤ call → call ≤ last → (old : ExitUnknown)
     → entry_from ms call old ≡ entry_from ms first old
 fixed-between ms first last k at_first at_last call least most old =
     last-is call old ms k
@@ -101,11 +101,11 @@ fixed-between ms first last k at_first at_last call least most old =
     (λ i d l b. let e : last < (get_or ms i d).call = leb-false (get_or ms i d).call last (at_last.1 i d l b) in lt-leb (get_or ms i d).call call (omega (arith, e, most)))
     ∙ sym (last-is first old ms k at_first.0 at_first.1)
 
-last_from-suc : (old : Taker) (ms : List Moment) (k : ℕ) (d : Moment) → k < length ms → last_from old ms (suc k) ≡ (get_or ms k d).entry
+last_from-suc : (old : ExitUnknown) (ms : List Moment) (k : ℕ) (d : Moment) → k < length ms → last_from old ms (suc k) ≡ (get_or ms k d).entry
 last_from-suc old [] k d h = absurd (omega arith)
 last_from-suc old (m ∷ ms) zero d h = none m.entry ms
   where
-    none : (old : Taker) (ms : List Moment) → last_from old ms zero ≡ old
+    none : (old : ExitUnknown) (ms : List Moment) → last_from old ms zero ≡ old
     none old [] = refl
     none old (m ∷ ms) = refl
 last_from-suc old (m ∷ ms) (suc k) d h = last_from-suc m.entry ms k d (omega (arith, h))
@@ -113,7 +113,7 @@ last_from-suc old (m ∷ ms) (suc k) d h = last_from-suc m.entry ms k d (omega (
 pub found-none : (ms : List Moment) (call k : ℕ) → AreUpToCall call ms k → k ≡ 0 → no_entry ≡ entry_from ms call no_entry
 found-none ms call k at none = sym (last-is call no_entry ms k at.0 at.1 ∙ ap (last_from no_entry ms) none ∙ first no_entry ms)
   where
-    first : (old : Taker) (ms : List Moment) → last_from old ms zero ≡ old
+    first : (old : ExitUnknown) (ms : List Moment) → last_from old ms zero ≡ old
     first old [] = refl
     first old (m ∷ ms) = refl
 

@@ -20,12 +20,12 @@ use Rattle.gathering.specs.Walk.{declares}
 use Rattle.path_map.specs.Exceptions.{is_one_of}
 use Rattle.constraints.specs.Journals.{AreOrdered, AreUpTo, IsBeforeAll, IsUpToDate, entry_at, entry_from, moments_at, noted, noted_all}
 use Rattle.constraints.specs.Procedures.{declared_entry}
-use Rattle.constraints.specs.Takers.{entry_in_try, no_entry}
+use Rattle.constraints.specs.ExitUnknowns.{entry_in_try, no_entry}
 use Rattle.constraints.specs.Thinned.{AreNoted}
 use Rattle.constraints.specs.declared.journal.Called.{Called}
 use Rattle.constraints.specs.declared.journal.Journal.{Journal}
 use Rattle.constraints.specs.declared.journal.Moment.{Moment}
-use Rattle.constraints.specs.declared.takers.Taker.{Taker}
+use Rattle.constraints.specs.declared.exit_unknowns.ExitUnknown.{ExitUnknown}
 use Rattle.constraints.proofs.Moments.{from-append}
 
 -- ---- one moment more
@@ -48,7 +48,7 @@ record Fits (call : ℕ) (before now : List Moment) : Type 0 where
   ordered : AreOrdered now
   past : (c : ℕ) → c < call → entry_from now c no_entry ≡ entry_from before c no_entry
 
-fits-more : (call : ℕ) (before now : List Moment) (entry : Taker) → Fits call before now → Fits call before (now ++ (record { call = call; entry = entry }) ∷ [])
+fits-more : (call : ℕ) (before now : List Moment) (entry : ExitUnknown) → Fits call before now → Fits call before (now ++ (record { call = call; entry = entry }) ∷ [])
 fits-more call before now entry fits =
     let m : Moment = record { call = call; entry = entry } in
     record {
@@ -57,7 +57,7 @@ fits-more call before now entry fits =
       past = λ c below. from-append now m c no_entry ∙ ap (λ b. if b then entry else entry_from now c no_entry) (lt-leb call c below) ∙ fits.past c below;
     }
 
-noted-fits : (count e call : ℕ) (entry : Taker) (x : ℕ) (before now : List Moment) → Fits call before now
+noted-fits : (count e call : ℕ) (entry : ExitUnknown) (x : ℕ) (before now : List Moment) → Fits call before now
     → Fits call before (noted count e (record { call = call; entry = entry }) x now)
 noted-fits count e call entry x before now fits = go ((x == e) && nat_lt e count)
   where
@@ -65,7 +65,7 @@ noted-fits count e call entry x before now fits = go ((x == e) && nat_lt e count
     go true = fits-more call before now entry fits
     go false = fits
 
-all-fits : (count call : ℕ) (thrown : List Taker) (exceptions : List ℕ) (x : ℕ) (before now : List Moment) → Fits call before now
+all-fits : (count call : ℕ) (thrown : List ExitUnknown) (exceptions : List ℕ) (x : ℕ) (before now : List Moment) → Fits call before now
     → Fits call before (noted_all count call thrown exceptions x now)
 all-fits count call thrown [] x before now fits = fits
 all-fits count call thrown (e ∷ rest) x before now fits =
@@ -73,16 +73,16 @@ all-fits count call thrown (e ∷ rest) x before now fits =
     (noted-fits count e call (slice_index_or thrown e no_entry) x before now fits)
 
 -- the next call finds what was noted
-now-more : (call : ℕ) (now : List Moment) (entry : Taker) → entry_from (now ++ (record { call = call; entry = entry }) ∷ []) call no_entry ≡ entry
+now-more : (call : ℕ) (now : List Moment) (entry : ExitUnknown) → entry_from (now ++ (record { call = call; entry = entry }) ∷ []) call no_entry ≡ entry
 now-more call now entry =
     from-append now (record { call = call; entry = entry }) call no_entry ∙ ap (λ b. if b then entry else entry_from now call no_entry) (le-leb call call (omega arith))
 
-all-now : (count call : ℕ) (thrown : List Taker) (exceptions : List ℕ) (x : ℕ) (now : List Moment) → nat_lt x count ≡ true
+all-now : (count call : ℕ) (thrown : List ExitUnknown) (exceptions : List ℕ) (x : ℕ) (now : List Moment) → nat_lt x count ≡ true
     → (is_one_of exceptions x ≡ false → entry_from now call no_entry ≡ slice_index_or thrown x no_entry)
     → entry_from (noted_all count call thrown exceptions x now) call no_entry ≡ slice_index_or thrown x no_entry
 all-now count call thrown [] x now inside had = had refl
 all-now count call thrown (e ∷ rest) x now inside had =
-    let own : Taker = slice_index_or thrown e no_entry in
+    let own : ExitUnknown = slice_index_or thrown e no_entry in
     all-now count call thrown rest x (noted count e (record { call = call; entry = own }) x now) inside (λ none.
     by_test (x == e)
     (λ is.
@@ -95,11 +95,11 @@ all-now count call thrown (e ∷ rest) x now inside had =
     ap (λ b. entry_from (if b then now ++ (record { call = call; entry = own }) ∷ [] else now) call no_entry) not_there
     ∙ had (ap (λ b. b || is_one_of rest x) other ∙ none)))
 
-all-none : (count call : ℕ) (thrown : List Taker) (exceptions : List ℕ) (x : ℕ) (now : List Moment) → nat_lt x count ≡ false
+all-none : (count call : ℕ) (thrown : List ExitUnknown) (exceptions : List ℕ) (x : ℕ) (now : List Moment) → nat_lt x count ≡ false
     → noted_all count call thrown exceptions x now ≡ now
 all-none count call thrown [] x now outside = refl
 all-none count call thrown (e ∷ rest) x now outside =
-    let own : Taker = slice_index_or thrown e no_entry in
+    let own : ExitUnknown = slice_index_or thrown e no_entry in
     ap (noted_all count call thrown rest x)
     (by_test (x == e)
     (λ is.
@@ -112,7 +112,7 @@ all-none count call thrown (e ∷ rest) x now outside =
     ∙ all-none count call thrown rest x now outside
 
 -- ---- a journal in which the entries of some exceptions were noted, where those of the others are what they were
-pub noted-journal : (before after : Journal) (thrown changed : List Taker) (exceptions : List ℕ)
+pub noted-journal : (before after : Journal) (thrown changed : List ExitUnknown) (exceptions : List ℕ)
     → after.calls ≡ before.calls
     → ((x : ℕ) → moments_at after.moments.items x ≡ noted_all (length before.moments.items) (length before.calls.items) changed exceptions x (moments_at before.moments.items x))
     → length after.moments.items ≡ length before.moments.items → length changed ≡ length thrown
@@ -159,14 +159,14 @@ or-false : (a b : Bool) → (a || b) ≡ false → (a ≡ false) × (b ≡ false
 or-false true b e = let i : true ≡ false = e in absurd (cc)
 or-false false b e = (refl, e)
 
-pub unhandled-stay : (handlers : Handlers) (n level x : ℕ) (old : Taker) → handles handlers x ≡ false → entry_in_try handlers n level x old ≡ old
+pub unhandled-stay : (handlers : Handlers) (n level x : ℕ) (old : ExitUnknown) → handles handlers x ≡ false → entry_in_try handlers n level x old ≡ old
 unhandled-stay NoMore n level x old none = refl
 unhandled-stay (Catch at handled body rest) n level x old none =
     let parts = or-false (x == handled) (handles rest x) none in
     ap (λ b. entry_in_try rest (suc n) level x (if b then (if old.level == level then old else (record { number = n; level = level })) else old)) parts.0
     ∙ unhandled-stay rest (suc n) level x old parts.1
 
-pub undeclared-stay : (throws : List ThrownEntry) (n level x : ℕ) (old : Taker) → declares throws x ≡ false → declared_entry throws n level x old ≡ old
+pub undeclared-stay : (throws : List ThrownEntry) (n level x : ℕ) (old : ExitUnknown) → declares throws x ≡ false → declared_entry throws n level x old ≡ old
 undeclared-stay [] n level x old none = refl
 undeclared-stay (entry ∷ rest) n level x old none =
     let parts = or-false (x == entry.exception) (declares rest x) none in

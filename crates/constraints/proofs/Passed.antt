@@ -9,11 +9,11 @@ use Rattle.path_map.specs.Exits.{exits_of}
 use Rattle.gathering.specs.Names.{NamedAtom, NamedConstraint}
 use Rattle.solver.specs.declared.constraints.Atom.{Atom}
 use Rattle.constraints.specs.Added.{IsGatheredAt, IsPart}
-use Rattle.constraints.specs.Takers.{AreLevelled}
+use Rattle.constraints.specs.ExitUnknowns.{AreLevelled}
 use Rattle.constraints.specs.Walked.{HasPassed, IsWalked}
 use Rattle.constraints.specs.declared.progress.Progress.{Progress}
-use Rattle.constraints.specs.declared.takers.Taker.{Taker}
-use Rattle.constraints.specs.declared.takers.Takers.{Takers}
+use Rattle.constraints.specs.declared.exit_unknowns.ExitUnknown.{ExitUnknown}
+use Rattle.constraints.specs.declared.exit_unknowns.ExitUnknowns.{ExitUnknowns}
 use Rattle.constraints.proofs.Thinned.{walks-exact, walks-same, walks-then}
 
 -- the ends of two pieces, one after the other
@@ -22,8 +22,8 @@ pub paths-then : (first second : List (List Exit)) (found left : List Exits) →
 paths-then first second found left is =
     is ∙ ap (λ list. list ++ left) (map-append exits_of first second) ∙ append_assoc (map exits_of first) (map exits_of second) left
 
-pub levels-same : (takers : Takers) (old new : List Taker) → new ≡ old → AreLevelled takers old → AreLevelled takers new
-levels-same takers old new same levelled = subst (AreLevelled takers) (sym same) levelled
+pub levels-same : (exit_unknowns : ExitUnknowns) (old new : List ExitUnknown) → new ≡ old → AreLevelled exit_unknowns old → AreLevelled exit_unknowns new
+levels-same exit_unknowns old new same levelled = subst (AreLevelled exit_unknowns) (sym same) levelled
 
 module _ (core : Core) (table : List Label) (entries : List Exits) where
   -- a piece that takes no entry of the path map
@@ -38,11 +38,11 @@ module _ (core : Core) (table : List Label) (entries : List Exits) where
     thrown_is = thrown;
   }
 
-  pub alone-walked : (pc : Atom) (takers : Takers) (gathered : NamedAtom → List NamedConstraint) (made : ℕ) (old new : Progress)
+  pub alone-walked : (pc : Atom) (exit_unknowns : ExitUnknowns) (gathered : NamedAtom → List NamedConstraint) (made : ℕ) (old new : Progress)
       → new.index ≡ old.index → new.number ≡ old.number + made → new.thrown.items ≡ old.thrown.items → new.journal ≡ old.journal
       → IsGatheredAt core table pc gathered old.constraints.items new.constraints.items
-      → IsWalked core table entries pc takers [] gathered made old new
-  alone-walked pc takers gathered made old new index number thrown journal added =
+      → IsWalked core table entries pc exit_unknowns [] gathered made old new
+  alone-walked pc exit_unknowns gathered made old new index number thrown journal added =
       λ left before levelled. alone-passed pc gathered made left old new before index number thrown journal added
 
   pub passed-then : (pc : Atom) (first second : NamedAtom → List NamedConstraint) (m k : ℕ) (between left : List Exits) (old middle new : Progress)
@@ -76,16 +76,16 @@ module _ (core : Core) (table : List Label) (entries : List Exits) where
     thrown_is = passed.thrown_is;
   }
 
-  -- a piece whose takers and numbers are known
-  pub walked-on : (own : Atom) (takers : Takers) (paths : List (List Exit)) (gathered : List Taker → ℕ → NamedAtom → List NamedConstraint) (m : ℕ) (left : List Exits)
-      (old new : Progress) (thrown : List Taker) (number : ℕ)
-      → old.thrown.items ≡ thrown → old.number ≡ number → AreLevelled takers thrown → drop old.index entries ≡ map exits_of paths ++ left
-      → IsWalked core table entries own takers paths (gathered old.thrown.items old.number) m old new
+  -- a piece whose exit unknowns and numbers are known
+  pub walked-on : (own : Atom) (exit_unknowns : ExitUnknowns) (paths : List (List Exit)) (gathered : List ExitUnknown → ℕ → NamedAtom → List NamedConstraint) (m : ℕ) (left : List Exits)
+      (old new : Progress) (thrown : List ExitUnknown) (number : ℕ)
+      → old.thrown.items ≡ thrown → old.number ≡ number → AreLevelled exit_unknowns thrown → drop old.index entries ≡ map exits_of paths ++ left
+      → IsWalked core table entries own exit_unknowns paths (gathered old.thrown.items old.number) m old new
       → HasPassed core table entries own (gathered thrown number) m left old new
-  walked-on own takers paths gathered m left old new thrown number thrown_is number_is levelled before walked =
+  walked-on own exit_unknowns paths gathered m left old new thrown number thrown_is number_is levelled before walked =
       passed-same own (gathered thrown number) (gathered old.thrown.items old.number) m m left old new
       (λ named. ap (λ t. gathered t number named) (sym thrown_is) ∙ ap (λ k. gathered old.thrown.items k named) (sym number_is)) refl
-      (walked left before (levels-same takers thrown old.thrown.items thrown_is levelled))
+      (walked left before (levels-same exit_unknowns thrown old.thrown.items thrown_is levelled))
 
   -- inner unknowns that were made before
   pub passed-from : (pc : Atom) (gathered : NamedAtom → List NamedConstraint) (k m : ℕ) (left : List Exits) (old middle new : Progress)

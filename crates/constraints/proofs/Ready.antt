@@ -29,13 +29,13 @@ use Rattle.gathering.specs.Names.{NamedAtom, NamedConstraint}
 use Rattle.gathering.specs.Walk.{handler_count, inner_block, made_by_block, made_by_handlers, made_by_statement, single}
 use Rattle.solver.specs.declared.constraints.Atom.{Atom}
 use Rattle.constraints.specs.Ready.{AreHandledInside, AreHandlersReady, AreStatementsReady, HasRoom, IsBlockReady, IsFormReady, IsReady, IsStatementReady, exception_count}
-use Rattle.constraints.specs.Takers.{AreLevelled, takers_of, undone}
+use Rattle.constraints.specs.ExitUnknowns.{AreLevelled, exit_unknowns_of, undone}
 use Rattle.constraints.specs.LeftSides.{scope_of}
 use Rattle.constraints.specs.Walked.{HasPassed, IsBlockWalked, IsStatementWalked, IsTried, IsWalked, step_constraints}
 use Rattle.constraints.specs.declared.pieces.Tried.{Tried}
 use Rattle.constraints.specs.declared.progress.Progress.{Progress}
-use Rattle.constraints.specs.declared.takers.Taker.{Taker}
-use Rattle.constraints.specs.declared.takers.Takers.{Takers}
+use Rattle.constraints.specs.declared.exit_unknowns.ExitUnknown.{ExitUnknown}
+use Rattle.constraints.specs.declared.exit_unknowns.ExitUnknowns.{ExitUnknowns}
 use Rattle.constraints.proofs.Passed.{levels-same, paths-then}
 use Rattle.constraints.proofs.SavedEntries.{undone-length}
 
@@ -52,9 +52,9 @@ there-is-next entries i first rest is =
 
 module _ (core : Core) (entries : List Exits) where
   -- for the first piece of several
-  pub ready-first : (takers : Takers) (first second : List (List Exit)) (fits fitting : Bool) (made own more : ℕ) (now : Progress)
-      → IsReady core entries takers (first ++ second) fits made more now → IsTrue fitting → own ≤ made → IsReady core entries takers first fitting own more now
-  ready-first takers first second fits fitting made own more now ready fit within = record {
+  pub ready-first : (exit_unknowns : ExitUnknowns) (first second : List (List Exit)) (fits fitting : Bool) (made own more : ℕ) (now : Progress)
+      → IsReady core entries exit_unknowns (first ++ second) fits made more now → IsTrue fitting → own ≤ made → IsReady core entries exit_unknowns first fitting own more now
+  ready-first exit_unknowns first second fits fitting made own more now ready fit within = record {
     left = map exits_of second ++ ready.left;
     goes_on = paths-then first second (drop now.index entries) ready.left ready.goes_on;
     levelled = ready.levelled;
@@ -65,11 +65,11 @@ module _ (core : Core) (entries : List Exits) where
   }
 
   -- where only inner unknowns were made
-  pub ready-made : (takers : Takers) (paths : List (List Exit)) (fits : Bool) (whole k rest more : ℕ) (now made : Progress)
-      → made ≡ record now { number = now.number + k } → IsReady core entries takers paths fits whole more now → k + rest ≤ whole
-      → IsReady core entries takers paths fits rest (more + k) made
-  ready-made takers paths fits whole k rest more now made made_is ready within =
-      let same : IsReady core entries takers paths fits rest (more + k) (record now { number = now.number + k }) = record {
+  pub ready-made : (exit_unknowns : ExitUnknowns) (paths : List (List Exit)) (fits : Bool) (whole k rest more : ℕ) (now made : Progress)
+      → made ≡ record now { number = now.number + k } → IsReady core entries exit_unknowns paths fits whole more now → k + rest ≤ whole
+      → IsReady core entries exit_unknowns paths fits rest (more + k) made
+  ready-made exit_unknowns paths fits whole k rest more now made made_is ready within =
+      let same : IsReady core entries exit_unknowns paths fits rest (more + k) (record now { number = now.number + k }) = record {
         left = ready.left;
         goes_on = ready.goes_on;
         levelled = ready.levelled;
@@ -78,16 +78,16 @@ module _ (core : Core) (entries : List Exits) where
         room = omega (arith, ready.room, within);
         deep = omega (arith, ready.deep);
       } in
-      subst (IsReady core entries takers paths fits rest (more + k)) (sym made_is) same
+      subst (IsReady core entries exit_unknowns paths fits rest (more + k)) (sym made_is) same
 
-  -- where the takers of exceptions are the same
-  pub ready-moved : (takers inner : Takers) (first second : List (List Exit)) (fits fitting : Bool) (made own more deeper : ℕ) (old new : Progress)
-      → (ready : IsReady core entries takers (first ++ second) fits made more old)
+  -- where the exit unknowns of exceptions are the same
+  pub ready-moved : (exit_unknowns inner : ExitUnknowns) (first second : List (List Exit)) (fits fitting : Bool) (made own more deeper : ℕ) (old new : Progress)
+      → (ready : IsReady core entries exit_unknowns (first ++ second) fits made more old)
       → (drop old.index entries ≡ map exits_of first ++ (map exits_of second ++ ready.left) → drop new.index entries ≡ map exits_of second ++ ready.left)
       → new.thrown.items ≡ old.thrown.items → AreLevelled inner old.thrown.items → IsTrue fitting
       → HasRoom own new → inner.level + deeper ≤ new.number
       → IsReady core entries inner second fitting own deeper new
-  ready-moved takers inner first second fits fitting made own more deeper old new ready moved thrown levelled fit room deep = record {
+  ready-moved exit_unknowns inner first second fits fitting made own more deeper old new ready moved thrown levelled fit room deep = record {
     left = ready.left;
     goes_on = moved (paths-then first second (drop old.index entries) ready.left ready.goes_on);
     levelled = levels-same inner old.thrown.items new.thrown.items thrown levelled;
@@ -97,22 +97,22 @@ module _ (core : Core) (entries : List Exits) where
     deep = deep;
   }
 
-  -- for what comes behind a piece that was walked past
-  pub ready-then : (table : List Label) (pc : Atom) (takers own inner : Takers) (first second : List (List Exit)) (gathered : NamedAtom → List NamedConstraint) (made : ℕ) (fits fitting : Bool) (whole rest more deeper : ℕ) (old new : Progress)
-      → IsReady core entries takers (first ++ second) fits whole more old
+  -- for what comes after a piece that was walked past
+  pub ready-then : (table : List Label) (pc : Atom) (exit_unknowns own inner : ExitUnknowns) (first second : List (List Exit)) (gathered : NamedAtom → List NamedConstraint) (made : ℕ) (fits fitting : Bool) (whole rest more deeper : ℕ) (old new : Progress)
+      → IsReady core entries exit_unknowns (first ++ second) fits whole more old
       → IsWalked core table entries pc own first gathered made old new
       → AreLevelled own old.thrown.items → AreLevelled inner old.thrown.items → IsTrue fitting
-      → made + rest ≤ whole → inner.level + deeper ≤ takers.level + (more + made)
+      → made + rest ≤ whole → inner.level + deeper ≤ exit_unknowns.level + (more + made)
       → IsReady core entries inner second fitting rest deeper new
-  ready-then table pc takers own inner first second gathered made fits fitting whole rest more deeper old new ready walked own_levelled levelled fit within levels =
+  ready-then table pc exit_unknowns own inner first second gathered made fits fitting whole rest more deeper old new ready walked own_levelled levelled fit within levels =
       let passed : HasPassed core table entries pc gathered made (map exits_of second ++ ready.left) old new =
       walked (map exits_of second ++ ready.left) (paths-then first second (drop old.index entries) ready.left ready.goes_on) own_levelled in
-      ready-moved takers inner first second fits fitting whole rest more deeper old new ready (λ before. passed.entries_left) passed.thrown_is levelled fit
+      ready-moved exit_unknowns inner first second fits fitting whole rest more deeper old new ready (λ before. passed.entries_left) passed.thrown_is levelled fit
       (omega (arith, ready.room, passed.number_is, within)) (omega (arith, ready.deep, passed.number_is, levels))
 
-  pub form-ready-at : (procedure : ℕ) (s : S.Statement) (tree : Statement) (takers : Takers) (now : Progress) → statement_of s ≡ tree
-      → IsFormReady core entries procedure takers (statement_of s) now → IsFormReady core entries procedure takers tree now
-  form-ready-at procedure s tree takers now is ready = subst (λ tree'. IsFormReady core entries procedure takers tree' now) is ready
+  pub form-ready-at : (procedure : ℕ) (s : S.Statement) (tree : Statement) (exit_unknowns : ExitUnknowns) (now : Progress) → statement_of s ≡ tree
+      → IsFormReady core entries procedure exit_unknowns (statement_of s) now → IsFormReady core entries procedure exit_unknowns tree now
+  form-ready-at procedure s tree exit_unknowns now is ready = subst (λ tree'. IsFormReady core entries procedure exit_unknowns tree' now) is ready
 
 -- the three tests of a branch
 pub and-three : (a b c : Bool) → (a && b && c) ≡ true → (a ≡ true) × (b ≡ true) × (c ≡ true)
@@ -159,80 +159,80 @@ module _ (core : Core) (table : List Label) (entries : List Exits) (procedure : 
   abbrev fits-handlers : Handlers → Bool
   fits-handlers handlers = handlers_fit (program_of core) (here (scope_of core procedure)) handlers
 
-  -- the statements of a block, and what is in a statement, behind their own entry
-  pub block-goes : (block : Block) (pc : Atom) (takers inner : Takers) (old begun : Progress)
-      → IsBlockReady core entries procedure takers block old
-      → ((ends : List Exit) → IsWalked core table entries pc takers (ends ∷ []) (λ named. single (one_end ends) named (takers_of takers old.thrown.items) ends) 0 old begun)
-      → ((thrown : List Taker) → AreLevelled takers thrown → AreLevelled inner thrown) → inner.level ≡ takers.level
+  -- the statements of a block, and what is in a statement, after their own entry
+  pub block-goes : (block : Block) (pc : Atom) (exit_unknowns inner : ExitUnknowns) (old begun : Progress)
+      → IsBlockReady core entries procedure exit_unknowns block old
+      → ((ends : List Exit) → IsWalked core table entries pc exit_unknowns (ends ∷ []) (λ named. single (one_end ends) named (exit_unknowns_of exit_unknowns old.thrown.items) ends) 0 old begun)
+      → ((thrown : List ExitUnknown) → AreLevelled exit_unknowns thrown → AreLevelled inner thrown) → inner.level ≡ exit_unknowns.level
       → AreStatementsReady core entries procedure inner block begun
-  block-goes block pc takers inner old begun ready begins levels_are level_is =
+  block-goes block pc exit_unknowns inner old begun ready begins levels_are level_is =
       let ends : List Exit = block_ends (program_of core) block in
-      ready-then core entries table pc takers takers inner (ends ∷ []) (rest_paths (program_of core) block)
-      (λ named. single (one_end ends) named (takers_of takers old.thrown.items) ends) 0 (fits-block block) (fits-block block) (made_by_block block) (made_by_block block) 0 0 old begun ready (begins ends)
+      ready-then core entries table pc exit_unknowns exit_unknowns inner (ends ∷ []) (rest_paths (program_of core) block)
+      (λ named. single (one_end ends) named (exit_unknowns_of exit_unknowns old.thrown.items) ends) 0 (fits-block block) (fits-block block) (made_by_block block) (made_by_block block) 0 0 old begun ready (begins ends)
       ready.levelled (levels_are old.thrown.items ready.levelled) ready.fitting (omega arith) (omega (arith, level_is))
 
-  pub statement-goes : (tree : Statement) (pc : Atom) (takers none some inner : Takers) (old begun : Progress)
-      → IsStatementReady core entries procedure takers tree old
-      → ((ends : List Exit) → IsWalked core table entries pc none (ends ∷ []) (λ named. single (one_end ends) named (takers_of none old.thrown.items) ends) 0 old begun)
-      → ((thrown : List Taker) → AreLevelled takers thrown → AreLevelled none thrown)
-      → ((thrown : List Taker) → AreLevelled takers thrown → AreLevelled some thrown)
-      → ((thrown : List Taker) → AreLevelled some thrown → AreLevelled inner thrown) → some.level ≡ takers.level → inner.level ≡ some.level
+  pub statement-goes : (tree : Statement) (pc : Atom) (exit_unknowns none some inner : ExitUnknowns) (old begun : Progress)
+      → IsStatementReady core entries procedure exit_unknowns tree old
+      → ((ends : List Exit) → IsWalked core table entries pc none (ends ∷ []) (λ named. single (one_end ends) named (exit_unknowns_of none old.thrown.items) ends) 0 old begun)
+      → ((thrown : List ExitUnknown) → AreLevelled exit_unknowns thrown → AreLevelled none thrown)
+      → ((thrown : List ExitUnknown) → AreLevelled exit_unknowns thrown → AreLevelled some thrown)
+      → ((thrown : List ExitUnknown) → AreLevelled some thrown → AreLevelled inner thrown) → some.level ≡ exit_unknowns.level → inner.level ≡ some.level
       → IsFormReady core entries procedure inner tree begun
-  statement-goes tree pc takers none some inner old begun ready begins none_levels some_levels levels_are some_level inner_level =
+  statement-goes tree pc exit_unknowns none some inner old begun ready begins none_levels some_levels levels_are some_level inner_level =
       let ends : List Exit = statement_ends (program_of core) tree in
-      ready-then core entries table pc takers none inner (ends ∷ []) (inner_paths (program_of core) tree)
-      (λ named. single (one_end ends) named (takers_of none old.thrown.items) ends) 0 (fits-statement tree) (fits-statement tree) (made_by_statement tree) (made_by_statement tree) 1 1 old begun ready (begins ends)
+      ready-then core entries table pc exit_unknowns none inner (ends ∷ []) (inner_paths (program_of core) tree)
+      (λ named. single (one_end ends) named (exit_unknowns_of none old.thrown.items) ends) 0 (fits-statement tree) (fits-statement tree) (made_by_statement tree) (made_by_statement tree) 1 1 old begun ready (begins ends)
       (none_levels old.thrown.items ready.levelled) (levels_are old.thrown.items (some_levels old.thrown.items ready.levelled)) ready.fitting
       (omega arith) (omega (arith, some_level, inner_level))
 
   -- the blocks of a branch
-  pub if-goes : (at : ℕ) (e : Expression) (yes_block no_block : Block) (pc : Atom) (takers : Takers) (gathered : NamedAtom → List NamedConstraint) (old begun : Progress)
-      → IsFormReady core entries procedure takers (If at e yes_block no_block) old
-      → IsWalked core table entries pc takers [] gathered 1 old begun
-      → IsReady core entries takers (block_paths (program_of core) yes_block ++ block_paths (program_of core) no_block) true
-      (made_by_block yes_block + made_by_block no_block) 0 begun
-  if-goes at e yes_block no_block pc takers gathered old begun ready walked =
-      ready-then core entries table pc takers takers takers [] (block_paths (program_of core) yes_block ++ block_paths (program_of core) no_block)
-      gathered 1 (fits-statement (If at e yes_block no_block)) true (made_by_statement (If at e yes_block no_block)) (made_by_block yes_block + made_by_block no_block) 1 0
+  pub if-goes : (at : ℕ) (e : Expression) (then_block else_block : Block) (pc : Atom) (exit_unknowns : ExitUnknowns) (gathered : NamedAtom → List NamedConstraint) (old begun : Progress)
+      → IsFormReady core entries procedure exit_unknowns (If at e then_block else_block) old
+      → IsWalked core table entries pc exit_unknowns [] gathered 1 old begun
+      → IsReady core entries exit_unknowns (block_paths (program_of core) then_block ++ block_paths (program_of core) else_block) true
+      (made_by_block then_block + made_by_block else_block) 0 begun
+  if-goes at e then_block else_block pc exit_unknowns gathered old begun ready walked =
+      ready-then core entries table pc exit_unknowns exit_unknowns exit_unknowns [] (block_paths (program_of core) then_block ++ block_paths (program_of core) else_block)
+      gathered 1 (fits-statement (If at e then_block else_block)) true (made_by_statement (If at e then_block else_block)) (made_by_block then_block + made_by_block else_block) 1 0
       old begun ready walked ready.levelled ready.levelled refl (omega arith) (omega arith)
 
-  pub if-fits : (at : ℕ) (e : Expression) (yes_block no_block : Block) → IsTrue (fits-statement (If at e yes_block no_block))
-      → IsTrue (fits-block yes_block) × IsTrue (fits-block no_block)
-  if-fits at e yes_block no_block fit =
-      let parts = and-three (has_base (program_of core) (here (scope_of core procedure)) Boolean e) (fits-block yes_block) (fits-block no_block) fit in
+  pub if-fits : (at : ℕ) (e : Expression) (then_block else_block : Block) → IsTrue (fits-statement (If at e then_block else_block))
+      → IsTrue (fits-block then_block) × IsTrue (fits-block else_block)
+  if-fits at e then_block else_block fit =
+      let parts = and-three (has_base (program_of core) (here (scope_of core procedure)) Boolean e) (fits-block then_block) (fits-block else_block) fit in
       (parts.1, parts.2)
 
-  pub if-first : (at : ℕ) (e : Expression) (yes_block no_block : Block) (pc : Atom) (takers : Takers) (gathered : NamedAtom → List NamedConstraint) (old begun : Progress)
-      → IsFormReady core entries procedure takers (If at e yes_block no_block) old
-      → IsWalked core table entries pc takers [] gathered 1 old begun
-      → IsBlockReady core entries procedure takers yes_block begun
-  if-first at e yes_block no_block pc takers gathered old begun ready walked =
-      ready-first core entries takers (block_paths (program_of core) yes_block) (block_paths (program_of core) no_block) true (fits-block yes_block)
-      (made_by_block yes_block + made_by_block no_block) (made_by_block yes_block) 0 begun
-      (if-goes at e yes_block no_block pc takers gathered old begun ready walked) (if-fits at e yes_block no_block ready.fitting).0 (omega arith)
+  pub if-first : (at : ℕ) (e : Expression) (then_block else_block : Block) (pc : Atom) (exit_unknowns : ExitUnknowns) (gathered : NamedAtom → List NamedConstraint) (old begun : Progress)
+      → IsFormReady core entries procedure exit_unknowns (If at e then_block else_block) old
+      → IsWalked core table entries pc exit_unknowns [] gathered 1 old begun
+      → IsBlockReady core entries procedure exit_unknowns then_block begun
+  if-first at e then_block else_block pc exit_unknowns gathered old begun ready walked =
+      ready-first core entries exit_unknowns (block_paths (program_of core) then_block) (block_paths (program_of core) else_block) true (fits-block then_block)
+      (made_by_block then_block + made_by_block else_block) (made_by_block then_block) 0 begun
+      (if-goes at e then_block else_block pc exit_unknowns gathered old begun ready walked) (if-fits at e then_block else_block ready.fitting).0 (omega arith)
 
-  pub if-second : (at : ℕ) (e : Expression) (yes_block no_block : Block) (pc inner : Atom) (takers : Takers) (gathered : NamedAtom → List NamedConstraint) (old begun middle : Progress)
-      → IsFormReady core entries procedure takers (If at e yes_block no_block) old
-      → IsWalked core table entries pc takers [] gathered 1 old begun
-      → IsBlockWalked core table entries procedure inner takers yes_block begun middle
-      → IsBlockReady core entries procedure takers no_block middle
-  if-second at e yes_block no_block pc inner takers gathered old begun middle ready walked first =
-      let goes : IsReady core entries takers (block_paths (program_of core) yes_block ++ block_paths (program_of core) no_block) true
-      (made_by_block yes_block + made_by_block no_block) 0 begun =
-      if-goes at e yes_block no_block pc takers gathered old begun ready walked in
-      ready-then core entries table inner takers takers takers (block_paths (program_of core) yes_block) (block_paths (program_of core) no_block)
-      (λ named. inner_block (scope_of core procedure) named (takers_of takers begun.thrown.items) begun.number yes_block) (made_by_block yes_block)
-      true (fits-block no_block) (made_by_block yes_block + made_by_block no_block) (made_by_block no_block) 0 0
-      begun middle goes first goes.levelled goes.levelled (if-fits at e yes_block no_block ready.fitting).1 (omega arith) (omega arith)
+  pub if-second : (at : ℕ) (e : Expression) (then_block else_block : Block) (pc inner : Atom) (exit_unknowns : ExitUnknowns) (gathered : NamedAtom → List NamedConstraint) (old begun middle : Progress)
+      → IsFormReady core entries procedure exit_unknowns (If at e then_block else_block) old
+      → IsWalked core table entries pc exit_unknowns [] gathered 1 old begun
+      → IsBlockWalked core table entries procedure inner exit_unknowns then_block begun middle
+      → IsBlockReady core entries procedure exit_unknowns else_block middle
+  if-second at e then_block else_block pc inner exit_unknowns gathered old begun middle ready walked first =
+      let goes : IsReady core entries exit_unknowns (block_paths (program_of core) then_block ++ block_paths (program_of core) else_block) true
+      (made_by_block then_block + made_by_block else_block) 0 begun =
+      if-goes at e then_block else_block pc exit_unknowns gathered old begun ready walked in
+      ready-then core entries table inner exit_unknowns exit_unknowns exit_unknowns (block_paths (program_of core) then_block) (block_paths (program_of core) else_block)
+      (λ named. inner_block (scope_of core procedure) named (exit_unknowns_of exit_unknowns begun.thrown.items) begun.number then_block) (made_by_block then_block)
+      true (fits-block else_block) (made_by_block then_block + made_by_block else_block) (made_by_block else_block) 0 0
+      begun middle goes first goes.levelled goes.levelled (if-fits at e then_block else_block ready.fitting).1 (omega arith) (omega arith)
 
   -- the body of a loop
-  pub while-goes : (at loop : ℕ) (e : Expression) (body : Block) (pc : Atom) (takers inner : Takers) (gathered : NamedAtom → List NamedConstraint) (old begun : Progress)
-      → IsFormReady core entries procedure takers (While at loop e body) old
-      → IsWalked core table entries pc takers [] gathered 2 old begun
-      → ((thrown : List Taker) → AreLevelled takers thrown → AreLevelled inner thrown) → inner.level ≡ takers.level
+  pub while-goes : (at loop : ℕ) (e : Expression) (body : Block) (pc : Atom) (exit_unknowns inner : ExitUnknowns) (gathered : NamedAtom → List NamedConstraint) (old begun : Progress)
+      → IsFormReady core entries procedure exit_unknowns (While at loop e body) old
+      → IsWalked core table entries pc exit_unknowns [] gathered 2 old begun
+      → ((thrown : List ExitUnknown) → AreLevelled exit_unknowns thrown → AreLevelled inner thrown) → inner.level ≡ exit_unknowns.level
       → IsBlockReady core entries procedure inner body begun
-  while-goes at loop e body pc takers inner gathered old begun ready walked levels_are level_is =
-      ready-then core entries table pc takers takers inner [] (block_paths (program_of core) body) gathered 2
+  while-goes at loop e body pc exit_unknowns inner gathered old begun ready walked levels_are level_is =
+      ready-then core entries table pc exit_unknowns exit_unknowns inner [] (block_paths (program_of core) body) gathered 2
       (fits-statement (While at loop e body)) (fits-block body) (made_by_statement (While at loop e body)) (made_by_block body) 1 0 old begun ready walked ready.levelled (levels_are old.thrown.items ready.levelled)
       (and_parts (has_base (program_of core) (here (scope_of core procedure)) Boolean e) (fits-block body) ready.fitting).1 (omega arith) (omega (arith, level_is))
 
@@ -240,20 +240,20 @@ module _ (core : Core) (table : List Label) (entries : List Exits) (procedure : 
   pub try-fits : (at : ℕ) (block : Block) (handlers : Handlers) → IsTrue (fits-statement (Try at block handlers)) → IsTrue (fits-block block) × IsTrue (fits-handlers handlers)
   try-fits at block handlers fit = and_parts (fits-block block) (fits-handlers handlers) fit
 
-  pub try-inside : (at : ℕ) (block : Block) (handlers : List Handler) (takers : Takers) (old : Progress)
-      → IsFormReady core entries procedure takers (Try at block (handlers_of handlers)) old → AreHandledInside handlers old.thrown.items
-  try-inside at block handlers takers old ready =
+  pub try-inside : (at : ℕ) (block : Block) (handlers : List Handler) (exit_unknowns : ExitUnknowns) (old : Progress)
+      → IsFormReady core entries procedure exit_unknowns (Try at block (handlers_of handlers)) old → AreHandledInside handlers old.thrown.items
+  try-inside at block handlers exit_unknowns old ready =
       handled-inside (program_of core) (length old.thrown.items) ready.wide (here (scope_of core procedure)) handlers (try-fits at block (handlers_of handlers) ready.fitting).1
 
   -- there are numbers for its handlers, and a level
-  pub try-room : (at : ℕ) (block : Block) (handlers : List Handler) (takers : Takers) (old : Progress)
-      → IsFormReady core entries procedure takers (Try at block (handlers_of handlers)) old → HasRoom (length handlers) old × (takers.level < old.number)
-  try-room at block handlers takers old ready = (omega (arith, ready.room, count-of handlers), omega (arith, ready.deep))
+  pub try-room : (at : ℕ) (block : Block) (handlers : List Handler) (exit_unknowns : ExitUnknowns) (old : Progress)
+      → IsFormReady core entries procedure exit_unknowns (Try at block (handlers_of handlers)) old → HasRoom (length handlers) old × (exit_unknowns.level < old.number)
+  try-room at block handlers exit_unknowns old ready = (omega (arith, ready.room, count-of handlers), omega (arith, ready.deep))
 
-  pub try-first : (at : ℕ) (block : Block) (handlers : List Handler) (takers : Takers) (tried : Tried) (old begun : Progress)
-      → IsFormReady core entries procedure takers (Try at block (handlers_of handlers)) old → IsTried takers handlers old begun tried
-      → IsBlockReady core entries procedure tried.takers block begun
-  try-first at block handlers takers tried old begun ready begins =
+  pub try-first : (at : ℕ) (block : Block) (handlers : List Handler) (exit_unknowns : ExitUnknowns) (tried : Tried) (old begun : Progress)
+      → IsFormReady core entries procedure exit_unknowns (Try at block (handlers_of handlers)) old → IsTried exit_unknowns handlers old begun tried
+      → IsBlockReady core entries procedure tried.exit_unknowns block begun
+  try-first at block handlers exit_unknowns tried old begun ready begins =
       let program : Program = program_of core in
       let paths : List (List Exit) = handlers_paths program (handlers_of handlers) in
       let width : length begun.thrown.items ≡ length old.thrown.items = sym (undone-length tried.saved.items begun.thrown.items) ∙ ap length begins.saved_is in
@@ -267,30 +267,30 @@ module _ (core : Core) (table : List Label) (entries : List Exits) (procedure : 
         deep = omega (arith, ready.deep, begins.number_is, begins.level_is);
       }
 
-  pub try-second : (at : ℕ) (block : Block) (handlers : List Handler) (pc : Atom) (takers : Takers) (tried : Tried) (old begun middle after : Progress)
-      → IsFormReady core entries procedure takers (Try at block (handlers_of handlers)) old → IsTried takers handlers old begun tried
-      → IsBlockWalked core table entries procedure pc tried.takers block begun middle
+  pub try-second : (at : ℕ) (block : Block) (handlers : List Handler) (pc : Atom) (exit_unknowns : ExitUnknowns) (tried : Tried) (old begun middle after : Progress)
+      → IsFormReady core entries procedure exit_unknowns (Try at block (handlers_of handlers)) old → IsTried exit_unknowns handlers old begun tried
+      → IsBlockWalked core table entries procedure pc tried.exit_unknowns block begun middle
       → after.index ≡ middle.index → after.number ≡ middle.number → after.thrown.items ≡ undone tried.saved.items middle.thrown.items
-      → AreHandlersReady core entries procedure takers (handlers_of handlers) after
-  try-second at block handlers pc takers tried old begun middle after ready begins walked index number thrown =
+      → AreHandlersReady core entries procedure exit_unknowns (handlers_of handlers) after
+  try-second at block handlers pc exit_unknowns tried old begun middle after ready begins walked index number thrown =
       let program : Program = program_of core in
       let paths : List (List Exit) = handlers_paths program (handlers_of handlers) in
-      let behind : List Exits = map exits_of paths ++ ready.left in
+      let beyond : List Exits = map exits_of paths ++ ready.left in
       let passed : HasPassed core table entries pc
-      (λ named. inner_block (scope_of core procedure) named (takers_of tried.takers begun.thrown.items) begun.number block)
-      (made_by_block block) behind begun middle =
-      walked behind (ap (λ i. drop i entries) begins.index_is ∙ paths-then (block_paths program block) paths (drop old.index entries) ready.left ready.goes_on)
+      (λ named. inner_block (scope_of core procedure) named (exit_unknowns_of tried.exit_unknowns begun.thrown.items) begun.number block)
+      (made_by_block block) beyond begun middle =
+      walked beyond (ap (λ i. drop i entries) begins.index_is ∙ paths-then (block_paths program block) paths (drop old.index entries) ready.left ready.goes_on)
       (begins.taken ready.levelled).levels_are in
-      ready-moved core entries takers takers (block_paths program block) paths (fits-statement (Try at block (handlers_of handlers))) (fits-handlers (handlers_of handlers))
+      ready-moved core entries exit_unknowns exit_unknowns (block_paths program block) paths (fits-statement (Try at block (handlers_of handlers))) (fits-handlers (handlers_of handlers))
       (made_by_statement (Try at block (handlers_of handlers))) (made_by_handlers (handlers_of handlers)) 1 0 old after ready
       (λ before. ap (λ i. drop i entries) index ∙ passed.entries_left)
       (thrown ∙ (ap (undone tried.saved.items) passed.thrown_is ∙ begins.saved_is)) ready.levelled (try-fits at block (handlers_of handlers) ready.fitting).1
       (omega (arith, ready.room, begins.number_is, passed.number_is, number)) (omega (arith, ready.deep, begins.number_is, passed.number_is, number))
 
   -- a block in a block
-  pub nested-goes : (at : ℕ) (block : Block) (takers : Takers) (now : Progress)
-      → IsFormReady core entries procedure takers (Nested at block) now → IsBlockReady core entries procedure takers block now
-  nested-goes at block takers now ready = record {
+  pub nested-goes : (at : ℕ) (block : Block) (exit_unknowns : ExitUnknowns) (now : Progress)
+      → IsFormReady core entries procedure exit_unknowns (Nested at block) now → IsBlockReady core entries procedure exit_unknowns block now
+  nested-goes at block exit_unknowns now ready = record {
     left = ready.left;
     goes_on = ready.goes_on;
     levelled = ready.levelled;
@@ -300,58 +300,58 @@ module _ (core : Core) (table : List Label) (entries : List Exits) (procedure : 
     deep = omega (arith, ready.deep);
   }
 
-  -- the next statement of a block, and those behind it
-  pub along-first : (takers : Takers) (statement : Statement) (rest : Block) (now made : Progress)
-      → AreStatementsReady core entries procedure takers (Then statement rest) now → made ≡ record now { number = now.number + 1 }
-      → IsStatementReady core entries procedure takers statement made
-  along-first takers statement rest now made ready made_is =
+  -- the next statement of a block, and those after it
+  pub along-first : (exit_unknowns : ExitUnknowns) (statement : Statement) (rest : Block) (now made : Progress)
+      → AreStatementsReady core entries procedure exit_unknowns (Then statement rest) now → made ≡ record now { number = now.number + 1 }
+      → IsStatementReady core entries procedure exit_unknowns statement made
+  along-first exit_unknowns statement rest now made ready made_is =
       let program : Program = program_of core in
-      ready-first core entries takers (statement_paths program statement) (rest_paths program rest) (fits-block (Then statement rest)) (fits-statement statement)
+      ready-first core entries exit_unknowns (statement_paths program statement) (rest_paths program rest) (fits-block (Then statement rest)) (fits-statement statement)
       (made_by_statement statement + made_by_block rest) (made_by_statement statement) 1 made
-      (ready-made core entries takers (rest_paths program (Then statement rest)) (fits-block (Then statement rest)) (made_by_block (Then statement rest)) 1 (made_by_statement statement + made_by_block rest) 0 now made made_is ready (omega arith))
+      (ready-made core entries exit_unknowns (rest_paths program (Then statement rest)) (fits-block (Then statement rest)) (made_by_block (Then statement rest)) 1 (made_by_statement statement + made_by_block rest) 0 now made made_is ready (omega arith))
       (and_parts (fits-statement statement) (fits-block rest) ready.fitting).0 (omega arith)
 
-  pub along-second : (pc : Atom) (takers : Takers) (number : ℕ) (statement : Statement) (rest : Block) (now made new : Progress)
-      → AreStatementsReady core entries procedure takers (Then statement rest) now → made ≡ record now { number = now.number + 1 }
-      → IsStatementWalked core table entries procedure pc takers number statement made new
-      → AreStatementsReady core entries procedure takers rest new
-  along-second pc takers number statement rest now made new ready made_is walked =
+  pub along-second : (pc : Atom) (exit_unknowns : ExitUnknowns) (number : ℕ) (statement : Statement) (rest : Block) (now made new : Progress)
+      → AreStatementsReady core entries procedure exit_unknowns (Then statement rest) now → made ≡ record now { number = now.number + 1 }
+      → IsStatementWalked core table entries procedure pc exit_unknowns number statement made new
+      → AreStatementsReady core entries procedure exit_unknowns rest new
+  along-second pc exit_unknowns number statement rest now made new ready made_is walked =
       let program : Program = program_of core in
-      let before : IsReady core entries takers (statement_paths program statement ++ rest_paths program rest) (fits-block (Then statement rest))
+      let before : IsReady core entries exit_unknowns (statement_paths program statement ++ rest_paths program rest) (fits-block (Then statement rest))
       (made_by_statement statement + made_by_block rest) 1 made =
-      ready-made core entries takers (rest_paths program (Then statement rest)) (fits-block (Then statement rest)) (made_by_block (Then statement rest)) 1 (made_by_statement statement + made_by_block rest) 0 now made made_is ready (omega arith) in
-      ready-then core entries table pc takers takers takers (statement_paths program statement) (rest_paths program rest)
-      (λ named. step_constraints (scope_of core procedure) named (takers_of takers made.thrown.items) number made.number statement) (made_by_statement statement)
+      ready-made core entries exit_unknowns (rest_paths program (Then statement rest)) (fits-block (Then statement rest)) (made_by_block (Then statement rest)) 1 (made_by_statement statement + made_by_block rest) 0 now made made_is ready (omega arith) in
+      ready-then core entries table pc exit_unknowns exit_unknowns exit_unknowns (statement_paths program statement) (rest_paths program rest)
+      (λ named. step_constraints (scope_of core procedure) named (exit_unknowns_of exit_unknowns made.thrown.items) number made.number statement) (made_by_statement statement)
       (fits-block (Then statement rest)) (fits-block rest) (made_by_statement statement + made_by_block rest) (made_by_block rest) 1 0 made new before walked before.levelled before.levelled
       (and_parts (fits-statement statement) (fits-block rest) ready.fitting).1 (omega arith) (omega arith)
 
   -- there is a number for the normal end of a statement
-  pub along-room : (takers : Takers) (statement : Statement) (rest : Block) (now : Progress)
-      → AreStatementsReady core entries procedure takers (Then statement rest) now → HasRoom 1 now
-  along-room takers statement rest now ready = omega (arith, ready.room)
+  pub along-room : (exit_unknowns : ExitUnknowns) (statement : Statement) (rest : Block) (now : Progress)
+      → AreStatementsReady core entries procedure exit_unknowns (Then statement rest) now → HasRoom 1 now
+  along-room exit_unknowns statement rest now ready = omega (arith, ready.room)
 
   -- and what a statement makes itself
-  pub form-room : (takers : Takers) (tree : Statement) (made : ℕ) (now : Progress)
-      → IsFormReady core entries procedure takers tree now → made ≤ made_by_statement tree → HasRoom made now
-  form-room takers tree made now ready within = omega (arith, ready.room, within)
+  pub form-room : (exit_unknowns : ExitUnknowns) (tree : Statement) (made : ℕ) (now : Progress)
+      → IsFormReady core entries procedure exit_unknowns tree now → made ≤ made_by_statement tree → HasRoom made now
+  form-room exit_unknowns tree made now ready within = omega (arith, ready.room, within)
 
-  -- the next handler, and those behind it
-  pub handling-first : (takers : Takers) (at handled : ℕ) (body : Block) (rest : Handlers) (now : Progress)
-      → AreHandlersReady core entries procedure takers (Catch at handled body rest) now → IsBlockReady core entries procedure takers body now
-  handling-first takers at handled body rest now ready =
+  -- the next handler, and those after it
+  pub handling-first : (exit_unknowns : ExitUnknowns) (at handled : ℕ) (body : Block) (rest : Handlers) (now : Progress)
+      → AreHandlersReady core entries procedure exit_unknowns (Catch at handled body rest) now → IsBlockReady core entries procedure exit_unknowns body now
+  handling-first exit_unknowns at handled body rest now ready =
       let program : Program = program_of core in
-      ready-first core entries takers (block_paths program body) (handlers_paths program rest) (fits-handlers (Catch at handled body rest)) (fits-block body)
+      ready-first core entries exit_unknowns (block_paths program body) (handlers_paths program rest) (fits-handlers (Catch at handled body rest)) (fits-block body)
       (made_by_handlers (Catch at handled body rest)) (made_by_block body) 0 now ready
       (and-three (is_exception program handled) (fits-block body) (fits-handlers rest) ready.fitting).1 (omega arith)
 
-  pub handling-second : (pc : Atom) (takers : Takers) (at handled : ℕ) (body : Block) (rest : Handlers) (now new : Progress)
-      → AreHandlersReady core entries procedure takers (Catch at handled body rest) now
-      → IsBlockWalked core table entries procedure pc takers body now new
-      → AreHandlersReady core entries procedure takers rest new
-  handling-second pc takers at handled body rest now new ready walked =
+  pub handling-second : (pc : Atom) (exit_unknowns : ExitUnknowns) (at handled : ℕ) (body : Block) (rest : Handlers) (now new : Progress)
+      → AreHandlersReady core entries procedure exit_unknowns (Catch at handled body rest) now
+      → IsBlockWalked core table entries procedure pc exit_unknowns body now new
+      → AreHandlersReady core entries procedure exit_unknowns rest new
+  handling-second pc exit_unknowns at handled body rest now new ready walked =
       let program : Program = program_of core in
-      ready-then core entries table pc takers takers takers (block_paths program body) (handlers_paths program rest)
-      (λ named. inner_block (scope_of core procedure) named (takers_of takers now.thrown.items) now.number body) (made_by_block body)
+      ready-then core entries table pc exit_unknowns exit_unknowns exit_unknowns (block_paths program body) (handlers_paths program rest)
+      (λ named. inner_block (scope_of core procedure) named (exit_unknowns_of exit_unknowns now.thrown.items) now.number body) (made_by_block body)
       (fits-handlers (Catch at handled body rest)) (fits-handlers rest) (made_by_handlers (Catch at handled body rest)) (made_by_handlers rest) 0 0
       now new ready walked ready.levelled ready.levelled
       (and-three (is_exception program handled) (fits-block body) (fits-handlers rest) ready.fitting).2 (omega arith) (omega arith)

@@ -18,7 +18,7 @@ use Rattle.gathering.specs.Walk.{call_atoms, inner_atom, inner_constraint}
 use Rattle.solver.specs.declared.constraints.Atom as stored
 use Rattle.constraints.specs.Added.{AreAdded, IsLeft, IsPart, PartConstraint, Stored, stand_for, stands_for, wanted_constraint}
 use Rattle.constraints.specs.LeftSides.{left_parts, part as part-of, wanted_part}
-use Rattle.constraints.specs.Journals.{HasOneTaker, raised_flow, taker_at}
+use Rattle.constraints.specs.Journals.{HasOneExitUnknown, raised_flow, exit_unknown_at}
 use Rattle.constraints.specs.Spreading.{AreCallsOf, AreLabelsOf, AreSpread, AreSpreadTo, IsNode, IsSpread, IsSpreadTo, IsSpreadWhole, StandForThemselves, StandFrom, exceptions_of, fixed_flows, joining_flow, owns_of}
 use Rattle.constraints.specs.declared.journal.Called.{Called}
 use Rattle.constraints.specs.declared.journal.Journal.{Journal}
@@ -72,7 +72,7 @@ spread-more core journal stands first next first' next' calls more c least most 
   of = raise.of;
   callee = raise.callee;
   exception = raise.exception;
-  taker = raise.taker;
+  exit_unknown = raise.exit_unknown;
   is_node = node-more first next first' next' calls more raise.node least most within raise.is_node;
   stands_for = raise.stands_for;
   some = raise.some;
@@ -99,11 +99,11 @@ both-spread core table journal raises a b old middle new first second = record {
       (second.each stands (λ called inside. themselves called (Contains-append_right a b called inside))
       (stand-right stands old.number middle.number first.meanings second.meanings first.number_is from) c k))
       (Contains-append_cases first.added second.added c h);
-  leads = λ called inside exception raised taker takes from in_left. ⊎_elim
-      (λ k. leads-more first.added (first.added ++ second.added) (Contains-append_left first.added second.added) from (inner_atom taker)
-      (first.leads called k exception raised taker takes from in_left))
-      (λ k. leads-more second.added (first.added ++ second.added) (Contains-append_right first.added second.added) from (inner_atom taker)
-      (second.leads called k exception raised taker takes from in_left))
+  leads = λ called inside exception raised exit_unknown takes from in_left. ⊎_elim
+      (λ k. leads-more first.added (first.added ++ second.added) (Contains-append_left first.added second.added) from (inner_atom exit_unknown)
+      (first.leads called k exception raised exit_unknown takes from in_left))
+      (λ k. leads-more second.added (first.added ++ second.added) (Contains-append_right first.added second.added) from (inner_atom exit_unknown)
+      (second.leads called k exception raised exit_unknown takes from in_left))
       (Contains-append_cases a b called inside);
 }
 
@@ -117,7 +117,7 @@ none-spread core table journal raises calls made none = record {
   number_is = omega arith;
   few = omega arith;
   each = λ stands themselves from c h. absurd (none_in_nil c h);
-  leads = λ called inside exception raised taker takes from in_left. absurd (none called exception inside raised);
+  leads = λ called inside exception raised exit_unknown takes from in_left. absurd (none called exception inside raised);
 }
 
 -- the same of other exceptions, each one of those, and of other calls
@@ -197,18 +197,18 @@ all-spread core table journal calls old new atom several number added part =
       fewer = several;
     }
 
--- ---- exceptions that have one taker at all of the calls
+-- ---- exceptions that have one exit unknown at all of the calls
 abbrev label_part : Program → (callee exception : ℕ) → List NamedAtom
 label_part program f x = named_atoms (call_atoms program f (Throw x))
 
-raised-leads : (program : Program) (xs : List NamedConstraint) (callee callee' own node exception exception' taker : ℕ) → callee' ≡ callee → exception' ≡ exception
-    → Contains xs (raised_flow program callee node exception taker) → Leads xs (inner_atom own) (inner_atom node)
-    → (from : NamedAtom) → Contains (raised_flow program callee' own exception' taker).left from → Leads xs from (inner_atom taker)
-raised-leads program xs callee callee' own node exception exception' taker same same' among reaches from h =
-    let flow : NamedConstraint = raised_flow program callee node exception taker in
+raised-leads : (program : Program) (xs : List NamedConstraint) (callee callee' own node exception exception' exit_unknown : ℕ) → callee' ≡ callee → exception' ≡ exception
+    → Contains xs (raised_flow program callee node exception exit_unknown) → Leads xs (inner_atom own) (inner_atom node)
+    → (from : NamedAtom) → Contains (raised_flow program callee' own exception' exit_unknown).left from → Leads xs from (inner_atom exit_unknown)
+raised-leads program xs callee callee' own node exception exception' exit_unknown same same' among reaches from h =
+    let flow : NamedConstraint = raised_flow program callee node exception exit_unknown in
     ⊎_elim
-    (λ is. leads-by xs flow from (inner_atom node) (inner_atom taker) (subst (λ a. Leads xs a (inner_atom node)) is reaches) among (Contains-first (inner_atom node) (label_part program callee exception)) refl)
-    (λ k. leads-by xs flow from from (inner_atom taker) (arrived from refl) among
+    (λ is. leads-by xs flow from (inner_atom node) (inner_atom exit_unknown) (subst (λ a. Leads xs a (inner_atom node)) is reaches) among (Contains-first (inner_atom node) (label_part program callee exception)) refl)
+    (λ k. leads-by xs flow from from (inner_atom exit_unknown) (arrived from refl) among
     (Contains-later (inner_atom node) (label_part program callee exception) from
     (subst (λ f. Contains (label_part program f exception) from) same (subst (λ x. Contains (label_part program callee' x) from) same' k))) refl)
     (Contains-cons_cases (inner_atom own) (label_part program callee' exception') from h)
@@ -216,7 +216,7 @@ raised-leads program xs callee callee' own node exception exception' taker same 
 pub fixed-spread : (core : Core) (table : List Label) (journal : Journal) (labels varied fixed : List ThrownLabel) (calls : List Called) (one : Called) (callee : ℕ)
     (old middle new : Made) (atom : stored.Atom)
     → Contains calls one → AreCallsOf callee calls → AreLabelsOf core table callee fixed
-    → ((x : ThrownLabel) → Contains fixed x → HasOneTaker journal calls x.exception)
+    → ((x : ThrownLabel) → Contains fixed x → HasOneExitUnknown journal calls x.exception)
     → ((x : ThrownLabel) → Contains labels x → Contains fixed x ⊎ Contains varied x)
     → new.number ≡ middle.number
     → ((number : ℕ) → IsPart core table (inner_atom number) atom →
@@ -249,7 +249,7 @@ fixed-spread core table journal labels varied fixed calls one callee old middle 
               of = calls;
               callee = callee;
               exception = flow.label.exception;
-              taker = flow.taker;
+              exit_unknown = flow.exit_unknown;
               is_node = is_node;
               stands_for = to.stands_for stands themselves from;
               some = omega (arith, inside-one.1);
@@ -260,17 +260,17 @@ fixed-spread core table journal labels varied fixed calls one callee old middle 
               is = flow.is;
             }))
             (Contains-append_cases was.added flows c h);
-        leads = λ called inside exception raised taker takes from in_left.
+        leads = λ called inside exception raised exit_unknown takes from in_left.
             let x = contained_map_only (λ (thrown : ThrownLabel). thrown.exception) labels exception raised in
             ⊎_elim
             (λ k.
-            let takes-one : taker_at journal one x.0.exception ≡ Some taker = once x.0 k one called inside-one inside ∙ (ap (taker_at journal called) x.2 ∙ takes) in
-            raised-leads program all callee called.callee called.own node x.0.exception exception taker (of called inside) (sym x.2)
-            (Contains-append_right was.added flows (raised_flow program callee node x.0.exception taker) (fixed-in program journal one callee node fixed x.0 taker k takes-one))
+            let takes-one : exit_unknown_at journal one x.0.exception ≡ Some exit_unknown = once x.0 k one called inside-one inside ∙ (ap (exit_unknown_at journal called) x.2 ∙ takes) in
+            raised-leads program all callee called.callee called.own node x.0.exception exception exit_unknown (of called inside) (sym x.2)
+            (Contains-append_right was.added flows (raised_flow program callee node x.0.exception exit_unknown) (fixed-in program journal one callee node fixed x.0 exit_unknown k takes-one))
             (reaches called inside) from in_left)
-            (λ k. leads-more was.added all (Contains-append_left was.added flows) from (inner_atom taker)
+            (λ k. leads-more was.added all (Contains-append_left was.added flows) from (inner_atom exit_unknown)
             (was.leads called inside exception
-            (subst (Contains (exceptions_of varied)) x.2 (contained_map (λ (thrown : ThrownLabel). thrown.exception) varied x.0 k)) taker takes from in_left))
+            (subst (Contains (exceptions_of varied)) x.2 (contained_map (λ (thrown : ThrownLabel). thrown.exception) varied x.0 k)) exit_unknown takes from in_left))
             (parts x.0 x.1);
       };
       node = node;
@@ -288,7 +288,7 @@ pub single-spread : (core : Core) (table : List Label) (journal : Journal) (labe
     → AreSpreadTo core table journal labels (called ∷ []) old new atom
 single-spread core table journal labels called old new atom part number added callee of labelled =
     fixed-spread core table journal labels [] labels (called ∷ []) called callee old old new atom (Contains-first called []) of labelled
-    (λ x h a b i k. ap (λ (c : Called). taker_at journal c x.exception) (sym (itself a i) ∙ itself b k))
+    (λ x h a b i k. ap (λ (c : Called). exit_unknown_at journal c x.exception) (sym (itself a i) ∙ itself b k))
     (λ x h. inl h) number (λ n is. added callee n is labelled) (one-spread core table journal called old atom part)
   where
     itself : (one : Called) → Contains (called ∷ []) one → called ≡ one
@@ -362,8 +362,8 @@ two-spread core table journal labels a b parts old middle late new first second 
               is = ⊎_elim sym (λ none. absurd (none_in_nil c none)) (Contains-cons_cases join [] c k);
             }))
             (Contains-append_cases both.added (join ∷ []) c h);
-        leads = λ called inside exception raised taker takes from in_left.
-            leads-more both.added all (Contains-append_left both.added (join ∷ [])) from (inner_atom taker) (both.leads called inside exception raised taker takes from in_left);
+        leads = λ called inside exception raised exit_unknown takes from in_left.
+            leads-more both.added all (Contains-append_left both.added (join ∷ [])) from (inner_atom exit_unknown) (both.leads called inside exception raised exit_unknown takes from in_left);
       };
       node = late.number;
       is_part = part;
@@ -389,7 +389,7 @@ first-in (x ∷ xs) d h = Contains-first x xs
 pub parted-spread : (core : Core) (table : List Label) (journal : Journal) (labels varied fixed varied' fixed' : List ThrownLabel) (calls : List Called) (one : Called)
     (old middle new : Made) (atom : stored.Atom)
     → fixed' ≡ fixed → varied' ≡ varied → 0 < length calls → one ≡ get_or calls 0 one
-    → ((x : ThrownLabel) → Contains fixed x → HasOneTaker journal calls x.exception)
+    → ((x : ThrownLabel) → Contains fixed x → HasOneExitUnknown journal calls x.exception)
     → ((x : ThrownLabel) → Contains labels x → Contains fixed x ⊎ Contains varied x)
     → ((x : ThrownLabel) → Contains fixed x → Contains labels x) → ((x : ThrownLabel) → Contains varied x → Contains labels x)
     → new.number ≡ middle.number
@@ -470,11 +470,11 @@ whole-then core table journal raises a b first before old new one other none =
           (other.each stands (λ called inside. themselves called (Contains-append_right a b called inside))
           (stand-right stands first old.number one.meanings other.meanings one.number_is from) c k))
           (Contains-append_cases one.added other.added c h);
-      leads = λ called inside exception raised taker takes from in_left. ⊎_elim
-          (λ k. leads-more one.added (one.added ++ other.added) (Contains-append_left one.added other.added) from (inner_atom taker)
-          (one.leads called k exception raised taker takes from in_left))
-          (λ k. leads-more other.added (one.added ++ other.added) (Contains-append_right one.added other.added) from (inner_atom taker)
-          (other.leads called k exception raised taker takes from in_left))
+      leads = λ called inside exception raised exit_unknown takes from in_left. ⊎_elim
+          (λ k. leads-more one.added (one.added ++ other.added) (Contains-append_left one.added other.added) from (inner_atom exit_unknown)
+          (one.leads called k exception raised exit_unknown takes from in_left))
+          (λ k. leads-more other.added (one.added ++ other.added) (Contains-append_right one.added other.added) from (inner_atom exit_unknown)
+          (other.leads called k exception raised exit_unknown takes from in_left))
           (Contains-append_cases a b called inside);
     }
 

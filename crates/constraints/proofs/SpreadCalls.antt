@@ -23,7 +23,7 @@ use Rattle.gathering.proofs.Numbers.{kept, numbers-below}
 use Rattle.gathering.proofs.Ranged.{InRange, Ranged}
 use Rattle.gathering.proofs.RangedPrograms.{ranged-program}
 use Rattle.constraints.specs.Ready.{most_unknowns}
-use Rattle.constraints.specs.Journals.{IsRaised, raised_flow, taker_at}
+use Rattle.constraints.specs.Journals.{IsRaised, raised_flow, exit_unknown_at}
 use Rattle.constraints.specs.Spreading.{Declares, IsJoin, IsNode, IsSpread, IsSpreadRaise, IsSpreadWhole, StandFrom, StandForThemselves}
 use Rattle.constraints.specs.Added.{Stored, wanted_constraint}
 use Rattle.constraints.specs.Thinned.{IsOwnOf, ThinnedWhole}
@@ -211,49 +211,49 @@ module _ (core : Core) (table : List Label) (walked : Progress) (from_number nex
       }
 
   raise-there : (c : NamedConstraint) (r : IsSpreadRaise core walked.journal stands from_number next_number calls c) (called : Called) → Contains r.of called
-      → Contains constraints (raised_flow (program_of core) r.callee called.own r.exception r.taker)
+      → Contains constraints (raised_flow (program_of core) r.callee called.own r.exception r.exit_unknown)
   raise-there c r called h =
       let callee : called.callee ≡ r.callee = r.of_callee called h in
       let entry = contained_map_only (λ (e : ThrownEntry). e.exception) (procedure_at (program_of core) r.callee).throws r.exception r.declared in
-      raised-there (raised_flow (program_of core) r.callee called.own r.exception r.taker) (record {
+      raised-there (raised_flow (program_of core) r.callee called.own r.exception r.exit_unknown) (record {
         called = called;
         among = r.among called h;
         entry = entry.0;
         declared = subst (λ f. Contains (procedure_at (program_of core) f).throws entry.0) (sym callee) entry.1;
-        taker = r.taker;
-        takes = ap (taker_at walked.journal called) entry.2 ∙ r.takes called h;
-        is = ap (λ f. raised_flow (program_of core) f called.own r.exception r.taker) (sym callee) ∙ ap (λ x. raised_flow (program_of core) called.callee called.own x r.taker) (sym entry.2);
+        exit_unknown = r.exit_unknown;
+        takes = ap (exit_unknown_at walked.journal called) entry.2 ∙ r.takes called h;
+        is = ap (λ f. raised_flow (program_of core) f called.own r.exception r.exit_unknown) (sym callee) ∙ ap (λ x. raised_flow (program_of core) called.callee called.own x r.exit_unknown) (sym entry.2);
       })
 
   first-of : (of : List Called) → 0 < length of → (called : Called) × Contains of called
   first-of [] some = absurd (omega (arith, some))
   first-of (called ∷ rest) some = (called, Contains-first called rest)
 
-  taker-below : (c : NamedConstraint) (r : IsSpreadRaise core walked.journal stands from_number next_number calls c) → (real ≤ r.taker) × (r.taker < count)
-  taker-below c r =
+  exit_unknown-below : (c : NamedConstraint) (r : IsSpreadRaise core walked.journal stands from_number next_number calls c) → (real ≤ r.exit_unknown) × (r.exit_unknown < count)
+  exit_unknown-below c r =
       let one = first-of r.of r.some in
-      (ranged (raised_flow (program_of core) r.callee one.0.own r.exception r.taker) (raise-there c r one.0 one.1)).1
+      (ranged (raised_flow (program_of core) r.callee one.0.own r.exception r.exit_unknown) (raise-there c r one.0 one.1)).1
 
   raise-added : (c : NamedConstraint) → IsSpreadRaise core walked.journal stands from_number next_number calls c
       → IsAdded (inner_number (program_of core)) (further (program_of core)) meanings (gathered_constraints (program_of core)) (numbered (program_of core) c)
   raise-added c r =
       let label : List NamedAtom = named_atoms (call_atoms (program_of core) r.callee (Throw r.exception)) in
-      let right : numbered_atom (program_of core) c.right ≡ Unknown r.taker = ap (λ (z : NamedConstraint). numbered_atom (program_of core) z.right) r.is in
-      let below : r.taker < count = (taker-below c r).1 in
+      let right : numbered_atom (program_of core) c.right ≡ Unknown r.exit_unknown = ap (λ (z : NamedConstraint). numbered_atom (program_of core) z.right) r.is in
+      let below : r.exit_unknown < count = (exit_unknown-below c r).1 in
       let link : (called : Called) → Contains r.of called → (from : formal.Atom ℕ Label)
       → Contains (map (numbered_atom (program_of core)) (inner_atom called.own ∷ label)) from → Links (gathered_constraints (program_of core)) from (numbered (program_of core) c).right =
       λ called h from starts. record {
-        by = numbered (program_of core) (raised_flow (program_of core) r.callee called.own r.exception r.taker);
-        among = contained_map (numbered (program_of core)) constraints (raised_flow (program_of core) r.callee called.own r.exception r.taker) (raise-there c r called h);
+        by = numbered (program_of core) (raised_flow (program_of core) r.callee called.own r.exception r.exit_unknown);
+        among = contained_map (numbered (program_of core)) constraints (raised_flow (program_of core) r.callee called.own r.exception r.exit_unknown) (raise-there c r called h);
         starts = starts;
         ends = sym right;
       } in
       record {
-        to = r.taker;
+        to = r.exit_unknown;
         right_is = right;
-        inner_is = le-leb real r.taker (taker-below c r).0;
+        inner_is = le-leb real r.exit_unknown (exit_unknown-below c r).0;
         no_target = ap (λ (z : NamedConstraint). z.target) r.is;
-        to_further = λ f. let least : count ≤ r.taker = further-only r.taker f in absurd (omega (arith, least, below));
+        to_further = λ f. let least : count ≤ r.exit_unknown = further-only r.exit_unknown f in absurd (omega (arith, least, below));
         to_old = λ f part from h brings.
             let left : Contains (map (numbered_atom (program_of core)) (inner_atom r.node ∷ label)) part =
             subst (λ (z : NamedConstraint). Contains (map (numbered_atom (program_of core)) z.left) part) r.is h in
@@ -268,10 +268,10 @@ module _ (core : Core) (table : List Label) (walked : Progress) (from_number nex
             let one = first-of r.of r.some in
             let there : Contains (map (numbered_atom (program_of core)) (inner_atom one.0.own ∷ label)) part =
             Contains-later (unknown one.0.own) (map (numbered_atom (program_of core)) label) part k in
-            let by : Gathered = numbered (program_of core) (raised_flow (program_of core) r.callee one.0.own r.exception r.taker) in
+            let by : Gathered = numbered (program_of core) (raised_flow (program_of core) r.callee one.0.own r.exception r.exit_unknown) in
             let old_part : is_inner (further (program_of core)) part ≡ false = below-old (program_of core) part
             ((numbers-below (program_of core) core.well_formed by
-            (contained_map (numbered (program_of core)) constraints (raised_flow (program_of core) r.callee one.0.own r.exception r.taker) (raise-there c r one.0 one.1))).0 part there) in
+            (contained_map (numbered (program_of core)) constraints (raised_flow (program_of core) r.callee one.0.own r.exception r.exit_unknown) (raise-there c r one.0 one.1))).0 part there) in
             let same : part ≡ from = brought-old part from old_part brings in
             link one.0 one.1 from (subst (λ a. Contains (map (numbered_atom (program_of core)) (inner_atom one.0.own ∷ label)) a) same there))
             (Contains-cons_cases (unknown r.node) (map (numbered_atom (program_of core)) label) part left);
@@ -286,12 +286,12 @@ module _ (core : Core) (table : List Label) (walked : Progress) (from_number nex
       (λ stays. inl (contained_map (numbered (program_of core)) whole.now.kept c stays))
       (λ raised. inr (λ part there.
       let named = contained_map_only (numbered_atom (program_of core)) c.left part there in
-      let from : Contains (raised_flow (program_of core) raised.called.callee raised.called.own raised.entry.exception raised.taker).left named.0 =
+      let from : Contains (raised_flow (program_of core) raised.called.callee raised.called.own raised.entry.exception raised.exit_unknown).left named.0 =
       subst (λ (z : NamedConstraint). Contains z.left named.0) raised.is named.1 in
-      let leads : Leads spread.added named.0 (inner_atom raised.taker) =
+      let leads : Leads spread.added named.0 (inner_atom raised.exit_unknown) =
       spread.leads raised.called raised.among raised.entry.exception
-      (contained_map (λ (e : ThrownEntry). e.exception) (procedure_at (program_of core) raised.called.callee).throws raised.entry raised.declared) raised.taker raised.takes named.0 from in
-      let ends : inner_atom raised.taker ≡ c.right = ap (λ (z : NamedConstraint). z.right) (sym raised.is) in
+      (contained_map (λ (e : ThrownEntry). e.exception) (procedure_at (program_of core) raised.called.callee).throws raised.entry raised.declared) raised.exit_unknown raised.takes named.0 from in
+      let ends : inner_atom raised.exit_unknown ≡ c.right = ap (λ (z : NamedConstraint). z.right) (sym raised.is) in
       subst (λ a. Leads (map (numbered (program_of core)) spread.added) a (numbered_atom (program_of core) c.right)) named.2
       (leads-numbered (program_of core) spread.added named.0 c.right (subst (λ a. Leads spread.added named.0 a) ends leads))))
       (whole.now.rest c h)
@@ -362,8 +362,8 @@ module _ (core : Core) (table : List Label) (walked : Progress) (from_number nex
   raise-below c r =
       let label : List NamedAtom = named_atoms (call_atoms (program_of core) r.callee (Throw r.exception)) in
       let one = first-of r.of r.some in
-      let like : AreBelow (raised_flow (program_of core) r.callee one.0.own r.exception r.taker) =
-      old-below (raised_flow (program_of core) r.callee one.0.own r.exception r.taker) (raise-there c r one.0 one.1) in
+      let like : AreBelow (raised_flow (program_of core) r.callee one.0.own r.exception r.exit_unknown) =
+      old-below (raised_flow (program_of core) r.callee one.0.own r.exception r.exit_unknown) (raise-there c r one.0 one.1) in
       subst AreBelow (sym r.is) (
         λ a there. ⊎_elim
             (λ same.

@@ -185,7 +185,7 @@ pub map-map : {A B C : Type 0} (f : A → B) (g : B → C) (xs : List A) → map
 map-map f g [] = refl
 map-map f g (x ∷ xs) = ap (λ ys. g (f x) ∷ ys) (map-map f g xs)
 
--- the label of a slot, and what is behind the last one
+-- the label of a slot, and what is after the last one
 pub slot-at : (first : ℕ) (slots : List SlotEntry) (n : ℕ) (empty : SlotEntry) (d : Part) → n < length slots
     → get_or (slot_parts first slots) n d ≡ written_part (get_or slots n empty).written (first + n)
 slot-at first [] n empty d inside = absurd (omega (arith, inside))
@@ -194,17 +194,17 @@ slot-at first (slot ∷ slots) (suc n) empty d inside =
     slot-at (suc first) slots n empty d (omega (arith, inside))
     ∙ ap (written_part (get_or slots n empty).written) (let e : suc first + n ≡ first + suc n = omega arith in e)
 
-slot-behind : (first : ℕ) (slots : List SlotEntry) (n : ℕ) (d : Part) → length slots ≤ n → get_or (slot_parts first slots) n d ≡ d
-slot-behind first [] zero d past = refl
-slot-behind first [] (suc n) d past = refl
-slot-behind first (slot ∷ slots) zero d past = absurd (omega (arith, past))
-slot-behind first (slot ∷ slots) (suc n) d past = slot-behind (suc first) slots n d (omega (arith, past))
+slot-beyond : (first : ℕ) (slots : List SlotEntry) (n : ℕ) (d : Part) → length slots ≤ n → get_or (slot_parts first slots) n d ≡ d
+slot-beyond first [] zero d past = refl
+slot-beyond first [] (suc n) d past = refl
+slot-beyond first (slot ∷ slots) zero d past = absurd (omega (arith, past))
+slot-beyond first (slot ∷ slots) (suc n) d past = slot-beyond (suc first) slots n d (omega (arith, past))
 
-slots-behind : (slots : List SlotEntry) (n : ℕ) (d : SlotEntry) → length slots ≤ n → get_or slots n d ≡ d
-slots-behind [] zero d past = refl
-slots-behind [] (suc n) d past = refl
-slots-behind (slot ∷ slots) zero d past = absurd (omega (arith, past))
-slots-behind (slot ∷ slots) (suc n) d past = slots-behind slots n d (omega (arith, past))
+slots-beyond : (slots : List SlotEntry) (n : ℕ) (d : SlotEntry) → length slots ≤ n → get_or slots n d ≡ d
+slots-beyond [] zero d past = refl
+slots-beyond [] (suc n) d past = refl
+slots-beyond (slot ∷ slots) zero d past = absurd (omega (arith, past))
+slots-beyond (slot ∷ slots) (suc n) d past = slots-beyond slots n d (omega (arith, past))
 
 pub part-at : (table : List Label) (atoms : List Atom) (n : ℕ) (d : Atom)
     → part table (get_or atoms n d) ≡ get_or (left_parts table atoms) n (part table d)
@@ -287,8 +287,8 @@ slot-named program table f n row atoms nothing found is none same found-is =
     (λ e. slot-at first procedure.slots n _ (Written []) (ltb-true n (length procedure.slots) e) ∙ named-part program f n written e)
     (λ e.
     let past : length procedure.slots ≤ n = ltb-false n (length procedure.slots) e in
-    slot-behind first procedure.slots n (Written []) past
-    ∙ missing-part program f n written e (ap (λ (slot : SlotEntry). slot.written) (slots-behind procedure.slots n _ past))) in
+    slot-beyond first procedure.slots n (Written []) past
+    ∙ missing-part program f n written e (ap (λ (slot : SlotEntry). slot.written) (slots-beyond procedure.slots n _ past))) in
     ap (part table) found-is
     ∙ (part-at table atoms n nothing
     ∙ (ap (λ list. get_or (left_parts table list) n (part table nothing)) same

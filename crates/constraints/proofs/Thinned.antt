@@ -11,12 +11,12 @@ use Rattle.gathering.specs.Names.{NamedConstraint, is_inner_name}
 use Rattle.gathering.proofs.Begins.{begins-append}
 use Rattle.constraints.specs.Added.{AreAdded, Stored}
 use Rattle.constraints.specs.Journals.{IsRaised, IsUpToDate, entry_at}
-use Rattle.constraints.specs.Takers.{taker_of}
+use Rattle.constraints.specs.ExitUnknowns.{exit_unknown_of}
 use Rattle.constraints.specs.Thinned.{AreNoted, IsOwnOf, Thinned, ThinnedNow, ThinnedWhole}
 use Rattle.constraints.specs.declared.journal.Called.{Called}
 use Rattle.constraints.specs.declared.journal.Journal.{Journal}
 use Rattle.constraints.specs.declared.progress.Progress.{Progress}
-use Rattle.constraints.specs.declared.takers.Taker.{Taker}
+use Rattle.constraints.specs.declared.exit_unknowns.ExitUnknown.{ExitUnknown}
 use Rattle.constraints.proofs.Added.{added-none, added-then}
 
 outer-append : {N U V : Type 0} (inner : U → Bool) (xs ys : List (Constraint N U V)) → outer inner (xs ++ ys) ≡ outer inner xs ++ outer inner ys
@@ -46,14 +46,14 @@ raised-by core one other c kept raised =
       among = keeps.0;
       entry = raised.entry;
       declared = raised.declared;
-      taker = raised.taker;
-      takes = ap (taker_of raised.called.barrier) (keeps.1 raised.entry.exception) ∙ raised.takes;
+      exit_unknown = raised.exit_unknown;
+      takes = ap (exit_unknown_of raised.called.barrier) (keeps.1 raised.entry.exception) ∙ raised.takes;
       is = raised.is;
     }
 
 module _ (core : Core) (table : List Label) where
   -- all of them were added
-  pub thinned-exact : (added : List NamedConstraint) (old new : List Stored) (before after : Journal) (thrown changed : List Taker)
+  pub thinned-exact : (added : List NamedConstraint) (old new : List Stored) (before after : Journal) (thrown changed : List ExitUnknown)
       → AreAdded core table added old new → after ≡ before → changed ≡ thrown → IsUpToDate before thrown
       → ThinnedNow core table added old new before after changed
   thinned-exact added old new before after thrown changed is same kept ready = record {
@@ -70,7 +70,7 @@ module _ (core : Core) (table : List Label) where
   }
 
   -- none, while entries were noted
-  pub thinned-noted : (old new : List Stored) (before after : Journal) (thrown changed : List Taker)
+  pub thinned-noted : (old new : List Stored) (before after : Journal) (thrown changed : List ExitUnknown)
       → new ≡ old → AreNoted before after changed → IsUpToDate before thrown
       → ThinnedNow core table [] old new before after changed
   thinned-noted old new before after thrown changed same noted ready = record {
@@ -90,7 +90,7 @@ module _ (core : Core) (table : List Label) where
   }
 
   -- first some of them, then the others
-  pub thinned-then : (a b : List NamedConstraint) (old between new : List Stored) (before middle after : Journal) (thrown changed : List Taker)
+  pub thinned-then : (a b : List NamedConstraint) (old between new : List Stored) (before middle after : Journal) (thrown changed : List ExitUnknown)
       → ThinnedNow core table a old between before middle thrown → ThinnedNow core table b between new middle after changed
       → ThinnedNow core table (a ++ b) old new before after changed
   thinned-then a b old between new before middle after thrown changed one two = record {
@@ -116,7 +116,7 @@ module _ (core : Core) (table : List Label) where
     up_to_date = two.up_to_date;
   }
 
-  pub thinned-same : (a b : List NamedConstraint) (old new : List Stored) (before after : Journal) (changed : List Taker) → a ≡ b
+  pub thinned-same : (a b : List NamedConstraint) (old new : List Stored) (before after : Journal) (changed : List ExitUnknown) → a ≡ b
       → ThinnedNow core table b old new before after changed → ThinnedNow core table a old new before after changed
   thinned-same a b old new before after changed same thinned = subst (λ cs. ThinnedNow core table cs old new before after changed) (sym same) thinned
 

@@ -68,4 +68,4 @@ IsGatheredAt core table pc gathered old new =
 
 -- a flow if a test holds
 abbrev pub flow_if : Bool → List NamedAtom → Option ℕ → List NamedConstraint
-flow_if test left taker = if test then flow left taker else []
+flow_if test left exit_unknown = if test then flow left exit_unknown else []

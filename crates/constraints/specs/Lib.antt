@@ -1,7 +1,7 @@
 pub mod LeftSides
 pub mod Rows
 pub mod Added
-pub mod Takers
+pub mod ExitUnknowns
 pub mod Walks
 pub mod Walked
 pub mod Procedures

@@ -19,10 +19,10 @@ use Rattle.path_map.specs.Exits.{exits_of}
 use Rattle.path_map.specs.Paths.{block_paths, handlers_paths, inner_paths, rest_paths, statement_paths}
 use Rattle.constraints.specs.LeftSides.{scope_of}
 use Rattle.constraints.specs.Procedures.{IsOf}
-use Rattle.constraints.specs.Takers.{AreLevelled, AreWithin}
+use Rattle.constraints.specs.ExitUnknowns.{AreLevelled, AreWithin}
 use Rattle.constraints.specs.declared.progress.Progress.{Progress}
-use Rattle.constraints.specs.declared.takers.Taker.{Taker}
-use Rattle.constraints.specs.declared.takers.Takers.{Takers}
+use Rattle.constraints.specs.declared.exit_unknowns.ExitUnknown.{ExitUnknown}
+use Rattle.constraints.specs.declared.exit_unknowns.ExitUnknowns.{ExitUnknowns}
 
 -- how many exceptions there are, built in and declared
 abbrev pub exception_count : Core → ℕ
@@ -36,54 +36,54 @@ entries_of found = map exits_of found
 abbrev pub most_unknowns : ℕ
 most_unknowns = 4 * MAX_TEXT
 
--- so many inner unknowns may be made
+-- this many inner unknowns may be made
 abbrev pub HasRoom : (made : ℕ) → (now : Progress) → Type 0
 HasRoom made now = now.number + made ≤ most_unknowns
 
 -- exceptions that have entries
-abbrev pub AreHandledInside : List Handler → (thrown : List Taker) → Type 0
+abbrev pub AreHandledInside : List Handler → (thrown : List ExitUnknown) → Type 0
 AreHandledInside handlers thrown = All (λ (handler : Handler). handler.exception < length thrown) handlers
 
-abbrev pub AreThrownInside : List Thrown → (thrown : List Taker) → Type 0
+abbrev pub AreThrownInside : List Thrown → (thrown : List ExitUnknown) → Type 0
 AreThrownInside throws thrown = All (λ (declared : Thrown). declared.exception < length thrown) throws
 
--- the path map goes on with these paths, no level is above that of the takers, each exception has an entry, what is walked fits the
--- program, there is room for the inner unknowns that it makes, and there are so many more of these than levels
-pub record IsReady (core : Core) (entries : List Exits) (takers : Takers) (paths : List (List Exit)) (fits : Bool) (made more : ℕ) (now : Progress) : Type 0 where
+-- the path map goes on with these paths, no level is above that of the exit unknowns, each exception has an entry, what is walked fits the
+-- program, there is room for the inner unknowns that it makes, and there are this many more of these than levels
+pub record IsReady (core : Core) (entries : List Exits) (exit_unknowns : ExitUnknowns) (paths : List (List Exit)) (fits : Bool) (made more : ℕ) (now : Progress) : Type 0 where
   pub left : List Exits
   pub goes_on : drop now.index entries ≡ map exits_of paths ++ left
-  pub levelled : AreLevelled takers now.thrown.items
+  pub levelled : AreLevelled exit_unknowns now.thrown.items
   pub wide : exception_count core ≤ length now.thrown.items
   pub fitting : IsTrue fits
   pub room : HasRoom made now
-  pub deep : takers.level + more ≤ now.number
+  pub deep : exit_unknowns.level + more ≤ now.number
 
 -- for a block of its own, and for its statements
-abbrev pub IsBlockReady : Core → (entries : List Exits) → (procedure : ℕ) → Takers → Block → (now : Progress) → Type 0
-IsBlockReady core entries procedure takers block now =
-    IsReady core entries takers (block_paths (program_of core) block)
+abbrev pub IsBlockReady : Core → (entries : List Exits) → (procedure : ℕ) → ExitUnknowns → Block → (now : Progress) → Type 0
+IsBlockReady core entries procedure exit_unknowns block now =
+    IsReady core entries exit_unknowns (block_paths (program_of core) block)
     (block_fits (program_of core) (here (scope_of core procedure)) block) (made_by_block block) 0 now
 
-abbrev pub AreStatementsReady : Core → (entries : List Exits) → (procedure : ℕ) → Takers → Block → (now : Progress) → Type 0
-AreStatementsReady core entries procedure takers block now =
-    IsReady core entries takers (rest_paths (program_of core) block)
+abbrev pub AreStatementsReady : Core → (entries : List Exits) → (procedure : ℕ) → ExitUnknowns → Block → (now : Progress) → Type 0
+AreStatementsReady core entries procedure exit_unknowns block now =
+    IsReady core entries exit_unknowns (rest_paths (program_of core) block)
     (block_fits (program_of core) (here (scope_of core procedure)) block) (made_by_block block) 0 now
 
 -- for a statement of a block, for whose normal end one was made, and for what is in one
-abbrev pub IsStatementReady : Core → (entries : List Exits) → (procedure : ℕ) → Takers → Statement → (now : Progress) → Type 0
-IsStatementReady core entries procedure takers statement now =
-    IsReady core entries takers (statement_paths (program_of core) statement)
+abbrev pub IsStatementReady : Core → (entries : List Exits) → (procedure : ℕ) → ExitUnknowns → Statement → (now : Progress) → Type 0
+IsStatementReady core entries procedure exit_unknowns statement now =
+    IsReady core entries exit_unknowns (statement_paths (program_of core) statement)
     (statement_fits (program_of core) (here (scope_of core procedure)) statement) (made_by_statement statement) 1 now
 
-abbrev pub IsFormReady : Core → (entries : List Exits) → (procedure : ℕ) → Takers → Statement → (now : Progress) → Type 0
-IsFormReady core entries procedure takers statement now =
-    IsReady core entries takers (inner_paths (program_of core) statement)
+abbrev pub IsFormReady : Core → (entries : List Exits) → (procedure : ℕ) → ExitUnknowns → Statement → (now : Progress) → Type 0
+IsFormReady core entries procedure exit_unknowns statement now =
+    IsReady core entries exit_unknowns (inner_paths (program_of core) statement)
     (statement_fits (program_of core) (here (scope_of core procedure)) statement) (made_by_statement statement) 1 now
 
 -- for the bodies of handlers
-abbrev pub AreHandlersReady : Core → (entries : List Exits) → (procedure : ℕ) → Takers → Handlers → (now : Progress) → Type 0
-AreHandlersReady core entries procedure takers handlers now =
-    IsReady core entries takers (handlers_paths (program_of core) handlers)
+abbrev pub AreHandlersReady : Core → (entries : List Exits) → (procedure : ℕ) → ExitUnknowns → Handlers → (now : Progress) → Type 0
+AreHandlersReady core entries procedure exit_unknowns handlers now =
+    IsReady core entries exit_unknowns (handlers_paths (program_of core) handlers)
     (handlers_fit (program_of core) (here (scope_of core procedure)) handlers) (made_by_handlers handlers) 0 now
 
 -- for a procedure of the program, where no entry's level is above a barrier

@@ -1,4 +1,4 @@
--- Private: the flows that are added for the exceptions of calls. Some calls reach the taker that an exception has at all of them by one inner
+-- Private: the flows that are added for the exceptions of calls. Some calls reach the exit unknown that an exception has at all of them by one inner
 -- unknown, which stands for their own labels.
 -- Source: our own.
 use Rattle.std.specs.Prelude.{◌≡◌, ◌⊎◌, ℕ, zero, suc, ◌+◌, ◌<◌, ◌≤◌, List, [], ◌∷◌, ◌++◌, map, length, Contains, Some, None}
@@ -16,7 +16,7 @@ use Rattle.gathering.specs.Rerouted.{Leads}
 use Rattle.gathering.specs.Walk.{call_atoms, flow, inner_atom}
 use Rattle.solver.specs.declared.constraints.Atom.{Atom}
 use Rattle.constraints.specs.Added.{AreAdded, IsPart, Stored, stand_for, wanted_constraint}
-use Rattle.constraints.specs.Journals.{raised_flow, taker_at}
+use Rattle.constraints.specs.Journals.{raised_flow, exit_unknown_at}
 use Rattle.constraints.specs.LeftSides.{Written, part}
 use Rattle.constraints.specs.declared.journal.Called.{Called}
 use Rattle.constraints.specs.declared.journal.Journal.{Journal}
@@ -54,27 +54,27 @@ pub record IsJoin (stands : ℕ → List ℕ) (first next : ℕ) (calls : List C
   pub brings : (node own : ℕ) → Contains parts node → Contains (stands node) own → Contains (stands to) own
   pub is : c ≡ joining_flow parts to
 
--- to the taker that an exception of a procedure has at each call for which an unknown stands
+-- to the exit unknown that an exception of a procedure has at each call for which an unknown stands
 pub record IsSpreadRaise (core : Core) (journal : Journal) (stands : ℕ → List ℕ) (first next : ℕ) (calls : List Called) (c : NamedConstraint) : Type 0 where
   pub node : ℕ
   pub of : List Called
   pub callee : ℕ
   pub exception : ℕ
-  pub taker : ℕ
+  pub exit_unknown : ℕ
   pub is_node : IsNode first next calls node
   pub stands_for : stands node ≡ owns_of of
   pub some : 0 < length of
   pub among : (called : Called) → Contains of called → Contains calls called
   pub of_callee : (called : Called) → Contains of called → called.callee ≡ callee
-  pub takes : (called : Called) → Contains of called → taker_at journal called exception ≡ Some taker
+  pub takes : (called : Called) → Contains of called → exit_unknown_at journal called exception ≡ Some exit_unknown
   pub declared : Contains (declared_by (procedure_at (program_of core) callee).throws) exception
-  pub is : c ≡ raised_flow (program_of core) callee node exception taker
+  pub is : c ≡ raised_flow (program_of core) callee node exception exit_unknown
 
 abbrev pub IsSpread : Core → Journal → (stands : ℕ → List ℕ) → (first next : ℕ) → List Called → NamedConstraint → Type 0
 IsSpread core journal stands first next calls c =
     IsJoin stands first next calls c ⊎ IsSpreadRaise core journal stands first next calls c
 
--- the flows of these exceptions of calls were added: each by a path, and nothing but what comes from a call at which that is the taker.
+-- the flows of these exceptions of calls were added: each by a path, and nothing but what comes from a call at which that is the exit unknown.
 -- The unknowns that were made have the numbers from the next one on, and stand for the meanings in their order.
 pub record AreSpread (core : Core) (table : List Label) (journal : Journal) (raises : Called → ℕ → Type 0) (calls : List Called) (old new : Made) : Type 0 where
   pub added : List NamedConstraint
@@ -85,9 +85,9 @@ pub record AreSpread (core : Core) (table : List Label) (journal : Journal) (rai
   pub each : (stands : ℕ → List ℕ) → StandForThemselves stands calls → StandFrom stands old.number meanings →
       (c : NamedConstraint) → Contains added c → IsSpread core journal stands old.number new.number calls c
   pub leads : (called : Called) → Contains calls called → (exception : ℕ) → raises called exception →
-      (taker : ℕ) → taker_at journal called exception ≡ Some taker →
-      (from : NamedAtom) → Contains (raised_flow (program_of core) called.callee called.own exception taker).left from →
-      Leads added from (inner_atom taker)
+      (exit_unknown : ℕ) → exit_unknown_at journal called exception ≡ Some exit_unknown →
+      (from : NamedAtom) → Contains (raised_flow (program_of core) called.callee called.own exception exit_unknown).left from →
+      Leads added from (inner_atom exit_unknown)
 
 -- the same of constraints that stand by themselves, with unknowns from a first number on
 pub record IsSpreadWhole (core : Core) (table : List Label) (journal : Journal) (raises : Called → ℕ → Type 0) (calls : List Called) (first next : ℕ) (stored : List Stored) : Type 0 where
@@ -99,9 +99,9 @@ pub record IsSpreadWhole (core : Core) (table : List Label) (journal : Journal) 
   pub each : (stands : ℕ → List ℕ) → StandForThemselves stands calls → StandFrom stands first meanings →
       (c : NamedConstraint) → Contains added c → IsSpread core journal stands first next calls c
   pub leads : (called : Called) → Contains calls called → (exception : ℕ) → raises called exception →
-      (taker : ℕ) → taker_at journal called exception ≡ Some taker →
-      (from : NamedAtom) → Contains (raised_flow (program_of core) called.callee called.own exception taker).left from →
-      Leads added from (inner_atom taker)
+      (exit_unknown : ℕ) → exit_unknown_at journal called exception ≡ Some exit_unknown →
+      (from : NamedAtom) → Contains (raised_flow (program_of core) called.callee called.own exception exit_unknown).left from →
+      Leads added from (inner_atom exit_unknown)
 
 -- each exception that the procedure of a call declares
 abbrev pub Declares : Core → Called → (exception : ℕ) → Type 0
@@ -122,11 +122,11 @@ IsLabelOf core table callee x =
 abbrev pub AreLabelsOf : Core → (table : List Label) → (callee : ℕ) → List ThrownLabel → Type 0
 AreLabelsOf core table callee labels = (x : ThrownLabel) → Contains labels x → IsLabelOf core table callee x
 
--- the flows of exceptions by an unknown, to the takers that they have at a call
+-- the flows of exceptions by an unknown, to the exit unknowns that they have at a call
 abbrev pub fixed_flows : Program → Journal → Called → (callee node : ℕ) → List ThrownLabel → List NamedConstraint
 fixed_flows program journal called callee node [] = []
 fixed_flows program journal called callee node (x ∷ rest) =
-    flow (inner_atom node ∷ named_atoms (call_atoms program callee (Throw x.exception))) (taker_at journal called x.exception)
+    flow (inner_atom node ∷ named_atoms (call_atoms program callee (Throw x.exception))) (exit_unknown_at journal called x.exception)
     ++ fixed_flows program journal called callee node rest
 
 -- the flows of exceptions of calls of one procedure were added, and a part stands for all of these calls
@@ -155,7 +155,7 @@ abbrev pub all_calls : List (Vec Called Global) → List Called
 all_calls [] = []
 all_calls (row ∷ rows) = row.items ++ all_calls rows
 
--- the rows have these calls, each in that of its procedure, but for those of procedures that are none of so many
+-- the rows have these calls, each in that of its procedure, but for those of procedures that are none of this many
 pub record AreRowsOf (count : ℕ) (calls : List Called) (rows : List (Vec Called Global)) : Type 0 where
   pub count_is : length rows ≡ count
   pub own_row : (i : ℕ) → AreCallsOf i (calls_at rows i)

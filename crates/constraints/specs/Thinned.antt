@@ -13,7 +13,7 @@ use Rattle.constraints.specs.Journals.{IsRaised, IsUpToDate, entry_at}
 use Rattle.constraints.specs.declared.journal.Called.{Called}
 use Rattle.constraints.specs.declared.journal.Journal.{Journal}
 use Rattle.constraints.specs.declared.progress.Progress.{Progress}
-use Rattle.constraints.specs.declared.takers.Taker.{Taker}
+use Rattle.constraints.specs.declared.exit_unknowns.ExitUnknown.{ExitUnknown}
 
 -- a constraint gives a call its own label
 pub record IsOwnOf (called : Called) (added : List NamedConstraint) : Type 0 where
@@ -22,7 +22,7 @@ pub record IsOwnOf (called : Called) (added : List NamedConstraint) : Type 0 whe
   pub is : by.right ≡ inner_atom called.own
 
 -- those that were kept are all but flows of exceptions of calls that are noted now, and only such flows are noted that were to be added
-pub record ThinnedNow (core : Core) (table : List Label) (added : List NamedConstraint) (old new : List Stored) (before after : Journal) (thrown : List Taker) : Type 0 where
+pub record ThinnedNow (core : Core) (table : List Label) (added : List NamedConstraint) (old new : List Stored) (before after : Journal) (thrown : List ExitUnknown) : Type 0 where
   pub kept : List NamedConstraint
   pub kept_added : AreAdded core table kept old new
   pub outer_is : outer is_inner_name kept ≡ outer is_inner_name added
@@ -52,7 +52,7 @@ pub record ThinnedWhole (core : Core) (table : List Label) (added : List NamedCo
   pub now : ThinnedNow core table added [] walked.constraints.items start walked.journal walked.thrown.items
 
 -- entries were noted that exceptions have from the next call on
-pub record AreNoted (before after : Journal) (thrown : List Taker) : Type 0 where
+pub record AreNoted (before after : Journal) (thrown : List ExitUnknown) : Type 0 where
   pub calls_are : after.calls ≡ before.calls
   pub past_are : (x call : ℕ) → call < length before.calls.items → entry_at after x call ≡ entry_at before x call
   pub up_to_date : IsUpToDate after thrown

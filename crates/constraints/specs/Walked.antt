@@ -19,13 +19,13 @@ use Rattle.gathering.specs.Walk.{block_constraints, handler_count, handler_numbe
 use Rattle.solver.specs.declared.constraints.Atom.{Atom}
 use Rattle.constraints.specs.LeftSides.{scope_of}
 use Rattle.constraints.specs.Journals.{IsUpToDate}
-use Rattle.constraints.specs.Takers.{AreLevelled, no_entry, takers_of, undone}
+use Rattle.constraints.specs.ExitUnknowns.{AreLevelled, no_entry, exit_unknowns_of, undone}
 use Rattle.constraints.specs.Thinned.{AreNoted, IsThinnedAt}
 use Rattle.constraints.specs.declared.pieces.Tried.{Tried}
 use Rattle.constraints.specs.declared.progress.Progress.{Progress}
-use Rattle.constraints.specs.declared.takers.Takers.{Takers}
+use Rattle.constraints.specs.declared.exit_unknowns.ExitUnknowns.{ExitUnknowns}
 
--- a walk that came past what is gathered thus and makes so many inner unknowns, with these entries of the path map left
+-- a walk that came past what is gathered thus and makes this many inner unknowns, with these entries of the path map left
 pub record HasPassed (core : Core) (table : List Label) (entries : List Exits) (pc : Atom) (gathered : NamedAtom → List NamedConstraint) (made : ℕ) (left : List Exits) (old new : Progress) : Type 0 where
   pub added : IsThinnedAt core table pc gathered old new
   pub entries_left : drop new.index entries ≡ left
@@ -33,67 +33,67 @@ pub record HasPassed (core : Core) (table : List Label) (entries : List Exits) (
   pub thrown_is : new.thrown.items ≡ old.thrown.items
 
 -- a walk past what has these paths, where the path map goes on with them
-abbrev pub IsWalked : Core → (table : List Label) → (entries : List Exits) → (pc : Atom) → Takers → (paths : List (List Exit)) → (gathered : NamedAtom → List NamedConstraint) → (made : ℕ) → (old new : Progress) → Type 0
-IsWalked core table entries pc takers paths gathered made old new =
-    (left : List Exits) → drop old.index entries ≡ map exits_of paths ++ left → AreLevelled takers old.thrown.items →
+abbrev pub IsWalked : Core → (table : List Label) → (entries : List Exits) → (pc : Atom) → ExitUnknowns → (paths : List (List Exit)) → (gathered : NamedAtom → List NamedConstraint) → (made : ℕ) → (old new : Progress) → Type 0
+IsWalked core table entries pc exit_unknowns paths gathered made old new =
+    (left : List Exits) → drop old.index entries ≡ map exits_of paths ++ left → AreLevelled exit_unknowns old.thrown.items →
     HasPassed core table entries pc gathered made left old new
 
 -- past a block of its own, and past its statements
-abbrev pub IsBlockWalked : Core → (table : List Label) → (entries : List Exits) → (procedure : ℕ) → (pc : Atom) → Takers → Block → (old new : Progress) → Type 0
-IsBlockWalked core table entries procedure pc takers block old new =
-    IsWalked core table entries pc takers (block_paths (program_of core) block)
-    (λ named. inner_block (scope_of core procedure) named (takers_of takers old.thrown.items) old.number block)
+abbrev pub IsBlockWalked : Core → (table : List Label) → (entries : List Exits) → (procedure : ℕ) → (pc : Atom) → ExitUnknowns → Block → (old new : Progress) → Type 0
+IsBlockWalked core table entries procedure pc exit_unknowns block old new =
+    IsWalked core table entries pc exit_unknowns (block_paths (program_of core) block)
+    (λ named. inner_block (scope_of core procedure) named (exit_unknowns_of exit_unknowns old.thrown.items) old.number block)
     (made_by_block block) old new
 
-abbrev pub AreStatementsWalked : Core → (table : List Label) → (entries : List Exits) → (procedure : ℕ) → (pc : Atom) → Takers → Block → (old new : Progress) → Type 0
-AreStatementsWalked core table entries procedure pc takers block old new =
-    IsWalked core table entries pc takers (rest_paths (program_of core) block)
-    (λ named. block_constraints (scope_of core procedure) true named (takers_of takers old.thrown.items) old.number block)
+abbrev pub AreStatementsWalked : Core → (table : List Label) → (entries : List Exits) → (procedure : ℕ) → (pc : Atom) → ExitUnknowns → Block → (old new : Progress) → Type 0
+AreStatementsWalked core table entries procedure pc exit_unknowns block old new =
+    IsWalked core table entries pc exit_unknowns (rest_paths (program_of core) block)
+    (λ named. block_constraints (scope_of core procedure) true named (exit_unknowns_of exit_unknowns old.thrown.items) old.number block)
     (made_by_block block) old new
 
--- a statement of a block, whose normal end has the taker with this number: the flow of its pc where it has one end only, and what
+-- a statement of a block, whose normal end has the exit unknown with this number: the flow of its pc where it has one end only, and what
 -- the rule of its form says
-abbrev pub step_constraints : Scope → (pc : NamedAtom) → walk.Takers → (normal inner : ℕ) → Statement → List NamedConstraint
-step_constraints scope pc takers normal inner statement =
+abbrev pub step_constraints : Scope → (pc : NamedAtom) → walk.ExitUnknowns → (normal inner : ℕ) → Statement → List NamedConstraint
+step_constraints scope pc exit_unknowns normal inner statement =
     let ends : List Exit = statement_ends scope.program statement in
-    single (one_end ends) pc (with_normal None takers) ends
-    ++ statement_constraints scope pc (within_single (one_end ends) (with_normal (Some normal) takers)) inner statement
+    single (one_end ends) pc (with_normal None exit_unknowns) ends
+    ++ statement_constraints scope pc (within_single (one_end ends) (with_normal (Some normal) exit_unknowns)) inner statement
 
 -- past a statement of a block, and past one by the rule of its form
-abbrev pub IsStatementWalked : Core → (table : List Label) → (entries : List Exits) → (procedure : ℕ) → (pc : Atom) → Takers → (normal : ℕ) → Statement → (old new : Progress) → Type 0
-IsStatementWalked core table entries procedure pc takers normal statement old new =
-    IsWalked core table entries pc takers (statement_paths (program_of core) statement)
-    (λ named. step_constraints (scope_of core procedure) named (takers_of takers old.thrown.items) normal old.number statement)
+abbrev pub IsStatementWalked : Core → (table : List Label) → (entries : List Exits) → (procedure : ℕ) → (pc : Atom) → ExitUnknowns → (normal : ℕ) → Statement → (old new : Progress) → Type 0
+IsStatementWalked core table entries procedure pc exit_unknowns normal statement old new =
+    IsWalked core table entries pc exit_unknowns (statement_paths (program_of core) statement)
+    (λ named. step_constraints (scope_of core procedure) named (exit_unknowns_of exit_unknowns old.thrown.items) normal old.number statement)
     (made_by_statement statement) old new
 
-abbrev pub IsFormWalked : Core → (table : List Label) → (entries : List Exits) → (procedure : ℕ) → (pc : Atom) → Takers → Statement → (old new : Progress) → Type 0
-IsFormWalked core table entries procedure pc takers statement old new =
-    IsWalked core table entries pc takers (inner_paths (program_of core) statement)
-    (λ named. statement_constraints (scope_of core procedure) named (takers_of takers old.thrown.items) old.number statement)
+abbrev pub IsFormWalked : Core → (table : List Label) → (entries : List Exits) → (procedure : ℕ) → (pc : Atom) → ExitUnknowns → Statement → (old new : Progress) → Type 0
+IsFormWalked core table entries procedure pc exit_unknowns statement old new =
+    IsWalked core table entries pc exit_unknowns (inner_paths (program_of core) statement)
+    (λ named. statement_constraints (scope_of core procedure) named (exit_unknowns_of exit_unknowns old.thrown.items) old.number statement)
     (made_by_statement statement) old new
 
 -- past the bodies of handlers, which are reached at the inner unknowns with these numbers
-abbrev pub AreHandlersWalked : Core → (table : List Label) → (entries : List Exits) → (procedure : ℕ) → (pc : Atom) → Takers → (number : ℕ → ℕ) → Handlers → (old new : Progress) → Type 0
-AreHandlersWalked core table entries procedure pc takers number handlers old new =
-    IsWalked core table entries pc takers (handlers_paths (program_of core) handlers)
-    (λ named. handlers_constraints (scope_of core procedure) number (takers_of takers old.thrown.items) old.number handlers)
+abbrev pub AreHandlersWalked : Core → (table : List Label) → (entries : List Exits) → (procedure : ℕ) → (pc : Atom) → ExitUnknowns → (number : ℕ → ℕ) → Handlers → (old new : Progress) → Type 0
+AreHandlersWalked core table entries procedure pc exit_unknowns number handlers old new =
+    IsWalked core table entries pc exit_unknowns (handlers_paths (program_of core) handlers)
+    (λ named. handlers_constraints (scope_of core procedure) number (exit_unknowns_of exit_unknowns old.thrown.items) old.number handlers)
     (made_by_handlers handlers) old new
 
 -- what is gathered of a branch before its blocks
-abbrev pub branch_constraints : Scope → (pc : NamedAtom) → walk.Takers → (inner : ℕ) → Expression → List NamedConstraint
-branch_constraints scope pc takers inner e =
+abbrev pub branch_constraints : Scope → (pc : NamedAtom) → walk.ExitUnknowns → (inner : ℕ) → Expression → List NamedConstraint
+branch_constraints scope pc exit_unknowns inner e =
     inner_constraint (pc ∷ named_atoms (value_label scope e)) inner
-    ++ raised_flows (pc ∷ named_atoms (raise_atoms scope e)) takers (raises e)
+    ++ raised_flows (pc ∷ named_atoms (raise_atoms scope e)) exit_unknowns (raises e)
 
 -- handlers that took their exceptions, with the inner unknowns that they made
-pub record AreTaken (takers : Takers) (handlers : Handlers) (old new : Progress) (tried : Tried) : Type 0 where
-  pub takers_are : takers_of tried.takers new.thrown.items
-      ≡ in_try (handler_number handlers old.number) handlers (takers_of takers old.thrown.items)
-  pub levels_are : AreLevelled tried.takers new.thrown.items
+pub record AreTaken (exit_unknowns : ExitUnknowns) (handlers : Handlers) (old new : Progress) (tried : Tried) : Type 0 where
+  pub exit_unknowns_are : exit_unknowns_of tried.exit_unknowns new.thrown.items
+      ≡ in_try (handler_number handlers old.number) handlers (exit_unknowns_of exit_unknowns old.thrown.items)
+  pub levels_are : AreLevelled tried.exit_unknowns new.thrown.items
 
-pub record IsTried (takers : Takers) (handlers : List Handler) (old new : Progress) (tried : Tried) : Type 0 where
-  pub taken : AreLevelled takers old.thrown.items → AreTaken takers (handlers_of handlers) old new tried
-  pub numbers_are : AreLevelled takers old.thrown.items → tried.numbers.items
+pub record IsTried (exit_unknowns : ExitUnknowns) (handlers : List Handler) (old new : Progress) (tried : Tried) : Type 0 where
+  pub taken : AreLevelled exit_unknowns old.thrown.items → AreTaken exit_unknowns (handlers_of handlers) old new tried
+  pub numbers_are : AreLevelled exit_unknowns old.thrown.items → tried.numbers.items
       ≡ map (λ (handler : Handler). handler_number (handlers_of handlers) old.number handler.exception) handlers
   pub count_is : length tried.numbers.items ≡ length handlers
   pub saved_is : undone tried.saved.items new.thrown.items ≡ old.thrown.items
@@ -103,4 +103,4 @@ pub record IsTried (takers : Takers) (handlers : List Handler) (old new : Progre
       slice_index_or new.thrown.items x no_entry ≡ slice_index_or old.thrown.items x no_entry
   pub noted : IsUpToDate old.journal old.thrown.items → AreNoted old.journal new.journal new.thrown.items
   pub number_is : new.number ≡ old.number + handler_count (handlers_of handlers)
-  pub level_is : tried.takers.level ≡ takers.level + 1
+  pub level_is : tried.exit_unknowns.level ≡ exit_unknowns.level + 1

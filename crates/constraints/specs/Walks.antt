@@ -20,35 +20,35 @@ use Rattle.constraints.specs.Added.{IsGatheredAt, Stored}
 use Rattle.constraints.specs.LeftSides.{scope_of}
 
 -- a statement that works a value out and goes on at an end: what the value flows to, and its ends
-abbrev pub valued_constraints : Scope → (pc : NamedAtom) → walk.Takers → (at rule : ℕ) → Expression → Target → Exit → List NamedConstraint
-valued_constraints scope pc takers at rule e target exit =
+abbrev pub valued_constraints : Scope → (pc : NamedAtom) → walk.ExitUnknowns → (at rule : ℕ) → Expression → Target → Exit → List NamedConstraint
+valued_constraints scope pc exit_unknowns at rule e target exit =
     let q : List NamedAtom = pc ∷ named_atoms (raise_atoms scope e) in
     rule_constraint scope at rule (pc ∷ named_atoms (value_label scope e)) target
-    ++ (flow q (takers exit) ++ raised_flows q takers (raises e))
+    ++ (flow q (exit_unknowns exit) ++ raised_flows q exit_unknowns (raises e))
 
 -- what is gathered of a statement without inner unknowns was added
-abbrev pub IsSimple : Core → (table : List Label) → (procedure : ℕ) → (pc : Atom) → walk.Takers → Statement → (old new : List Stored) → Type 0
-IsSimple core table procedure pc takers statement old new =
-    (n : ℕ) → IsGatheredAt core table pc (λ named. statement_constraints (scope_of core procedure) named takers n statement) old new
+abbrev pub IsSimple : Core → (table : List Label) → (procedure : ℕ) → (pc : Atom) → walk.ExitUnknowns → Statement → (old new : List Stored) → Type 0
+IsSimple core table procedure pc exit_unknowns statement old new =
+    (n : ℕ) → IsGatheredAt core table pc (λ named. statement_constraints (scope_of core procedure) named exit_unknowns n statement) old new
 
 -- what is gathered of a loop before its body
-abbrev pub loop_head_constraints : Scope → (pc : NamedAtom) → walk.Takers → (inner : ℕ) → (at loop : ℕ) → Expression → List NamedConstraint
-loop_head_constraints scope pc takers inner at loop e =
-    let turn : NamedAtom = renamed Real (label_of scope.program (ToLoop scope.number loop)) in
+abbrev pub loop_head_constraints : Scope → (pc : NamedAtom) → walk.ExitUnknowns → (inner : ℕ) → (at loop : ℕ) → Expression → List NamedConstraint
+loop_head_constraints scope pc exit_unknowns inner at loop e =
+    let loop_atom : NamedAtom = renamed Real (label_of scope.program (ToLoop scope.number loop)) in
     rule_constraint scope at 8 (pc ∷ []) (ToLoop scope.number loop)
-    ++ (inner_constraint (turn ∷ named_atoms (value_label scope e)) inner
-    ++ (flow (inner_atom inner ∷ []) (takers Normal)
-    ++ raised_flows (turn ∷ named_atoms (raise_atoms scope e)) takers (raises e)))
+    ++ (inner_constraint (loop_atom ∷ named_atoms (value_label scope e)) inner
+    ++ (flow (inner_atom inner ∷ []) (exit_unknowns Normal)
+    ++ raised_flows (loop_atom ∷ named_atoms (raise_atoms scope e)) exit_unknowns (raises e)))
 
 -- the ends of a call but for the exceptions that its callee declares, and what is gathered of it but for their flows
 abbrev pub kept_ends : List Expression → List Exit
 kept_ends arguments = Normal ∷ thrown_ends (raised_once (raises_all arguments))
 
-abbrev pub kept_call : Scope → (pc : NamedAtom) → walk.Takers → ℕ → (at callee : ℕ) → List Expression → Option Variable → List NamedConstraint
-kept_call scope pc takers n at callee arguments target =
+abbrev pub kept_call : Scope → (pc : NamedAtom) → walk.ExitUnknowns → ℕ → (at callee : ℕ) → List Expression → Option Variable → List NamedConstraint
+kept_call scope pc exit_unknowns n at callee arguments target =
     inner_constraint (pc ∷ named_atoms (raise_atoms_all scope arguments)) n
     ++ (rule_constraint scope at 6 (inner_atom n ∷ []) (ToBegin callee)
     ++ (argument_constraints scope at n callee 0 arguments
     ++ (target_constraint scope at 6
     (inner_atom n ∷ named_atoms (call_atoms scope.program callee Normal ++ one (label_of scope.program (ToValue callee)))) target
-    ++ call_flows scope.program callee n takers (kept_ends arguments))))
+    ++ call_flows scope.program callee n exit_unknowns (kept_ends arguments))))

@@ -1,6 +1,6 @@
 //! How a constraint is added: one that stands for a demand, or an inner one.
 ghost use Rattle.constraints.specs.Added.{AreAdded, IsGatheredAt, IsLeft, flow_if};
-ghost use Rattle.constraints.specs.Takers.{takers_around};
+ghost use Rattle.constraints.specs.ExitUnknowns.{exit_unknowns_around};
 ghost use Rattle.path_map.specs.Exceptions.{AreRaised};
 ghost use Rattle.constraints.specs.LeftSides.{scope_of};
 ghost use Rattle.gathering.specs.Names.{NamedAtom};
@@ -68,59 +68,59 @@ impl<'a> Table<'a> {
         Ok(())
     }
 
-    /// Adds the flow of the pc alone to a taker, where there is one.
+    /// Adds the flow of the pc alone to an exit unknown, where there is one.
     pub fn add_pc_flow(
         &self,
         alloc: Global,
         pc: Atom,
-        taker: Option<u32>,
+        exit_unknown: Option<u32>,
         constraints: &mut Vec<Constraint<Option<Target>>>,
     ) -> Result<(), AllocError>
         ensures { OnOk result (IsGatheredAt self.now.core.now self.now.core.now.labels pc
-            (λ (named : NamedAtom). flow (named ∷ []) taker)
+            (λ (named : NamedAtom). flow (named ∷ []) exit_unknown)
             constraints.old.items constraints.new.items) }
     {
-        match taker {
+        match exit_unknown {
             None => Ok(()),
             Some(number) => self.add_inner(left_of_pc(alloc, pc)?, number, constraints),
         }
     }
 
-    /// Adds the flow to a taker, where there is one.
+    /// Adds the flow to an exit unknown, where there is one.
     pub fn add_flow(
         &self,
         alloc: Global,
         left: &[Atom],
-        taker: Option<u32>,
+        exit_unknown: Option<u32>,
         constraints: &mut Vec<Constraint<Option<Target>>>,
     ) -> Result<(), AllocError>
         ensures { OnOk result ((atoms : List NamedAtom) →
             IsLeft self.now.core.now self.now.core.now.labels atoms left.now →
-            AreAdded self.now.core.now self.now.core.now.labels (flow atoms taker)
+            AreAdded self.now.core.now self.now.core.now.labels (flow atoms exit_unknown)
             constraints.old.items constraints.new.items) }
     {
-        match taker {
+        match exit_unknown {
             None => Ok(()),
             Some(number) => self.add_inner(Left::from_slice(alloc, left)?, number, constraints),
         }
     }
 
-    // Adds the flow to a taker if a test holds.
+    // Adds the flow to an exit unknown if a test holds.
     fn add_flow_if(
         &self,
         alloc: Global,
         test: bool,
         left: &[Atom],
-        taker: Option<u32>,
+        exit_unknown: Option<u32>,
         constraints: &mut Vec<Constraint<Option<Target>>>,
     ) -> Result<(), AllocError>
         ensures { OnOk result ((atoms : List NamedAtom) →
             IsLeft self.now.core.now self.now.core.now.labels atoms left.now →
-            AreAdded self.now.core.now self.now.core.now.labels (flow_if test atoms taker)
+            AreAdded self.now.core.now self.now.core.now.labels (flow_if test atoms exit_unknown)
             constraints.old.items constraints.new.items) }
     {
         if test {
-            return self.add_flow(alloc, left, taker, constraints);
+            return self.add_flow(alloc, left, exit_unknown, constraints);
         }
         Ok(())
     }
@@ -138,12 +138,12 @@ impl<'a> Table<'a> {
             IsLeft self.now.core.now self.now.core.now.labels atoms left.now →
             AreRaised found exceptions →
             AreAdded self.now.core.now self.now.core.now.labels
-            (raised_flows atoms (takers_around around.now) exceptions)
+            (raised_flows atoms (exit_unknowns_around around.now) exceptions)
             constraints.old.items constraints.new.items) }
     {
-        let arith = around.taker(Exit::Throw(ARITH));
+        let arith = around.exit_unknown(Exit::Throw(ARITH));
         self.add_flow_if(alloc, found.arith, left, arith, constraints)?;
-        let bounds = around.taker(Exit::Throw(BOUNDS));
+        let bounds = around.exit_unknown(Exit::Throw(BOUNDS));
         self.add_flow_if(alloc, found.bounds, left, bounds, constraints)?;
         Ok(())
     }

@@ -1,28 +1,28 @@
 //! The context of what is walked and gathered.
-ghost use Rattle.constraints.specs.Takers.{takers_around, takers_of};
+ghost use Rattle.constraints.specs.ExitUnknowns.{exit_unknowns_around, exit_unknowns_of};
 ghost use Rattle.std.specs.Prelude.{◌≡◌};
 
-use crate::takers::{Taker, Takers};
+use crate::exit_unknowns::{ExitUnknown, ExitUnknowns};
 use resolved::statement::Exit;
 use solver::Atom;
 
-/// The context of a block or a statement: the pc at which it is reached, and the takers of its ends, for whose exceptions the progress of a
+/// The context of a block or a statement: the pc at which it is reached, and the exit unknowns of its ends, for whose exceptions the progress of a
 /// walk has the entries.
 #[derive(Clone, Copy, Debug, PartialEq, Eq)]
 pub struct Context {
     pub pc: Atom,
-    pub takers: Takers,
+    pub exit_unknowns: ExitUnknowns,
 }
 
 impl Context {
     /// What stands around a statement of this context, where exceptions have these entries.
-    pub fn around(self, thrown: &[Taker]) -> Around<'_>
+    pub fn around(self, thrown: &[ExitUnknown]) -> Around<'_>
         ensures pc { result.pc ≡ self.pc }
-        ensures takers { takers_around result ≡ takers_of self.takers thrown.now }
+        ensures exit_unknowns { exit_unknowns_around result ≡ exit_unknowns_of self.exit_unknowns thrown.now }
     {
         Around {
             pc: self.pc,
-            takers: self.takers,
+            exit_unknowns: self.exit_unknowns,
             thrown,
         }
     }
@@ -32,15 +32,15 @@ impl Context {
 #[derive(Clone, Copy, Debug)]
 pub struct Around<'a> {
     pub pc: Atom,
-    pub takers: Takers,
-    pub thrown: &'a [Taker],
+    pub exit_unknowns: ExitUnknowns,
+    pub thrown: &'a [ExitUnknown],
 }
 
 impl<'a> Around<'a> {
-    /// The taker of an end.
-    pub fn taker(&self, exit: Exit) -> Option<u32>
-        ensures { result ≡ takers_around self.now exit }
+    /// The exit unknown of an end.
+    pub fn exit_unknown(&self, exit: Exit) -> Option<u32>
+        ensures { result ≡ exit_unknowns_around self.now exit }
     {
-        self.takers.at(self.thrown, exit)
+        self.exit_unknowns.at(self.thrown, exit)
     }
 }

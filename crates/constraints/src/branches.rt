@@ -2,7 +2,7 @@
 ghost use Rattle.constraints.specs.Ready.{entries_of};
 ghost use Rattle.constraints.specs.Added.{IsGatheredAt};
 ghost use Rattle.constraints.specs.LeftSides.{scope_of};
-ghost use Rattle.constraints.specs.Takers.{takers_around};
+ghost use Rattle.constraints.specs.ExitUnknowns.{exit_unknowns_around};
 ghost use Rattle.constraints.specs.Walks.{loop_head_constraints};
 ghost use Rattle.gathering.specs.Names.{NamedAtom, named_atoms};
 ghost use Rattle.gathering.specs.Walk.{inner_constraint, raise_atoms, raised_flows, rule_constraint, single};
@@ -39,7 +39,7 @@ impl<'a> ProcedureWalk<'a> {
         self.map.exits(number)
     }
 
-    /// Adds the flow of the pc to the taker of the possible end, where there is one only.
+    /// Adds the flow of the pc to the exit unknown of the possible end, where there is one only.
     pub fn add_single(
         &self,
         exits: Exits,
@@ -50,15 +50,15 @@ impl<'a> ProcedureWalk<'a> {
             IsGatheredAt self.now.table.now.core.now self.now.table.now.core.now.labels
             around.now.pc
             (λ (named : NamedAtom).
-            single (one_end ends) named (takers_around around.now) ends)
+            single (one_end ends) named (exit_unknowns_around around.now) ends)
             constraints.old.items constraints.new.items) }
     {
         match exits.single() {
             None => Ok(()),
             Some(exit) => {
-                let taker = around.taker(exit);
+                let exit_unknown = around.exit_unknown(exit);
                 self.table
-                    .add_pc_flow(self.alloc, around.pc, taker, constraints)?;
+                    .add_pc_flow(self.alloc, around.pc, exit_unknown, constraints)?;
                 Ok(())
             }
         }
@@ -97,7 +97,7 @@ impl<'a> ProcedureWalk<'a> {
             self.now.table.now.core.now.labels around.now.pc
             (λ (named : NamedAtom). raised_flows (named ∷ named_atoms (raise_atoms
             (scope_of self.now.table.now.core.now self.now.procedure)
-            (expression_of condition.now))) (takers_around around.now)
+            (expression_of condition.now))) (exit_unknowns_around around.now)
             (raises (expression_of condition.now)))
             constraints.old.items constraints.new.items) }
     {
@@ -145,18 +145,18 @@ impl<'a> ProcedureWalk<'a> {
             self.now.table.now.core.now.labels around.now.pc
             (λ (named : NamedAtom). loop_head_constraints
             (scope_of self.now.table.now.core.now self.now.procedure) named
-            (takers_around around.now) inner site.at site.number (expression_of condition.now))
+            (exit_unknowns_around around.now) inner site.at site.number (expression_of condition.now))
             constraints.old.items constraints.new.items) }
     {
         self.add_turn(site.at, site.number, around.pc, constraints)?;
-        let turn = self.table.part(Target::ToLoop(self.procedure, site.number));
-        self.add_branch(condition, inner, turn, constraints)?;
+        let loop_atom = self.table.part(Target::ToLoop(self.procedure, site.number));
+        self.add_branch(condition, inner, loop_atom, constraints)?;
         let body = Atom::Unknown(inner);
-        let taker = around.taker(Exit::Normal);
+        let exit_unknown = around.exit_unknown(Exit::Normal);
         self.table
-            .add_pc_flow(self.alloc, body, taker, constraints)?;
+            .add_pc_flow(self.alloc, body, exit_unknown, constraints)?;
         let tested = Around {
-            pc: turn,
+            pc: loop_atom,
             ..*around
         };
         self.add_condition(condition, &tested, constraints)?;

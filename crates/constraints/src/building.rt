@@ -21,7 +21,7 @@ use std::alloc::{AllocError, Global};
 pub(crate) fn least_part(labels: &LabelTable) -> Atom
     ensures { part labels.now result ≡ Written [] }
 {
-    // It brings that the table has the least label under number 0.
+    // It gives that the table has the least label under number 0.
     let _count = labels.len();
     Atom::Written(0)
 }

@@ -1,7 +1,7 @@
 //! The constraints of calls.
 ghost use Rattle.constraints.specs.Added.{AreAdded, IsGatheredAt, IsLeftFrom, IsPart, flow_if};
 ghost use Rattle.constraints.specs.LeftSides.{scope_of};
-ghost use Rattle.constraints.specs.Takers.{takers_around};
+ghost use Rattle.constraints.specs.ExitUnknowns.{exit_unknowns_around};
 ghost use Rattle.constraints.specs.Walks.{kept_call, kept_ends};
 ghost use Rattle.gathering.specs.Names.{NamedAtom, named_atoms};
 ghost use Rattle.gathering.specs.Walk.{argument_constraints, call_atoms, call_flows, flow, inner_atom, raised_once};
@@ -103,10 +103,10 @@ impl<'a> ProcedureWalk<'a> {
             self.now.table.now.core.now.labels around.now.pc
             (λ (named : NamedAtom). flow (named ∷ named_atoms (call_atoms
             (program_of self.now.table.now.core.now) callee (Throw exception)))
-            (takers_around around.now (Throw exception)))
+            (exit_unknowns_around around.now (Throw exception)))
             constraints.old.items constraints.new.items) }
     {
-        match around.taker(Exit::Throw(exception)) {
+        match around.exit_unknown(Exit::Throw(exception)) {
             None => Ok(()),
             Some(number) => {
                 let target = Target::ToThrown(callee, exception);
@@ -130,7 +130,7 @@ impl<'a> ProcedureWalk<'a> {
             self.now.table.now.core.now.labels around.now.pc
             (λ (named : NamedAtom). flow_if test (named ∷ named_atoms (call_atoms
             (program_of self.now.table.now.core.now) callee (Throw exception)))
-            (takers_around around.now (Throw exception)))
+            (exit_unknowns_around around.now (Throw exception)))
             constraints.old.items constraints.new.items) }
     {
         if test {
@@ -153,7 +153,7 @@ impl<'a> ProcedureWalk<'a> {
             AreRaised found exceptions →
             AreAdded self.now.table.now.core.now self.now.table.now.core.now.labels
             (call_flows (program_of self.now.table.now.core.now) callee k
-            (takers_around around.now) (thrown_ends (raised_once exceptions)))
+            (exit_unknowns_around around.now) (thrown_ends (raised_once exceptions)))
             constraints.old.items constraints.new.items) }
     {
         let arith = found.arith;
@@ -176,12 +176,12 @@ impl<'a> ProcedureWalk<'a> {
             (inner_atom k) around.now.pc →
             AreAdded self.now.table.now.core.now self.now.table.now.core.now.labels
             (call_flows (program_of self.now.table.now.core.now) callee k
-            (takers_around around.now)
+            (exit_unknowns_around around.now)
             (kept_ends (map expression_of arguments.now)))
             constraints.old.items constraints.new.items) }
     {
         let left = self.left_of_end(around.pc, callee)?;
-        let normal = around.taker(Exit::Normal);
+        let normal = around.exit_unknown(Exit::Normal);
         self.table.add_flow(self.alloc, &left, normal, constraints)?;
         let found = raises_of_all(arguments);
         self.add_argument_ends(callee, found, around, constraints)?;
@@ -202,7 +202,7 @@ impl<'a> ProcedureWalk<'a> {
             self.now.table.now.core.now.labels around.now.pc
             (λ (named : NamedAtom). kept_call
             (scope_of self.now.table.now.core.now self.now.procedure) named
-            (takers_around around.now) number site.at site.callee
+            (exit_unknowns_around around.now) number site.at site.callee
             (map expression_of arguments.now) site.target)
             constraints.old.items constraints.new.items) }
     {

@@ -1,4 +1,4 @@
-//! Which labels of calls flow on to those of later calls: a call that is made behind another one has at least its label.
+//! Which labels of calls flow on to those of later calls: a call that is made after another one has at least its label.
 ghost use Rattle.constraints.specs.Following.{AreFollowed, AreOnward, IsOver, IsWay};
 ghost use Rattle.constraints.specs.Merging.{IsFollowed};
 ghost use Rattle.solver.specs.declared.constraints.Atom.TheVariants.{Unknown};
@@ -10,11 +10,11 @@ use resolved::target::Target;
 use solver::{Atom, Constraint};
 use std::alloc::{AllocError, Global};
 
-// So many steps are made at most from the label of one call to that of another one.
+// This many steps are made at most from the label of one call to that of another one.
 const STEPS: usize = 12;
 
-// So many of these are put together at most where it is asked whether one label flows to another one.
-const TURNS: usize = 64;
+// This many of these are put together at most where it is asked whether one label flows to another one.
+const ROUNDS: usize = 64;
 
 /// For each unknown that is the label of a call that of another call to which it flows, and one that may be farther on; itself where
 /// none is known.
@@ -39,7 +39,7 @@ pub struct Onward {
     pub least: Vec<u32>,
 }
 
-// Each of so many unknowns itself.
+// Each of this many unknowns itself.
 fn themselves(alloc: Global, count: u32) -> Result<Vec<u32>, AllocError>
     ensures { IfOk result (λ rows. (real : ℕ) (base : List Stored) →
         AreFollowed real base rows.items) }
@@ -72,7 +72,7 @@ fn put(rows: &mut Vec<u32>, unknown: u32, next: u32)
 }
 
 impl Onward {
-    // Nothing is known of so many unknowns.
+    // Nothing is known of this many unknowns.
     fn new(alloc: Global, count: u32) -> Result<Onward, AllocError>
         ensures { IfOk result (λ onward. (real : ℕ) (base : List Stored) →
             AreOnward real base onward) }
@@ -124,7 +124,7 @@ impl Onward {
         }
     }
 
-    // What flows by constraints to unknowns that have no number below this, of so many.
+    // What flows by constraints to unknowns that have no number below this, of this many.
     fn of(
         alloc: Global,
         real: u32,
@@ -176,7 +176,7 @@ fn is_marked(marks: &[bool], number: u32) -> bool {
     at < marks.len() && marks[at]
 }
 
-// The numbers of the labels of calls, of so many.
+// The numbers of the labels of calls, of this many.
 fn labels_of(alloc: Global, count: u32, calls: &[Called]) -> Result<Vec<bool>, AllocError> {
     let mut labels = vec![in alloc; false; count as usize]?;
     for called in calls {
@@ -197,7 +197,7 @@ fn depth_of(depths: &[u32], unknown: u32) -> u32 {
 }
 
 impl Way {
-    // The labels of calls, of so many unknowns.
+    // The labels of calls, of this many unknowns.
     fn new(alloc: Global, count: u32) -> Result<Way, AllocError>
         ensures { IfOk result (λ way. (real : ℕ) (base : List Stored) → IsWay real base way) }
     {
@@ -206,7 +206,7 @@ impl Way {
         Ok(Way { next, far })
     }
 
-    // One farther on than a label that comes next, so that few turns go a long way: as far as the next one's and the one behind that, if
+    // One farther on than a label that comes next, so that few rounds go a long way: as far as the next one's and the one after that, if
     // these go as far; or else that label.
     fn far_from(&self, depths: &[u32], next: u32) -> u32
         ensures { (real : ℕ) (base : List Stored) → IsWay real base self.now →
@@ -238,7 +238,7 @@ impl Way {
         put(&mut self.far, from, far);
     }
 
-    // The way by the first of two rows, or else by the second, of so many unknowns.
+    // The way by the first of two rows, or else by the second, of this many unknowns.
     fn of(
         alloc: Global,
         count: u32,
@@ -261,8 +261,8 @@ impl Way {
         Ok(way)
     }
 
-    // The label that is next on the way, or one farther on that is not behind another one.
-    fn turn(&self, at: u32, to: u32) -> u32
+    // The label that is next on the way, or one farther on that is not after another one.
+    fn step_toward(&self, at: u32, to: u32) -> u32
         ensures { (real : ℕ) (base : List Stored) → IsWay real base self.now →
             IsFollowed real base (Unknown at) (Unknown result) }
     {
@@ -279,11 +279,11 @@ impl Way {
             IsFollowed real base (Unknown from) (Unknown to) }
     {
         let mut at = from;
-        for _turn in 0..TURNS {
+        for _round in 0..ROUNDS {
             if at >= to {
                 return at == to;
             }
-            let next = self.turn(at, to);
+            let next = self.step_toward(at, to);
             if next == at {
                 return false;
             }
@@ -294,7 +294,7 @@ impl Way {
 }
 
 impl Following {
-    /// Where the labels of calls flow on by constraints between inner unknowns, which are those from a number on, of so many unknowns.
+    /// Where the labels of calls flow on by constraints between inner unknowns, which are those from a number on, of this many unknowns.
     pub(crate) fn of(
         alloc: Global,
         real: u32,

@@ -1,16 +1,16 @@
-//! The calls of a program, and which entries the takers of exceptions had at each.
+//! The calls of a program, and which entries the exit unknowns of exceptions had at each.
 ghost use Rattle.constraints.specs.Journals.{AreOrdered, AreUpToCall, entry_at, entry_from, moments_at, noted, noted_all};
-ghost use Rattle.constraints.specs.Takers.{no_entry};
+ghost use Rattle.constraints.specs.ExitUnknowns.{no_entry};
 ghost use Rattle.resolved.specs.declared.statement.Handler.{Handler};
 ghost use Rattle.resolved.specs.declared.tables.Thrown.{Thrown};
 ghost use Rattle.std.specs.Prelude.{IfOk, IsTrue, OnOk, [], length, map, ℕ, ◌++◌, ◌<◌, ◌∷◌, ◌≡◌, ◌≢◌, ◌≤◌};
 
-use crate::takers::{Taker, entry_in};
+use crate::exit_unknowns::{ExitUnknown, entry_in};
 use resolved::statement::Handler;
 use resolved::tables::Thrown;
 use std::alloc::{AllocError, Global};
 
-/// A call: its procedure, the barrier of the takers under which it is made, the inner unknown that is its own label, and how many calls
+/// A call: its procedure, the barrier of the exit unknowns under which it is made, the inner unknown that is its own label, and how many calls
 /// came before it.
 #[derive(Clone, Copy, Debug, PartialEq, Eq, Drop)]
 pub struct Called {
@@ -24,7 +24,7 @@ pub struct Called {
 #[derive(Clone, Copy, Debug, PartialEq, Eq, Drop)]
 pub struct Moment {
     pub call: usize,
-    pub entry: Taker,
+    pub entry: ExitUnknown,
 }
 
 /// The calls so far, and the entries of each exception, in their order.
@@ -34,7 +34,7 @@ pub struct Journal {
     pub moments: Vec<Vec<Moment>>,
 }
 
-// So many empty rows.
+// This many empty rows.
 fn empty_rows(alloc: Global, count: usize) -> Result<Vec<Vec<Moment>>, AllocError>
     ensures rows { IfOk result (λ rows. (x : ℕ) → moments_at rows.items x ≡ []) }
     ensures count { IfOk result (λ rows. length rows.items ≡ count) }
@@ -60,7 +60,7 @@ fn add_to(rows: &mut Vec<Vec<Moment>>, at: usize, moment: Moment) -> Result<(), 
 }
 
 impl Journal {
-    /// No calls, and no entries of so many exceptions.
+    /// No calls, and no entries of this many exceptions.
     pub fn new(alloc: Global, exceptions: usize) -> Result<Journal, AllocError>
         ensures calls { IfOk result (λ journal. journal.calls.items ≡ []) }
         ensures moments { IfOk result (λ journal. (x : ℕ) → moments_at journal.moments.items x
@@ -95,7 +95,7 @@ impl Journal {
     }
 
     // Notes the entry that an exception has from the next call on.
-    fn note(&mut self, exception: u32, entry: Taker) -> Result<(), AllocError>
+    fn note(&mut self, exception: u32, entry: ExitUnknown) -> Result<(), AllocError>
         ensures calls { OnOk result (self.new.calls ≡ self.old.calls) }
         ensures moments { OnOk result ((x : ℕ) → moments_at self.new.moments.items x
             ≡ noted (length self.old.moments.items) exception
@@ -113,7 +113,11 @@ impl Journal {
     }
 
     /// Notes the entries that the exceptions of handlers have from the next call on.
-    pub fn note_handled(&mut self, handlers: &[Handler], thrown: &[Taker]) -> Result<(), AllocError>
+    pub fn note_handled(
+        &mut self,
+        handlers: &[Handler],
+        thrown: &[ExitUnknown],
+    ) -> Result<(), AllocError>
         ensures calls { OnOk result (self.new.calls ≡ self.old.calls) }
         ensures moments { OnOk result ((x : ℕ) → moments_at self.new.moments.items x
             ≡ noted_all (length self.old.moments.items) (length self.old.calls.items) thrown.now
@@ -130,7 +134,11 @@ impl Journal {
     }
 
     /// Notes the entries that declared exceptions have from the next call on.
-    pub fn note_declared(&mut self, throws: &[Thrown], thrown: &[Taker]) -> Result<(), AllocError>
+    pub fn note_declared(
+        &mut self,
+        throws: &[Thrown],
+        thrown: &[ExitUnknown],
+    ) -> Result<(), AllocError>
         ensures calls { OnOk result (self.new.calls ≡ self.old.calls) }
         ensures moments { OnOk result ((x : ℕ) → moments_at self.new.moments.items x
             ≡ noted_all (length self.old.moments.items) (length self.old.calls.items) thrown.now
@@ -167,7 +175,7 @@ impl Journal {
     }
 
     /// The entry of an exception, whose moments are in order, at a call.
-    pub fn entry(&self, exception: u32, call: usize) -> Taker
+    pub fn entry(&self, exception: u32, call: usize) -> ExitUnknown
         requires { AreOrdered (moments_at self.now.moments.items exception) }
         ensures { result ≡ entry_at self.now exception call }
     {
@@ -185,12 +193,12 @@ fn count(moments: &[Moment], call: usize) -> usize
 }
 
 // The entry of the last moment up to a call.
-fn last_of(moments: &[Moment], call: usize) -> Taker
+fn last_of(moments: &[Moment], call: usize) -> ExitUnknown
     requires { AreOrdered moments.now }
     ensures { result ≡ entry_from moments.now call no_entry }
 {
     let Some(last) = count(moments, call).checked_sub(1) else {
-        return Taker {
+        return ExitUnknown {
             number: 0,
             level: 0,
         };

@@ -6,6 +6,7 @@ mod around;
 mod branches;
 mod building;
 mod calls;
+mod exit_unknowns;
 mod expressions;
 mod following;
 mod forms;
@@ -22,7 +23,6 @@ mod spreading;
 mod statements;
 mod stores;
 mod table;
-mod takers;
 mod walking;
 
 pub use program::{LabelConstraints, gather};

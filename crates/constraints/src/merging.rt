@@ -19,7 +19,7 @@ pub struct Parts {
     pub written: Vec<Atom>,
 }
 
-/// So many unknowns to which nothing flows.
+/// This many unknowns to which nothing flows.
 pub(crate) fn no_parts(alloc: Global, count: usize) -> Result<Vec<Parts>, AllocError>
     ensures nothing { IfOk result (λ kept. (k : ℕ) → parts_at (rows_of kept.items) k ≡ []) }
     ensures count { IfOk result (λ kept. length kept.items ≡ count) }

@@ -2,7 +2,7 @@
 ghost use Rattle.constraints.specs.Added.{IsPart};
 ghost use Rattle.constraints.specs.LeftSides.{scope_of};
 ghost use Rattle.constraints.specs.Ready.{entries_of, AreHandledInside, HasRoom};
-ghost use Rattle.constraints.specs.Takers.{takers_of};
+ghost use Rattle.constraints.specs.ExitUnknowns.{exit_unknowns_of};
 ghost use Rattle.constraints.specs.Walked.{IsTried, IsWalked, branch_constraints};
 ghost use Rattle.constraints.specs.Walks.{loop_head_constraints};
 ghost use Rattle.gathering.specs.Names.{NamedAtom};
@@ -17,20 +17,20 @@ ghost use Rattle.resolved.specs.declared.target.Target.TheVariants.{ToLoop};
 ghost use Rattle.std.specs.Prelude.{IfOk, List, OnOk, [], drop, length, map, ℕ, ◌+◌, ◌<◌, ◌∷◌, ◌≡◌};
 
 use crate::around::Context;
+use crate::exit_unknowns::{ExitUnknowns, Saved, numbers_of, take_handled};
 use crate::forms::{CallSite, LoopSite};
 use crate::progress::Progress;
 use crate::statements::ProcedureWalk;
-use crate::takers::{Saved, Takers, numbers_of, take_handled};
 use path_map::Exits;
 use resolved::expression::Expression;
 use resolved::statement::{Exit, Handler};
 use solver::Atom;
 use std::alloc::AllocError;
 
-/// What a `try` has in its block: its takers, the numbers of its handlers' pcs, and the entries to be put back.
+/// What a `try` has in its block: its exit unknowns, the numbers of its handlers' pcs, and the entries to be put back.
 #[derive(Drop)]
 pub(crate) struct Tried {
-    pub takers: Takers,
+    pub exit_unknowns: ExitUnknowns,
     pub numbers: Vec<u32>,
     pub saved: Vec<Saved>,
 }
@@ -62,9 +62,9 @@ impl<'a> ProcedureWalk<'a> {
             exits ≡ first) }
         ensures added { OnOk result ((ends : List Exit) →
             IsWalked self.now.table.now.core.now self.now.table.now.core.now.labels
-            (entries_of self.now.map.now) context.pc context.takers (ends ∷ [])
+            (entries_of self.now.map.now) context.pc context.exit_unknowns (ends ∷ [])
             (λ (named : NamedAtom). single (one_end ends) named
-            (takers_of context.takers progress.old.thrown.items) ends) 0
+            (exit_unknowns_of context.exit_unknowns progress.old.thrown.items) ends) 0
             progress.old progress.new) }
     {
         let exits = self.next_exits(progress);
@@ -73,7 +73,7 @@ impl<'a> ProcedureWalk<'a> {
         Ok(exits)
     }
 
-    // The pc of what follows a statement with these ends, whose normal end has the taker with this number.
+    // The pc of what follows a statement with these ends, whose normal end has the exit unknown with this number.
     pub(crate) fn onward_pc(&self, exits: Exits, pc: Atom, number: u32) -> Atom
         ensures { (ends : List Exit) (named : NamedAtom) → exits ≡ exits_of ends →
             IsPart self.now.table.now.core.now self.now.table.now.core.now.labels named pc →
@@ -95,18 +95,22 @@ impl<'a> ProcedureWalk<'a> {
     ) -> Result<(), AllocError>
         ensures { OnOk result ((n : ℕ) →
             IsWalked self.now.table.now.core.now self.now.table.now.core.now.labels
-            (entries_of self.now.map.now) context.pc context.takers []
+            (entries_of self.now.map.now) context.pc context.exit_unknowns []
             (λ (named : NamedAtom). block_constraints
             (scope_of self.now.table.now.core.now self.now.procedure) reached named
-            (takers_of context.takers progress.old.thrown.items) n Empty) 0
+            (exit_unknowns_of context.exit_unknowns progress.old.thrown.items) n Empty) 0
             progress.old progress.new) }
     {
         if !reached {
             return Ok(());
         }
-        let taker = context.takers.at(&progress.thrown, Exit::Normal);
-        self.table
-            .add_pc_flow(self.alloc, context.pc, taker, &mut progress.constraints)?;
+        let exit_unknown = context.exit_unknowns.at(&progress.thrown, Exit::Normal);
+        self.table.add_pc_flow(
+            self.alloc,
+            context.pc,
+            exit_unknown,
+            &mut progress.constraints,
+        )?;
         Ok(())
     }
 
@@ -121,10 +125,10 @@ impl<'a> ProcedureWalk<'a> {
         ensures number { IfOk result (λ number. number ≡ progress.old.number) }
         ensures added { OnOk result (
             IsWalked self.now.table.now.core.now self.now.table.now.core.now.labels
-            (entries_of self.now.map.now) context.pc context.takers []
+            (entries_of self.now.map.now) context.pc context.exit_unknowns []
             (λ (named : NamedAtom). branch_constraints
             (scope_of self.now.table.now.core.now self.now.procedure) named
-            (takers_of context.takers progress.old.thrown.items) progress.old.number
+            (exit_unknowns_of context.exit_unknowns progress.old.thrown.items) progress.old.number
             (expression_of condition.now)) 1 progress.old progress.new) }
     {
         let number = progress.make(1);
@@ -148,10 +152,10 @@ impl<'a> ProcedureWalk<'a> {
         ensures back { IfOk result (λ pcs. pcs.1 ≡ progress.old.number + 1) }
         ensures added { OnOk result (
             IsWalked self.now.table.now.core.now self.now.table.now.core.now.labels
-            (entries_of self.now.map.now) context.pc context.takers []
+            (entries_of self.now.map.now) context.pc context.exit_unknowns []
             (λ (named : NamedAtom). loop_head_constraints
             (scope_of self.now.table.now.core.now self.now.procedure) named
-            (takers_of context.takers progress.old.thrown.items) progress.old.number site.at
+            (exit_unknowns_of context.exit_unknowns progress.old.thrown.items) progress.old.number site.at
             site.number (expression_of condition.now)) 2 progress.old progress.new) }
     {
         let inner = progress.make(2);
@@ -168,9 +172,9 @@ impl<'a> ProcedureWalk<'a> {
         back: u32,
         progress: &mut Progress,
     ) -> Result<(), AllocError>
-        ensures { OnOk result ((pc : Atom) (takers : Takers) →
+        ensures { OnOk result ((pc : Atom) (exit_unknowns : ExitUnknowns) →
             IsWalked self.now.table.now.core.now self.now.table.now.core.now.labels
-            (entries_of self.now.map.now) pc takers []
+            (entries_of self.now.map.now) pc exit_unknowns []
             (λ (named : NamedAtom). rule_constraint
             (scope_of self.now.table.now.core.now self.now.procedure) site.at 8
             (inner_atom back ∷ []) (ToLoop self.now.procedure site.number)) 0
@@ -185,17 +189,17 @@ impl<'a> ProcedureWalk<'a> {
     pub(crate) fn begin_try(
         &self,
         handlers: &[Handler],
-        takers: Takers,
+        exit_unknowns: ExitUnknowns,
         progress: &mut Progress,
     ) -> Result<Tried, AllocError>
         requires inside { AreHandledInside handlers.now progress.old.thrown.items }
         requires room { HasRoom (length handlers.now) progress.old }
-        requires deep { takers.level < progress.old.number }
-        ensures { IfOk result (λ tried. IsTried takers handlers.now
+        requires deep { exit_unknowns.level < progress.old.number }
+        ensures { IfOk result (λ tried. IsTried exit_unknowns handlers.now
             progress.old progress.new tried) }
     {
         let first = progress.make(handlers.len());
-        let inner = takers.in_try();
+        let inner = exit_unknowns.in_try();
         let mut saved = Vec::new(self.alloc);
         take_handled(
             handlers,
@@ -207,7 +211,7 @@ impl<'a> ProcedureWalk<'a> {
         progress.journal.note_handled(handlers, &progress.thrown)?;
         let numbers = numbers_of(self.alloc, handlers, &progress.thrown)?;
         Ok(Tried {
-            takers: inner,
+            exit_unknowns: inner,
             numbers,
             saved,
         })
@@ -224,17 +228,17 @@ impl<'a> ProcedureWalk<'a> {
         requires { HasRoom 1 progress.old }
         ensures { OnOk result (
             IsWalked self.now.table.now.core.now self.now.table.now.core.now.labels
-            (entries_of self.now.map.now) context.pc context.takers []
+            (entries_of self.now.map.now) context.pc context.exit_unknowns []
             (λ (named : NamedAtom). call_constraints
             (scope_of self.now.table.now.core.now self.now.procedure) named
-            (takers_of context.takers progress.old.thrown.items) progress.old.number site.at
+            (exit_unknowns_of context.exit_unknowns progress.old.thrown.items) progress.old.number site.at
             site.callee (map expression_of arguments.now) site.target) 1
             progress.old progress.new) }
     {
         let number = progress.make(1);
         let around = context.around(&progress.thrown);
         self.add_call(site, arguments, number, &around, &mut progress.constraints)?;
-        let barrier = context.takers.ends.raised;
+        let barrier = context.exit_unknowns.ends.raised;
         progress.journal.add_call(site.callee, barrier, number)?;
         Ok(())
     }

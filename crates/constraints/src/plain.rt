@@ -25,7 +25,7 @@ impl<'a> ProcedureWalk<'a> {
     ) -> Result<(), AllocError>
         ensures { OnOk result (IsFormWalked self.now.table.now.core.now
             self.now.table.now.core.now.labels (entries_of self.now.map.now) self.now.procedure
-            context.pc context.takers (Assign at variable (expression_of value.now))
+            context.pc context.exit_unknowns (Assign at variable (expression_of value.now))
             progress.old progress.new) }
     {
         let around = context.around(&progress.thrown);
@@ -42,7 +42,7 @@ impl<'a> ProcedureWalk<'a> {
     ) -> Result<(), AllocError>
         ensures { OnOk result (IsFormWalked self.now.table.now.core.now
             self.now.table.now.core.now.labels (entries_of self.now.map.now) self.now.procedure
-            context.pc context.takers (Clear at slot)
+            context.pc context.exit_unknowns (Clear at slot)
             progress.old progress.new) }
     {
         let around = context.around(&progress.thrown);
@@ -60,7 +60,7 @@ impl<'a> ProcedureWalk<'a> {
     ) -> Result<(), AllocError>
         ensures { OnOk result (IsFormWalked self.now.table.now.core.now
             self.now.table.now.core.now.labels (entries_of self.now.map.now) self.now.procedure
-            context.pc context.takers (Store store.at store.array store.length
+            context.pc context.exit_unknowns (Store store.at store.array store.length
             (expression_of index.now) (expression_of value.now))
             progress.old progress.new) }
     {
@@ -79,7 +79,7 @@ impl<'a> ProcedureWalk<'a> {
     ) -> Result<(), AllocError>
         ensures { OnOk result (IsFormWalked self.now.table.now.core.now
             self.now.table.now.core.now.labels (entries_of self.now.map.now) self.now.procedure
-            context.pc context.takers (Receive at channel target)
+            context.pc context.exit_unknowns (Receive at channel target)
             progress.old progress.new) }
     {
         let around = context.around(&progress.thrown);
@@ -97,7 +97,7 @@ impl<'a> ProcedureWalk<'a> {
     ) -> Result<(), AllocError>
         ensures { OnOk result (IsFormWalked self.now.table.now.core.now
             self.now.table.now.core.now.labels (entries_of self.now.map.now) self.now.procedure
-            context.pc context.takers (Send at channel (expression_of value.now))
+            context.pc context.exit_unknowns (Send at channel (expression_of value.now))
             progress.old progress.new) }
     {
         let around = context.around(&progress.thrown);
@@ -114,7 +114,7 @@ impl<'a> ProcedureWalk<'a> {
     ) -> Result<(), AllocError>
         ensures { OnOk result (IsFormWalked self.now.table.now.core.now
             self.now.table.now.core.now.labels (entries_of self.now.map.now) self.now.procedure
-            context.pc context.takers (Leave at exit)
+            context.pc context.exit_unknowns (Leave at exit)
             progress.old progress.new) }
     {
         let around = context.around(&progress.thrown);
@@ -131,7 +131,7 @@ impl<'a> ProcedureWalk<'a> {
     ) -> Result<(), AllocError>
         ensures { OnOk result (IsFormWalked self.now.table.now.core.now
             self.now.table.now.core.now.labels (entries_of self.now.map.now) self.now.procedure
-            context.pc context.takers (ReturnWith at (some_expression_of value.now))
+            context.pc context.exit_unknowns (ReturnWith at (some_expression_of value.now))
             progress.old progress.new) }
     {
         let around = context.around(&progress.thrown);

@@ -1,9 +1,9 @@
 //! The constraints of procedures.
 ghost use Rattle.constraints.specs.Added.{AreAdded};
 ghost use Rattle.constraints.specs.LeftSides.{scope_of};
-ghost use Rattle.constraints.specs.Procedures.{AreDeclaredTakers, StaysInPlace, IsOf, IsProcedureWalked, end_takers_of, number_in};
+ghost use Rattle.constraints.specs.Procedures.{AreDeclaredExitUnknowns, StaysInPlace, IsOf, IsProcedureWalked, end_exit_unknowns_of, number_in};
 ghost use Rattle.constraints.specs.Ready.{entries_of, AreThrownInside, IsProcedureReady, most_unknowns};
-ghost use Rattle.constraints.specs.Takers.{AreWithin};
+ghost use Rattle.constraints.specs.ExitUnknowns.{AreWithin};
 ghost use Rattle.constraints.specs.Thinned.{ThinnedWhole};
 ghost use Rattle.gathering.specs.Walk.{end_constraints, has_one_end, program_constraints, thrown_constraints, unknown_count};
 ghost use Rattle.labels.specs.Label.{Label};
@@ -12,15 +12,15 @@ ghost use Rattle.resolved.specs.CoreOf.{program_of};
 ghost use Rattle.resolved.specs.ProgramOf.{thrown_entry};
 ghost use Rattle.resolved.specs.Labelled.{here};
 ghost use Rattle.std.specs.Prelude.{IfOk, List, OnOk, length, map, suc, ℕ, ◌+◌, ◌<◌, ◌≡◌, ◌≤◌};
-ghost use Rattle.constraints.specs.declared.takers.Taker.{Taker};
+ghost use Rattle.constraints.specs.declared.exit_unknowns.ExitUnknown.{ExitUnknown};
 
 use crate::around::Context;
+use crate::exit_unknowns::{ExitUnknown, ExitUnknowns, entry_in, take};
 use crate::journal::Journal;
 use crate::lefts::left_of_pc;
 use crate::progress::Progress;
 use crate::statements::ProcedureWalk;
 use crate::table::Table;
-use crate::takers::{Taker, Takers, entry_in, take};
 use crate::walking::walk_block;
 use common::exceptions::BUILT_IN;
 use path_map::{Ends, PathMap};
@@ -29,26 +29,26 @@ use resolved::target::Target;
 use solver::{Atom, Constraint, Rule};
 use std::alloc::{AllocError, Global};
 
-// Gives takers to declared exceptions, which have the numbers from this on, at a level that no entry has.
+// Gives exit unknowns to declared exceptions, which have the numbers from this on, at a level that no entry has.
 fn take_declared(
     alloc: Global,
     throws: &[Thrown],
     number: u32,
     level: u32,
-    thrown: &mut Vec<Taker>,
+    thrown: &mut Vec<ExitUnknown>,
 ) -> Result<(), AllocError>
     requires inside { AreThrownInside throws.now thrown.old.items }
     requires room { number + length throws.now ≤ most_unknowns }
     ensures wide { OnOk result (length thrown.new.items ≡ length thrown.old.items) }
     ensures taken { OnOk result ((labels : List Label) (barrier : ℕ) → barrier < level →
         AreWithin barrier thrown.old.items →
-        AreDeclaredTakers (map (thrown_entry labels) throws.now)
+        AreDeclaredExitUnknowns (map (thrown_entry labels) throws.now)
         number level thrown.old.items thrown.new.items) }
 {
     // What was there is not put back: its level is not above the barrier of this procedure.
     let mut saved = Vec::new(alloc);
     for (i, declared) in throws.iter().enumerate() {
-        let entry = Taker {
+        let entry = ExitUnknown {
             number: number + i as u32,
             level,
         };
@@ -63,7 +63,7 @@ impl<'a> ProcedureWalk<'a> {
         &self,
         at: usize,
         throws: &[Thrown],
-        thrown: &[Taker],
+        thrown: &[ExitUnknown],
         constraints: &mut Vec<Constraint<Option<Target>>>,
     ) -> Result<(), AllocError>
         ensures { OnOk result (
@@ -76,8 +76,8 @@ impl<'a> ProcedureWalk<'a> {
     {
         for declared in throws {
             let exception = declared.exception;
-            let taker = Atom::Unknown(entry_in(thrown, exception).number);
-            let left = left_of_pc(self.alloc, taker)?;
+            let exit_unknown = Atom::Unknown(entry_in(thrown, exception).number);
+            let left = left_of_pc(self.alloc, exit_unknown)?;
             let target = Target::ToThrown(self.procedure, exception);
             self.table
                 .add_rule(at, Rule::ProcedureEnds, left, target, constraints)?;
@@ -94,10 +94,10 @@ impl<'a> ProcedureWalk<'a> {
         progress: &mut Progress,
     ) -> Result<(), AllocError>
         ensures unchanged { OnOk result (StaysInPlace progress.old progress.new) }
-        ensures added { OnOk result ((level : ℕ) (had : List Taker) →
+        ensures added { OnOk result ((level : ℕ) (had : List ExitUnknown) →
             IsOf self.now.table.now.core.now self.now.procedure procedure.now →
             only ≡ has_one_end (scope_of self.now.table.now.core.now self.now.procedure) →
-            AreDeclaredTakers (here (scope_of self.now.table.now.core.now
+            AreDeclaredExitUnknowns (here (scope_of self.now.table.now.core.now
             self.now.procedure)).throws (suc number) level had progress.old.thrown.items →
             AreAdded self.now.table.now.core.now self.now.table.now.core.now.labels
             (end_constraints (scope_of self.now.table.now.core.now self.now.procedure) number)
@@ -124,7 +124,7 @@ impl<'a> ProcedureWalk<'a> {
         Ok(())
     }
 
-    // Adds what is gathered of a procedure. No taker has a level above the barrier.
+    // Adds what is gathered of a procedure. No exit unknown has a level above the barrier.
     fn add_procedure(
         &self,
         procedure: &Procedure,
@@ -152,26 +152,29 @@ impl<'a> ProcedureWalk<'a> {
             .journal
             .note_declared(&procedure.throws, &progress.thrown)?;
         let only = self.exits_at(progress.index).is_single_of_procedure();
-        let takers = end_takers(number, barrier, level, only);
+        let exit_unknowns = end_exit_unknowns(number, barrier, level, only);
         let begin = self.table.part(Target::ToBegin(self.procedure));
-        let context = Context { pc: begin, takers };
+        let context = Context {
+            pc: begin,
+            exit_unknowns,
+        };
         walk_block(self, &procedure.body, context, progress)?;
         self.add_end_demands(procedure, number, only, progress)?;
         Ok(())
     }
 }
 
-// The takers of the ends of a procedure whose end has this number; none where it has one end only.
-fn end_takers(number: u32, barrier: u32, level: u32, only: bool) -> Takers
-    ensures { result ≡ end_takers_of number barrier level only }
+// The exit unknowns of the ends of a procedure whose end has this number; none where it has one end only.
+fn end_exit_unknowns(number: u32, barrier: u32, level: u32, only: bool) -> ExitUnknowns
+    ensures { result ≡ end_exit_unknowns_of number barrier level only }
 {
     if only {
-        return Takers {
+        return ExitUnknowns {
             ends: PathMap::of_all(None, level),
             level,
         };
     }
-    Takers {
+    ExitUnknowns {
         ends: PathMap {
             normal: Some(number),
             returns: Some(number),
@@ -196,7 +199,7 @@ pub(crate) fn walk_procedures(
         ≡ unknown_count (program_of table.now.core.now)) }
 {
     // The exceptions that are declared come after those that are built in.
-    let none = Taker {
+    let none = ExitUnknown {
         number: 0,
         level: 0,
     };

@@ -32,7 +32,7 @@ pub struct LabelConstraints {
 /// The caller owes the ends of that program, which has no fault of its ends.
 ///
 /// It takes time and memory in proportion to the program, where the exceptions that a procedure declares count once for all of its calls,
-/// and by the logarithm of these wherever the taker of one of them changes between two calls.
+/// and by the logarithm of these wherever the exit unknown of one of them changes between two calls.
 ///
 /// # Errors
 ///

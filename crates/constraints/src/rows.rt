@@ -8,7 +8,7 @@ pub struct ThrownLabel {
     pub label: Atom,
 }
 
-/// The labels of a procedure. A slot without a written label is an unknown, and so is each loop: those of the loops are so many, with
+/// The labels of a procedure. A slot without a written label is an unknown, and so is each loop: those of the loops are this many, with
 /// the numbers from `loops` on.
 #[derive(Drop)]
 pub struct ProcedureLabels {

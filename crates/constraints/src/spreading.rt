@@ -1,6 +1,6 @@
-//! The flows of the exceptions that calls raise: all calls at which an exception has one taker reach it by one inner unknown.
+//! The flows of the exceptions that calls raise: all calls at which an exception has one exit unknown reach it by one inner unknown.
 ghost use Rattle.constraints.specs.Added.{AreAdded, IsLeft, IsPart};
-ghost use Rattle.constraints.specs.Journals.{AreInOrder, HasOneTaker};
+ghost use Rattle.constraints.specs.Journals.{AreInOrder, HasOneExitUnknown};
 ghost use Rattle.constraints.specs.Merging.{AreSpreadShared};
 ghost use Rattle.constraints.specs.Ready.{most_unknowns};
 ghost use Rattle.constraints.specs.Spreading.{AreCallsOf, AreLabelsOf, AreRowsOf, AreSpread, AreSpreadTo, Declares, fixed_flows};
@@ -12,12 +12,12 @@ ghost use Rattle.resolved.specs.CoreOf.{program_of};
 ghost use Rattle.std.specs.List.{All};
 ghost use Rattle.std.specs.Prelude.{Contains, IfOk, IsTrue, List, OnOk, [], if◌then◌else◌, length, map, ℕ, ◌+◌, ◌++◌, ◌<◌, ◌∷◌, ◌≡◌, ◌≤◌, ◌⊎◌};
 
+use crate::exit_unknowns::exit_unknown_in;
 use crate::following::Following;
 use crate::journal::{Called, Journal};
 use crate::merging::{lay_out, no_parts, take_all};
 use crate::rows::ThrownLabel;
 use crate::table::Table;
-use crate::takers::taker_in;
 use resolved::target::Target;
 use solver::{Atom, Constraint, Left};
 use std::alloc::{AllocError, Global};
@@ -91,19 +91,19 @@ fn put(
 }
 
 impl<'a> Spreading<'a> {
-    // Whether an exception has one taker at all of some calls, whose numbers are between these, if they are made under one barrier.
-    fn has_one_taker(&self, under: bool, first: usize, last: usize, exception: u32) -> bool
+    // Whether an exception has one exit unknown at all of some calls, whose numbers are between these, if they are made under one barrier.
+    fn has_one_exit_unknown(&self, under: bool, first: usize, last: usize, exception: u32) -> bool
         requires { AreInOrder self.now.journal.now }
         ensures { IsTrue result → (calls : List Called) (barrier : ℕ) →
             (IsTrue under → All (λ (called : Called). called.barrier ≡ barrier) calls) →
             All (λ (called : Called). first ≤ called.call) calls →
             All (λ (called : Called). called.call ≤ last) calls →
-            HasOneTaker self.now.journal.now calls exception }
+            HasOneExitUnknown self.now.journal.now calls exception }
     {
         under && self.journal.is_fixed(exception, first, last)
     }
 
-    // Parts exceptions by whether they have one taker at all of these calls, by their barrier and their entries.
+    // Parts exceptions by whether they have one exit unknown at all of these calls, by their barrier and their entries.
     fn parted(
         &self,
         barrier: u32,
@@ -112,7 +112,7 @@ impl<'a> Spreading<'a> {
     ) -> Result<Parted, AllocError>
         requires { AreInOrder self.now.journal.now }
         ensures fixed { IfOk result (λ parted. (x : ThrownLabel) → Contains parted.fixed.items x →
-            HasOneTaker self.now.journal.now calls.now x.exception) }
+            HasOneExitUnknown self.now.journal.now calls.now x.exception) }
         ensures all { IfOk result (λ parted. (x : ThrownLabel) → Contains labels.now x →
             Contains parted.fixed.items x ⊎ Contains parted.varied.items x) }
         ensures fixed_of { IfOk result (λ parted. (x : ThrownLabel) →
@@ -125,13 +125,13 @@ impl<'a> Spreading<'a> {
         let mut fixed = Vec::new(self.alloc);
         let mut varied = Vec::new(self.alloc);
         for thrown in labels {
-            let one = self.has_one_taker(under, first, last, thrown.exception);
+            let one = self.has_one_exit_unknown(under, first, last, thrown.exception);
             put(one, *thrown, &mut fixed, &mut varied)?;
         }
         Ok(Parted { fixed, varied })
     }
 
-    // Adds the flows of exceptions that have at all calls that a part stands for the taker that they have at this one.
+    // Adds the flows of exceptions that have at all calls that a part stands for the exit unknown that they have at this one.
     fn add_fixed(
         &self,
         called: Called,
@@ -153,15 +153,20 @@ impl<'a> Spreading<'a> {
     {
         for thrown in fixed {
             let entry = self.journal.entry(thrown.exception, called.call);
-            self.add_one(taker_in(called.barrier, entry), node, thrown.label, made)?;
+            self.add_one(
+                exit_unknown_in(called.barrier, entry),
+                node,
+                thrown.label,
+                made,
+            )?;
         }
         Ok(())
     }
 
-    // Adds the flow of an exception to its taker, where it has one.
+    // Adds the flow of an exception to its exit unknown, where it has one.
     fn add_one(
         &self,
-        taker: Option<u32>,
+        exit_unknown: Option<u32>,
         node: Atom,
         label: Atom,
         made: &mut Made,
@@ -171,12 +176,12 @@ impl<'a> Spreading<'a> {
             IsPart self.now.table.now.core.now self.now.table.now.core.now.labels named node →
             IsPart self.now.table.now.core.now self.now.table.now.core.now.labels of_label label →
             AreAdded self.now.table.now.core.now self.now.table.now.core.now.labels
-            (flow (named ∷ of_label ∷ []) taker)
+            (flow (named ∷ of_label ∷ []) exit_unknown)
             made.old.constraints.items made.new.constraints.items) }
     {
         let left = vec![in self.alloc; node, label]?;
         self.table
-            .add_flow(self.alloc, &left, taker, &mut made.constraints)
+            .add_flow(self.alloc, &left, exit_unknown, &mut made.constraints)
     }
 
     // The parts of the labels of calls.
@@ -257,7 +262,7 @@ fn spread(
     Ok(node)
 }
 
-// The same for exceptions that do not have one taker at all of the calls, whose halves end at single calls, 64 levels down at most.
+// The same for exceptions that do not have one exit unknown at all of the calls, whose halves end at single calls, 64 levels down at most.
 #[cycle(spread)]
 fn spread_halves(
     of: &Spreading,
@@ -284,7 +289,7 @@ fn spread_halves(
     of.joined(both, made)
 }
 
-// So many rows without calls.
+// This many rows without calls.
 fn no_rows(alloc: Global, count: usize) -> Result<Vec<Vec<Called>>, AllocError>
     ensures { IfOk result (λ rows. AreRowsOf count [] rows.items) }
 {
@@ -345,7 +350,7 @@ fn spread_row(
     Ok(())
 }
 
-/// Adds the flows of the exceptions that calls raise: to each taker by one constraint.
+/// Adds the flows of the exceptions that calls raise: to each exit unknown by one constraint.
 pub(crate) fn spread_calls<'a>(
     alloc: Global,
     table: &'a Table<'a>,

@@ -1,7 +1,7 @@
 //! The constraints of statements without blocks, but for calls.
 ghost use Rattle.constraints.specs.Added.{AreAdded, IsGatheredAt, IsLeft};
 ghost use Rattle.constraints.specs.LeftSides.{scope_of};
-ghost use Rattle.constraints.specs.Takers.{takers_around};
+ghost use Rattle.constraints.specs.ExitUnknowns.{exit_unknowns_around};
 ghost use Rattle.constraints.specs.Walks.{IsSimple, valued_constraints};
 ghost use Rattle.gathering.specs.Names.{NamedAtom};
 ghost use Rattle.gathering.specs.Walk.{flow, raised_flows, target_constraint};
@@ -48,12 +48,13 @@ impl<'a> ProcedureWalk<'a> {
             IsLeft self.now.table.now.core.now self.now.table.now.core.now.labels atoms left.now →
             AreRaised found exceptions →
             AreAdded self.now.table.now.core.now self.now.table.now.core.now.labels
-            (flow atoms (takers_around around.now exit)
-            ++ raised_flows atoms (takers_around around.now) exceptions)
+            (flow atoms (exit_unknowns_around around.now exit)
+            ++ raised_flows atoms (exit_unknowns_around around.now) exceptions)
             constraints.old.items constraints.new.items) }
     {
-        let taker = around.taker(exit);
-        self.table.add_flow(self.alloc, left, taker, constraints)?;
+        let exit_unknown = around.exit_unknown(exit);
+        self.table
+            .add_flow(self.alloc, left, exit_unknown, constraints)?;
         self.table
             .add_raised(self.alloc, left, around, found, constraints)?;
         Ok(())
@@ -72,7 +73,7 @@ impl<'a> ProcedureWalk<'a> {
             self.now.table.now.core.now.labels around.now.pc
             (λ (named : NamedAtom). valued_constraints
             (scope_of self.now.table.now.core.now self.now.procedure) named
-            (takers_around around.now) demand.at (rule_number demand.rule) (expression_of value.now)
+            (exit_unknowns_around around.now) demand.at (rule_number demand.rule) (expression_of value.now)
             demand.target exit)
             constraints.old.items constraints.new.items) }
     {
@@ -100,7 +101,7 @@ impl<'a> ProcedureWalk<'a> {
     ) -> Result<(), AllocError>
         ensures { OnOk result (IsSimple self.now.table.now.core.now
             self.now.table.now.core.now.labels self.now.procedure
-            around.now.pc (takers_around around.now)
+            around.now.pc (exit_unknowns_around around.now)
             (Assign at variable (expression_of value.now))
             constraints.old.items constraints.new.items) }
     {
@@ -124,7 +125,7 @@ impl<'a> ProcedureWalk<'a> {
     ) -> Result<(), AllocError>
         ensures { OnOk result (IsSimple self.now.table.now.core.now
             self.now.table.now.core.now.labels self.now.procedure
-            around.now.pc (takers_around around.now)
+            around.now.pc (exit_unknowns_around around.now)
             (Send at channel (expression_of value.now))
             constraints.old.items constraints.new.items) }
     {
@@ -147,13 +148,13 @@ impl<'a> ProcedureWalk<'a> {
     ) -> Result<(), AllocError>
         ensures { OnOk result (IsSimple self.now.table.now.core.now
             self.now.table.now.core.now.labels self.now.procedure
-            around.now.pc (takers_around around.now)
+            around.now.pc (exit_unknowns_around around.now)
             (Leave at exit)
             constraints.old.items constraints.new.items) }
     {
-        let taker = around.taker(exit);
+        let exit_unknown = around.exit_unknown(exit);
         self.table
-            .add_pc_flow(self.alloc, around.pc, taker, constraints)?;
+            .add_pc_flow(self.alloc, around.pc, exit_unknown, constraints)?;
         Ok(())
     }
 
@@ -167,15 +168,15 @@ impl<'a> ProcedureWalk<'a> {
     ) -> Result<(), AllocError>
         ensures { OnOk result (IsSimple self.now.table.now.core.now
             self.now.table.now.core.now.labels self.now.procedure
-            around.now.pc (takers_around around.now)
+            around.now.pc (exit_unknowns_around around.now)
             (ReturnWith at (some_expression_of value.now))
             constraints.old.items constraints.new.items) }
     {
         match value {
             None => {
-                let taker = around.taker(Exit::Return);
+                let exit_unknown = around.exit_unknown(Exit::Return);
                 self.table
-                    .add_pc_flow(self.alloc, around.pc, taker, constraints)?;
+                    .add_pc_flow(self.alloc, around.pc, exit_unknown, constraints)?;
                 Ok(())
             }
             Some(value) => {
@@ -200,7 +201,7 @@ impl<'a> ProcedureWalk<'a> {
     ) -> Result<(), AllocError>
         ensures { OnOk result (IsSimple self.now.table.now.core.now
             self.now.table.now.core.now.labels self.now.procedure
-            around.now.pc (takers_around around.now)
+            around.now.pc (exit_unknowns_around around.now)
             (Clear at slot)
             constraints.old.items constraints.new.items) }
     {
@@ -212,9 +213,9 @@ impl<'a> ProcedureWalk<'a> {
             target,
             constraints,
         )?;
-        let taker = around.taker(Exit::Normal);
+        let exit_unknown = around.exit_unknown(Exit::Normal);
         self.table
-            .add_pc_flow(self.alloc, around.pc, taker, constraints)?;
+            .add_pc_flow(self.alloc, around.pc, exit_unknown, constraints)?;
         Ok(())
     }
 
@@ -255,7 +256,7 @@ impl<'a> ProcedureWalk<'a> {
     ) -> Result<(), AllocError>
         ensures { OnOk result (IsSimple self.now.table.now.core.now
             self.now.table.now.core.now.labels self.now.procedure
-            around.now.pc (takers_around around.now)
+            around.now.pc (exit_unknowns_around around.now)
             (Receive at channel target)
             constraints.old.items constraints.new.items) }
     {
@@ -270,9 +271,9 @@ impl<'a> ProcedureWalk<'a> {
         let left = self.table.left_of_label(self.alloc, around.pc, source)?;
         let received = self.table.left_of_label(self.alloc, around.pc, source)?;
         self.add_target(at, Rule::Receive, received, target, constraints)?;
-        let normal = around.taker(Exit::Normal);
+        let normal = around.exit_unknown(Exit::Normal);
         self.table.add_flow(self.alloc, &left, normal, constraints)?;
-        let ended = around.taker(Exit::Throw(END));
+        let ended = around.exit_unknown(Exit::Throw(END));
         self.table.add_flow(self.alloc, &left, ended, constraints)?;
         Ok(())
     }

@@ -1,7 +1,7 @@
 //! The constraints of stores into arrays.
 ghost use Rattle.constraints.specs.Added.{IsLeftFrom};
 ghost use Rattle.constraints.specs.LeftSides.{IsJoined, index_atoms, scope_of};
-ghost use Rattle.constraints.specs.Takers.{takers_around};
+ghost use Rattle.constraints.specs.ExitUnknowns.{exit_unknowns_around};
 ghost use Rattle.constraints.specs.Walks.{IsSimple};
 ghost use Rattle.gathering.specs.Walk.{store_atoms};
 ghost use Rattle.path_map.specs.Exceptions.{AreRaised};
@@ -87,7 +87,7 @@ impl<'a> ProcedureWalk<'a> {
     ) -> Result<(), AllocError>
         ensures { OnOk result (IsSimple self.now.table.now.core.now
             self.now.table.now.core.now.labels self.now.procedure
-            around.now.pc (takers_around around.now)
+            around.now.pc (exit_unknowns_around around.now)
             (Store store.at store.array store.length
             (expression_of index.now) (expression_of value.now))
             constraints.old.items constraints.new.items) }

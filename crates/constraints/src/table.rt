@@ -130,7 +130,7 @@ impl<'a> Table<'a> {
     }
 
     // The part of the label of a loop.
-    fn turn(&self, procedure: u32, number: u32) -> Atom
+    fn loop_atom(&self, procedure: u32, number: u32) -> Atom
         ensures { part self.now.core.now.labels result
             ≡ part_of (program_of self.now.core.now) (ToLoop procedure number) }
     {
@@ -175,7 +175,7 @@ impl<'a> Table<'a> {
             Target::ToValue(procedure) => self.row(procedure).value,
             Target::ToEnd(procedure) => self.row(procedure).end,
             Target::ToThrown(procedure, exception) => self.thrown_label(procedure, exception),
-            Target::ToLoop(procedure, number) => self.turn(procedure, number),
+            Target::ToLoop(procedure, number) => self.loop_atom(procedure, number),
         }
     }
 }

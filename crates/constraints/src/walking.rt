@@ -8,10 +8,10 @@ ghost use Rattle.resolved.specs.declared.statement.Handler.{Handler};
 ghost use Rattle.std.specs.Prelude.{IfOk, List, OnOk, drop, length, map, ℕ, ◌∷◌, ◌≡◌};
 
 use crate::around::Context;
+use crate::exit_unknowns::{ExitUnknowns, put_back};
 use crate::forms::{ArrayStore, CallSite, LoopSite};
 use crate::progress::Progress;
 use crate::statements::ProcedureWalk;
-use crate::takers::{Takers, put_back};
 use path_map::Exits;
 use resolved::expression::Expression;
 use resolved::statement::{Handler, Statement};
@@ -19,7 +19,7 @@ use solver::Atom;
 use std::alloc::AllocError;
 
 /// Adds what is gathered of a block of its own that is reached at this pc. It takes the block's entries of the path map and its inner
-/// unknowns from the progress on, and leaves the takers of exceptions as they are. It is a precondition that the block is of the
+/// unknowns from the progress on, and leaves the exit unknowns of exceptions as they are. It is a precondition that the block is of the
 /// program, and that the path map goes on with its entries.
 #[cycle(walk)]
 pub(crate) fn walk_block(
@@ -29,14 +29,17 @@ pub(crate) fn walk_block(
     progress: &mut Progress,
 ) -> Result<(), AllocError>
     requires { IsBlockReady walk.now.table.now.core.now (entries_of walk.now.map.now)
-        walk.now.procedure context.takers (block_of block.now) progress.old }
+        walk.now.procedure context.exit_unknowns (block_of block.now) progress.old }
     ensures { OnOk result (IsBlockWalked walk.now.table.now.core.now
         walk.now.table.now.core.now.labels (entries_of walk.now.map.now) walk.now.procedure
-        context.pc context.takers (block_of block.now) progress.old progress.new) }
+        context.pc context.exit_unknowns (block_of block.now) progress.old progress.new) }
 {
     let exits = walk.begin(context, progress)?;
-    let takers = context.takers.within_single(exits.is_single());
-    let inner = Context { takers, ..context };
+    let exit_unknowns = context.exit_unknowns.within_single(exits.is_single());
+    let inner = Context {
+        exit_unknowns,
+        ..context
+    };
     walk_statements(walk, block, inner, progress)?;
     Ok(())
 }
@@ -50,10 +53,10 @@ fn walk_statements(
     progress: &mut Progress,
 ) -> Result<(), AllocError>
     requires { AreStatementsReady walk.now.table.now.core.now (entries_of walk.now.map.now)
-        walk.now.procedure context.takers (block_of block.now) progress.old }
+        walk.now.procedure context.exit_unknowns (block_of block.now) progress.old }
     ensures { OnOk result (AreStatementsWalked walk.now.table.now.core.now
         walk.now.table.now.core.now.labels (entries_of walk.now.map.now) walk.now.procedure
-        context.pc context.takers (block_of block.now) progress.old progress.new) }
+        context.pc context.exit_unknowns (block_of block.now) progress.old progress.new) }
 {
     let mut reached = true;
     let mut onward = context.pc;
@@ -75,7 +78,7 @@ fn walk_statements(
     Ok(())
 }
 
-// Walks past a statement, and gives its possible ends. Its normal end has the taker with this number.
+// Walks past a statement, and gives its possible ends. Its normal end has the exit unknown with this number.
 #[cycle(walk)]
 fn walk_statement(
     walk: &ProcedureWalk,
@@ -85,21 +88,35 @@ fn walk_statement(
     progress: &mut Progress,
 ) -> Result<Exits, AllocError>
     requires { IsStatementReady walk.now.table.now.core.now (entries_of walk.now.map.now)
-        walk.now.procedure context.takers (statement_of statement.now) progress.old }
+        walk.now.procedure context.exit_unknowns (statement_of statement.now) progress.old }
     ensures exits { IfOk result (λ exits. (first : Exits) (left : List Exits) →
         drop progress.old.index (entries_of walk.now.map.now) ≡ first ∷ left → exits ≡ first) }
     ensures added { OnOk result (IsStatementWalked walk.now.table.now.core.now
         walk.now.table.now.core.now.labels (entries_of walk.now.map.now) walk.now.procedure
-        context.pc context.takers number (statement_of statement.now)
+        context.pc context.exit_unknowns number (statement_of statement.now)
         progress.old progress.new) }
 {
-    let takers = context.takers.with_normal(None);
-    let exits = walk.begin(Context { takers, ..context }, progress)?;
-    let takers = context
-        .takers
+    let exit_unknowns = context.exit_unknowns.with_normal(None);
+    let exits = walk.begin(
+        Context {
+            exit_unknowns,
+            ..context
+        },
+        progress,
+    )?;
+    let exit_unknowns = context
+        .exit_unknowns
         .with_normal(Some(number))
         .within_single(exits.is_single());
-    walk_form(walk, statement, Context { takers, ..context }, progress)?;
+    walk_form(
+        walk,
+        statement,
+        Context {
+            exit_unknowns,
+            ..context
+        },
+        progress,
+    )?;
     Ok(exits)
 }
 
@@ -112,10 +129,10 @@ fn walk_form(
     progress: &mut Progress,
 ) -> Result<(), AllocError>
     requires { IsFormReady walk.now.table.now.core.now (entries_of walk.now.map.now)
-        walk.now.procedure context.takers (statement_of statement.now) progress.old }
+        walk.now.procedure context.exit_unknowns (statement_of statement.now) progress.old }
     ensures { OnOk result (IsFormWalked walk.now.table.now.core.now
         walk.now.table.now.core.now.labels (entries_of walk.now.map.now) walk.now.procedure
-        context.pc context.takers (statement_of statement.now) progress.old progress.new) }
+        context.pc context.exit_unknowns (statement_of statement.now) progress.old progress.new) }
 {
     match statement {
         Statement::Assign(at, variable, value) => {
@@ -136,8 +153,8 @@ fn walk_form(
             let site = CallSite::new(*at, *callee, *target);
             walk.walk_call(site, arguments, context, progress)
         }
-        Statement::If(_, condition, yes_block, no_block) => {
-            walk_if(walk, condition, yes_block, no_block, context, progress)
+        Statement::If(_, condition, then_block, else_block) => {
+            walk_if(walk, condition, then_block, else_block, context, progress)
         }
         Statement::While(at, number, condition, body) => {
             let site = LoopSite::new(*at, *number);
@@ -155,27 +172,27 @@ fn walk_form(
 fn walk_if(
     walk: &ProcedureWalk,
     condition: &Expression,
-    yes_block: &[Statement],
-    no_block: &[Statement],
+    then_block: &[Statement],
+    else_block: &[Statement],
     context: Context,
     progress: &mut Progress,
 ) -> Result<(), AllocError>
     requires { IsFormReady walk.now.table.now.core.now (entries_of walk.now.map.now)
-        walk.now.procedure context.takers
-        (If 0 (expression_of condition.now) (block_of yes_block.now) (block_of no_block.now))
+        walk.now.procedure context.exit_unknowns
+        (If 0 (expression_of condition.now) (block_of then_block.now) (block_of else_block.now))
         progress.old }
     ensures { OnOk result ((at : ℕ) →
         IsFormWalked walk.now.table.now.core.now
         walk.now.table.now.core.now.labels (entries_of walk.now.map.now) walk.now.procedure
-        context.pc context.takers
-        (If at (expression_of condition.now) (block_of yes_block.now) (block_of no_block.now))
+        context.pc context.exit_unknowns
+        (If at (expression_of condition.now) (block_of then_block.now) (block_of else_block.now))
         progress.old progress.new) }
 {
     let number = walk.begin_branch(condition, context, progress)?;
     let pc = Atom::Unknown(number);
     let inner = Context { pc, ..context };
-    walk_block(walk, yes_block, inner, progress)?;
-    walk_block(walk, no_block, inner, progress)?;
+    walk_block(walk, then_block, inner, progress)?;
+    walk_block(walk, else_block, inner, progress)?;
     Ok(())
 }
 
@@ -190,18 +207,18 @@ fn walk_while(
     progress: &mut Progress,
 ) -> Result<(), AllocError>
     requires { IsFormReady walk.now.table.now.core.now (entries_of walk.now.map.now)
-        walk.now.procedure context.takers
+        walk.now.procedure context.exit_unknowns
         (While site.at site.number (expression_of condition.now) (block_of body.now)) progress.old }
     ensures { OnOk result (IsFormWalked walk.now.table.now.core.now
         walk.now.table.now.core.now.labels (entries_of walk.now.map.now) walk.now.procedure
-        context.pc context.takers
+        context.pc context.exit_unknowns
         (While site.at site.number (expression_of condition.now) (block_of body.now))
         progress.old progress.new) }
 {
     let (inner, back) = walk.begin_loop(site, condition, context, progress)?;
     let inside = Context {
         pc: Atom::Unknown(inner),
-        takers: context.takers.in_loop(back),
+        exit_unknowns: context.exit_unknowns.in_loop(back),
     };
     walk_block(walk, body, inside, progress)?;
     walk.end_loop(site, back, progress)?;
@@ -218,23 +235,29 @@ fn walk_try(
     progress: &mut Progress,
 ) -> Result<(), AllocError>
     requires { IsFormReady walk.now.table.now.core.now (entries_of walk.now.map.now)
-        walk.now.procedure context.takers (Try 0 (block_of block.now) (handlers_of handlers.now))
+        walk.now.procedure context.exit_unknowns (Try 0 (block_of block.now) (handlers_of handlers.now))
         progress.old }
     ensures { OnOk result ((at : ℕ) →
         IsFormWalked walk.now.table.now.core.now
         walk.now.table.now.core.now.labels (entries_of walk.now.map.now) walk.now.procedure
-        context.pc context.takers (Try at (block_of block.now) (handlers_of handlers.now))
+        context.pc context.exit_unknowns (Try at (block_of block.now) (handlers_of handlers.now))
         progress.old progress.new) }
 {
-    let tried = walk.begin_try(handlers, context.takers, progress)?;
+    let tried = walk.begin_try(handlers, context.exit_unknowns, progress)?;
     let inside = Context {
-        takers: tried.takers,
+        exit_unknowns: tried.exit_unknowns,
         ..context
     };
     walk_block(walk, block, inside, progress)?;
     put_back(tried.saved, &mut progress.thrown);
     progress.journal.note_handled(handlers, &progress.thrown)?;
-    walk_handlers(walk, handlers, &tried.numbers, context.takers, progress)?;
+    walk_handlers(
+        walk,
+        handlers,
+        &tried.numbers,
+        context.exit_unknowns,
+        progress,
+    )?;
     Ok(())
 }
 
@@ -244,21 +267,21 @@ fn walk_handlers(
     walk: &ProcedureWalk,
     handlers: &[Handler],
     numbers: &[u32],
-    takers: Takers,
+    exit_unknowns: ExitUnknowns,
     progress: &mut Progress,
 ) -> Result<(), AllocError>
     requires numbered { length numbers.now ≡ length handlers.now }
     requires ready { AreHandlersReady walk.now.table.now.core.now (entries_of walk.now.map.now)
-        walk.now.procedure takers (handlers_of handlers.now) progress.old }
+        walk.now.procedure exit_unknowns (handlers_of handlers.now) progress.old }
     ensures { OnOk result ((number : ℕ → ℕ) (pc : Atom) →
         numbers.now ≡ map (λ (handler : Handler). number handler.exception) handlers.now →
         AreHandlersWalked walk.now.table.now.core.now
         walk.now.table.now.core.now.labels (entries_of walk.now.map.now) walk.now.procedure
-        pc takers number (handlers_of handlers.now) progress.old progress.new) }
+        pc exit_unknowns number (handlers_of handlers.now) progress.old progress.new) }
 {
     for (i, handler) in handlers.iter().enumerate() {
         let pc = Atom::Unknown(numbers[i]);
-        walk_block(walk, &handler.body, Context { pc, takers }, progress)?;
+        walk_block(walk, &handler.body, Context { pc, exit_unknowns }, progress)?;
     }
     Ok(())
 }

@@ -98,11 +98,11 @@ without_label local (Some label) is = cc
 module _ (source : List ℕ) (checked : CheckedProgram) where
   lines-append : (xs ys : List LocalEntry) (text more : List ℕ) → AreLines source checked xs text → AreLines source checked ys more
       → AreLines source checked (xs ++ ys) (text ++ more)
-  lines-append [] ys [] more none behind = behind
-  lines-append [] ys (_ ∷ _) more lines behind = elim lines [ ]
-  lines-append (x ∷ xs) ys _ more (one_more local locals line text is rest) behind =
+  lines-append [] ys [] more none after = after
+  lines-append [] ys (_ ∷ _) more lines after = elim lines [ ]
+  lines-append (x ∷ xs) ys _ more (one_more local locals line text is rest) after =
       subst (λ (t : List ℕ). AreLines source checked (local ∷ (locals ++ ys)) t) (sym (append_assoc line text more))
-      (one_more local (locals ++ ys) line (text ++ more) is (lines-append locals ys text more rest behind))
+      (one_more local (locals ++ ys) line (text ++ more) is (lines-append locals ys text more rest after))
 
   -- there are such lines for all locals
   lines-there : (locals : List LocalEntry) → (text : List ℕ) × AreLines source checked locals text

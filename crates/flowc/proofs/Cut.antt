@@ -27,7 +27,7 @@ pub can_run : (code text : List ℕ) (under name : Option (List ℕ)) (m : Modul
     → AreSound code text m → IsViewedUnder m under h → IsObserver h name principal → CanRun code text under name m h principal
 can_run code text under name m h principal sound viewed observed = record {
   spelled = sound.spelled;
-  no_defect = sound.no_defect;
+  not_refused = sound.not_refused;
   encoded = sound.encoded;
   right = sound.right;
   viewed = viewed;

@@ -38,7 +38,7 @@ use Rattle.lowering.proofs.Sent.{exec-keeps}
 use Rattle.modules.proofs.Executing.{exec_more}
 use Rattle.machine.specs.Run.{HasEnded}
 use Rattle.machine.specs.declared.status.Status.{Status}
-use Rattle.verifier.specs.Refusals.{HasNoDefect}
+use Rattle.verifier.specs.Refusals.{IsNotRefused}
 use Rattle.verifier.specs.Loaded.{CannotLoad}
 use Rattle.verifier.specs.declared.loading.LoadRefusal.{LoadRefusal}
 use Rattle.verifier.specs.declared.loading.LoadRefusal.TheVariants.{Bytes, Code}
@@ -128,11 +128,11 @@ shown-by fresh said source code compiled world under p sent pairs shows later =
     (seen-part program under p sent (sent_after m numbers n) later)
 
 pub no_less : sessions.SessionsAreFreshRuns → sessions.SessionsEndAsReported → SessionsShowNoLess
-no_less fresh ends said source code compiled world under p turns =
+no_less fresh ends said source code compiled world under p fuel =
     let m = module_in compiled in
     let numbers = numbers_of_channel m world in
-    let some = compiled.code_of.kept.no_less numbers turns in
-    let sent = sent_by (program_in compiled) numbers turns in (
+    let some = compiled.code_of.kept.no_less numbers fuel in
+    let sent = sent_by (program_in compiled) numbers fuel in (
       some.0,
       λ pairs shows run.
           let n = sessions.steps_of shows in
@@ -168,25 +168,25 @@ prefix_of_nothing [] b = refl
 prefix_of_nothing (x ∷ xs) b = cc b.1
 
 pub some_show_all : sessions.SessionsAreFreshRuns → sessions.SessionsEndAsReported → SomeSessionsShowAll
-some_show_all fresh ends said source code compiled world under p turns named contained there =
+some_show_all fresh ends said source code compiled world under p fuel named contained there =
     let m = module_in compiled in
     let can : CanOpen code world under m = record {
       spelled = compiled.code_of.spelled;
-      no_defect = compiled.code_of.no_defect;
+      not_refused = compiled.code_of.not_refused;
       named = named;
       contained = contained;
     } in
-    let law = no_less fresh ends said source code compiled world under p turns in
+    let law = no_less fresh ends said source code compiled world under p fuel in
     let session = opened_for code world under m can compiled.code_of.never_stuck p there law.0 in
     (session.pairs, session.shows, law.1 session.pairs session.shows session.has_run)
 
 pub silent_show_less : SilentModulesShowLess
-silent_show_less program m code world under p turns can never_stuck there silent some less =
-    let law = less world under p turns in
+silent_show_less program m code world under p fuel can never_stuck there silent some less =
+    let law = less world under p fuel in
     let session = opened_for code world under m can never_stuck p there law.0 in
     let nothing : session.pairs ≡ [] = session.sees ∙ ap (λ (list : List Pair). module_view (hierarchy_under under m) m p list) (silent session.taken) in
-    some (prefix_of_nothing (program_view program under p (numbers_of_channel m world) turns)
-    (subst (λ (list : List Pair). IsPrefix (program_view program under p (numbers_of_channel m world) turns) list) nothing
+    some (prefix_of_nothing (program_view program under p (numbers_of_channel m world) fuel)
+    (subst (λ (list : List Pair). IsPrefix (program_view program under p (numbers_of_channel m world) fuel) list) nothing
     (law.1 session.pairs session.shows session.has_run)))
 
 -- a module that stays isolated is so under each hierarchy that its sessions are opened under
@@ -314,12 +314,12 @@ module _ (one : (m n : ModuleContents) (bytes : List ℕ) → Spells module_file
 
   -- what can be run is not refused
   module _ (not_refused : (m : ModuleContents) (bytes : List ℕ) → Spells module_file m bytes → first_refusal bytes ≡ None) where
-    right_module : (code : List ℕ) (m : ModuleContents) → Spells module_file m code → HasNoDefect m → (refusal : LoadRefusal) → CannotLoad code refusal → ⊥
-    right_module code m spelled no_defect (Bytes refusal) found =
+    right_module : (code : List ℕ) (m : ModuleContents) → Spells module_file m code → IsNotRefused m → (refusal : LoadRefusal) → CannotLoad code refusal → ⊥
+    right_module code m spelled accepted (Bytes refusal) found =
         let none = not_refused m code spelled in
         cc
-    right_module code m spelled no_defect (Code refusal) of_code =
-        excluded of_code.0 refusal of_code.2 (subst (λ (w : ModuleContents). HasNoDefect w) (one m of_code.0 code spelled of_code.1) no_defect)
+    right_module code m spelled accepted (Code refusal) of_code =
+        excluded of_code.0 refusal of_code.2 (subst (λ (w : ModuleContents). IsNotRefused w) (one m of_code.0 code spelled of_code.1) accepted)
 
     right_world : (path text line : List ℕ) (m other : ModuleContents) → m ≡ other → IsUtf8 text → IsWorldText (input_names m) (lines_of text)
         → IsWorldLine other path text line → ⊥
@@ -339,7 +339,7 @@ module _ (one : (m n : ModuleContents) (bytes : List ℕ) → Spells module_file
       where
         right_text : HasOneHierarchy → IsNotReadAndRefused → (line : List ℕ) (other : ModuleContents) (file : NamedText) (h : PrincipalHierarchy) → HasHierarchy file.bytes h
             → ContainsHierarchy h other.hierarchy → IsHierarchyLine other file line → ⊥
-        right_text once not_both line other file h has contains (no_hierarchy refusal fault says) = refused_no_hierarchy not_both file.bytes fault.cause fault.at fault.refused h has
+        right_text once not_both line other file h has contains (no_hierarchy refusal fault says) = refused_no_hierarchy not_both file.bytes fault.kind fault.at fault.refused h has
         right_text once not_both line other file h has contains (not_contained k also not_there says) =
             not_there (subst (λ (x : PrincipalHierarchy). ContainsHierarchy x other.hierarchy) (once file.bytes h k has.hierarchy_of also.hierarchy_of) contains)
 
@@ -355,8 +355,8 @@ module _ (one : (m n : ModuleContents) (bytes : List ℕ) → Spells module_file
     right_run : HasOneHierarchy → IsNotReadAndRefused → (code world : NamedText) (under : Option NamedText) (name line : List ℕ) (m : ModuleContents) (h : PrincipalHierarchy) (principal : Option ℕ)
         → CanRun code.bytes world.bytes (bytes_of under) (Some name) m h principal → IsRefusedLine code world under (Some name) line → ⊥
     right_run once not_both code world under name line m h principal can (of_module wrong_module) =
-        right_module code.bytes m can.spelled can.no_defect wrong_module.refusal wrong_module.refused
-    right_run once not_both code world under name line m h principal can (of_world other spelled no_defect wrong_world) =
+        right_module code.bytes m can.spelled can.not_refused wrong_module.refusal wrong_module.refused
+    right_run once not_both code world under name line m h principal can (of_world other spelled not_refused wrong_world) =
         right_world world.path world.bytes line m other (one m other code.bytes can.spelled spelled) can.encoded can.right wrong_world
     right_run once not_both code world under name line m h principal can (of_hierarchy other sound wrong_file) =
         right_hierarchy once not_both line m other (one m other code.bytes can.spelled sound.spelled) under h can.viewed wrong_file

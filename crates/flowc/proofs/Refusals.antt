@@ -2,13 +2,13 @@
 use Rattle.std.proofs.Common.{◌≡◌, ap, sym, ◌∙◌, subst, arith, Some, None, ℕ, List, [], ◌∷◌, refl, inl, inr, ◌⊎◌, Bool, true, false, IsTrue, ◌↔◌, Option, Result, Ok, Err, IfOk, IfErr, OnErr, MatchResult}
 use Rattle.acceptance.specs.Accepted.{HasHierarchy}
 use Rattle.acceptance.specs.Refused.{IsHierarchyRefused, IsNoText, NotUtf8, TooLong, Unreadable, Wrong}
-use Rattle.acceptance.specs.declared.cause.Cause.{Cause}
+use Rattle.acceptance.specs.declared.kind.RefusalKind.{RefusalKind}
 use Rattle.channels.specs.View.{ShowsPrefix}
 use Rattle.checker.specs.Reported.{HasNoHierarchy}
 use Rattle.modules.specs.Contents.{ModuleContents}
 use Rattle.channels.specs.World.{InputNumbers, input_names}
 use Rattle.channels.specs.WorldText.{IsWorldRefusal, IsWorldText, world_of}
-use Rattle.channels.specs.declared.defect.WorldRefusal.{WorldRefusal}
+use Rattle.channels.specs.declared.kind.WorldRefusal.{WorldRefusal}
 use Rattle.common.specs.declared.fault.OrNoMemory.{OrNoMemory}
 use Rattle.common.specs.declared.fault.OrNoMemory.TheVariants as or
 use Rattle.machine.specs.Run.{names_of}
@@ -35,7 +35,7 @@ use Rattle.flowc.specs.declared.fault.PerformFault.TheVariants.{Refused, CannotW
 pub wrong_is_no_world : (inputs : List (List ℕ)) (lines : List (List (List ℕ))) (refusal : WorldRefusal)
     → IsWorldRefusal inputs lines refusal → IsWorldText inputs lines → ⊥
 wrong_is_no_world inputs lines refusal wrong right =
-    let here = right wrong.place wrong.there in
+    let here = right wrong.index wrong.there in
     let there = wrong.wrong in
     cc
 
@@ -76,13 +76,13 @@ run_shows code text code' text' under under' name name' steps status old new (Er
 
 -- ---- hierarchies of texts
 
-no_text_no_hierarchy : (text : List ℕ) (cause : Cause) (at : ℕ) → IsNoText text cause at → HasNoHierarchy text
+no_text_no_hierarchy : (text : List ℕ) (kind : RefusalKind) (at : ℕ) → IsNoText text kind at → HasNoHierarchy text
 no_text_no_hierarchy text _ _ (TooLong long) h has = omega (arith, long, has.hierarchy_of.has_entries.fits)
 no_text_no_hierarchy text _ _ (NotUtf8 short other) h has = other has.characters
 
 -- a text that is refused has no hierarchy
-pub refused_no_hierarchy : IsNotReadAndRefused → (text : List ℕ) (cause : Cause) (at : ℕ) → IsHierarchyRefused text cause at → HasNoHierarchy text
-refused_no_hierarchy not_both text _ _ (Unreadable cause at no_text) h has = no_text_no_hierarchy text cause at no_text h has
+pub refused_no_hierarchy : IsNotReadAndRefused → (text : List ℕ) (kind : RefusalKind) (at : ℕ) → IsHierarchyRefused text kind at → HasNoHierarchy text
+refused_no_hierarchy not_both text _ _ (Unreadable kind at no_text) h has = no_text_no_hierarchy text kind at no_text h has
 refused_no_hierarchy not_both text _ _ (Wrong is_text refusal refused) h has = not_both text h refusal has.hierarchy_of refused
 
 -- what was tested and is not so, of a module's hierarchy that was lent

@@ -13,9 +13,9 @@ use Rattle.common.specs.declared.fault.OrNoMemory.{OrNoMemory}
 use Rattle.common.specs.declared.fault.OrNoMemory.TheVariants as or
 use Rattle.channels.specs.World.{input_names}
 use Rattle.channels.specs.WorldText.{IsWorldRefusal, lines_of}
-use Rattle.channels.specs.declared.defect.WorldRefusal.{WorldRefusal}
+use Rattle.channels.specs.declared.kind.WorldRefusal.{WorldRefusal}
 use Rattle.channels.specs.declared.sink.SinkFault.{SinkFault}
-use Rattle.verifier.specs.Refusals.{HasNoDefect}
+use Rattle.verifier.specs.Refusals.{IsNotRefused}
 use Rattle.verifier.specs.Loaded.{CannotLoad}
 use Rattle.verifier.specs.declared.loading.LoadRefusal.{LoadRefusal}
 use Rattle.flowc.specs.Lines.{IsPerformFault, cannot_write, line_of_fault, module_line, no_memory, world_line}
@@ -52,12 +52,12 @@ module_message outcome code world fault =
     passed_on outcome (IsModuleLine code.path code.bytes) (AnyRefusedLine code world) false fault (λ line wrong under observer. of_module wrong)
 
 pub world_message : {X : Type 0} (outcome : Result X PerformFault) (m lent : ModuleContents) (code world : NamedText) (fault : PerformFault)
-    → Spells module_file m code.bytes → HasNoDefect m → lent ≡ m
+    → Spells module_file m code.bytes → IsNotRefused m → lent ≡ m
     → IsErrAnd outcome (λ other. other ≡ fault) → IsPerformFault (IsWorldLine lent world.path world.bytes) false fault
     → IfErr outcome (IsPerformFault (AnyRefusedLine code world) false)
-world_message outcome m lent code world fault spelled no_defect is =
+world_message outcome m lent code world fault spelled not_refused is =
     passed_on outcome (IsWorldLine lent world.path world.bytes) (AnyRefusedLine code world) false fault
-    (λ line wrong under observer. of_world m spelled no_defect (subst (λ (w : ModuleContents). IsWorldLine w world.path world.bytes line) is wrong))
+    (λ line wrong under observer. of_world m spelled not_refused (subst (λ (w : ModuleContents). IsWorldLine w world.path world.bytes line) is wrong))
 
 pub start_message : {X : Type 0} (outcome : Result X PerformFault) (code world : NamedText) (under : Option NamedText) (observer : Option (List ℕ)) (failed : Bool)
     (fault : PerformFault) → IsErrAnd outcome (λ other. other ≡ fault)

@@ -1,4 +1,4 @@
--- A session of bytes that can be opened, by a host with one place, which shows what the bytes send within so many steps.
+-- A session of bytes that can be opened, by a host with one place, which shows what the bytes send within this many steps.
 use Rattle.std.proofs.Common.{◌≡◌, ℕ, zero, suc, ◌≤◌, ◌<◌, ◌⊎◌, List, [], ◌∷◌, length, Option, Some, refl, sym, ap, ◌∙◌, subst, inl, inr, ⊎_elim, arith}
 use Rattle.principals.specs.ActsFor.{PrincipalHierarchy}
 use Rattle.common.specs.declared.sent.Pair.{Pair}
@@ -7,7 +7,7 @@ use Rattle.modules.specs.Isolated.{module_view}
 use Rattle.modules.specs.Machine as machine
 use Rattle.modules.specs.Machine.{Machine, Running, Ended, Stuck, Ending, MachineCode, exec, machine_code, sent_after, sent_of, step}
 use Rattle.channels.specs.World.{InputNumbers, numbers_of_channel}
-use Rattle.verifier.specs.Safety.{HasRow, IsNeverStuck}
+use Rattle.verifier.specs.Safety.{HasTransition, IsNeverStuck}
 use Rattle.machine.specs.Run.{IsRunning, ReportsStatus, WasRunning}
 use Rattle.machine.specs.declared.status.Status.{Status}
 use Rattle.machine.specs.declared.status.Status.TheVariants as status
@@ -15,9 +15,9 @@ use Rattle.host.specs.Laws.{Shows, ending_of}
 use Rattle.host.specs.Meaning.{Answered, CanOpen, HostAnswer, HostContents, HostEvent, Open, Opened, SessionContents, Turn, Turned, View, Viewed, first_machine, first_session, hierarchy_under, session_view, with_opened}
 use Rattle.flowc.specs.Promises.{HasRun}
 
--- ---- a run for at most so many steps
+-- ---- a run for at most this many steps
 
--- where a run stands after so many steps, or at its end before that
+-- where a run stands after this many steps, or at its end before that
 record Stop (p : MachineCode) (n : ℕ) (from : Machine) : Type 0 where
   taken : ℕ
   stands : Status
@@ -81,7 +81,7 @@ goes_on p n from running rest = record {
     before zero below = running
     before (suc k) below = rest.running k (omega (arith, below))
 
-stop : (p : MachineCode) (n : ℕ) (from : Machine) → ((k : ℕ) → HasRow (exec p k from)) → IsRunning from → Stop p n from
+stop : (p : MachineCode) (n : ℕ) (from : Machine) → ((k : ℕ) → HasTransition (exec p k from)) → IsRunning from → Stop p n from
 stop p zero from rows running = record {
   taken = zero;
   stands = status.Running;
@@ -95,11 +95,11 @@ stop p (suc n) from rows running = by (step p from) refl (λ live. stop p n (ste
     by : (next : Machine) → step p from ≡ next → (IsRunning (step p from) → Stop p n (step p from)) → Stop p (suc n) from
     by (Running s) e rest = goes_on p n from running (rest (subst IsRunning (sym e) tt))
     by (Ended ending sent) e rest = ends_now p n from ending sent running e
-    by (Stuck sent) e rest = absurd (subst HasRow e (rows (suc zero)))
+    by (Stuck sent) e rest = absurd (subst HasTransition e (rows (suc zero)))
 
 -- ---- the session
 
--- a session that has taken so many steps or has answered that its run has ended, and what it shows
+-- a session that has taken this many steps or has answered that its run has ended, and what it shows
 pub record Session (code : List ℕ) (world : List InputNumbers) (under : Option PrincipalHierarchy) (m : ModuleContents) (p steps : ℕ) : Type 0 where
   pub pairs : List Pair
   pub shows : Shows code world under p pairs

@@ -3,19 +3,19 @@
 use Rattle.std.specs.Prelude.{ℕ, List, ◌++◌, codes, Bool, IsTrue}
 use Rattle.std.specs.Fmt.{decimal}
 use Rattle.std.specs.String.{string_bytes}
-use Rattle.modules.specs.Defects.{module_defect_number, module_defect_words}
-use Rattle.channels.specs.declared.defect.WorldRefusal.{WorldRefusal}
-use Rattle.channels.specs.Defects.{world_number, world_words}
-use Rattle.acceptance.specs.Causes.{cause_number, cause_words}
-use Rattle.acceptance.specs.declared.cause.Cause.TheVariants.{NotUtf8}
+use Rattle.modules.specs.RefusalKinds.{format_refusal_number, format_refusal_words}
+use Rattle.channels.specs.declared.kind.WorldRefusal.{WorldRefusal}
+use Rattle.channels.specs.RefusalKinds.{world_number, world_words}
+use Rattle.acceptance.specs.RefusalKinds.{refusal_kind_number, refusal_kind_words}
+use Rattle.acceptance.specs.declared.kind.RefusalKind.TheVariants.{NotUtf8}
 use Rattle.checker.specs.declared.fault.Refusal.{Refusal}
 use Rattle.resolved.specs.Exceptions.{exception_name}
 use Rattle.machine.specs.declared.status.Status.{Status}
 use Rattle.machine.specs.declared.status.Status.TheVariants as status
-use Rattle.verifier.specs.Defects.{code_defect_number, code_defect_words}
+use Rattle.verifier.specs.RefusalKinds.{code_refusal_number, code_refusal_words}
 use Rattle.verifier.specs.declared.loading.LoadRefusal.{LoadRefusal}
 use Rattle.verifier.specs.declared.loading.LoadRefusal.TheVariants.{Bytes, Code}
-use Rattle.host.specs.Defects.{refusal_number, refusal_words}
+use Rattle.host.specs.RefusalKinds.{refusal_number, refusal_words}
 use Rattle.host.specs.declared.fault.HostRefusal.TheVariants.{NotContained}
 use Rattle.flowc.specs.declared.fault.PerformFault.{PerformFault}
 use Rattle.flowc.specs.declared.fault.PerformFault.TheVariants.{Refused, CannotWrite, NoMemory}
@@ -37,22 +37,22 @@ at_two path first second rest = at_one path first (codes ":" ++ (decimal second 
 -- why the bytes of a module are refused: at a byte offset; or where its code is, at a procedure and a byte offset of it
 abbrev pub module_line : (path : List ℕ) → LoadRefusal → List ℕ
 module_line path (Bytes refusal) =
-    at_one path refusal.offset (saying (module_defect_number refusal.defect) (module_defect_words refusal.defect))
+    at_one path refusal.offset (saying (format_refusal_number refusal.kind) (format_refusal_words refusal.kind))
 module_line path (Code refusal) =
-    at_two path refusal.procedure refusal.offset (saying (code_defect_number refusal.defect) (code_defect_words refusal.defect))
+    at_two path refusal.procedure refusal.offset (saying (code_refusal_number refusal.kind) (code_refusal_words refusal.kind))
 
 -- bytes that are to be the text of a world and are no text
 abbrev pub encoding_line : (path : List ℕ) → List ℕ
-encoding_line path = at_one path 1 (saying (cause_number NotUtf8) (cause_words NotUtf8))
+encoding_line path = at_one path 1 (saying (refusal_kind_number NotUtf8) (refusal_kind_words NotUtf8))
 
 -- what is wrong with the text of a world, at a line
 abbrev pub world_line : (path : List ℕ) → WorldRefusal → List ℕ
-world_line path refusal = at_one path refusal.line (saying (world_number refusal.defect) (world_words refusal.defect))
+world_line path refusal = at_one path refusal.line (saying (world_number refusal.kind) (world_words refusal.kind))
 
 -- what is wrong with a hierarchy text or a source, at a line and a column
 abbrev pub text_line : (path : List ℕ) → Refusal → List ℕ
 text_line path refusal =
-    at_two path refusal.at.line refusal.at.column (saying (cause_number refusal.cause) (cause_words refusal.cause))
+    at_two path refusal.at.line refusal.at.column (saying (refusal_kind_number refusal.kind) (refusal_kind_words refusal.kind))
 
 -- the hierarchy of a text does not contain that of a module
 abbrev pub not_contained_line : (path : List ℕ) → List ℕ

@@ -14,12 +14,12 @@ use Rattle.modules.specs.Machine.{after_steps, machine_code}
 use Rattle.channels.specs.Sink.{AppendsPrefix}
 use Rattle.channels.specs.World.{input_names}
 use Rattle.channels.specs.WorldText.{IsWorldRefusal, IsWorldText, lines_of}
-use Rattle.channels.specs.declared.defect.WorldRefusal.{WorldRefusal}
+use Rattle.channels.specs.declared.kind.WorldRefusal.{WorldRefusal}
 use Rattle.checker.specs.Reported.{IsFirstFault, IsHierarchyFault, text_among}
 use Rattle.checker.specs.declared.fault.Refusal.{Refusal}
 use Rattle.machine.specs.Run.{ReportsStatus}
 use Rattle.machine.specs.declared.status.Status.{Status}
-use Rattle.verifier.specs.Refusals.{HasNoDefect}
+use Rattle.verifier.specs.Refusals.{IsNotRefused}
 use Rattle.verifier.specs.Loaded.{CannotLoad}
 use Rattle.verifier.specs.declared.loading.LoadRefusal.{LoadRefusal}
 use Rattle.command_line.specs.declared.request.Task.{Task}
@@ -74,7 +74,7 @@ pub record IsObserverLine (hierarchy : PrincipalHierarchy) (observer : Option (L
 -- a module and a world for it
 pub record AreSound (code text : List ℕ) (program : ModuleContents) : Type 0 where
   pub spelled : Spells module_file program code
-  pub no_defect : HasNoDefect program
+  pub not_refused : IsNotRefused program
   pub encoded : IsUtf8 text
   pub right : IsWorldText (input_names program) (lines_of text)
 
@@ -82,7 +82,7 @@ pub record AreSound (code text : List ℕ) (program : ModuleContents) : Type 0 w
 -- the hierarchy that is named is wrong for the module; or all are right, and the observer is none of the hierarchy's principals
 pub data IsRefusedLine (code world : NamedText) (under : Option NamedText) (observer : Option (List ℕ)) (line : List ℕ) : Type 0 where
   of_module : IsModuleLine code.path code.bytes line → IsRefusedLine code world under observer line
-  of_world : (program : ModuleContents) → Spells module_file program code.bytes → HasNoDefect program
+  of_world : (program : ModuleContents) → Spells module_file program code.bytes → IsNotRefused program
       → IsWorldLine program world.path world.bytes line → IsRefusedLine code world under observer line
   of_hierarchy : (program : ModuleContents) → AreSound code.bytes world.bytes program → IsUnderLine program under line
       → IsRefusedLine code world under observer line

@@ -36,9 +36,9 @@ seen_under program None p sent = pairs_for program.hierarchy (channel_label prog
 seen_under program (Some larger) p sent =
     pairs_for larger (λ channel. label_under program.hierarchy larger (channel_label program channel)) p sent
 
--- what a principal sees so of what a program sends on a world with a number of turns
-abbrev pub program_view : Program → (under : Option PrincipalHierarchy) → (p : ℕ) → World → (turns : ℕ) → List Pair
-program_view program under p world turns = seen_under program under p (sent_by program world turns)
+-- what a principal sees so of what a program sends on a world with an amount of fuel
+abbrev pub program_view : Program → (under : Option PrincipalHierarchy) → (p : ℕ) → World → (fuel : ℕ) → List Pair
+program_view program under p world fuel = seen_under program under p (sent_by program world fuel)
 
 -- the program that two compiled texts stand for, and the module that their bytes spell
 abbrev pub program_in : {hierarchy source code : List ℕ} → IsCompiled hierarchy source code → Program
@@ -53,7 +53,7 @@ hierarchy_in compiled under = hierarchy_under under (module_in compiled)
 
 -- ---- sessions
 
--- whatever a session of the bytes shows to a principal is a prefix of what it sees of the source, with as many turns as the session
+-- whatever a session of the bytes shows to a principal is a prefix of what it sees of the source, with as much fuel as the session
 -- has taken steps, by the answers to its own turns
 abbrev pub SessionsShowNoMore : Type 0
 SessionsShowNoMore =
@@ -67,13 +67,13 @@ abbrev pub HasRun : {code : List ℕ} {world : List InputNumbers} {under : Optio
     → sessions.Shows code world under p pairs → (steps : ℕ) → Type 0
 HasRun shows steps = (steps ≤ sessions.steps_of shows) ⊎ ((ending : Ending) × sessions.ReportsEnd shows ending)
 
--- whatever a principal sees of a program, with any number of turns, is a prefix of what every session of the bytes shows to it that
+-- whatever a principal sees of a program, with any amount of fuel, is a prefix of what every session of the bytes shows to it that
 -- has taken enough steps, or has answered that its run has ended
 abbrev pub ShowNoLess : Program → ModuleContents → (code : List ℕ) → Type 0
 ShowNoLess program m code =
-    (world : List InputNumbers) (under : Option PrincipalHierarchy) (p turns : ℕ)
+    (world : List InputNumbers) (under : Option PrincipalHierarchy) (p fuel : ℕ)
     → (enough : ℕ) × ((pairs : List Pair) (shows : sessions.Shows code world under p pairs) → HasRun shows enough
-    → IsPrefix (program_view program under p (numbers_of_channel m world) turns) pairs)
+    → IsPrefix (program_view program under p (numbers_of_channel m world) fuel) pairs)
 
 abbrev pub SessionsShowNoLess : Type 0
 SessionsShowNoLess =
@@ -81,27 +81,27 @@ SessionsShowNoLess =
     → ShowNoLess (program_in compiled) (module_in compiled) code
 
 -- the relation between events and answers is not empty: on each world for the inputs of the bytes, and under each hierarchy that
--- contains theirs, it allows some session that shows a principal all that it sees of the source with any number of turns. A host that is always out of memory keeps it too
+-- contains theirs, it allows some session that shows a principal all that it sees of the source with any amount of fuel. A host that is always out of memory keeps it too
 abbrev pub SomeSessionsShowAll : Type 0
 SomeSessionsShowAll =
     (hierarchy source code : List ℕ) (compiled : IsCompiled hierarchy source code) (world : List InputNumbers)
-    (under : Option PrincipalHierarchy) (p turns : ℕ)
+    (under : Option PrincipalHierarchy) (p fuel : ℕ)
     → names_of world ≡ input_names (module_in compiled) → IsContained (module_in compiled) under
     → p < length (hierarchy_in compiled under).names
     → (pairs : List Pair) × sessions.Shows code world under p pairs
-    × IsPrefix (program_view (program_in compiled) under p (numbers_of_channel (module_in compiled) world) turns)
+    × IsPrefix (program_view (program_in compiled) under p (numbers_of_channel (module_in compiled) world) fuel)
     pairs
 
 -- a module that never sends anything shows less: it does not meet `ShowNoLess` for a program of which some principal sees something
 -- on a world on which its bytes can be opened
 abbrev pub SilentModulesShowLess : Type 0
 SilentModulesShowLess =
-    (program : Program) (m : ModuleContents) (code : List ℕ) (world : List InputNumbers) (under : Option PrincipalHierarchy) (p turns : ℕ)
+    (program : Program) (m : ModuleContents) (code : List ℕ) (world : List InputNumbers) (under : Option PrincipalHierarchy) (p fuel : ℕ)
     → CanOpen code world under m → IsNeverStuck m → p < length (hierarchy_under under m).names
     → ((steps : ℕ) → sent_after m (numbers_of_channel m world) steps ≡ [])
-    → ¬ (program_view program under p (numbers_of_channel m world) turns ≡ []) → ¬ ShowNoLess program m code
+    → ¬ (program_view program under p (numbers_of_channel m world) fuel ≡ []) → ¬ ShowNoLess program m code
 
--- where a session has answered that its run has ended, the source ends so with as many turns as the session has taken steps, and
+-- where a session has answered that its run has ended, the source ends so with as much fuel as the session has taken steps, and
 -- the session shows just what the principal sees of the source
 abbrev pub SessionsEndAsTheSource : Type 0
 SessionsEndAsTheSource =
@@ -151,7 +151,7 @@ RunsAreIsolated =
     → OneIsPrefix out other
 
 -- the line of a run without an observer says how the source ends, by the source's own names of exceptions: where the run has ended,
--- the source ends so with as many turns as the run has taken steps
+-- the source ends so with as much fuel as the run has taken steps
 abbrev pub RunsEndAsTheSource : Type 0
 RunsEndAsTheSource =
     (hierarchy source code : List ℕ) (compiled : IsCompiled hierarchy source code) (text : List ℕ) (under : Option (List ℕ))

@@ -16,7 +16,7 @@ use Rattle.channels.specs.Sink.{AppendsPrefix}
 use Rattle.channels.specs.World.{input_names, numbers_of_channel}
 use Rattle.channels.specs.WorldText.{IsWorldText, lines_of, world_of}
 use Rattle.listing.specs.Listing.{listing_text}
-use Rattle.verifier.specs.Refusals.{HasNoDefect}
+use Rattle.verifier.specs.Refusals.{IsNotRefused}
 use Rattle.machine.specs.Run.{ReportsStatus}
 use Rattle.machine.specs.declared.status.Status.{Status}
 use Rattle.command_line.specs.declared.request.Task.{Task}
@@ -40,12 +40,12 @@ abbrev pub IsViewedUnder : ModuleContents → (under : Option (List ℕ)) → Pr
 IsViewedUnder program None hierarchy = hierarchy ≡ program.hierarchy
 IsViewedUnder program (Some text) hierarchy = HasHierarchy text hierarchy × ContainsHierarchy hierarchy program.hierarchy
 
--- what can be run for an observer: the bytes of a module without a defect, a world for it, a hierarchy that contains its own where
+-- what can be run for an observer: the bytes of a module that is not refused, a world for it, a hierarchy that contains its own where
 -- one is named, and a principal of the hierarchy
 pub record CanRun (code text : List ℕ) (under observer : Option (List ℕ)) (program : ModuleContents) (hierarchy : PrincipalHierarchy)
     (principal : Option ℕ) : Type 0 where
   pub spelled : Spells module_file program code
-  pub no_defect : HasNoDefect program
+  pub not_refused : IsNotRefused program
   pub encoded : IsUtf8 text
   pub right : IsWorldText (input_names program) (lines_of text)
   pub viewed : IsViewedUnder program under hierarchy
@@ -86,10 +86,10 @@ abbrev pub ShowsSome : (code text : List ℕ) (under observer : Option (List ℕ
 ShowsSome code text under observer steps old new =
     (old ≡ new) ⊎ ((out : List ℕ) × IsShown code text under observer steps out × Appends old new out)
 
--- what can be listed: the bytes of a module without a defect
+-- what can be listed: the bytes of a module that is not refused
 pub record CanList (code : List ℕ) (program : ModuleContents) : Type 0 where
   pub spelled : Spells module_file program code
-  pub no_defect : HasNoDefect program
+  pub not_refused : IsNotRefused program
 
 -- nothing can be listed
 abbrev pub CannotList : List ℕ → Type 0

@@ -4,7 +4,7 @@
 ghost use Rattle.flowc.specs.Promises.{RunsAreIsolated, RunsEndAsTheSource, RunsShowThemselves, SessionsAreIsolated, SessionsEndAsTheSource, SessionsShowNoLess, SessionsShowNoMore, SilentModulesShowLess, SomeSessionsShowAll, StandardErrorIsFixed};
 
 /// Sessions of compiled bytes show what the source means: never more than a principal sees of the source, and all that it sees of it
-/// with any given number of turns where they have taken enough steps or have answered that their run has ended. Where one has
+/// with any given amount of fuel where they have taken enough steps or have answered that their run has ended. Where one has
 /// ended the source ends so too.
 ///
 /// `some` says of the relation between events and answers alone that it is not empty: it allows a session that shows all. It says

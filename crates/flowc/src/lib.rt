@@ -13,10 +13,13 @@ mod sources;
 mod tasks;
 mod texts;
 
-pub use acceptance::{Cause, EndDefect, HierarchyDefect, LexDefect, ParseDefect, Text, TypeDefect};
+pub use acceptance::{
+    EndRefusalKind, HierarchyRefusalKind, LexRefusalKind, ParseRefusalKind, RefusalKind, Text,
+    TypeRefusalKind,
+};
 pub use bytecode::{FormatFault, FormatRefusal, decode};
 pub use channels::{
-    Device, Pair, Sink, SinkFault, ViewFault, World, WorldDefect, WorldFault, WorldRefusal,
+    Device, Pair, Sink, SinkFault, ViewFault, World, WorldFault, WorldRefusal, WorldRefusalKind,
 };
 pub use checker::{Checked, Fault, Refusal, RefusedFlow, check_texts};
 pub use command_line::{DEFAULT_STEPS, MAX_STEPS, Task, TaskFault, TaskRefusal, task};
@@ -25,9 +28,9 @@ pub use compiler::compile;
 pub use host::{Answer, Event, Host, HostFault, HostRefusal, Id, MAX_SESSIONS};
 pub use lexer::Place;
 pub use machine::{NewFault, NewRefusal, Status};
-pub use modules::{FormatDefect, Module};
+pub use modules::{FormatRefusalKind, Module};
 pub use sources::{Feed, ReadFault, Source, SourceFault, read_text};
 pub use tasks::{Done, perform};
 pub use verifier::{
-    CodeDefect, CodeRefusal, LoadFault, LoadRefusal, Verified, VerifyFault, load, verify,
+    CodeRefusal, CodeRefusalKind, LoadFault, LoadRefusal, Verified, VerifyFault, load, verify,
 };

@@ -4,7 +4,7 @@ ghost use Rattle.flowc.specs.Lines as lines;
 ghost use Rattle.std.specs.Prelude.{◌≡◌, IfOk};
 ghost use Rattle.std.specs.String.{string_bytes};
 
-use acceptance::Cause;
+use acceptance::RefusalKind;
 use bytecode::FormatRefusal;
 use channels::WorldRefusal;
 use checker::Refusal;
@@ -47,18 +47,18 @@ pub fn module_line(alloc: Global, path: &str, refusal: LoadRefusal) -> Result<St
     ensures { IfOk result (λ line. string_bytes line ≡ lines.module_line path.now refusal) }
 {
     match refusal {
-        LoadRefusal::Bytes(FormatRefusal { defect, offset }) => {
-            line_at(alloc, path, offset, defect.number(), defect.words())
+        LoadRefusal::Bytes(FormatRefusal { kind, offset }) => {
+            line_at(alloc, path, offset, kind.number(), kind.words())
         }
         LoadRefusal::Code(
             CodeRefusal {
-                defect,
+                kind,
                 procedure,
                 offset,
             },
         ) => {
             let (first, second) = (procedure as usize, offset as usize);
-            line_at_two(alloc, path, first, second, defect.number(), defect.words())
+            line_at_two(alloc, path, first, second, kind.number(), kind.words())
         }
     }
 }
@@ -67,24 +67,24 @@ pub fn module_line(alloc: Global, path: &str, refusal: LoadRefusal) -> Result<St
 pub fn world_line(alloc: Global, path: &str, refusal: WorldRefusal) -> Result<String, AllocError>
     ensures { IfOk result (λ line. string_bytes line ≡ lines.world_line path.now refusal) }
 {
-    let defect = refusal.defect;
-    line_at(alloc, path, refusal.line, defect.number(), defect.words())
+    let kind = refusal.kind;
+    line_at(alloc, path, refusal.line, kind.number(), kind.words())
 }
 
 /// The line that says that the bytes of a world are no text.
 pub fn encoding_line(alloc: Global, path: &str) -> Result<String, AllocError>
     ensures { IfOk result (λ line. string_bytes line ≡ lines.encoding_line path.now) }
 {
-    let cause = Cause::NotUtf8;
-    line_at(alloc, path, 1, cause.number(), cause.words())
+    let kind = RefusalKind::NotUtf8;
+    line_at(alloc, path, 1, kind.number(), kind.words())
 }
 
 /// The line that reports what is wrong with a hierarchy text or a source, at a line and a column.
 pub fn text_line(alloc: Global, path: &str, refusal: &Refusal) -> Result<String, AllocError>
     ensures { IfOk result (λ line. string_bytes line ≡ lines.text_line path.now refusal.now) }
 {
-    let (at, cause) = (refusal.at, refusal.cause);
-    let (number, words) = (cause.number(), cause.words());
+    let (at, kind) = (refusal.at, refusal.kind);
+    let (number, words) = (kind.number(), kind.words());
     line_at_two(alloc, path, at.line, at.column, number, words)
 }
 

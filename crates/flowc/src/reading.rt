@@ -9,7 +9,7 @@ ghost use Rattle.flowc.specs.Lines.{IsPerformFault};
 ghost use Rattle.flowc.specs.Messages.{IsModuleLine, IsWorldLine};
 ghost use Rattle.flowc.specs.Task.{status_of_fault};
 ghost use Rattle.std.specs.Prelude.{◌≡◌, IfErr, IfOk, IsUtf8, OnOk, false};
-ghost use Rattle.verifier.specs.Refusals.{HasNoDefect};
+ghost use Rattle.verifier.specs.Refusals.{IsNotRefused};
 ghost use Rattle.verifier.specs.Loaded.{IsLoaded};
 
 use crate::fault::PerformFault;
@@ -32,7 +32,7 @@ pub fn read_module(alloc: Global, file: File<'_>) -> Result<Verified, PerformFau
     ensures accepted { IfOk result (IsLoaded file.entry.bytes.now) }
     ensures rejected { IfErr result (λ fault. status_of_fault fault ≡ 1 →
         (program : ModuleContents) →
-        Spells module_file program file.entry.bytes.now → ¬ HasNoDefect program) }
+        Spells module_file program file.entry.bytes.now → ¬ IsNotRefused program) }
     ensures message { IfErr result (IsPerformFault
         (IsModuleLine file.entry.path.now file.entry.bytes.now) false) }
 {

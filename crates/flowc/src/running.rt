@@ -21,7 +21,7 @@ ghost use Rattle.machine.specs.Run.{machine_of};
 ghost use Rattle.principals.specs.ActsFor.{PrincipalHierarchy};
 ghost use Rattle.std.specs.Prelude.{◌≡◌, IfErr, IfOk, IsTrue, IsUtf8, List, ℕ, OnErr, OnOk, Option, Some, false, option_map};
 ghost use Rattle.std.specs.String.{string_bytes};
-ghost use Rattle.verifier.specs.Refusals.{HasNoDefect};
+ghost use Rattle.verifier.specs.Refusals.{IsNotRefused};
 ghost use Rattle.verifier.specs.Loaded.{IsLoaded};
 
 use crate::ended::Ended;
@@ -178,7 +178,7 @@ fn start(alloc: Global, code: File<'_>, world: File<'_>) -> Result<Machine, Perf
     ensures encoded { OnOk result (IsUtf8 world.entry.bytes.now) }
     ensures rejected { IfErr result (λ fault. status_of_fault fault ≡ 1 →
         (program : ModuleContents) → Spells module_file program code.entry.bytes.now →
-        HasNoDefect program → IsUtf8 world.entry.bytes.now → ¬ IsWorldText (input_names program)
+        IsNotRefused program → IsUtf8 world.entry.bytes.now → ¬ IsWorldText (input_names program)
         (lines_of world.entry.bytes.now)) }
     ensures message { IfErr result (IsPerformFault (λ line.
         (under : Option NamedText) (observer : Option (List ℕ)) →

@@ -3,7 +3,7 @@
 use Rattle.std.specs.Prelude.{◌≡◌, ℕ, List, map, Option, Some, None}
 use Rattle.std.specs.Option.{option_map}
 use Rattle.common.specs.declared.fault.OrNoMemory.TheVariants as faults
-use Rattle.host.specs.Defects.{refusal_number}
+use Rattle.host.specs.RefusalKinds.{refusal_number}
 use Rattle.host.specs.Meaning.{HostContents, HostEvent, Turn, View, HostAnswer, Opened, Turned, Viewed, Closed, Refused, MayAnswer, HasSent, IsNotOpen}
 use Rattle.host.specs.Values.{HostRuns, host_of}
 use Rattle.host.specs.declared.fault.HostRefusal.{HostRefusal}

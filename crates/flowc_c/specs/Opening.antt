@@ -3,22 +3,22 @@
 -- Source: our own.
 use Rattle.std.specs.Prelude.{◌≡◌, ℕ, List, Option, Some, None, Result, Ok, Err, IsUtf8, Contains}
 use Rattle.acceptance.specs.Accepted.{HasHierarchy}
-use Rattle.acceptance.specs.Causes.{cause_number, cause_words}
-use Rattle.acceptance.specs.declared.cause.Cause.TheVariants.{NotUtf8}
+use Rattle.acceptance.specs.RefusalKinds.{refusal_kind_number, refusal_kind_words}
+use Rattle.acceptance.specs.declared.kind.RefusalKind.TheVariants.{NotUtf8}
 use Rattle.bytecode.specs.Decoded.{first_refusal}
-use Rattle.channels.specs.Defects.{world_number, world_words}
+use Rattle.channels.specs.RefusalKinds.{world_number, world_words}
 use Rattle.channels.specs.World.{InputNumbers, input_names}
 use Rattle.channels.specs.WorldText.{IsWorldRefusal, IsWorldText, lines_of, world_of}
 use Rattle.checker.specs.Reported.{IsHierarchyFault}
 use Rattle.common.specs.Answers.{IfRefused}
 use Rattle.common.specs.declared.fault.OrNoMemory.{OrNoMemory}
 use Rattle.common.specs.declared.fault.OrNoMemory.TheVariants as faults
-use Rattle.host.specs.Defects.{refusal_number, refusal_words}
+use Rattle.host.specs.RefusalKinds.{refusal_number, refusal_words}
 use Rattle.host.specs.Meaning.{HostContents, Open, Opened, Refused, MayAnswer}
 use Rattle.host.specs.Values.{HostRuns, host_of}
 use Rattle.host.specs.declared.hosts.TheConstants.{MAX_SESSIONS}
 use Rattle.modules.specs.Contents.{ModuleContents}
-use Rattle.modules.specs.Defects.{module_defect_number, module_defect_words}
+use Rattle.modules.specs.RefusalKinds.{format_refusal_number, format_refusal_words}
 use Rattle.modules.specs.Form.{Spells}
 use Rattle.modules.specs.Format.{module_file}
 use Rattle.principals.specs.ActsFor.{HasName, PrincipalHierarchy}
@@ -117,17 +117,17 @@ OpensSessionUnder old bytes text hierarchy id new =
 -- ---- refusals
 
 abbrev pub open_refusal_number : OpenRefusal → ℕ
-open_refusal_number (Bytes refusal) = module_defect_number refusal.defect
-open_refusal_number Encoding = cause_number NotUtf8
-open_refusal_number (World refusal) = world_number refusal.defect
-open_refusal_number (Hierarchy refusal) = cause_number refusal.cause
+open_refusal_number (Bytes refusal) = format_refusal_number refusal.kind
+open_refusal_number Encoding = refusal_kind_number NotUtf8
+open_refusal_number (World refusal) = world_number refusal.kind
+open_refusal_number (Hierarchy refusal) = refusal_kind_number refusal.kind
 open_refusal_number (Host refusal) = refusal_number refusal
 
 abbrev pub open_refusal_words : OpenRefusal → List ℕ
-open_refusal_words (Bytes refusal) = module_defect_words refusal.defect
-open_refusal_words Encoding = cause_words NotUtf8
-open_refusal_words (World refusal) = world_words refusal.defect
-open_refusal_words (Hierarchy refusal) = cause_words refusal.cause
+open_refusal_words (Bytes refusal) = format_refusal_words refusal.kind
+open_refusal_words Encoding = refusal_kind_words NotUtf8
+open_refusal_words (World refusal) = world_words refusal.kind
+open_refusal_words (Hierarchy refusal) = refusal_kind_words refusal.kind
 open_refusal_words (Host refusal) = refusal_words refusal
 
 -- what is refused, and where: the bytes of the module from a byte on, the world at its first wrong line or at its first line where

@@ -1,13 +1,13 @@
 -- What an outcome says of a refusal, in numbers.
 -- Source: our own.
 use Rattle.std.specs.Prelude.{◌≡◌, ℕ, List}
-use Rattle.acceptance.specs.Causes.{cause_number, cause_words}
-use Rattle.acceptance.specs.declared.cause.Text.{Text}
-use Rattle.acceptance.specs.declared.cause.Text.TheVariants as texts
+use Rattle.acceptance.specs.RefusalKinds.{refusal_kind_number, refusal_kind_words}
+use Rattle.acceptance.specs.declared.kind.Text.{Text}
+use Rattle.acceptance.specs.declared.kind.Text.TheVariants as texts
 use Rattle.checker.specs.Reported.{IsFirstFault}
 use Rattle.checker.specs.declared.fault.Refusal.{Refusal}
 use Rattle.verifier.specs.Loaded.{CannotLoad}
-use Rattle.verifier.specs.Defects.{load_refusal_number, load_refusal_words}
+use Rattle.verifier.specs.RefusalKinds.{load_refusal_number, load_refusal_words}
 use Rattle.verifier.specs.declared.loading.LoadRefusal.{LoadRefusal}
 use Rattle.verifier.specs.declared.loading.LoadRefusal.TheVariants.{Bytes, Code}
 use Rattle.flowc_c.specs.Place.{IsPutIfFits}
@@ -20,9 +20,9 @@ abbrev pub text_number : Text → ℕ
 text_number texts.Hierarchy = 0
 text_number texts.Source = 1
 
--- the outcome has the number of the refusal's cause, its text and its place
+-- the outcome has the number of the refusal's kind, its text and its place
 pub record SaysRefusal (refusal : Refusal) (outcome : Outcome) : Type 0 where
-  pub number : outcome.number ≡ cause_number refusal.cause
+  pub number : outcome.number ≡ refusal_kind_number refusal.kind
   pub text : outcome.text ≡ text_number refusal.text
   pub line : outcome.line ≡ refusal.at.line
   pub column : outcome.column ≡ refusal.at.column
@@ -38,11 +38,11 @@ pub record TellsFirstFault (hierarchy source : List ℕ) (outcome : Outcome) (ol
   pub refusal : Refusal
   pub first : IsFirstFault hierarchy source refusal
   pub says : SaysRefusal refusal outcome
-  pub words : IsPutIfFits (cause_words refusal.cause) outcome.length old new
+  pub words : IsPutIfFits (refusal_kind_words refusal.kind) outcome.length old new
 
 -- ---- modules
 
--- the outcome says where bytes are wrong: they spell no module from this byte on, or the code of a procedure has a defect at a byte
+-- the outcome says where bytes are wrong: they spell no module from this byte on, or the code of a procedure is refused at a byte
 abbrev pub SaysPlaceOf : LoadRefusal → Outcome → Type 0
 SaysPlaceOf (Bytes refusal) outcome = (outcome.text ≡ 2) × (outcome.offset ≡ refusal.offset)
 SaysPlaceOf (Code refusal) outcome =

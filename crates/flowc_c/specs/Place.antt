@@ -7,7 +7,7 @@ pub record IsPut {A : Type 0} (text : List A) (said : ℕ) (old new : List A) : 
   pub said_length : said ≡ length text
   pub fits : said ≤ length old
   pub head : take said new ≡ text
-  pub behind : drop said new ≡ drop said old
+  pub after : drop said new ≡ drop said old
 
 -- a result is longer than the place, and its length was said
 pub record IsTooShort {A : Type 0} (text : List A) (said : ℕ) (old : List A) : Type 0 where

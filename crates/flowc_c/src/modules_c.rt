@@ -5,7 +5,7 @@ ghost use Rattle.flowc_c.specs.Outcome.{SaysModuleRefusal, TellsModuleRefusal};
 ghost use Rattle.flowc_c.specs.Place.{IsPutIfFits};
 ghost use Rattle.flowc_c.specs.Results.{NeedsListing, PutsListing};
 ghost use Rattle.listing.specs.Listing.{listing_text};
-ghost use Rattle.verifier.specs.Defects.{load_refusal_words};
+ghost use Rattle.verifier.specs.RefusalKinds.{load_refusal_words};
 ghost use Rattle.std.specs.Prelude.{◌≡◌, IfOk};
 
 use crate::outcome::{DONE, NO_MEMORY, Outcome, REFUSED, TOO_SHORT, ended, refuse_module};

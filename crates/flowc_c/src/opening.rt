@@ -13,7 +13,7 @@ use crate::reply::{BYTES, HIERARCHY, Reply, WORLD, ended, refuse};
 use channels::WorldRefusal;
 use checker::read_hierarchy;
 use flowc::{
-    Cause, FormatRefusal, Host, HostRefusal, Id, Module, OrNoMemory, Refusal, World, decode,
+    FormatRefusal, Host, HostRefusal, Id, Module, OrNoMemory, Refusal, RefusalKind, World, decode,
 };
 use host_handle::Handle;
 use principals::Hierarchy;
@@ -43,10 +43,10 @@ impl OpenRefusal {
         ensures { result ≡ open_refusal_number self.now }
     {
         match self {
-            OpenRefusal::Bytes(refusal) => refusal.defect.number(),
-            OpenRefusal::Encoding => Cause::NotUtf8.number(),
-            OpenRefusal::World(refusal) => refusal.defect.number(),
-            OpenRefusal::Hierarchy(refusal) => refusal.cause.number(),
+            OpenRefusal::Bytes(refusal) => refusal.kind.number(),
+            OpenRefusal::Encoding => RefusalKind::NotUtf8.number(),
+            OpenRefusal::World(refusal) => refusal.kind.number(),
+            OpenRefusal::Hierarchy(refusal) => refusal.kind.number(),
             OpenRefusal::Host(refusal) => refusal.number(),
         }
     }
@@ -56,10 +56,10 @@ impl OpenRefusal {
         ensures { result.now ≡ open_refusal_words self.now }
     {
         match self {
-            OpenRefusal::Bytes(refusal) => refusal.defect.words(),
-            OpenRefusal::Encoding => Cause::NotUtf8.words(),
-            OpenRefusal::World(refusal) => refusal.defect.words(),
-            OpenRefusal::Hierarchy(refusal) => refusal.cause.words(),
+            OpenRefusal::Bytes(refusal) => refusal.kind.words(),
+            OpenRefusal::Encoding => RefusalKind::NotUtf8.words(),
+            OpenRefusal::World(refusal) => refusal.kind.words(),
+            OpenRefusal::Hierarchy(refusal) => refusal.kind.words(),
             OpenRefusal::Host(refusal) => refusal.words(),
         }
     }

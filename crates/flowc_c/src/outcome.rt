@@ -61,7 +61,7 @@ pub(crate) fn refuse_texts(refusal: &Refusal, length: usize) -> Outcome
     ensures says { SaysRefusal refusal.now result }
 {
     let mut outcome = ended(REFUSED, length);
-    outcome.number = refusal.cause.number();
+    outcome.number = refusal.kind.number();
     outcome.text = match refusal.text {
         Text::Hierarchy => 0,
         Text::Source => 1,
@@ -71,7 +71,7 @@ pub(crate) fn refuse_texts(refusal: &Refusal, length: usize) -> Outcome
     outcome
 }
 
-// The outcome of bytes that are no module, or one with a defect.
+// The outcome of bytes that are no module, or one that is refused.
 pub(crate) fn refuse_module(refusal: LoadRefusal, length: usize) -> Outcome
     ensures status { result.status ≡ REFUSED }
     ensures length { result.length ≡ length }
@@ -80,13 +80,13 @@ pub(crate) fn refuse_module(refusal: LoadRefusal, length: usize) -> Outcome
     let mut outcome = ended(REFUSED, length);
     outcome.number = refusal.number();
     match refusal {
-        LoadRefusal::Bytes(FormatRefusal { defect: _, offset }) => {
+        LoadRefusal::Bytes(FormatRefusal { kind: _, offset }) => {
             outcome.text = 2;
             outcome.offset = offset;
         }
         LoadRefusal::Code(
             CodeRefusal {
-                defect: _,
+                kind: _,
                 procedure,
                 offset,
             },

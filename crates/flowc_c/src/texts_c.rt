@@ -8,7 +8,7 @@ ghost use Rattle.flowc.specs.Explained.{ShowsChain};
 ghost use Rattle.flowc_c.specs.Outcome.{SaysFirstFault, SaysRefusal, TellsFirstFault};
 ghost use Rattle.flowc_c.specs.Place.{IsPut, IsPutIfFits};
 ghost use Rattle.flowc_c.specs.Results.{NeedsModule, PutsChain, PutsLabels, PutsModule};
-ghost use Rattle.acceptance.specs.Causes.{cause_words};
+ghost use Rattle.acceptance.specs.RefusalKinds.{refusal_kind_words};
 ghost use Rattle.std.specs.Prelude.{[], ◌≡◌, ◌<◌, ℕ, List, IfOk, None, Some, length};
 
 use crate::outcome::{DONE, NO_MEMORY, Outcome, REFUSED, TOO_SHORT, ended, refuse_texts};
@@ -73,9 +73,9 @@ pub extern "C" fn flowc_compile(
 fn tell(refusal: &Refusal, out: &mut [u8]) -> Outcome
     ensures status { result.status ≡ REFUSED }
     ensures says { SaysRefusal refusal.now result }
-    ensures words { IsPutIfFits (cause_words refusal.now.cause) result.length out.old out.new }
+    ensures words { IsPutIfFits (refusal_kind_words refusal.now.kind) result.length out.old out.new }
 {
-    let length = deliver_words(refusal.cause.words(), out);
+    let length = deliver_words(refusal.kind.words(), out);
     refuse_texts(refusal, length)
 }
 

@@ -21,7 +21,7 @@ module _ (labels : List Label) (procedures : List Procedure) (i first : ℕ)
   pub before-here : first ≡ sum_by own_unknowns (take i (map entry procedures))
   before-here = counted ∙ ap (sum_by own_unknowns) (sym (take-map entry i procedures))
 
-  -- and before the one behind it
+  -- and before the one after it
   pub before-next : (x : Procedure) (next : ℕ) → i < length procedures → x ≡ get_or procedures i x → next ≡ first + (length x.slots.items + x.loops)
       → next ≡ sum_by own_unknowns (map entry (take (i + 1) procedures))
   before-next x next within is counted_on =

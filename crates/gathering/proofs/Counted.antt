@@ -22,9 +22,9 @@ mutual
   made-statement (Receive at channel target) = omega arith
   made-statement (Send at channel e) = omega arith
   made-statement (Call at callee arguments target) = omega arith
-  made-statement (If at e yes_block no_block) =
-      let i : made_by_block yes_block ≤ 3 * block_nodes yes_block = made-block yes_block in
-      let j : made_by_block no_block ≤ 3 * block_nodes no_block = made-block no_block in
+  made-statement (If at e then_block else_block) =
+      let i : made_by_block then_block ≤ 3 * block_nodes then_block = made-block then_block in
+      let j : made_by_block else_block ≤ 3 * block_nodes else_block = made-block else_block in
       omega (arith, i, j)
   made-statement (While at loop e body) = let i : made_by_block body ≤ 3 * block_nodes body = made-block body in omega (arith, i)
   made-statement (Leave at exit) = omega arith
@@ -57,10 +57,10 @@ mutual
   loops-statement (Receive at channel target) = omega arith
   loops-statement (Send at channel e) = omega arith
   loops-statement (Call at callee arguments target) = omega arith
-  loops-statement (If at e yes_block no_block) =
-      let i : length (block_loops yes_block) ≤ block_nodes yes_block = loops-block yes_block in
-      let j : length (block_loops no_block) ≤ block_nodes no_block = loops-block no_block in
-      let k : length (block_loops yes_block ++ block_loops no_block) ≡ length (block_loops yes_block) + length (block_loops no_block) = length-append (block_loops yes_block) (block_loops no_block) in
+  loops-statement (If at e then_block else_block) =
+      let i : length (block_loops then_block) ≤ block_nodes then_block = loops-block then_block in
+      let j : length (block_loops else_block) ≤ block_nodes else_block = loops-block else_block in
+      let k : length (block_loops then_block ++ block_loops else_block) ≡ length (block_loops then_block) + length (block_loops else_block) = length-append (block_loops then_block) (block_loops else_block) in
       omega (arith, i, j, k)
   loops-statement (While at loop e body) = let i : length (block_loops body) ≤ block_nodes body = loops-block body in omega (arith, i)
   loops-statement (Leave at exit) = omega arith

@@ -1,4 +1,4 @@
--- Ends of statements and their takers, and the exceptions of expressions, each once.
+-- Ends of statements and their exit unknowns, and the exceptions of expressions, each once.
 use Rattle.std.proofs.Common.{◌≡◌, refl, sym, ap, ◌∙◌, ℕ, Bool, true, false, not, List, [], ◌∷◌, ◌++◌, ◌||◌, ◌&&◌, ◌⊎◌, inl, inr, ⊎_elim, arith}
 use Rattle.std.specs.Prelude.{Option, Some, if◌then◌else◌, ◌==◌, filter}
 use Rattle.std.specs.List.{list_all, list_any}
@@ -13,7 +13,7 @@ use Rattle.resolved.specs.Program.{Program, procedure_at}
 use Rattle.common.specs.declared.exceptions.TheConstants.{ARITH, BOUNDS}
 use Rattle.resolved.specs.Ends.{same_exit, has_end, one_end, is_division, divisor_can_raise, index_can_raise, index_raises, operator_raises, raises, raises_all, thrown_ends, declared_by, then_ends, handles, passes}
 use Rattle.resolved.specs.Labelled.{Join, ExitLabels, at_ends}
-use Rattle.gathering.specs.Walk.{Takers, with_normal, in_try, raised_once, call_ends}
+use Rattle.gathering.specs.Walk.{ExitUnknowns, with_normal, in_try, raised_once, call_ends}
 use Rattle.common.proofs.Cases.{by_test}
 use Rattle.resolved.proofs.Exits.{same-exit, thrown-normal, thrown-break, thrown-continue}
 
@@ -32,7 +32,7 @@ pub then-rest : (first rest : List Exit) (e : Exit) → has_end first Normal ≡
 then-rest first rest e normal h = rw normal (has-right (filter (λ x. not (same_exit Normal x)) first) rest e h)
 
 abbrev pub Other : Exit → Type 0
-Other e = (same_exit Normal e ≡ false) × ((normal : Option ℕ) (takers : Takers) → with_normal normal takers e ≡ takers e)
+Other e = (same_exit Normal e ≡ false) × ((normal : Option ℕ) (exit_unknowns : ExitUnknowns) → with_normal normal exit_unknowns e ≡ exit_unknowns e)
 
 pub normal_or_other : (e : Exit) → (Normal ≡ e) ⊎ Other e
 normal_or_other Normal = inl refl
@@ -54,18 +54,18 @@ exits-none ends pc exits e h = rw h refl
 abbrev pub Taken : Handlers → Exit → Type 0
 Taken handlers e = (x : ℕ) × (Throw x ≡ e) × (handles handlers x ≡ true)
 
-abbrev pub Passed : (ℕ → ℕ) → Handlers → Takers → Exit → Type 0
-Passed number handlers takers e = (passes handlers e ≡ true) × (in_try number handlers takers e ≡ takers e)
+abbrev pub Passed : (ℕ → ℕ) → Handlers → ExitUnknowns → Exit → Type 0
+Passed number handlers exit_unknowns e = (passes handlers e ≡ true) × (in_try number handlers exit_unknowns e ≡ exit_unknowns e)
 
-pub taken_or_passed : (number : ℕ → ℕ) (handlers : Handlers) (takers : Takers) (e : Exit) → Taken handlers e ⊎ Passed number handlers takers e
-taken_or_passed number handlers takers Normal = inr (refl, refl)
-taken_or_passed number handlers takers Return = inr (refl, refl)
-taken_or_passed number handlers takers Break = inr (refl, refl)
-taken_or_passed number handlers takers Continue = inr (refl, refl)
-taken_or_passed number handlers takers (Throw x) = by_test (handles handlers x) (λ h. inl (x, refl, h)) (λ h. inr (rw h refl, rw h refl))
+pub taken_or_passed : (number : ℕ → ℕ) (handlers : Handlers) (exit_unknowns : ExitUnknowns) (e : Exit) → Taken handlers e ⊎ Passed number handlers exit_unknowns e
+taken_or_passed number handlers exit_unknowns Normal = inr (refl, refl)
+taken_or_passed number handlers exit_unknowns Return = inr (refl, refl)
+taken_or_passed number handlers exit_unknowns Break = inr (refl, refl)
+taken_or_passed number handlers exit_unknowns Continue = inr (refl, refl)
+taken_or_passed number handlers exit_unknowns (Throw x) = by_test (handles handlers x) (λ h. inl (x, refl, h)) (λ h. inr (rw h refl, rw h refl))
 
-pub in_try-taken : (number : ℕ → ℕ) (handlers : Handlers) (takers : Takers) (x : ℕ) → handles handlers x ≡ true → in_try number handlers takers (Throw x) ≡ Some (number x)
-in_try-taken number handlers takers x h = rw h refl
+pub in_try-taken : (number : ℕ → ℕ) (handlers : Handlers) (exit_unknowns : ExitUnknowns) (x : ℕ) → handles handlers x ≡ true → in_try number handlers exit_unknowns (Throw x) ≡ Some (number x)
+in_try-taken number handlers exit_unknowns x h = rw h refl
 
 single-is : (h : Exit) (rest : List Exit) (e : Exit) → list_all (same_exit h) rest ≡ true → has_end rest e ≡ true → e ≡ h
 single-is h [] e all has = let i : false ≡ true = has in absurd (cc)

@@ -9,7 +9,7 @@ use Rattle.resolved.specs.Tree.{Statement, Assign, Clear, Store, Receive, Send, 
 use Rattle.resolved.specs.Program.{Program, ProcedureEntry}
 use Rattle.resolved.specs.Ends.{same_exit, has_end, statement_ends, block_ends}
 use Rattle.resolved.specs.EndFaults.{fault_unless, may_stand, may_end, inner_faults, block_faults, handlers_faults, procedure_faults, end_faults}
-use Rattle.resolved.specs.declared.fault.EndDefect.TheVariants.{OutsideLoop, Unreachable, NeverRaised, NoValueReturned, Undeclared}
+use Rattle.resolved.specs.declared.fault.EndRefusalKind.TheVariants.{OutsideLoop, Unreachable, NeverRaised, NoValueReturned, Undeclared}
 use Rattle.resolved.specs.declared.fault.EndRefusal.{EndRefusal}
 use Rattle.resolved.specs.Labelled.{program_demands}
 use Rattle.gathering.specs.Walk.{program_constraints}
@@ -45,10 +45,10 @@ module _ (program : Program) where
     part-from (Receive at channel target) loop none = tt
     part-from (Send at channel e) loop none = tt
     part-from (Call at procedure arguments target) loop none = tt
-    part-from (If at e yes_block no_block) loop none =
-        let yes : List EndRefusal = block_faults program loop true yes_block in
-        let no : List EndRefusal = block_faults program loop true no_block in
-        (part_in-from yes_block loop true (none-left yes no none), part_in-from no_block loop true (none-right yes no none))
+    part-from (If at e then_block else_block) loop none =
+        let yes : List EndRefusal = block_faults program loop true then_block in
+        let no : List EndRefusal = block_faults program loop true else_block in
+        (part_in-from then_block loop true (none-left yes no none), part_in-from else_block loop true (none-right yes no none))
     part-from (While at l e body) loop none = part_in-from body true true none
     part-from (Leave at exit) loop none = tt
     part-from (ReturnWith at value) loop none = tt

@@ -49,9 +49,9 @@ module _ (scope : Scope) where
     meanings pc (Receive at channel target) = []
     meanings pc (Send at channel e) = []
     meanings pc (Call at procedure arguments target) = (pc ++ raise_labels scope arguments) ∷ []
-    meanings pc (If at e yes_block no_block) =
+    meanings pc (If at e then_block else_block) =
         let branch : Join = (pc ++ raise_label scope e) ++ value_label scope e in
-        branch ∷ (meanings_in branch yes_block ++ meanings_in branch no_block)
+        branch ∷ (meanings_in branch then_block ++ meanings_in branch else_block)
     meanings pc (While at loop e body) =
         let b : Join = (one (label_of scope.program (ToLoop scope.number loop)) ++ raise_label scope e) ++ value_label scope e in
         b ∷ ((block_exits scope b body Normal ++ block_exits scope b body Continue) ∷ meanings_in b body)
@@ -83,10 +83,10 @@ module _ (scope : Scope) where
     meanings-made (Receive at channel target) pc = refl
     meanings-made (Send at channel e) pc = refl
     meanings-made (Call at procedure arguments target) pc = refl
-    meanings-made (If at e yes_block no_block) pc =
+    meanings-made (If at e then_block else_block) pc =
         let branch : Join = (pc ++ raise_label scope e) ++ value_label scope e in
-        ap suc (length-append (meanings_in branch yes_block) (meanings_in branch no_block)
-        ∙ ap (λ k. k + length (meanings_in branch no_block)) (meanings_in-made yes_block branch) ∙ ap (λ k. made_by_block yes_block + k) (meanings_in-made no_block branch))
+        ap suc (length-append (meanings_in branch then_block) (meanings_in branch else_block)
+        ∙ ap (λ k. k + length (meanings_in branch else_block)) (meanings_in-made then_block branch) ∙ ap (λ k. made_by_block then_block + k) (meanings_in-made else_block branch))
     meanings-made (While at loop e body) pc =
         ap (λ k. suc (suc k)) (meanings_in-made body ((one (label_of scope.program (ToLoop scope.number loop)) ++ raise_label scope e) ++ value_label scope e))
     meanings-made (Leave at exit) pc = refl
@@ -130,12 +130,12 @@ module _ (scope : Scope) where
       agrees-from (Receive at channel target) n pc h = tt
       agrees-from (Send at channel e) n pc h = tt
       agrees-from (Call at procedure arguments target) n pc h = h.0
-      agrees-from (If at e yes_block no_block) n pc h =
+      agrees-from (If at e then_block else_block) n pc h =
           let branch : Join = (pc ++ raise_label scope e) ++ value_label scope e in (
             h.0,
-            agrees_in-from yes_block (suc n) branch (starts-left m (suc n) (meanings_in branch yes_block) (meanings_in branch no_block) h.1),
-            agrees_in-from no_block (suc n + made_by_block yes_block) branch (subst (λ k. Starts m (suc n + k) (meanings_in branch no_block)) (meanings_in-made yes_block branch)
-                (starts-right m (suc n) (meanings_in branch yes_block) (meanings_in branch no_block) h.1)),
+            agrees_in-from then_block (suc n) branch (starts-left m (suc n) (meanings_in branch then_block) (meanings_in branch else_block) h.1),
+            agrees_in-from else_block (suc n + made_by_block then_block) branch (subst (λ k. Starts m (suc n + k) (meanings_in branch else_block)) (meanings_in-made then_block branch)
+                (starts-right m (suc n) (meanings_in branch then_block) (meanings_in branch else_block) h.1)),
           )
       agrees-from (While at loop e body) n pc h =
           (h.0, h.1.0, agrees_in-from body (suc (suc n)) ((one (label_of scope.program (ToLoop scope.number loop)) ++ raise_label scope e) ++ value_label scope e) h.1.1)

@@ -23,7 +23,7 @@ use Rattle.resolved.specs.Labelled.{OfLocal, OfLoop, Scope, Join, LabelAtom, one
 use Rattle.resolved.specs.WellFormed.{VariableType, slot_type, variable_type, scalar_by, array_by, has_base, has_result, target_by, parameters_of, arguments_match, call_matches, is_array, same_base, prefix_base, operand_base, result_base, statement_fits, block_fits, handlers_fit, is_exception, statement_loops, block_loops, handlers_loops}
 use Rattle.resolved.proofs.WellFormedParts.{result_some}
 use Rattle.gathering.specs.Names.{Real, Inner, NamedAtom, NamedConstraint, named_atoms, real_unknowns, IsUnwrittenOf}
-use Rattle.gathering.specs.Walk.{inner_atom, rule_constraint, target_constraint, inner_constraint, Takers, nowhere, with_normal, in_loop, handler_count, handler_number, in_try, at_end, thrown_number, declares, flow, flows, raised_once, raised_flows, single, within_single, by_ends, onward_pc, raise_atoms, raise_atoms_all, store_atoms, call_atoms, made_by_statement, made_by_block, made_by_handlers, argument_constraints, call_flows, call_ends, call_constraints, statement_constraints, block_constraints, handlers_constraints}
+use Rattle.gathering.specs.Walk.{inner_atom, rule_constraint, target_constraint, inner_constraint, ExitUnknowns, nowhere, with_normal, in_loop, handler_count, handler_number, in_try, at_end, thrown_number, declares, flow, flows, raised_once, raised_flows, single, within_single, by_ends, onward_pc, raise_atoms, raise_atoms_all, store_atoms, call_atoms, made_by_statement, made_by_block, made_by_handlers, argument_constraints, call_flows, call_ends, call_constraints, statement_constraints, block_constraints, handlers_constraints}
 use Rattle.gathering.proofs.Atoms.{Sub, raise-value, atoms-below}
 
 -- ---- what is there
@@ -58,7 +58,7 @@ array-some None len test h = let i : false ≡ true = h in absurd (cc)
 array-some (Some type) len test h = (type.base, (and_parts _ (test type.base) h).1)
 
 module _ (program : Program) (bound : ℕ) where
-  -- an inner unknown that was made, and so many numbers that are left to be made
+  -- an inner unknown that was made, and this many numbers that are left to be made
   abbrev pub IsMade : ℕ → Type 0
   IsMade k = (real_unknowns program ≤ k) × (k < bound)
 
@@ -79,8 +79,8 @@ module _ (program : Program) (bound : ℕ) where
   abbrev pub JoinInRange : Join → Type 0
   JoinInRange j = (a : LabelAtom) → Contains j a → InRange (renamed Real a)
 
-  abbrev pub TakersInRange : Takers → Type 0
-  TakersInRange takers = (e : Exit) (k : ℕ) → takers e ≡ Some k → IsMade k
+  abbrev pub ExitUnknownsInRange : ExitUnknowns → Type 0
+  ExitUnknownsInRange exit_unknowns = (e : Exit) (k : ℕ) → exit_unknowns e ≡ Some k → IsMade k
 
   pub join-nil : JoinInRange []
   join-nil a h = absurd (none_in_nil a h)
@@ -128,56 +128,56 @@ module _ (program : Program) (bound : ℕ) where
   ranged-flow left None f ok = ranged-nil
   ranged-flow left (Some k) f ok = ranged-inner left k f (ok k refl)
 
-  pub ranged-flows : (left : List NamedAtom) (takers : Takers) (ends : List Exit) → AllInRange left → TakersInRange takers → Ranged (flows left takers ends)
-  ranged-flows left takers [] f ok = ranged-nil
-  ranged-flows left takers (e ∷ rest) f ok =
-      ranged-append (flow left (takers e)) (flows left takers rest) (ranged-flow left (takers e) f (ok e)) (ranged-flows left takers rest f ok)
+  pub ranged-flows : (left : List NamedAtom) (exit_unknowns : ExitUnknowns) (ends : List Exit) → AllInRange left → ExitUnknownsInRange exit_unknowns → Ranged (flows left exit_unknowns ends)
+  ranged-flows left exit_unknowns [] f ok = ranged-nil
+  ranged-flows left exit_unknowns (e ∷ rest) f ok =
+      ranged-append (flow left (exit_unknowns e)) (flows left exit_unknowns rest) (ranged-flow left (exit_unknowns e) f (ok e)) (ranged-flows left exit_unknowns rest f ok)
 
-  pub ranged-raised : (q : List NamedAtom) (takers : Takers) (raised : List ℕ) → AllInRange q → TakersInRange takers → Ranged (raised_flows q takers raised)
-  ranged-raised q takers raised f ok = ranged-flows q takers (thrown_ends (raised_once raised)) f ok
+  pub ranged-raised : (q : List NamedAtom) (exit_unknowns : ExitUnknowns) (raised : List ℕ) → AllInRange q → ExitUnknownsInRange exit_unknowns → Ranged (raised_flows q exit_unknowns raised)
+  ranged-raised q exit_unknowns raised f ok = ranged-flows q exit_unknowns (thrown_ends (raised_once raised)) f ok
 
-  pub ranged-own : (q : List NamedAtom) (takers : Takers) (first : Exit) (raised : List ℕ) → AllInRange q → TakersInRange takers → Ranged (flow q (takers first) ++ raised_flows q takers raised)
-  ranged-own q takers first raised f ok =
-      ranged-append (flow q (takers first)) (raised_flows q takers raised) (ranged-flow q (takers first) f (ok first)) (ranged-raised q takers raised f ok)
+  pub ranged-own : (q : List NamedAtom) (exit_unknowns : ExitUnknowns) (first : Exit) (raised : List ℕ) → AllInRange q → ExitUnknownsInRange exit_unknowns → Ranged (flow q (exit_unknowns first) ++ raised_flows q exit_unknowns raised)
+  ranged-own q exit_unknowns first raised f ok =
+      ranged-append (flow q (exit_unknowns first)) (raised_flows q exit_unknowns raised) (ranged-flow q (exit_unknowns first) f (ok first)) (ranged-raised q exit_unknowns raised f ok)
 
-  pub ranged-single : (b : Bool) (p : NamedAtom) (takers : Takers) (ends : List Exit) → InRange p → TakersInRange takers → Ranged (single b p takers ends)
-  ranged-single false p takers ends ok fit = ranged-nil
-  ranged-single true p takers [] ok fit = ranged-nil
-  ranged-single true p takers (e ∷ rest) ok fit = ranged-flow (p ∷ []) (takers e) (alone p ok) (fit e)
+  pub ranged-single : (b : Bool) (p : NamedAtom) (exit_unknowns : ExitUnknowns) (ends : List Exit) → InRange p → ExitUnknownsInRange exit_unknowns → Ranged (single b p exit_unknowns ends)
+  ranged-single false p exit_unknowns ends ok fit = ranged-nil
+  ranged-single true p exit_unknowns [] ok fit = ranged-nil
+  ranged-single true p exit_unknowns (e ∷ rest) ok fit = ranged-flow (p ∷ []) (exit_unknowns e) (alone p ok) (fit e)
 
-  -- takers
-  pub nowhere-fits : TakersInRange nowhere
+  -- exit unknowns
+  pub nowhere-fits : ExitUnknownsInRange nowhere
   nowhere-fits e k is = let i : None ≡ Some k = is in absurd (cc)
 
-  pub within-fits : (b : Bool) (takers : Takers) → TakersInRange takers → TakersInRange (within_single b takers)
-  within-fits true takers fit = nowhere-fits
-  within-fits false takers fit = fit
+  pub within-fits : (b : Bool) (exit_unknowns : ExitUnknowns) → ExitUnknownsInRange exit_unknowns → ExitUnknownsInRange (within_single b exit_unknowns)
+  within-fits true exit_unknowns fit = nowhere-fits
+  within-fits false exit_unknowns fit = fit
 
-  pub normal-fits : (o : Option ℕ) (takers : Takers) → ((k : ℕ) → o ≡ Some k → IsMade k) → TakersInRange takers → TakersInRange (with_normal o takers)
-  normal-fits o takers f fit Normal k is = f k is
-  normal-fits o takers f fit Return k is = fit Return k is
-  normal-fits o takers f fit Break k is = fit Break k is
-  normal-fits o takers f fit Continue k is = fit Continue k is
-  normal-fits o takers f fit (Throw x) k is = fit (Throw x) k is
+  pub normal-fits : (o : Option ℕ) (exit_unknowns : ExitUnknowns) → ((k : ℕ) → o ≡ Some k → IsMade k) → ExitUnknownsInRange exit_unknowns → ExitUnknownsInRange (with_normal o exit_unknowns)
+  normal-fits o exit_unknowns f fit Normal k is = f k is
+  normal-fits o exit_unknowns f fit Return k is = fit Return k is
+  normal-fits o exit_unknowns f fit Break k is = fit Break k is
+  normal-fits o exit_unknowns f fit Continue k is = fit Continue k is
+  normal-fits o exit_unknowns f fit (Throw x) k is = fit (Throw x) k is
 
   pub same-number : (n k : ℕ) → IsMade n → Some n ≡ Some k → IsMade k
   same-number n k h is = let same : n ≡ k = cc in subst IsMade same h
 
-  pub loop-fits : (back : ℕ) (takers : Takers) → IsMade back → TakersInRange takers → TakersInRange (in_loop back takers)
-  loop-fits back takers h fit Normal k is = same-number back k h is
-  loop-fits back takers h fit Return k is = fit Return k is
-  loop-fits back takers h fit Break k is = fit Normal k is
-  loop-fits back takers h fit Continue k is = same-number back k h is
-  loop-fits back takers h fit (Throw x) k is = fit (Throw x) k is
+  pub loop-fits : (back : ℕ) (exit_unknowns : ExitUnknowns) → IsMade back → ExitUnknownsInRange exit_unknowns → ExitUnknownsInRange (in_loop back exit_unknowns)
+  loop-fits back exit_unknowns h fit Normal k is = same-number back k h is
+  loop-fits back exit_unknowns h fit Return k is = fit Return k is
+  loop-fits back exit_unknowns h fit Break k is = fit Normal k is
+  loop-fits back exit_unknowns h fit Continue k is = same-number back k h is
+  loop-fits back exit_unknowns h fit (Throw x) k is = fit (Throw x) k is
 
-  pub try-fits : (number : ℕ → ℕ) (handlers : Handlers) (takers : Takers) → ((x : ℕ) → handles handlers x ≡ true → IsMade (number x)) → TakersInRange takers → TakersInRange (in_try number handlers takers)
-  try-fits number handlers takers f fit Normal k is = fit Normal k is
-  try-fits number handlers takers f fit Return k is = fit Return k is
-  try-fits number handlers takers f fit Break k is = fit Break k is
-  try-fits number handlers takers f fit Continue k is = fit Continue k is
-  try-fits number handlers takers f fit (Throw x) k is = go (handles handlers x) refl is
+  pub try-fits : (number : ℕ → ℕ) (handlers : Handlers) (exit_unknowns : ExitUnknowns) → ((x : ℕ) → handles handlers x ≡ true → IsMade (number x)) → ExitUnknownsInRange exit_unknowns → ExitUnknownsInRange (in_try number handlers exit_unknowns)
+  try-fits number handlers exit_unknowns f fit Normal k is = fit Normal k is
+  try-fits number handlers exit_unknowns f fit Return k is = fit Return k is
+  try-fits number handlers exit_unknowns f fit Break k is = fit Break k is
+  try-fits number handlers exit_unknowns f fit Continue k is = fit Continue k is
+  try-fits number handlers exit_unknowns f fit (Throw x) k is = go (handles handlers x) refl is
     where
-      go : (b : Bool) → handles handlers x ≡ b → (if b then Some (number x) else takers (Throw x)) ≡ Some k → IsMade k
+      go : (b : Bool) → handles handlers x ≡ b → (if b then Some (number x) else exit_unknowns (Throw x)) ≡ Some k → IsMade k
       go true h is = same-number (number x) k (f x h) is
       go false h is = fit (Throw x) k is
 
@@ -207,7 +207,7 @@ module _ (program : Program) (bound : ℕ) where
           let i : thrown_number rest (suc n) x < suc n + length rest = (next k).1 in
           (omega (arith, least), omega (arith, i))
 
-  pub end-fits : (throws : List ThrownEntry) (n : ℕ) → HasRoom n (suc (length throws)) → TakersInRange (at_end n throws)
+  pub end-fits : (throws : List ThrownEntry) (n : ℕ) → HasRoom n (suc (length throws)) → ExitUnknownsInRange (at_end n throws)
   end-fits throws n h Normal k is = same-number n k (omega (arith, h.0), omega (arith, h.1)) is
   end-fits throws n h Return k is = same-number n k (omega (arith, h.0), omega (arith, h.1)) is
   end-fits throws n h Break k is = let i : None ≡ Some k = is in absurd (cc)
@@ -272,13 +272,13 @@ module _ (program : Program) (bound : ℕ) where
     ranged-target at rule left (Some x) test h fits = ranged-rule at rule left (ToVariable f x) h (variable-ok x (scalar-there (variable_type program own x) test fits))
 
     -- a statement with one demand, and its ends
-    pub ranged-demanding : (at rule : ℕ) (p : NamedAtom) (left q : Join) (target : Target) (takers : Takers) (first : Exit) (raised : List ℕ) → InRange p → JoinInRange left → JoinInRange q →
-        InRange (renamed Real (label_of program target)) → TakersInRange takers →
-        Ranged (rule_constraint own_scope at rule (p ∷ named_atoms left) target ++ (flow (p ∷ named_atoms q) (takers first) ++ raised_flows (p ∷ named_atoms q) takers raised))
-    ranged-demanding at rule p left q target takers first raised ok left_ok q_ok target_ok fit =
-        ranged-append (rule_constraint own_scope at rule (p ∷ named_atoms left) target) (flow (p ∷ named_atoms q) (takers first) ++ raised_flows (p ∷ named_atoms q) takers raised)
+    pub ranged-demanding : (at rule : ℕ) (p : NamedAtom) (left q : Join) (target : Target) (exit_unknowns : ExitUnknowns) (first : Exit) (raised : List ℕ) → InRange p → JoinInRange left → JoinInRange q →
+        InRange (renamed Real (label_of program target)) → ExitUnknownsInRange exit_unknowns →
+        Ranged (rule_constraint own_scope at rule (p ∷ named_atoms left) target ++ (flow (p ∷ named_atoms q) (exit_unknowns first) ++ raised_flows (p ∷ named_atoms q) exit_unknowns raised))
+    ranged-demanding at rule p left q target exit_unknowns first raised ok left_ok q_ok target_ok fit =
+        ranged-append (rule_constraint own_scope at rule (p ∷ named_atoms left) target) (flow (p ∷ named_atoms q) (exit_unknowns first) ++ raised_flows (p ∷ named_atoms q) exit_unknowns raised)
         (ranged-rule at rule (p ∷ named_atoms left) target (pc-atoms p left ok left_ok) target_ok)
-        (ranged-own (p ∷ named_atoms q) takers first raised (pc-atoms p q ok q_ok) fit)
+        (ranged-own (p ∷ named_atoms q) exit_unknowns first raised (pc-atoms p q ok q_ok) fit)
 
     -- calls
     pub call_atoms-ok : (callee : ℕ) (e : Exit) → JoinInRange (call_atoms program callee e)
@@ -292,12 +292,12 @@ module _ (program : Program) (bound : ℕ) where
     call_atoms-ok callee Continue = join-nil
     call_atoms-ok callee (Throw x) = join-one (label_of program (ToThrown callee x)) tt
 
-    pub ranged-call_flows : (callee n : ℕ) (takers : Takers) (ends : List Exit) → IsMade n → TakersInRange takers → Ranged (call_flows program callee n takers ends)
-    ranged-call_flows callee n takers [] h fit = ranged-nil
-    ranged-call_flows callee n takers (e ∷ rest) h fit =
+    pub ranged-call_flows : (callee n : ℕ) (exit_unknowns : ExitUnknowns) (ends : List Exit) → IsMade n → ExitUnknownsInRange exit_unknowns → Ranged (call_flows program callee n exit_unknowns ends)
+    ranged-call_flows callee n exit_unknowns [] h fit = ranged-nil
+    ranged-call_flows callee n exit_unknowns (e ∷ rest) h fit =
         let left : List NamedAtom = inner_atom n ∷ named_atoms (call_atoms program callee e) in
-        ranged-append (flow left (takers e)) (call_flows program callee n takers rest)
-        (ranged-flow left (takers e) (pc-atoms (inner_atom n) (call_atoms program callee e) h (call_atoms-ok callee e)) (fit e)) (ranged-call_flows callee n takers rest h fit)
+        ranged-append (flow left (exit_unknowns e)) (call_flows program callee n exit_unknowns rest)
+        (ranged-flow left (exit_unknowns e) (pc-atoms (inner_atom n) (call_atoms program callee e) h (call_atoms-ok callee e)) (fit e)) (ranged-call_flows callee n exit_unknowns rest h fit)
 
     pub ranged-arguments : (at n callee i : ℕ) (parameters : List SlotEntry) (es : List Expression) → IsMade n → arguments_match program own parameters es ≡ true →
         Ranged (argument_constraints own_scope at n callee i es) × JoinInRange (raise_atoms_all own_scope es)
@@ -313,10 +313,10 @@ module _ (program : Program) (bound : ℕ) where
           join-append (raise_atoms own_scope e) (raise_atoms_all own_scope rest) (raise-ok e v) more.1,
         )
 
-    pub ranged-call : (o : Option ProcedureEntry) (at callee n : ℕ) (arguments : List Expression) (target : Option Variable) (p : NamedAtom) (takers : Takers) →
-        call_matches program own o arguments target ≡ true → InRange p → TakersInRange takers → IsMade n → Ranged (call_constraints own_scope p takers n at callee arguments target)
-    ranged-call None at callee n arguments target p takers fits ok fit h = let i : false ≡ true = fits in absurd (cc)
-    ranged-call (Some entry) at callee n arguments target p takers fits ok fit h =
+    pub ranged-call : (o : Option ProcedureEntry) (at callee n : ℕ) (arguments : List Expression) (target : Option Variable) (p : NamedAtom) (exit_unknowns : ExitUnknowns) →
+        call_matches program own o arguments target ≡ true → InRange p → ExitUnknownsInRange exit_unknowns → IsMade n → Ranged (call_constraints own_scope p exit_unknowns n at callee arguments target)
+    ranged-call None at callee n arguments target p exit_unknowns fits ok fit h = let i : false ≡ true = fits in absurd (cc)
+    ranged-call (Some entry) at callee n arguments target p exit_unknowns fits ok fit h =
         let parts = and_parts (arguments_match program own (parameters_of entry) arguments) (target_by program own target (λ base. has_result entry.result (same_base base))) fits in
         let passed : Ranged (argument_constraints own_scope at n callee 0 arguments) × JoinInRange (raise_atoms_all own_scope arguments) = ranged-arguments at n callee 0 (parameters_of entry) arguments h parts.0 in
         let x : Join = call_atoms program callee Normal in
@@ -326,7 +326,7 @@ module _ (program : Program) (bound : ℕ) where
         let first : List NamedConstraint = rule_constraint own_scope at 6 (pc ∷ []) (ToBegin callee) in
         let second : List NamedConstraint = argument_constraints own_scope at n callee 0 arguments in
         let third : List NamedConstraint = target_constraint own_scope at 6 (pc ∷ named_atoms (x ++ v)) target in
-        let fourth : List NamedConstraint = call_flows program callee n takers (call_ends program callee arguments) in
+        let fourth : List NamedConstraint = call_flows program callee n exit_unknowns (call_ends program callee arguments) in
         ranged-append entered (first ++ (second ++ (third ++ fourth)))
         (ranged-inner (p ∷ named_atoms (raise_atoms_all own_scope arguments)) n (pc-atoms p (raise_atoms_all own_scope arguments) ok passed.1) h)
         (ranged-append first (second ++ (third ++ fourth)) (ranged-rule at 6 (pc ∷ []) (ToBegin callee) (alone pc h) tt)
@@ -334,14 +334,14 @@ module _ (program : Program) (bound : ℕ) where
         (ranged-append third fourth
         (ranged-target at 6 (pc ∷ named_atoms (x ++ v)) target (λ base. has_result entry.result (same_base base))
         (pc-atoms pc (x ++ v) h (join-append x v (call_atoms-ok callee Normal) (join-one (label_of program (ToValue callee)) tt))) parts.1)
-        (ranged-call_flows callee n takers (call_ends program callee arguments) h fit))))
+        (ranged-call_flows callee n exit_unknowns (call_ends program callee arguments) h fit))))
 
     -- a block of its own
-    pub ranged-by_ends : (ends : List Exit) (p : NamedAtom) (takers : Takers) (walked : Takers → List NamedConstraint) → InRange p → TakersInRange takers →
-        ((t : Takers) → TakersInRange t → Ranged (walked t)) → Ranged (by_ends ends p takers walked)
-    ranged-by_ends ends p takers walked ok fit each =
-        ranged-append (single (one_end ends) p takers ends) (walked (within_single (one_end ends) takers))
-        (ranged-single (one_end ends) p takers ends ok fit) (each (within_single (one_end ends) takers) (within-fits (one_end ends) takers fit))
+    pub ranged-by_ends : (ends : List Exit) (p : NamedAtom) (exit_unknowns : ExitUnknowns) (walked : ExitUnknowns → List NamedConstraint) → InRange p → ExitUnknownsInRange exit_unknowns →
+        ((t : ExitUnknowns) → ExitUnknownsInRange t → Ranged (walked t)) → Ranged (by_ends ends p exit_unknowns walked)
+    ranged-by_ends ends p exit_unknowns walked ok fit each =
+        ranged-append (single (one_end ends) p exit_unknowns ends) (walked (within_single (one_end ends) exit_unknowns))
+        (ranged-single (one_end ends) p exit_unknowns ends ok fit) (each (within_single (one_end ends) exit_unknowns) (within-fits (one_end ends) exit_unknowns fit))
 
     abbrev pub LoopsFit : List ℕ → Type 0
     LoopsFit xs = (l : ℕ) → Contains xs l → l < own.loops
@@ -357,93 +357,93 @@ module _ (program : Program) (bound : ℕ) where
     onward-ok false p n ok h = h
 
     mutual
-      pub ranged-statement : (s : Statement) (p : NamedAtom) (takers : Takers) (n : ℕ) → statement_fits program own s ≡ true → LoopsFit (statement_loops s) → InRange p → TakersInRange takers →
-          HasRoom n (made_by_statement s) → Ranged (statement_constraints own_scope p takers n s)
-      ranged-statement (Assign at x e) p takers n fits loops ok fit h =
+      pub ranged-statement : (s : Statement) (p : NamedAtom) (exit_unknowns : ExitUnknowns) (n : ℕ) → statement_fits program own s ≡ true → LoopsFit (statement_loops s) → InRange p → ExitUnknownsInRange exit_unknowns →
+          HasRoom n (made_by_statement s) → Ranged (statement_constraints own_scope p exit_unknowns n s)
+      ranged-statement (Assign at x e) p exit_unknowns n fits loops ok fit h =
           let base = scalar-some (variable_type program own x) (λ base. has_base program own base e) fits in
           let v : JoinInRange (value_label own_scope e) = value-ok base.0 e base.1 in
-          ranged-demanding at 1 p (value_label own_scope e) (raise_atoms own_scope e) (ToVariable f x) takers Normal (raises e) ok v (raise-ok e v)
+          ranged-demanding at 1 p (value_label own_scope e) (raise_atoms own_scope e) (ToVariable f x) exit_unknowns Normal (raises e) ok v (raise-ok e v)
           (variable-ok x (scalar-there (variable_type program own x) (λ base. has_base program own base e) fits)) fit
-      ranged-statement (Clear at slot) p takers n fits loops ok fit h =
-          ranged-append (rule_constraint own_scope at 2 (p ∷ []) (ToVariable f (Local slot))) (flow (p ∷ []) (takers Normal))
+      ranged-statement (Clear at slot) p exit_unknowns n fits loops ok fit h =
+          ranged-append (rule_constraint own_scope at 2 (p ∷ []) (ToVariable f (Local slot))) (flow (p ∷ []) (exit_unknowns Normal))
           (ranged-rule at 2 (p ∷ []) (ToVariable f (Local slot)) (alone p ok) (variable-ok (Local slot) (is_array-there (variable_type program own (Local slot)) fits)))
-          (ranged-flow (p ∷ []) (takers Normal) (alone p ok) (fit Normal))
-      ranged-statement (Store at array len index e) p takers n fits loops ok fit h =
+          (ranged-flow (p ∷ []) (exit_unknowns Normal) (alone p ok) (fit Normal))
+      ranged-statement (Store at array len index e) p exit_unknowns n fits loops ok fit h =
           let parts = and_parts (array_by (variable_type program own array) len (λ base. has_base program own base e)) (has_base program own Int index) fits in
           let base = array-some (variable_type program own array) len (λ base. has_base program own base e) parts.0 in
           let v : JoinInRange (value_label own_scope e) = value-ok base.0 e base.1 in
           let i : JoinInRange (value_label own_scope index) = value-ok Int index parts.1 in
-          ranged-demanding at 3 p (value_label own_scope index ++ value_label own_scope e) (store_atoms own_scope len index e) (ToVariable f array) takers Normal (raises index ++ raises e ++ index_raises index len) ok
+          ranged-demanding at 3 p (value_label own_scope index ++ value_label own_scope e) (store_atoms own_scope len index e) (ToVariable f array) exit_unknowns Normal (raises index ++ raises e ++ index_raises index len) ok
           (join-append (value_label own_scope index) (value_label own_scope e) i v)
           (join-append (if index_can_raise index len then value_label own_scope index else raise_atoms own_scope index) (raise_atoms own_scope e)
           (if-ok (index_can_raise index len) (value_label own_scope index) (raise_atoms own_scope index) i (raise-ok index i)) (raise-ok e v))
           (variable-ok array (array-there (variable_type program own array) len (λ base. has_base program own base e) parts.0)) fit
-      ranged-statement (Receive at channel target) p takers n fits loops ok fit h =
+      ranged-statement (Receive at channel target) p exit_unknowns n fits loops ok fit h =
           let label : Join = one (label_of program (ToChannel channel)) in
           let q : List NamedAtom = p ∷ named_atoms label in
           let q_ok : AllInRange q = pc-atoms p label ok (join-one (label_of program (ToChannel channel)) tt) in
-          let out : List NamedConstraint = flow q (takers Normal) ++ flow q (takers (Throw END)) in
+          let out : List NamedConstraint = flow q (exit_unknowns Normal) ++ flow q (exit_unknowns (Throw END)) in
           ranged-append (rule_constraint own_scope at 4 (p ∷ []) (ToChannel channel)) (target_constraint own_scope at 4 q target ++ out)
           (ranged-rule at 4 (p ∷ []) (ToChannel channel) (alone p ok) tt)
           (ranged-append (target_constraint own_scope at 4 q target) out
           (ranged-target at 4 q target (same_base Int) q_ok (and_parts _ (target_by program own target (same_base Int)) fits).1)
-          (ranged-append (flow q (takers Normal)) (flow q (takers (Throw END)))
-          (ranged-flow q (takers Normal) q_ok (fit Normal)) (ranged-flow q (takers (Throw END)) q_ok (fit (Throw END)))))
-      ranged-statement (Send at channel e) p takers n fits loops ok fit h =
+          (ranged-append (flow q (exit_unknowns Normal)) (flow q (exit_unknowns (Throw END)))
+          (ranged-flow q (exit_unknowns Normal) q_ok (fit Normal)) (ranged-flow q (exit_unknowns (Throw END)) q_ok (fit (Throw END)))))
+      ranged-statement (Send at channel e) p exit_unknowns n fits loops ok fit h =
           let v : JoinInRange (value_label own_scope e) = value-ok Int e (and_parts _ (has_base program own Int e) fits).1 in
-          ranged-demanding at 5 p (value_label own_scope e) (raise_atoms own_scope e) (ToChannel channel) takers Normal (raises e) ok v (raise-ok e v) tt fit
-      ranged-statement (Call at callee arguments target) p takers n fits loops ok fit h =
-          ranged-call (slice_get program.procedures callee) at callee n arguments target p takers fits ok fit (omega (arith, h.0), omega (arith, h.1))
-      ranged-statement (If at e yes_block no_block) p takers n fits loops ok fit h =
-          let outer = and_parts (has_base program own Boolean e && block_fits program own yes_block) (block_fits program own no_block) fits in
-          let inner = and_parts (has_base program own Boolean e) (block_fits program own yes_block) outer.0 in
+          ranged-demanding at 5 p (value_label own_scope e) (raise_atoms own_scope e) (ToChannel channel) exit_unknowns Normal (raises e) ok v (raise-ok e v) tt fit
+      ranged-statement (Call at callee arguments target) p exit_unknowns n fits loops ok fit h =
+          ranged-call (slice_get program.procedures callee) at callee n arguments target p exit_unknowns fits ok fit (omega (arith, h.0), omega (arith, h.1))
+      ranged-statement (If at e then_block else_block) p exit_unknowns n fits loops ok fit h =
+          let outer = and_parts (has_base program own Boolean e && block_fits program own then_block) (block_fits program own else_block) fits in
+          let inner = and_parts (has_base program own Boolean e) (block_fits program own then_block) outer.0 in
           let v : JoinInRange (value_label own_scope e) = value-ok Boolean e inner.0 in
           let pc : NamedAtom = inner_atom n in
           let made : IsMade n = (omega (arith, h.0), omega (arith, h.1)) in
           let first : List NamedConstraint = inner_constraint (p ∷ named_atoms (value_label own_scope e)) n in
-          let second : List NamedConstraint = raised_flows (p ∷ named_atoms (raise_atoms own_scope e)) takers (raises e) in
-          let third : List NamedConstraint = by_ends (block_ends program yes_block) pc takers (λ t. block_constraints own_scope true pc t (suc n) yes_block) in
-          let fourth : List NamedConstraint = by_ends (block_ends program no_block) pc takers (λ t. block_constraints own_scope true pc t (suc n + made_by_block yes_block) no_block) in
+          let second : List NamedConstraint = raised_flows (p ∷ named_atoms (raise_atoms own_scope e)) exit_unknowns (raises e) in
+          let third : List NamedConstraint = by_ends (block_ends program then_block) pc exit_unknowns (λ t. block_constraints own_scope true pc t (suc n) then_block) in
+          let fourth : List NamedConstraint = by_ends (block_ends program else_block) pc exit_unknowns (λ t. block_constraints own_scope true pc t (suc n + made_by_block then_block) else_block) in
           ranged-append first (second ++ (third ++ fourth))
           (ranged-inner (p ∷ named_atoms (value_label own_scope e)) n (pc-atoms p (value_label own_scope e) ok v) made)
           (ranged-append second (third ++ fourth)
-          (ranged-raised (p ∷ named_atoms (raise_atoms own_scope e)) takers (raises e) (pc-atoms p (raise_atoms own_scope e) ok (raise-ok e v)) fit)
+          (ranged-raised (p ∷ named_atoms (raise_atoms own_scope e)) exit_unknowns (raises e) (pc-atoms p (raise_atoms own_scope e) ok (raise-ok e v)) fit)
           (ranged-append third fourth
-          (ranged-by_ends (block_ends program yes_block) pc takers (λ t. block_constraints own_scope true pc t (suc n) yes_block) made fit
-          (λ t k. ranged-block yes_block true pc t (suc n) inner.1 (loops-left (block_loops yes_block) (block_loops no_block) loops) made k (omega (arith, h.0), omega (arith, h.1))))
-          (ranged-by_ends (block_ends program no_block) pc takers (λ t. block_constraints own_scope true pc t (suc n + made_by_block yes_block) no_block) made fit
-          (λ t k. ranged-block no_block true pc t (suc n + made_by_block yes_block) outer.1 (loops-right (block_loops yes_block) (block_loops no_block) loops) made k (omega (arith, h.0), omega (arith, h.1))))))
-      ranged-statement (While at loop e body) p takers n fits loops ok fit h =
+          (ranged-by_ends (block_ends program then_block) pc exit_unknowns (λ t. block_constraints own_scope true pc t (suc n) then_block) made fit
+          (λ t k. ranged-block then_block true pc t (suc n) inner.1 (loops-left (block_loops then_block) (block_loops else_block) loops) made k (omega (arith, h.0), omega (arith, h.1))))
+          (ranged-by_ends (block_ends program else_block) pc exit_unknowns (λ t. block_constraints own_scope true pc t (suc n + made_by_block then_block) else_block) made fit
+          (λ t k. ranged-block else_block true pc t (suc n + made_by_block then_block) outer.1 (loops-right (block_loops then_block) (block_loops else_block) loops) made k (omega (arith, h.0), omega (arith, h.1))))))
+      ranged-statement (While at loop e body) p exit_unknowns n fits loops ok fit h =
           let parts = and_parts (has_base program own Boolean e) (block_fits program own body) fits in
           let v : JoinInRange (value_label own_scope e) = value-ok Boolean e parts.0 in
-          let turn : NamedAtom = Unknown (Real (OfLoop f loop)) in
-          let turn_ok : InRange turn = (there, loops loop (Contains-first loop (block_loops body))) in
+          let loop_atom : NamedAtom = Unknown (Real (OfLoop f loop)) in
+          let turn_ok : InRange loop_atom = (there, loops loop (Contains-first loop (block_loops body))) in
           let pc : NamedAtom = inner_atom n in
           let made : IsMade n = (omega (arith, h.0), omega (arith, h.1)) in
           let back : IsMade (suc n) = (omega (arith, h.0), omega (arith, h.1)) in
           let first : List NamedConstraint = rule_constraint own_scope at 8 (p ∷ []) (ToLoop f loop) in
-          let entry : List NamedConstraint = inner_constraint (turn ∷ named_atoms (value_label own_scope e)) n in
-          let out : List NamedConstraint = flow (pc ∷ []) (takers Normal) in
-          let raising : List NamedConstraint = raised_flows (turn ∷ named_atoms (raise_atoms own_scope e)) takers (raises e) in
-          let third : List NamedConstraint = by_ends (block_ends program body) pc (in_loop (suc n) takers) (λ t. block_constraints own_scope true pc t (suc (suc n)) body) in
+          let entry : List NamedConstraint = inner_constraint (loop_atom ∷ named_atoms (value_label own_scope e)) n in
+          let out : List NamedConstraint = flow (pc ∷ []) (exit_unknowns Normal) in
+          let raising : List NamedConstraint = raised_flows (loop_atom ∷ named_atoms (raise_atoms own_scope e)) exit_unknowns (raises e) in
+          let third : List NamedConstraint = by_ends (block_ends program body) pc (in_loop (suc n) exit_unknowns) (λ t. block_constraints own_scope true pc t (suc (suc n)) body) in
           let fourth : List NamedConstraint = rule_constraint own_scope at 8 (inner_atom (suc n) ∷ []) (ToLoop f loop) in
           ranged-append first (entry ++ (out ++ (raising ++ (third ++ fourth)))) (ranged-rule at 8 (p ∷ []) (ToLoop f loop) (alone p ok) turn_ok)
           (ranged-append entry (out ++ (raising ++ (third ++ fourth)))
-          (ranged-inner (turn ∷ named_atoms (value_label own_scope e)) n (pc-atoms turn (value_label own_scope e) turn_ok v) made)
-          (ranged-append out (raising ++ (third ++ fourth)) (ranged-flow (pc ∷ []) (takers Normal) (alone pc made) (fit Normal))
+          (ranged-inner (loop_atom ∷ named_atoms (value_label own_scope e)) n (pc-atoms loop_atom (value_label own_scope e) turn_ok v) made)
+          (ranged-append out (raising ++ (third ++ fourth)) (ranged-flow (pc ∷ []) (exit_unknowns Normal) (alone pc made) (fit Normal))
           (ranged-append raising (third ++ fourth)
-          (ranged-raised (turn ∷ named_atoms (raise_atoms own_scope e)) takers (raises e) (pc-atoms turn (raise_atoms own_scope e) turn_ok (raise-ok e v)) fit)
+          (ranged-raised (loop_atom ∷ named_atoms (raise_atoms own_scope e)) exit_unknowns (raises e) (pc-atoms loop_atom (raise_atoms own_scope e) turn_ok (raise-ok e v)) fit)
           (ranged-append third fourth
-          (ranged-by_ends (block_ends program body) pc (in_loop (suc n) takers) (λ t. block_constraints own_scope true pc t (suc (suc n)) body) made (loop-fits (suc n) takers back fit)
+          (ranged-by_ends (block_ends program body) pc (in_loop (suc n) exit_unknowns) (λ t. block_constraints own_scope true pc t (suc (suc n)) body) made (loop-fits (suc n) exit_unknowns back fit)
           (λ t k. ranged-block body true pc t (suc (suc n)) parts.1 (λ l i. loops l (Contains-later loop (block_loops body) l i)) made k (omega (arith, h.0), omega (arith, h.1))))
           (ranged-rule at 8 (inner_atom (suc n) ∷ []) (ToLoop f loop) (alone (inner_atom (suc n)) back) turn_ok)))))
-      ranged-statement (Leave at exit) p takers n fits loops ok fit h = ranged-flow (p ∷ []) (takers exit) (alone p ok) (fit exit)
-      ranged-statement (ReturnWith at (Some e)) p takers n fits loops ok fit h =
+      ranged-statement (Leave at exit) p exit_unknowns n fits loops ok fit h = ranged-flow (p ∷ []) (exit_unknowns exit) (alone p ok) (fit exit)
+      ranged-statement (ReturnWith at (Some e)) p exit_unknowns n fits loops ok fit h =
           let base = result_some own.result (λ base. has_base program own base e) fits in
           let v : JoinInRange (value_label own_scope e) = value-ok base.0 e base.1 in
-          ranged-demanding at 10 p (value_label own_scope e) (raise_atoms own_scope e) (ToValue f) takers Return (raises e) ok v (raise-ok e v) tt fit
-      ranged-statement (ReturnWith at None) p takers n fits loops ok fit h = ranged-flow (p ∷ []) (takers Return) (alone p ok) (fit Return)
-      ranged-statement (Try at block handlers) p takers n fits loops ok fit h =
+          ranged-demanding at 10 p (value_label own_scope e) (raise_atoms own_scope e) (ToValue f) exit_unknowns Return (raises e) ok v (raise-ok e v) tt fit
+      ranged-statement (ReturnWith at None) p exit_unknowns n fits loops ok fit h = ranged-flow (p ∷ []) (exit_unknowns Return) (alone p ok) (fit Return)
+      ranged-statement (Try at block handlers) p exit_unknowns n fits loops ok fit h =
           let parts = and_parts (block_fits program own block) (handlers_fit program own handlers) fits in
           let number : ℕ → ℕ = λ x. handler_number handlers n x in
           let numbers : (x : ℕ) → handles handlers x ≡ true → IsMade (number x) =
@@ -452,46 +452,46 @@ module _ (program : Program) (bound : ℕ) where
           let least : n ≤ handler_number handlers n x = inside.0 in
           let i : handler_number handlers n x < n + handler_count handlers = inside.1 in
           (omega (arith, h.0, least), omega (arith, h.1, i)) in
-          let first : List NamedConstraint = by_ends (block_ends program block) p (in_try number handlers takers) (λ t. block_constraints own_scope true p t (n + handler_count handlers) block) in
-          ranged-append first (handlers_constraints own_scope number takers ((n + handler_count handlers) + made_by_block block) handlers)
-          (ranged-by_ends (block_ends program block) p (in_try number handlers takers) (λ t. block_constraints own_scope true p t (n + handler_count handlers) block) ok (try-fits number handlers takers numbers fit)
+          let first : List NamedConstraint = by_ends (block_ends program block) p (in_try number handlers exit_unknowns) (λ t. block_constraints own_scope true p t (n + handler_count handlers) block) in
+          ranged-append first (handlers_constraints own_scope number exit_unknowns ((n + handler_count handlers) + made_by_block block) handlers)
+          (ranged-by_ends (block_ends program block) p (in_try number handlers exit_unknowns) (λ t. block_constraints own_scope true p t (n + handler_count handlers) block) ok (try-fits number handlers exit_unknowns numbers fit)
           (λ t k. ranged-block block true p t (n + handler_count handlers) parts.0 (loops-left (block_loops block) (handlers_loops handlers) loops) ok k (omega (arith, h.0), omega (arith, h.1))))
-          (ranged-handlers handlers number takers ((n + handler_count handlers) + made_by_block block) parts.1 (loops-right (block_loops block) (handlers_loops handlers) loops) numbers fit (omega (arith, h.0), omega (arith, h.1)))
-      ranged-statement (Nested at block) p takers n fits loops ok fit h =
-          ranged-by_ends (block_ends program block) p takers (λ t. block_constraints own_scope true p t n block) ok fit
+          (ranged-handlers handlers number exit_unknowns ((n + handler_count handlers) + made_by_block block) parts.1 (loops-right (block_loops block) (handlers_loops handlers) loops) numbers fit (omega (arith, h.0), omega (arith, h.1)))
+      ranged-statement (Nested at block) p exit_unknowns n fits loops ok fit h =
+          ranged-by_ends (block_ends program block) p exit_unknowns (λ t. block_constraints own_scope true p t n block) ok fit
           (λ t k. ranged-block block true p t n fits loops ok k h)
 
-      pub ranged-block : (block : Block) (reached : Bool) (p : NamedAtom) (takers : Takers) (n : ℕ) → block_fits program own block ≡ true → LoopsFit (block_loops block) → InRange p → TakersInRange takers →
-          HasRoom n (made_by_block block) → Ranged (block_constraints own_scope reached p takers n block)
-      ranged-block Empty true p takers n fits loops ok fit h = ranged-flow (p ∷ []) (takers Normal) (alone p ok) (fit Normal)
-      ranged-block Empty false p takers n fits loops ok fit h = ranged-nil
-      ranged-block (Then s rest) reached p takers n fits loops ok fit h =
+      pub ranged-block : (block : Block) (reached : Bool) (p : NamedAtom) (exit_unknowns : ExitUnknowns) (n : ℕ) → block_fits program own block ≡ true → LoopsFit (block_loops block) → InRange p → ExitUnknownsInRange exit_unknowns →
+          HasRoom n (made_by_block block) → Ranged (block_constraints own_scope reached p exit_unknowns n block)
+      ranged-block Empty true p exit_unknowns n fits loops ok fit h = ranged-flow (p ∷ []) (exit_unknowns Normal) (alone p ok) (fit Normal)
+      ranged-block Empty false p exit_unknowns n fits loops ok fit h = ranged-nil
+      ranged-block (Then s rest) reached p exit_unknowns n fits loops ok fit h =
           let parts = and_parts (statement_fits program own s) (block_fits program own rest) fits in
           let ends : List Exit = statement_ends program s in
           let made : IsMade n = (omega (arith, h.0), omega (arith, h.1)) in
-          let inside : Takers = with_normal (Some n) takers in
-          let first : List NamedConstraint = single (one_end ends) p (with_normal None takers) ends in
+          let inside : ExitUnknowns = with_normal (Some n) exit_unknowns in
+          let first : List NamedConstraint = single (one_end ends) p (with_normal None exit_unknowns) ends in
           let second : List NamedConstraint = statement_constraints own_scope p (within_single (one_end ends) inside) (suc n) s in
-          let third : List NamedConstraint = block_constraints own_scope (has_end ends Normal) (onward_pc (one_end ends) p n) takers (suc n + made_by_statement s) rest in
+          let third : List NamedConstraint = block_constraints own_scope (has_end ends Normal) (onward_pc (one_end ends) p n) exit_unknowns (suc n + made_by_statement s) rest in
           ranged-append first (second ++ third)
-          (ranged-single (one_end ends) p (with_normal None takers) ends ok (normal-fits None takers (λ k is. let i : None ≡ Some k = is in absurd (cc)) fit))
+          (ranged-single (one_end ends) p (with_normal None exit_unknowns) ends ok (normal-fits None exit_unknowns (λ k is. let i : None ≡ Some k = is in absurd (cc)) fit))
           (ranged-append second third
           (ranged-statement s p (within_single (one_end ends) inside) (suc n) parts.0 (loops-left (statement_loops s) (block_loops rest) loops) ok
-          (within-fits (one_end ends) inside (normal-fits (Some n) takers (λ k is. same-number n k made is) fit)) (omega (arith, h.0), omega (arith, h.1)))
-          (ranged-block rest (has_end ends Normal) (onward_pc (one_end ends) p n) takers (suc n + made_by_statement s) parts.1 (loops-right (statement_loops s) (block_loops rest) loops)
+          (within-fits (one_end ends) inside (normal-fits (Some n) exit_unknowns (λ k is. same-number n k made is) fit)) (omega (arith, h.0), omega (arith, h.1)))
+          (ranged-block rest (has_end ends Normal) (onward_pc (one_end ends) p n) exit_unknowns (suc n + made_by_statement s) parts.1 (loops-right (statement_loops s) (block_loops rest) loops)
           (onward-ok (one_end ends) p n ok made) fit (omega (arith, h.0), omega (arith, h.1))))
 
-      pub ranged-handlers : (handlers : Handlers) (number : ℕ → ℕ) (takers : Takers) (n : ℕ) → handlers_fit program own handlers ≡ true → LoopsFit (handlers_loops handlers) →
-          ((x : ℕ) → handles handlers x ≡ true → IsMade (number x)) → TakersInRange takers → HasRoom n (made_by_handlers handlers) → Ranged (handlers_constraints own_scope number takers n handlers)
-      ranged-handlers NoMore number takers n fits loops numbers fit h = ranged-nil
-      ranged-handlers (Catch at handled body rest) number takers n fits loops numbers fit h =
+      pub ranged-handlers : (handlers : Handlers) (number : ℕ → ℕ) (exit_unknowns : ExitUnknowns) (n : ℕ) → handlers_fit program own handlers ≡ true → LoopsFit (handlers_loops handlers) →
+          ((x : ℕ) → handles handlers x ≡ true → IsMade (number x)) → ExitUnknownsInRange exit_unknowns → HasRoom n (made_by_handlers handlers) → Ranged (handlers_constraints own_scope number exit_unknowns n handlers)
+      ranged-handlers NoMore number exit_unknowns n fits loops numbers fit h = ranged-nil
+      ranged-handlers (Catch at handled body rest) number exit_unknowns n fits loops numbers fit h =
           let outer = and_parts (is_exception program handled && block_fits program own body) (handlers_fit program own rest) fits in
           let inner = and_parts (is_exception program handled) (block_fits program own body) outer.0 in
           let p : NamedAtom = inner_atom (number handled) in
           let ok : IsMade (number handled) = numbers handled (or_left (handled == handled) (handles rest handled) (eq-eqb handled handled refl)) in
-          let first : List NamedConstraint = by_ends (block_ends program body) p takers (λ t. block_constraints own_scope true p t n body) in
-          ranged-append first (handlers_constraints own_scope number takers (n + made_by_block body) rest)
-          (ranged-by_ends (block_ends program body) p takers (λ t. block_constraints own_scope true p t n body) ok fit
+          let first : List NamedConstraint = by_ends (block_ends program body) p exit_unknowns (λ t. block_constraints own_scope true p t n body) in
+          ranged-append first (handlers_constraints own_scope number exit_unknowns (n + made_by_block body) rest)
+          (ranged-by_ends (block_ends program body) p exit_unknowns (λ t. block_constraints own_scope true p t n body) ok fit
           (λ t k. ranged-block body true p t n inner.1 (loops-left (block_loops body) (handlers_loops rest) loops) ok k (omega (arith, h.0), omega (arith, h.1))))
-          (ranged-handlers rest number takers (n + made_by_block body) outer.1 (loops-right (block_loops body) (handlers_loops rest) loops)
+          (ranged-handlers rest number exit_unknowns (n + made_by_block body) outer.1 (loops-right (block_loops body) (handlers_loops rest) loops)
           (λ x i. numbers x (or_right (x == handled) (handles rest x) i)) fit (omega (arith, h.0), omega (arith, h.1)))

@@ -12,8 +12,8 @@ use Rattle.resolved.specs.Labelled.{Scope, label_of}
 use Rattle.resolved.specs.WellFormed.{counts_from, block_loops, well_formed}
 use Rattle.resolved.proofs.WellFormedParts.{ProcedureParts, procedure_there}
 use Rattle.gathering.specs.Names.{Real, NamedAtom, NamedConstraint, real_unknowns}
-use Rattle.gathering.specs.Walk.{inner_atom, rule_constraint, nowhere, thrown_number, declares, at_end, has_one_end, end_takers, inner_block, block_constraints, thrown_constraints, end_constraints, procedure_constraints, made_by_procedure, constraints_from, program_constraints, made_from, unknown_count}
-use Rattle.gathering.proofs.Ranged.{IsMade, HasRoom, Ranged, TakersInRange, nowhere-fits, end-fits, alone, ranged-nil, ranged-append, thrown-inside, own_scope, own, ranged-rule, ranged-by_ends, ranged-block}
+use Rattle.gathering.specs.Walk.{inner_atom, rule_constraint, nowhere, thrown_number, declares, at_end, has_one_end, end_exit_unknowns, inner_block, block_constraints, thrown_constraints, end_constraints, procedure_constraints, made_by_procedure, constraints_from, program_constraints, made_from, unknown_count}
+use Rattle.gathering.proofs.Ranged.{IsMade, HasRoom, Ranged, ExitUnknownsInRange, nowhere-fits, end-fits, alone, ranged-nil, ranged-append, thrown-inside, own_scope, own, ranged-rule, ranged-by_ends, ranged-block}
 
 -- numbers that count up from n
 counts-below : (xs : List ℕ) (n : ℕ) → counts_from n xs ≡ true → (l : ℕ) → Contains xs l → l < n + length xs
@@ -65,10 +65,10 @@ module _ (program : Program) (bound : ℕ) where
             let i : thrown_number throws (suc n) x < suc n + length throws = inside.1 in
             (omega (arith, h.0, least), omega (arith, h.1, i))))
 
-    end_takers-fit : (n : ℕ) → HasRoom program bound n (suc (length (own program bound f there).throws)) → TakersInRange program bound (end_takers (own_scope program bound f there) n)
-    end_takers-fit n h = go (has_one_end (own_scope program bound f there))
+    end_exit_unknowns-fit : (n : ℕ) → HasRoom program bound n (suc (length (own program bound f there).throws)) → ExitUnknownsInRange program bound (end_exit_unknowns (own_scope program bound f there) n)
+    end_exit_unknowns-fit n h = go (has_one_end (own_scope program bound f there))
       where
-        go : (b : Bool) → TakersInRange program bound (if b then nowhere else at_end n (own program bound f there).throws)
+        go : (b : Bool) → ExitUnknownsInRange program bound (if b then nowhere else at_end n (own program bound f there).throws)
         go true = nowhere-fits program bound
         go false = end-fits program bound (own program bound f there).throws n h
 
@@ -80,8 +80,8 @@ module _ (program : Program) (bound : ℕ) where
         let pc : NamedAtom = renamed Real (label_of program (ToBegin f)) in
         let m : ℕ = suc n + length procedure.throws in
         let ended : HasRoom program bound n (suc (length procedure.throws)) = (omega (arith, h.0), omega (arith, h.1)) in
-        ranged-append program bound (inner_block scope pc (end_takers scope n) m procedure.body) (end_constraints scope n)
-        (ranged-by_ends program bound f there (block_ends program procedure.body) pc (end_takers scope n) (λ t. block_constraints scope true pc t m procedure.body) tt (end_takers-fit n ended)
+        ranged-append program bound (inner_block scope pc (end_exit_unknowns scope n) m procedure.body) (end_constraints scope n)
+        (ranged-by_ends program bound f there (block_ends program procedure.body) pc (end_exit_unknowns scope n) (λ t. block_constraints scope true pc t m procedure.body) tt (end_exit_unknowns-fit n ended)
         (λ t k. ranged-block program bound f there procedure.body true pc t m parts.body_fits (loops-fit program procedure parts) tt k (omega (arith, h.0), omega (arith, h.1))))
         (ranged-ends n ended)
 

@@ -21,7 +21,7 @@ abbrev mutual
   Part program (Receive at channel target) = Unit {0}
   Part program (Send at channel e) = Unit {0}
   Part program (Call at procedure arguments target) = Unit {0}
-  Part program (If at e yes_block no_block) = PartIn program yes_block × PartIn program no_block
+  Part program (If at e then_block else_block) = PartIn program then_block × PartIn program else_block
   Part program (While at loop e body) = PartIn program body
   Part program (Leave at exit) = Unit {0}
   Part program (ReturnWith at value) = Unit {0}
@@ -46,9 +46,9 @@ module _ (scope : Scope) (m : ℕ → Join) where
     Agrees n pc (Receive at channel target) = Unit {0}
     Agrees n pc (Send at channel e) = Unit {0}
     Agrees n pc (Call at procedure arguments target) = m n ≡ (pc ++ raise_labels scope arguments)
-    Agrees n pc (If at e yes_block no_block) =
+    Agrees n pc (If at e then_block else_block) =
         let branch : Join = (pc ++ raise_label scope e) ++ value_label scope e in
-        (m n ≡ branch) × AgreesIn (suc n) branch yes_block × AgreesIn (suc n + made_by_block yes_block) branch no_block
+        (m n ≡ branch) × AgreesIn (suc n) branch then_block × AgreesIn (suc n + made_by_block then_block) branch else_block
     Agrees n pc (While at loop e body) =
         let b : Join = (one (label_of scope.program (ToLoop scope.number loop)) ++ raise_label scope e) ++ value_label scope e in
         (m n ≡ b) × (m (suc n) ≡ (block_exits scope b body Normal ++ block_exits scope b body Continue)) × AgreesIn (suc (suc n)) b body

@@ -19,7 +19,7 @@ use Rattle.resolved.specs.Labelled.{Scope, here, Join, one, label_of, value_labe
 use Rattle.resolved.specs.WellFormed.{expression_nodes, statement_nodes, block_nodes, handlers_nodes, procedure_nodes, program_nodes}
 use Rattle.resolved.proofs.WellFormedParts.{procedure_at_is}
 use Rattle.gathering.specs.Names.{Real, NamedAtom, NamedConstraint, named_atoms, numbered, real_unknowns}
-use Rattle.gathering.specs.Walk.{inner_atom, rule_constraint, target_constraint, Takers, with_normal, in_loop, handler_count, handler_number, in_try, thrown_number, flow, flows, raised_once, raised_flows, single, within_single, by_ends, inner_block, onward_pc, raise_atoms, raise_atoms_all, store_atoms, call_atoms, made_by_statement, made_by_block, made_by_procedure, argument_constraints, call_flows, call_ends, call_constraints, statement_constraints, block_constraints, handlers_constraints, has_one_end, end_takers, thrown_constraints, end_constraints, procedure_constraints, constraints_from, program_constraints, gathered_constraints}
+use Rattle.gathering.specs.Walk.{inner_atom, rule_constraint, target_constraint, ExitUnknowns, with_normal, in_loop, handler_count, handler_number, in_try, thrown_number, flow, flows, raised_once, raised_flows, single, within_single, by_ends, inner_block, onward_pc, raise_atoms, raise_atoms_all, store_atoms, call_atoms, made_by_statement, made_by_block, made_by_procedure, argument_constraints, call_flows, call_ends, call_constraints, statement_constraints, block_constraints, handlers_constraints, has_one_end, end_exit_unknowns, thrown_constraints, end_constraints, procedure_constraints, constraints_from, program_constraints, gathered_constraints}
 use Rattle.gathering.specs.Size.{size_of, declared_at, declared_in, declared_under, declared_at_calls}
 
 size-append : (xs ys : List NamedConstraint) → size_of (xs ++ ys) ≡ size_of xs + size_of ys
@@ -81,58 +81,58 @@ flow-size : (left : List NamedAtom) (o : Option ℕ) → size_of (flow left o) �
 flow-size left None = omega arith
 flow-size left (Some k) = omega arith
 
-flows-size : (left : List NamedAtom) (takers : Takers) (ends : List Exit) → length ends ≤ 2 → size_of (flows left takers ends) ≤ 2 * suc (length left)
-flows-size left takers [] h = omega arith
-flows-size left takers (a ∷ []) h =
-    let i : size_of (flow left (takers a)) ≤ suc (length left) = flow-size left (takers a) in
-    let s : size_of (flow left (takers a) ++ []) ≡ size_of (flow left (takers a)) + 0 = size-append (flow left (takers a)) [] in
+flows-size : (left : List NamedAtom) (exit_unknowns : ExitUnknowns) (ends : List Exit) → length ends ≤ 2 → size_of (flows left exit_unknowns ends) ≤ 2 * suc (length left)
+flows-size left exit_unknowns [] h = omega arith
+flows-size left exit_unknowns (a ∷ []) h =
+    let i : size_of (flow left (exit_unknowns a)) ≤ suc (length left) = flow-size left (exit_unknowns a) in
+    let s : size_of (flow left (exit_unknowns a) ++ []) ≡ size_of (flow left (exit_unknowns a)) + 0 = size-append (flow left (exit_unknowns a)) [] in
     omega (arith, i, s)
-flows-size left takers (a ∷ b ∷ []) h =
-    let i : size_of (flow left (takers a)) ≤ suc (length left) = flow-size left (takers a) in
-    let j : size_of (flow left (takers b)) ≤ suc (length left) = flow-size left (takers b) in
-    let s : size_of (flow left (takers a) ++ (flow left (takers b) ++ [])) ≡ size_of (flow left (takers a)) + size_of (flow left (takers b) ++ []) = size-append (flow left (takers a)) (flow left (takers b) ++ []) in
-    let t : size_of (flow left (takers b) ++ []) ≡ size_of (flow left (takers b)) + 0 = size-append (flow left (takers b)) [] in
+flows-size left exit_unknowns (a ∷ b ∷ []) h =
+    let i : size_of (flow left (exit_unknowns a)) ≤ suc (length left) = flow-size left (exit_unknowns a) in
+    let j : size_of (flow left (exit_unknowns b)) ≤ suc (length left) = flow-size left (exit_unknowns b) in
+    let s : size_of (flow left (exit_unknowns a) ++ (flow left (exit_unknowns b) ++ [])) ≡ size_of (flow left (exit_unknowns a)) + size_of (flow left (exit_unknowns b) ++ []) = size-append (flow left (exit_unknowns a)) (flow left (exit_unknowns b) ++ []) in
+    let t : size_of (flow left (exit_unknowns b) ++ []) ≡ size_of (flow left (exit_unknowns b)) + 0 = size-append (flow left (exit_unknowns b)) [] in
     omega (arith, i, j, s, t)
-flows-size left takers (a ∷ b ∷ c ∷ rest) h = absurd (omega (arith, h))
+flows-size left exit_unknowns (a ∷ b ∷ c ∷ rest) h = absurd (omega (arith, h))
 
 once-length : (raised : List ℕ) → length (raised_once raised) ≤ 2
 once-length raised = filtered_length (λ x. list_any (λ y. x == y) raised) (ARITH ∷ BOUNDS ∷ [])
 
-raised-size : (left : List NamedAtom) (takers : Takers) (raised : List ℕ) → size_of (raised_flows left takers raised) ≤ 2 * suc (length left)
-raised-size left takers raised =
+raised-size : (left : List NamedAtom) (exit_unknowns : ExitUnknowns) (raised : List ℕ) → size_of (raised_flows left exit_unknowns raised) ≤ 2 * suc (length left)
+raised-size left exit_unknowns raised =
     let i : length (raised_once raised) ≤ 2 = once-length raised in
     let e : length (thrown_ends (raised_once raised)) ≡ length (raised_once raised) = length-map (raised_once raised) (λ exception. Throw exception) in
-    flows-size left takers (thrown_ends (raised_once raised)) (omega (arith, i, e))
+    flows-size left exit_unknowns (thrown_ends (raised_once raised)) (omega (arith, i, e))
 
-own-size : (q : List NamedAtom) (takers : Takers) (first : Exit) (raised : List ℕ) → size_of (flow q (takers first) ++ raised_flows q takers raised) ≤ 3 * suc (length q)
-own-size q takers first raised =
-    let i : size_of (flow q (takers first)) ≤ suc (length q) = flow-size q (takers first) in
-    let j : size_of (raised_flows q takers raised) ≤ 2 * suc (length q) = raised-size q takers raised in
-    let s : size_of (flow q (takers first) ++ raised_flows q takers raised) ≡ size_of (flow q (takers first)) + size_of (raised_flows q takers raised) = size-append (flow q (takers first)) (raised_flows q takers raised) in
+own-size : (q : List NamedAtom) (exit_unknowns : ExitUnknowns) (first : Exit) (raised : List ℕ) → size_of (flow q (exit_unknowns first) ++ raised_flows q exit_unknowns raised) ≤ 3 * suc (length q)
+own-size q exit_unknowns first raised =
+    let i : size_of (flow q (exit_unknowns first)) ≤ suc (length q) = flow-size q (exit_unknowns first) in
+    let j : size_of (raised_flows q exit_unknowns raised) ≤ 2 * suc (length q) = raised-size q exit_unknowns raised in
+    let s : size_of (flow q (exit_unknowns first) ++ raised_flows q exit_unknowns raised) ≡ size_of (flow q (exit_unknowns first)) + size_of (raised_flows q exit_unknowns raised) = size-append (flow q (exit_unknowns first)) (raised_flows q exit_unknowns raised) in
     omega (arith, i, j, s)
 
-single-size : (b : Bool) (p : NamedAtom) (takers : Takers) (ends : List Exit) → size_of (single b p takers ends) ≤ 2
-single-size false p takers ends = omega arith
-single-size true p takers [] = omega arith
-single-size true p takers (e ∷ rest) = let i : size_of (flow (p ∷ []) (takers e)) ≤ suc (suc zero) = flow-size (p ∷ []) (takers e) in omega (arith, i)
+single-size : (b : Bool) (p : NamedAtom) (exit_unknowns : ExitUnknowns) (ends : List Exit) → size_of (single b p exit_unknowns ends) ≤ 2
+single-size false p exit_unknowns ends = omega arith
+single-size true p exit_unknowns [] = omega arith
+single-size true p exit_unknowns (e ∷ rest) = let i : size_of (flow (p ∷ []) (exit_unknowns e)) ≤ suc (suc zero) = flow-size (p ∷ []) (exit_unknowns e) in omega (arith, i)
 
 -- a block of its own, by the size of its statements
-by_ends-size : (ends : List Exit) (p : NamedAtom) (takers : Takers) (walked : Takers → List NamedConstraint) (n : ℕ) → ((t : Takers) → size_of (walked t) ≤ n) → size_of (by_ends ends p takers walked) ≤ 2 + n
-by_ends-size ends p takers walked n each =
-    let t : Takers = within_single (one_end ends) takers in
-    let i : size_of (single (one_end ends) p takers ends) ≤ 2 = single-size (one_end ends) p takers ends in
+by_ends-size : (ends : List Exit) (p : NamedAtom) (exit_unknowns : ExitUnknowns) (walked : ExitUnknowns → List NamedConstraint) (n : ℕ) → ((t : ExitUnknowns) → size_of (walked t) ≤ n) → size_of (by_ends ends p exit_unknowns walked) ≤ 2 + n
+by_ends-size ends p exit_unknowns walked n each =
+    let t : ExitUnknowns = within_single (one_end ends) exit_unknowns in
+    let i : size_of (single (one_end ends) p exit_unknowns ends) ≤ 2 = single-size (one_end ends) p exit_unknowns ends in
     let j : size_of (walked t) ≤ n = each t in
-    let s : size_of (single (one_end ends) p takers ends ++ walked t) ≡ size_of (single (one_end ends) p takers ends) + size_of (walked t) = size-append (single (one_end ends) p takers ends) (walked t) in
+    let s : size_of (single (one_end ends) p exit_unknowns ends ++ walked t) ≡ size_of (single (one_end ends) p exit_unknowns ends) + size_of (walked t) = size-append (single (one_end ends) p exit_unknowns ends) (walked t) in
     omega (arith, i, j, s)
 
 module _ (scope : Scope) where
   -- a statement with one demand, and its ends
-  demanding-size : (at rule : ℕ) (p : NamedAtom) (left q : Join) (target : Target) (takers : Takers) (first : Exit) (raised : List ℕ) (n : ℕ) → length left ≤ n → length q ≤ n →
-      size_of (rule_constraint scope at rule (p ∷ named_atoms left) target ++ (flow (p ∷ named_atoms q) (takers first) ++ raised_flows (p ∷ named_atoms q) takers raised)) ≤ 8 + 4 * n
-  demanding-size at rule p left q target takers first raised n h k =
+  demanding-size : (at rule : ℕ) (p : NamedAtom) (left q : Join) (target : Target) (exit_unknowns : ExitUnknowns) (first : Exit) (raised : List ℕ) (n : ℕ) → length left ≤ n → length q ≤ n →
+      size_of (rule_constraint scope at rule (p ∷ named_atoms left) target ++ (flow (p ∷ named_atoms q) (exit_unknowns first) ++ raised_flows (p ∷ named_atoms q) exit_unknowns raised)) ≤ 8 + 4 * n
+  demanding-size at rule p left q target exit_unknowns first raised n h k =
       let own : List NamedAtom = p ∷ named_atoms q in
-      let out : List NamedConstraint = flow own (takers first) ++ raised_flows own takers raised in
-      let i : size_of out ≤ 3 * suc (suc (length (named_atoms q))) = own-size own takers first raised in
+      let out : List NamedConstraint = flow own (exit_unknowns first) ++ raised_flows own exit_unknowns raised in
+      let i : size_of out ≤ 3 * suc (suc (length (named_atoms q))) = own-size own exit_unknowns first raised in
       let l : length (named_atoms left) ≡ length left = named-length left in
       let m : length (named_atoms q) ≡ length q = named-length q in
       omega (arith, i, l, m, h, k)
@@ -153,15 +153,15 @@ module _ (scope : Scope) where
   call_atoms-length callee Continue = omega arith
   call_atoms-length callee (Throw x) = omega arith
 
-  call_flows-size : (callee n : ℕ) (takers : Takers) (ends : List Exit) → size_of (call_flows scope.program callee n takers ends) ≤ 3 * length ends
-  call_flows-size callee n takers [] = omega arith
-  call_flows-size callee n takers (e ∷ rest) =
+  call_flows-size : (callee n : ℕ) (exit_unknowns : ExitUnknowns) (ends : List Exit) → size_of (call_flows scope.program callee n exit_unknowns ends) ≤ 3 * length ends
+  call_flows-size callee n exit_unknowns [] = omega arith
+  call_flows-size callee n exit_unknowns (e ∷ rest) =
       let left : List NamedAtom = inner_atom n ∷ named_atoms (call_atoms scope.program callee e) in
-      let i : size_of (flow left (takers e)) ≤ suc (suc (length (named_atoms (call_atoms scope.program callee e)))) = flow-size left (takers e) in
+      let i : size_of (flow left (exit_unknowns e)) ≤ suc (suc (length (named_atoms (call_atoms scope.program callee e)))) = flow-size left (exit_unknowns e) in
       let l : length (named_atoms (call_atoms scope.program callee e)) ≡ length (call_atoms scope.program callee e) = named-length (call_atoms scope.program callee e) in
       let k : length (call_atoms scope.program callee e) ≤ 1 = call_atoms-length callee e in
-      let j : size_of (call_flows scope.program callee n takers rest) ≤ 3 * length rest = call_flows-size callee n takers rest in
-      let s : size_of (flow left (takers e) ++ call_flows scope.program callee n takers rest) ≡ size_of (flow left (takers e)) + size_of (call_flows scope.program callee n takers rest) = size-append (flow left (takers e)) (call_flows scope.program callee n takers rest) in
+      let j : size_of (call_flows scope.program callee n exit_unknowns rest) ≤ 3 * length rest = call_flows-size callee n exit_unknowns rest in
+      let s : size_of (flow left (exit_unknowns e) ++ call_flows scope.program callee n exit_unknowns rest) ≡ size_of (flow left (exit_unknowns e)) + size_of (call_flows scope.program callee n exit_unknowns rest) = size-append (flow left (exit_unknowns e)) (call_flows scope.program callee n exit_unknowns rest) in
       omega (arith, i, l, k, j, s)
 
   abbrev nodes_of : List Expression → ℕ
@@ -194,9 +194,9 @@ module _ (scope : Scope) where
       let k : length (raise_atoms scope e ++ raise_atoms_all scope rest) ≡ length (raise_atoms scope e) + length (raise_atoms_all scope rest) = length-append (raise_atoms scope e) (raise_atoms_all scope rest) in
       omega (arith, i, j, k)
 
-  pub call-size : (p : NamedAtom) (takers : Takers) (n at callee : ℕ) (arguments : List Expression) (target : Option Variable) →
-      size_of (call_constraints scope p takers n at callee arguments target) ≤ 17 + (4 * nodes_of arguments + 3 * length (procedure_at scope.program callee).throws)
-  call-size p takers n at callee arguments target =
+  pub call-size : (p : NamedAtom) (exit_unknowns : ExitUnknowns) (n at callee : ℕ) (arguments : List Expression) (target : Option Variable) →
+      size_of (call_constraints scope p exit_unknowns n at callee arguments target) ≤ 17 + (4 * nodes_of arguments + 3 * length (procedure_at scope.program callee).throws)
+  call-size p exit_unknowns n at callee arguments target =
       let throws : List ThrownEntry = (procedure_at scope.program callee).throws in
       let x : Join = call_atoms scope.program callee Normal in
       let v : Join = one (label_of scope.program (ToValue callee)) in
@@ -204,7 +204,7 @@ module _ (scope : Scope) where
       let ends : List Exit = call_ends scope.program callee arguments in
       let second : List NamedConstraint = argument_constraints scope at n callee 0 arguments in
       let third : List NamedConstraint = target_constraint scope at 6 given target in
-      let fourth : List NamedConstraint = call_flows scope.program callee n takers ends in
+      let fourth : List NamedConstraint = call_flows scope.program callee n exit_unknowns ends in
       let a : length (named_atoms (raise_atoms_all scope arguments)) ≡ length (raise_atoms_all scope arguments) = named-length (raise_atoms_all scope arguments) in
       let b : length (raise_atoms_all scope arguments) ≤ nodes_of arguments = raise_all-length arguments in
       let c : size_of second ≤ 3 * nodes_of arguments = arguments-size at n callee 0 arguments in
@@ -212,7 +212,7 @@ module _ (scope : Scope) where
       let e : length (named_atoms (x ++ v)) ≡ length (x ++ v) = named-length (x ++ v) in
       let f : length (x ++ v) ≡ length x + 1 = length-append x v in
       let g : length x ≤ 1 = call_atoms-length callee Normal in
-      let h : size_of fourth ≤ 3 * length ends = call_flows-size callee n takers ends in
+      let h : size_of fourth ≤ 3 * length ends = call_flows-size callee n exit_unknowns ends in
       let raised : List ℕ = raised_once (raises_all arguments) in
       let i : length (raised ++ declared_by throws) ≡ length raised + length (declared_by throws) = length-append raised (declared_by throws) in
       let j : length (declared_by throws) ≡ length throws = length-map throws (λ (entry : ThrownEntry). entry.exception) in
@@ -225,14 +225,14 @@ module _ (scope : Scope) where
 
   -- ---- statements, of which each has two more in its block
   mutual
-    statement-size : (s : Statement) (p : NamedAtom) (takers : Takers) (n : ℕ) → size_of (statement_constraints scope p takers n s) + 2 ≤ 20 * statement_nodes s + 3 * declared_at scope.program s
-    statement-size (Assign at x e) p takers n =
-        let i : size_of (statement_constraints scope p takers n (Assign at x e)) ≤ 8 + 4 * expression_nodes e =
-        demanding-size at 1 p (value_label scope e) (raise_atoms scope e) (ToVariable scope.number x) takers Normal (raises e) (expression_nodes e) (value-length scope e) (raise-length scope e) in
+    statement-size : (s : Statement) (p : NamedAtom) (exit_unknowns : ExitUnknowns) (n : ℕ) → size_of (statement_constraints scope p exit_unknowns n s) + 2 ≤ 20 * statement_nodes s + 3 * declared_at scope.program s
+    statement-size (Assign at x e) p exit_unknowns n =
+        let i : size_of (statement_constraints scope p exit_unknowns n (Assign at x e)) ≤ 8 + 4 * expression_nodes e =
+        demanding-size at 1 p (value_label scope e) (raise_atoms scope e) (ToVariable scope.number x) exit_unknowns Normal (raises e) (expression_nodes e) (value-length scope e) (raise-length scope e) in
         omega (arith, i)
-    statement-size (Clear at slot) p takers n =
-        let i : size_of (flow (p ∷ []) (takers Normal)) ≤ suc (suc zero) = flow-size (p ∷ []) (takers Normal) in omega (arith, i)
-    statement-size (Store at array len index e) p takers n =
+    statement-size (Clear at slot) p exit_unknowns n =
+        let i : size_of (flow (p ∷ []) (exit_unknowns Normal)) ≤ suc (suc zero) = flow-size (p ∷ []) (exit_unknowns Normal) in omega (arith, i)
+    statement-size (Store at array len index e) p exit_unknowns n =
         let x : Join = if index_can_raise index len then value_label scope index else raise_atoms scope index in
         let nodes : ℕ = expression_nodes index + expression_nodes e in
         let a : length (value_label scope index) ≤ expression_nodes index = value-length scope index in
@@ -241,116 +241,116 @@ module _ (scope : Scope) where
         let d : length x ≤ expression_nodes index = if-length scope (index_can_raise index len) (value_label scope index) (raise_atoms scope index) (expression_nodes index) a (raise-length scope index) in
         let f : length (raise_atoms scope e) ≤ expression_nodes e = raise-length scope e in
         let g : length (x ++ raise_atoms scope e) ≡ length x + length (raise_atoms scope e) = length-append x (raise_atoms scope e) in
-        let i : size_of (statement_constraints scope p takers n (Store at array len index e)) ≤ 8 + 4 * nodes =
-        demanding-size at 3 p (value_label scope index ++ value_label scope e) (store_atoms scope len index e) (ToVariable scope.number array) takers Normal (raises index ++ raises e ++ index_raises index len) nodes
+        let i : size_of (statement_constraints scope p exit_unknowns n (Store at array len index e)) ≤ 8 + 4 * nodes =
+        demanding-size at 3 p (value_label scope index ++ value_label scope e) (store_atoms scope len index e) (ToVariable scope.number array) exit_unknowns Normal (raises index ++ raises e ++ index_raises index len) nodes
         (omega (arith, a, b, c)) (omega (arith, d, f, g)) in
         omega (arith, i)
-    statement-size (Receive at channel target) p takers n =
+    statement-size (Receive at channel target) p exit_unknowns n =
         let q : List NamedAtom = p ∷ named_atoms (one (label_of scope.program (ToChannel channel))) in
-        let third : List NamedConstraint = flow q (takers Normal) in
-        let fourth : List NamedConstraint = flow q (takers (Throw END)) in
+        let third : List NamedConstraint = flow q (exit_unknowns Normal) in
+        let fourth : List NamedConstraint = flow q (exit_unknowns (Throw END)) in
         let second : List NamedConstraint = target_constraint scope at 4 q target in
         let i : size_of second ≤ 3 = target-size at 4 q target in
-        let j : size_of third ≤ 3 = flow-size q (takers Normal) in
-        let k : size_of fourth ≤ 3 = flow-size q (takers (Throw END)) in
+        let j : size_of third ≤ 3 = flow-size q (exit_unknowns Normal) in
+        let k : size_of fourth ≤ 3 = flow-size q (exit_unknowns (Throw END)) in
         let s : size_of (second ++ (third ++ fourth)) ≡ size_of second + size_of (third ++ fourth) = size-append second (third ++ fourth) in
         let t : size_of (third ++ fourth) ≡ size_of third + size_of fourth = size-append third fourth in
         omega (arith, i, j, k, s, t)
-    statement-size (Send at channel e) p takers n =
-        let i : size_of (statement_constraints scope p takers n (Send at channel e)) ≤ 8 + 4 * expression_nodes e =
-        demanding-size at 5 p (value_label scope e) (raise_atoms scope e) (ToChannel channel) takers Normal (raises e) (expression_nodes e) (value-length scope e) (raise-length scope e) in
+    statement-size (Send at channel e) p exit_unknowns n =
+        let i : size_of (statement_constraints scope p exit_unknowns n (Send at channel e)) ≤ 8 + 4 * expression_nodes e =
+        demanding-size at 5 p (value_label scope e) (raise_atoms scope e) (ToChannel channel) exit_unknowns Normal (raises e) (expression_nodes e) (value-length scope e) (raise-length scope e) in
         omega (arith, i)
-    statement-size (Call at callee arguments target) p takers n =
-        let i : size_of (call_constraints scope p takers n at callee arguments target) ≤ 17 + (4 * nodes_of arguments + 3 * length (procedure_at scope.program callee).throws) = call-size p takers n at callee arguments target in
+    statement-size (Call at callee arguments target) p exit_unknowns n =
+        let i : size_of (call_constraints scope p exit_unknowns n at callee arguments target) ≤ 17 + (4 * nodes_of arguments + 3 * length (procedure_at scope.program callee).throws) = call-size p exit_unknowns n at callee arguments target in
         let j : nodes_of arguments ≡ sum_by expression_nodes arguments = is_sum_by nodes_of expression_nodes refl (λ x xs. refl) arguments in
         omega (arith, i, j)
-    statement-size (If at e yes_block no_block) p takers n =
+    statement-size (If at e then_block else_block) p exit_unknowns n =
         let pc : NamedAtom = inner_atom n in
-        let second : List NamedConstraint = raised_flows (p ∷ named_atoms (raise_atoms scope e)) takers (raises e) in
-        let third : List NamedConstraint = by_ends (block_ends scope.program yes_block) pc takers (λ t. block_constraints scope true pc t (suc n) yes_block) in
-        let fourth : List NamedConstraint = by_ends (block_ends scope.program no_block) pc takers (λ t. block_constraints scope true pc t (suc n + made_by_block yes_block) no_block) in
-        let yes : ℕ = 2 + (20 * block_nodes yes_block + 3 * declared_in scope.program yes_block) in
-        let no : ℕ = 2 + (20 * block_nodes no_block + 3 * declared_in scope.program no_block) in
+        let second : List NamedConstraint = raised_flows (p ∷ named_atoms (raise_atoms scope e)) exit_unknowns (raises e) in
+        let third : List NamedConstraint = by_ends (block_ends scope.program then_block) pc exit_unknowns (λ t. block_constraints scope true pc t (suc n) then_block) in
+        let fourth : List NamedConstraint = by_ends (block_ends scope.program else_block) pc exit_unknowns (λ t. block_constraints scope true pc t (suc n + made_by_block then_block) else_block) in
+        let yes : ℕ = 2 + (20 * block_nodes then_block + 3 * declared_in scope.program then_block) in
+        let no : ℕ = 2 + (20 * block_nodes else_block + 3 * declared_in scope.program else_block) in
         let a : length (named_atoms (value_label scope e)) ≡ length (value_label scope e) = named-length (value_label scope e) in
         let b : length (value_label scope e) ≤ expression_nodes e = value-length scope e in
         let c : length (named_atoms (raise_atoms scope e)) ≡ length (raise_atoms scope e) = named-length (raise_atoms scope e) in
         let d : length (raise_atoms scope e) ≤ expression_nodes e = raise-length scope e in
-        let i : size_of second ≤ 2 * suc (suc (length (named_atoms (raise_atoms scope e)))) = raised-size (p ∷ named_atoms (raise_atoms scope e)) takers (raises e) in
-        let j : size_of third ≤ 2 + yes = by_ends-size (block_ends scope.program yes_block) pc takers (λ t. block_constraints scope true pc t (suc n) yes_block) yes (λ t. block-size yes_block true pc t (suc n)) in
-        let k : size_of fourth ≤ 2 + no = by_ends-size (block_ends scope.program no_block) pc takers (λ t. block_constraints scope true pc t (suc n + made_by_block yes_block) no_block) no
-        (λ t. block-size no_block true pc t (suc n + made_by_block yes_block)) in
+        let i : size_of second ≤ 2 * suc (suc (length (named_atoms (raise_atoms scope e)))) = raised-size (p ∷ named_atoms (raise_atoms scope e)) exit_unknowns (raises e) in
+        let j : size_of third ≤ 2 + yes = by_ends-size (block_ends scope.program then_block) pc exit_unknowns (λ t. block_constraints scope true pc t (suc n) then_block) yes (λ t. block-size then_block true pc t (suc n)) in
+        let k : size_of fourth ≤ 2 + no = by_ends-size (block_ends scope.program else_block) pc exit_unknowns (λ t. block_constraints scope true pc t (suc n + made_by_block then_block) else_block) no
+        (λ t. block-size else_block true pc t (suc n + made_by_block then_block)) in
         let s : size_of (second ++ (third ++ fourth)) ≡ size_of second + size_of (third ++ fourth) = size-append second (third ++ fourth) in
         let t : size_of (third ++ fourth) ≡ size_of third + size_of fourth = size-append third fourth in
         omega (arith, a, b, c, d, i, j, k, s, t)
-    statement-size (While at loop e body) p takers n =
+    statement-size (While at loop e body) p exit_unknowns n =
         let pc : NamedAtom = inner_atom n in
-        let turn : NamedAtom = renamed Real (label_of scope.program (ToLoop scope.number loop)) in
-        let out : List NamedConstraint = flow (pc ∷ []) (takers Normal) in
-        let raising : List NamedConstraint = raised_flows (turn ∷ named_atoms (raise_atoms scope e)) takers (raises e) in
-        let third : List NamedConstraint = by_ends (block_ends scope.program body) pc (in_loop (suc n) takers) (λ t. block_constraints scope true pc t (suc (suc n)) body) in
+        let loop_atom : NamedAtom = renamed Real (label_of scope.program (ToLoop scope.number loop)) in
+        let out : List NamedConstraint = flow (pc ∷ []) (exit_unknowns Normal) in
+        let raising : List NamedConstraint = raised_flows (loop_atom ∷ named_atoms (raise_atoms scope e)) exit_unknowns (raises e) in
+        let third : List NamedConstraint = by_ends (block_ends scope.program body) pc (in_loop (suc n) exit_unknowns) (λ t. block_constraints scope true pc t (suc (suc n)) body) in
         let fourth : List NamedConstraint = rule_constraint scope at 8 (inner_atom (suc n) ∷ []) (ToLoop scope.number loop) in
         let within : ℕ = 2 + (20 * block_nodes body + 3 * declared_in scope.program body) in
         let a : length (named_atoms (value_label scope e)) ≡ length (value_label scope e) = named-length (value_label scope e) in
         let b : length (value_label scope e) ≤ expression_nodes e = value-length scope e in
         let c : length (named_atoms (raise_atoms scope e)) ≡ length (raise_atoms scope e) = named-length (raise_atoms scope e) in
         let d : length (raise_atoms scope e) ≤ expression_nodes e = raise-length scope e in
-        let h : size_of out ≤ 2 = flow-size (pc ∷ []) (takers Normal) in
-        let i : size_of raising ≤ 2 * suc (suc (length (named_atoms (raise_atoms scope e)))) = raised-size (turn ∷ named_atoms (raise_atoms scope e)) takers (raises e) in
-        let j : size_of third ≤ 2 + within = by_ends-size (block_ends scope.program body) pc (in_loop (suc n) takers) (λ t. block_constraints scope true pc t (suc (suc n)) body) within
+        let h : size_of out ≤ 2 = flow-size (pc ∷ []) (exit_unknowns Normal) in
+        let i : size_of raising ≤ 2 * suc (suc (length (named_atoms (raise_atoms scope e)))) = raised-size (loop_atom ∷ named_atoms (raise_atoms scope e)) exit_unknowns (raises e) in
+        let j : size_of third ≤ 2 + within = by_ends-size (block_ends scope.program body) pc (in_loop (suc n) exit_unknowns) (λ t. block_constraints scope true pc t (suc (suc n)) body) within
         (λ t. block-size body true pc t (suc (suc n))) in
         let s : size_of (out ++ (raising ++ (third ++ fourth))) ≡ size_of out + size_of (raising ++ (third ++ fourth)) = size-append out (raising ++ (third ++ fourth)) in
         let t : size_of (raising ++ (third ++ fourth)) ≡ size_of raising + size_of (third ++ fourth) = size-append raising (third ++ fourth) in
         let u : size_of (third ++ fourth) ≡ size_of third + 2 = size-append third fourth in
         omega (arith, a, b, c, d, h, i, j, s, t, u)
-    statement-size (Leave at exit) p takers n = let i : size_of (flow (p ∷ []) (takers exit)) ≤ 2 = flow-size (p ∷ []) (takers exit) in omega (arith, i)
-    statement-size (ReturnWith at (Some e)) p takers n =
-        let i : size_of (statement_constraints scope p takers n (ReturnWith at (Some e))) ≤ 8 + 4 * expression_nodes e =
-        demanding-size at 10 p (value_label scope e) (raise_atoms scope e) (ToValue scope.number) takers Return (raises e) (expression_nodes e) (value-length scope e) (raise-length scope e) in
+    statement-size (Leave at exit) p exit_unknowns n = let i : size_of (flow (p ∷ []) (exit_unknowns exit)) ≤ 2 = flow-size (p ∷ []) (exit_unknowns exit) in omega (arith, i)
+    statement-size (ReturnWith at (Some e)) p exit_unknowns n =
+        let i : size_of (statement_constraints scope p exit_unknowns n (ReturnWith at (Some e))) ≤ 8 + 4 * expression_nodes e =
+        demanding-size at 10 p (value_label scope e) (raise_atoms scope e) (ToValue scope.number) exit_unknowns Return (raises e) (expression_nodes e) (value-length scope e) (raise-length scope e) in
         omega (arith, i)
-    statement-size (ReturnWith at None) p takers n = let i : size_of (flow (p ∷ []) (takers Return)) ≤ 2 = flow-size (p ∷ []) (takers Return) in omega (arith, i)
-    statement-size (Try at block handlers) p takers n =
+    statement-size (ReturnWith at None) p exit_unknowns n = let i : size_of (flow (p ∷ []) (exit_unknowns Return)) ≤ 2 = flow-size (p ∷ []) (exit_unknowns Return) in omega (arith, i)
+    statement-size (Try at block handlers) p exit_unknowns n =
         let number : ℕ → ℕ = λ x. handler_number handlers n x in
-        let inside : Takers = in_try number handlers takers in
+        let inside : ExitUnknowns = in_try number handlers exit_unknowns in
         let first : List NamedConstraint = by_ends (block_ends scope.program block) p inside (λ t. block_constraints scope true p t (n + handler_count handlers) block) in
-        let second : List NamedConstraint = handlers_constraints scope number takers ((n + handler_count handlers) + made_by_block block) handlers in
+        let second : List NamedConstraint = handlers_constraints scope number exit_unknowns ((n + handler_count handlers) + made_by_block block) handlers in
         let within : ℕ = 2 + (20 * block_nodes block + 3 * declared_in scope.program block) in
         let i : size_of first ≤ 2 + within = by_ends-size (block_ends scope.program block) p inside (λ t. block_constraints scope true p t (n + handler_count handlers) block) within
         (λ t. block-size block true p t (n + handler_count handlers)) in
-        let j : size_of second ≤ 20 * handlers_nodes handlers + 3 * declared_under scope.program handlers = handlers-size handlers number takers ((n + handler_count handlers) + made_by_block block) in
+        let j : size_of second ≤ 20 * handlers_nodes handlers + 3 * declared_under scope.program handlers = handlers-size handlers number exit_unknowns ((n + handler_count handlers) + made_by_block block) in
         let s : size_of (first ++ second) ≡ size_of first + size_of second = size-append first second in
         omega (arith, i, j, s)
-    statement-size (Nested at block) p takers n =
+    statement-size (Nested at block) p exit_unknowns n =
         let within : ℕ = 2 + (20 * block_nodes block + 3 * declared_in scope.program block) in
-        let i : size_of (statement_constraints scope p takers n (Nested at block)) ≤ 2 + within =
-        by_ends-size (block_ends scope.program block) p takers (λ t. block_constraints scope true p t n block) within (λ t. block-size block true p t n) in
+        let i : size_of (statement_constraints scope p exit_unknowns n (Nested at block)) ≤ 2 + within =
+        by_ends-size (block_ends scope.program block) p exit_unknowns (λ t. block_constraints scope true p t n block) within (λ t. block-size block true p t n) in
         omega (arith, i)
 
-    pub block-size : (block : Block) (reached : Bool) (p : NamedAtom) (takers : Takers) (n : ℕ) → size_of (block_constraints scope reached p takers n block) ≤ 2 + (20 * block_nodes block + 3 * declared_in scope.program block)
-    block-size Empty true p takers n = let i : size_of (flow (p ∷ []) (takers Normal)) ≤ 2 = flow-size (p ∷ []) (takers Normal) in omega (arith, i)
-    block-size Empty false p takers n = omega arith
-    block-size (Then s rest) reached p takers n =
+    pub block-size : (block : Block) (reached : Bool) (p : NamedAtom) (exit_unknowns : ExitUnknowns) (n : ℕ) → size_of (block_constraints scope reached p exit_unknowns n block) ≤ 2 + (20 * block_nodes block + 3 * declared_in scope.program block)
+    block-size Empty true p exit_unknowns n = let i : size_of (flow (p ∷ []) (exit_unknowns Normal)) ≤ 2 = flow-size (p ∷ []) (exit_unknowns Normal) in omega (arith, i)
+    block-size Empty false p exit_unknowns n = omega arith
+    block-size (Then s rest) reached p exit_unknowns n =
         let ends : List Exit = statement_ends scope.program s in
-        let within : Takers = within_single (one_end ends) (with_normal (Some n) takers) in
+        let within : ExitUnknowns = within_single (one_end ends) (with_normal (Some n) exit_unknowns) in
         let pc : NamedAtom = onward_pc (one_end ends) p n in
-        let first : List NamedConstraint = single (one_end ends) p (with_normal None takers) ends in
+        let first : List NamedConstraint = single (one_end ends) p (with_normal None exit_unknowns) ends in
         let second : List NamedConstraint = statement_constraints scope p within (suc n) s in
-        let third : List NamedConstraint = block_constraints scope (has_end ends Normal) pc takers (suc n + made_by_statement s) rest in
-        let i : size_of first ≤ 2 = single-size (one_end ends) p (with_normal None takers) ends in
+        let third : List NamedConstraint = block_constraints scope (has_end ends Normal) pc exit_unknowns (suc n + made_by_statement s) rest in
+        let i : size_of first ≤ 2 = single-size (one_end ends) p (with_normal None exit_unknowns) ends in
         let j : size_of second + 2 ≤ 20 * statement_nodes s + 3 * declared_at scope.program s = statement-size s p within (suc n) in
-        let k : size_of third ≤ 2 + (20 * block_nodes rest + 3 * declared_in scope.program rest) = block-size rest (has_end ends Normal) pc takers (suc n + made_by_statement s) in
+        let k : size_of third ≤ 2 + (20 * block_nodes rest + 3 * declared_in scope.program rest) = block-size rest (has_end ends Normal) pc exit_unknowns (suc n + made_by_statement s) in
         let t : size_of (first ++ (second ++ third)) ≡ size_of first + size_of (second ++ third) = size-append first (second ++ third) in
         let u : size_of (second ++ third) ≡ size_of second + size_of third = size-append second third in
         omega (arith, i, j, k, t, u)
 
-    handlers-size : (handlers : Handlers) (number : ℕ → ℕ) (takers : Takers) (n : ℕ) → size_of (handlers_constraints scope number takers n handlers) ≤ 20 * handlers_nodes handlers + 3 * declared_under scope.program handlers
-    handlers-size NoMore number takers n = omega arith
-    handlers-size (Catch at handled body rest) number takers n =
+    handlers-size : (handlers : Handlers) (number : ℕ → ℕ) (exit_unknowns : ExitUnknowns) (n : ℕ) → size_of (handlers_constraints scope number exit_unknowns n handlers) ≤ 20 * handlers_nodes handlers + 3 * declared_under scope.program handlers
+    handlers-size NoMore number exit_unknowns n = omega arith
+    handlers-size (Catch at handled body rest) number exit_unknowns n =
         let pc : NamedAtom = inner_atom (number handled) in
-        let first : List NamedConstraint = by_ends (block_ends scope.program body) pc takers (λ t. block_constraints scope true pc t n body) in
-        let second : List NamedConstraint = handlers_constraints scope number takers (n + made_by_block body) rest in
+        let first : List NamedConstraint = by_ends (block_ends scope.program body) pc exit_unknowns (λ t. block_constraints scope true pc t n body) in
+        let second : List NamedConstraint = handlers_constraints scope number exit_unknowns (n + made_by_block body) rest in
         let within : ℕ = 2 + (20 * block_nodes body + 3 * declared_in scope.program body) in
-        let i : size_of first ≤ 2 + within = by_ends-size (block_ends scope.program body) pc takers (λ t. block_constraints scope true pc t n body) within (λ t. block-size body true pc t n) in
-        let j : size_of second ≤ 20 * handlers_nodes rest + 3 * declared_under scope.program rest = handlers-size rest number takers (n + made_by_block body) in
+        let i : size_of first ≤ 2 + within = by_ends-size (block_ends scope.program body) pc exit_unknowns (λ t. block_constraints scope true pc t n body) within (λ t. block-size body true pc t n) in
+        let j : size_of second ≤ 20 * handlers_nodes rest + 3 * declared_under scope.program rest = handlers-size rest number exit_unknowns (n + made_by_block body) in
         let s : size_of (first ++ second) ≡ size_of first + size_of second = size-append first second in
         omega (arith, i, j, s)
 
@@ -374,9 +374,9 @@ module _ (scope : Scope) where
       let body : Block = (here scope).body in
       let pc : NamedAtom = renamed Real (label_of scope.program (ToBegin scope.number)) in
       let m : ℕ = suc n + length (here scope).throws in
-      let first : List NamedConstraint = inner_block scope pc (end_takers scope n) m body in
+      let first : List NamedConstraint = inner_block scope pc (end_exit_unknowns scope n) m body in
       let within : ℕ = 2 + (20 * block_nodes body + 3 * declared_in scope.program body) in
-      let i : size_of first ≤ 2 + within = by_ends-size (block_ends scope.program body) pc (end_takers scope n) (λ t. block_constraints scope true pc t m body) within (λ t. block-size body true pc t m) in
+      let i : size_of first ≤ 2 + within = by_ends-size (block_ends scope.program body) pc (end_exit_unknowns scope n) (λ t. block_constraints scope true pc t m body) within (λ t. block-size body true pc t m) in
       let j : size_of (end_constraints scope n) ≤ 2 + 2 * length (here scope).throws = end-size n in
       let s : size_of (first ++ end_constraints scope n) ≡ size_of first + size_of (end_constraints scope n) = size-append first (end_constraints scope n) in
       omega (arith, i, j, s)

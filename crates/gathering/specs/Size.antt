@@ -22,7 +22,7 @@ abbrev mutual
   declared_at program (Receive at channel target) = 0
   declared_at program (Send at channel e) = 0
   declared_at program (Call at callee arguments target) = length (procedure_at program callee).throws
-  declared_at program (If at e yes_block no_block) = declared_in program yes_block + declared_in program no_block
+  declared_at program (If at e then_block else_block) = declared_in program then_block + declared_in program else_block
   declared_at program (While at loop e body) = declared_in program body
   declared_at program (Leave at exit) = 0
   declared_at program (ReturnWith at value) = 0

@@ -1,7 +1,7 @@
 -- Private: the gathering of a program's demands by a walk along its tree, in a size in proportion to the tree (and, for a call, to the
 -- exceptions that its callee declares). The program-counter label (pc) of a statement is one atom: an inner unknown where the pc has grown. Each end
--- that matters has a taker, an inner unknown that was made where the end is caught, and what an end is reached at flows to its
--- taker. Inner unknowns have numbers from n on, in the order in which the walk comes to what makes them.
+-- that matters has an exit unknown, an inner unknown that was made where the end is caught, and what an end is reached at flows to its
+-- exit unknown. Inner unknowns have numbers from n on, in the order in which the walk comes to what makes them.
 -- Source: our own.
 use Rattle.std.specs.Prelude.{ℕ, suc, ◌+◌, ◌<◌, List, [], ◌∷◌, ◌++◌, Bool, true, false, map, filter, length, ◌==◌, ◌&&◌, ◌||◌, if◌then◌else◌, Option, Some, None, Contains}
 use Rattle.std.specs.List.{list_any}
@@ -39,27 +39,27 @@ target_constraint scope at rule left (Some x) = rule_constraint scope at rule le
 abbrev pub inner_constraint : List NamedAtom → ℕ → List NamedConstraint
 inner_constraint left k = record { at = 0; rule = 0; left = left; target = None; right = inner_atom k } ∷ []
 
--- ---- takers: where the label of each end flows, if anywhere
-abbrev pub Takers : Type 0
-Takers = Exit → Option ℕ
+-- ---- exit unknowns: where the label of each end flows, if anywhere
+abbrev pub ExitUnknowns : Type 0
+ExitUnknowns = Exit → Option ℕ
 
-abbrev pub nowhere : Takers
+abbrev pub nowhere : ExitUnknowns
 nowhere exit = None
 
-abbrev pub with_normal : Option ℕ → Takers → Takers
-with_normal normal takers Normal = normal
-with_normal normal takers Return = takers Return
-with_normal normal takers Break = takers Break
-with_normal normal takers Continue = takers Continue
-with_normal normal takers (Throw x) = takers (Throw x)
+abbrev pub with_normal : Option ℕ → ExitUnknowns → ExitUnknowns
+with_normal normal exit_unknowns Normal = normal
+with_normal normal exit_unknowns Return = exit_unknowns Return
+with_normal normal exit_unknowns Break = exit_unknowns Break
+with_normal normal exit_unknowns Continue = exit_unknowns Continue
+with_normal normal exit_unknowns (Throw x) = exit_unknowns (Throw x)
 
 -- in the body of a loop: what goes back to its condition, and what leaves it
-abbrev pub in_loop : (back : ℕ) → Takers → Takers
-in_loop back takers Normal = Some back
-in_loop back takers Return = takers Return
-in_loop back takers Break = takers Normal
-in_loop back takers Continue = Some back
-in_loop back takers (Throw x) = takers (Throw x)
+abbrev pub in_loop : (back : ℕ) → ExitUnknowns → ExitUnknowns
+in_loop back exit_unknowns Normal = Some back
+in_loop back exit_unknowns Return = exit_unknowns Return
+in_loop back exit_unknowns Break = exit_unknowns Normal
+in_loop back exit_unknowns Continue = Some back
+in_loop back exit_unknowns (Throw x) = exit_unknowns (Throw x)
 
 -- handlers take their exceptions, the first that handles one for all that do; they have the numbers from n on
 abbrev pub handler_count : Handlers → ℕ
@@ -70,12 +70,12 @@ abbrev pub handler_number : Handlers → ℕ → (exception : ℕ) → ℕ
 handler_number NoMore n x = n
 handler_number (Catch at handled body rest) n x = if x == handled then n else handler_number rest (suc n) x
 
-abbrev pub in_try : (number : ℕ → ℕ) → Handlers → Takers → Takers
-in_try number handlers takers Normal = takers Normal
-in_try number handlers takers Return = takers Return
-in_try number handlers takers Break = takers Break
-in_try number handlers takers Continue = takers Continue
-in_try number handlers takers (Throw x) = if handles handlers x then Some (number x) else takers (Throw x)
+abbrev pub in_try : (number : ℕ → ℕ) → Handlers → ExitUnknowns → ExitUnknowns
+in_try number handlers exit_unknowns Normal = exit_unknowns Normal
+in_try number handlers exit_unknowns Return = exit_unknowns Return
+in_try number handlers exit_unknowns Break = exit_unknowns Break
+in_try number handlers exit_unknowns Continue = exit_unknowns Continue
+in_try number handlers exit_unknowns (Throw x) = if handles handlers x then Some (number x) else exit_unknowns (Throw x)
 
 -- the exceptions that a procedure declares have the numbers from n on, the first that names one for all that do
 abbrev pub thrown_number : List ThrownEntry → ℕ → (exception : ℕ) → ℕ
@@ -87,41 +87,41 @@ declares [] x = false
 declares (entry ∷ rest) x = (x == entry.exception) || declares rest x
 
 -- the ends of a procedure with number n, and with its declared exceptions from there on
-abbrev pub at_end : ℕ → List ThrownEntry → Takers
+abbrev pub at_end : ℕ → List ThrownEntry → ExitUnknowns
 at_end n throws Normal = Some n
 at_end n throws Return = Some n
 at_end n throws Break = None
 at_end n throws Continue = None
 at_end n throws (Throw x) = if declares throws x then Some (thrown_number throws (suc n) x) else None
 
--- ---- flows to takers
+-- ---- flows to exit unknowns
 abbrev pub flow : List NamedAtom → Option ℕ → List NamedConstraint
 flow left None = []
 flow left (Some k) = inner_constraint left k
 
-abbrev pub flows : List NamedAtom → Takers → List Exit → List NamedConstraint
-flows left takers [] = []
-flows left takers (exit ∷ rest) = flow left (takers exit) ++ flows left takers rest
+abbrev pub flows : List NamedAtom → ExitUnknowns → List Exit → List NamedConstraint
+flows left exit_unknowns [] = []
+flows left exit_unknowns (exit ∷ rest) = flow left (exit_unknowns exit) ++ flows left exit_unknowns rest
 
 -- the exceptions of expressions, each once
 abbrev pub raised_once : List ℕ → List ℕ
 raised_once exceptions = filter (λ x. list_any (λ y. x == y) exceptions) (ARITH ∷ BOUNDS ∷ [])
 
-abbrev pub raised_flows : List NamedAtom → Takers → (raised : List ℕ) → List NamedConstraint
-raised_flows left takers raised = flows left takers (thrown_ends (raised_once raised))
+abbrev pub raised_flows : List NamedAtom → ExitUnknowns → (raised : List ℕ) → List NamedConstraint
+raised_flows left exit_unknowns raised = flows left exit_unknowns (thrown_ends (raised_once raised))
 
--- where there is one end only, the pc itself flows to its taker, and nothing within is asked for
-abbrev pub single : (only : Bool) → NamedAtom → Takers → List Exit → List NamedConstraint
-single false pc takers ends = []
-single true pc takers [] = []
-single true pc takers (exit ∷ rest) = flow (pc ∷ []) (takers exit)
+-- where there is one end only, the pc itself flows to its exit unknown, and nothing within is asked for
+abbrev pub single : (only : Bool) → NamedAtom → ExitUnknowns → List Exit → List NamedConstraint
+single false pc exit_unknowns ends = []
+single true pc exit_unknowns [] = []
+single true pc exit_unknowns (exit ∷ rest) = flow (pc ∷ []) (exit_unknowns exit)
 
-abbrev pub within_single : (only : Bool) → Takers → Takers
-within_single only takers = if only then nowhere else takers
+abbrev pub within_single : (only : Bool) → ExitUnknowns → ExitUnknowns
+within_single only exit_unknowns = if only then nowhere else exit_unknowns
 
--- a statement or block, by its ends and by what is gathered of it for takers
-abbrev pub by_ends : List Exit → (pc : NamedAtom) → Takers → (within : Takers → List NamedConstraint) → List NamedConstraint
-by_ends ends pc takers within = single (one_end ends) pc takers ends ++ within (within_single (one_end ends) takers)
+-- a statement or block, by its ends and by what is gathered of it for exit unknowns
+abbrev pub by_ends : List Exit → (pc : NamedAtom) → ExitUnknowns → (within : ExitUnknowns → List NamedConstraint) → List NamedConstraint
+by_ends ends pc exit_unknowns within = single (one_end ends) pc exit_unknowns ends ++ within (within_single (one_end ends) exit_unknowns)
 
 -- the pc of what follows
 abbrev pub onward_pc : (only : Bool) → NamedAtom → ℕ → NamedAtom
@@ -168,7 +168,7 @@ abbrev mutual
   made_by_statement (Receive at channel target) = 0
   made_by_statement (Send at channel e) = 0
   made_by_statement (Call at procedure arguments target) = 1
-  made_by_statement (If at e yes_block no_block) = suc (made_by_block yes_block + made_by_block no_block)
+  made_by_statement (If at e then_block else_block) = suc (made_by_block then_block + made_by_block else_block)
   made_by_statement (While at loop e body) = suc (suc (made_by_block body))
   made_by_statement (Leave at exit) = 0
   made_by_statement (ReturnWith at value) = 0
@@ -193,94 +193,94 @@ argument_constraints scope at own callee i (e ∷ rest) =
     rule_constraint scope at 6 (inner_atom own ∷ named_atoms (value_label scope e)) (ToParameter callee i)
     ++ argument_constraints scope at own callee (suc i) rest
 
-abbrev pub call_flows : Program → (callee own : ℕ) → Takers → List Exit → List NamedConstraint
-call_flows program callee own takers [] = []
-call_flows program callee own takers (exit ∷ rest) =
-    flow (inner_atom own ∷ named_atoms (call_atoms program callee exit)) (takers exit) ++ call_flows program callee own takers rest
+abbrev pub call_flows : Program → (callee own : ℕ) → ExitUnknowns → List Exit → List NamedConstraint
+call_flows program callee own exit_unknowns [] = []
+call_flows program callee own exit_unknowns (exit ∷ rest) =
+    flow (inner_atom own ∷ named_atoms (call_atoms program callee exit)) (exit_unknowns exit) ++ call_flows program callee own exit_unknowns rest
 
 -- the exceptions of the arguments, each once, then those that the callee declares
 abbrev pub call_ends : Program → (callee : ℕ) → List Expression → List Exit
 call_ends program callee arguments =
     Normal ∷ thrown_ends (raised_once (raises_all arguments) ++ declared_by (procedure_at program callee).throws)
 
-abbrev pub call_constraints : Scope → (pc : NamedAtom) → Takers → ℕ → (at callee : ℕ) → List Expression → Option Variable → List NamedConstraint
-call_constraints scope pc takers n at callee arguments target =
+abbrev pub call_constraints : Scope → (pc : NamedAtom) → ExitUnknowns → ℕ → (at callee : ℕ) → List Expression → Option Variable → List NamedConstraint
+call_constraints scope pc exit_unknowns n at callee arguments target =
     inner_constraint (pc ∷ named_atoms (raise_atoms_all scope arguments)) n
     ++ (rule_constraint scope at 6 (inner_atom n ∷ []) (ToBegin callee)
     ++ (argument_constraints scope at n callee 0 arguments
     ++ (target_constraint scope at 6
     (inner_atom n ∷ named_atoms (call_atoms scope.program callee Normal ++ one (label_of scope.program (ToValue callee)))) target
-    ++ call_flows scope.program callee n takers (call_ends scope.program callee arguments))))
+    ++ call_flows scope.program callee n exit_unknowns (call_ends scope.program callee arguments))))
 
 -- ---- the walk: statements, blocks and handlers that are reached at a pc, with inner unknowns from number n on
 abbrev mutual
   -- a statement by what the rule of its form says of its ends
-  pub statement_constraints : Scope → (pc : NamedAtom) → Takers → ℕ → Statement → List NamedConstraint
-  statement_constraints scope pc takers n (Assign at x e) =
+  pub statement_constraints : Scope → (pc : NamedAtom) → ExitUnknowns → ℕ → Statement → List NamedConstraint
+  statement_constraints scope pc exit_unknowns n (Assign at x e) =
       let q : List NamedAtom = pc ∷ named_atoms (raise_atoms scope e) in
       rule_constraint scope at 1 (pc ∷ named_atoms (value_label scope e)) (ToVariable scope.number x)
-      ++ (flow q (takers Normal) ++ raised_flows q takers (raises e))
-  statement_constraints scope pc takers n (Clear at slot) =
-      rule_constraint scope at 2 (pc ∷ []) (ToVariable scope.number (Local slot)) ++ flow (pc ∷ []) (takers Normal)
-  statement_constraints scope pc takers n (Store at array length index e) =
+      ++ (flow q (exit_unknowns Normal) ++ raised_flows q exit_unknowns (raises e))
+  statement_constraints scope pc exit_unknowns n (Clear at slot) =
+      rule_constraint scope at 2 (pc ∷ []) (ToVariable scope.number (Local slot)) ++ flow (pc ∷ []) (exit_unknowns Normal)
+  statement_constraints scope pc exit_unknowns n (Store at array length index e) =
       let q : List NamedAtom = pc ∷ named_atoms (store_atoms scope length index e) in
       rule_constraint scope at 3 (pc ∷ named_atoms (value_label scope index ++ value_label scope e)) (ToVariable scope.number array)
-      ++ (flow q (takers Normal) ++ raised_flows q takers (raises index ++ raises e ++ index_raises index length))
-  statement_constraints scope pc takers n (Receive at channel target) =
+      ++ (flow q (exit_unknowns Normal) ++ raised_flows q exit_unknowns (raises index ++ raises e ++ index_raises index length))
+  statement_constraints scope pc exit_unknowns n (Receive at channel target) =
       let q : List NamedAtom = pc ∷ named_atoms (one (label_of scope.program (ToChannel channel))) in
       rule_constraint scope at 4 (pc ∷ []) (ToChannel channel)
-      ++ (target_constraint scope at 4 q target ++ (flow q (takers Normal) ++ flow q (takers (Throw END))))
-  statement_constraints scope pc takers n (Send at channel e) =
+      ++ (target_constraint scope at 4 q target ++ (flow q (exit_unknowns Normal) ++ flow q (exit_unknowns (Throw END))))
+  statement_constraints scope pc exit_unknowns n (Send at channel e) =
       let q : List NamedAtom = pc ∷ named_atoms (raise_atoms scope e) in
       rule_constraint scope at 5 (pc ∷ named_atoms (value_label scope e)) (ToChannel channel)
-      ++ (flow q (takers Normal) ++ raised_flows q takers (raises e))
-  statement_constraints scope pc takers n (Call at procedure arguments target) =
-      call_constraints scope pc takers n at procedure arguments target
-  statement_constraints scope pc takers n (If at e yes_block no_block) =
+      ++ (flow q (exit_unknowns Normal) ++ raised_flows q exit_unknowns (raises e))
+  statement_constraints scope pc exit_unknowns n (Call at procedure arguments target) =
+      call_constraints scope pc exit_unknowns n at procedure arguments target
+  statement_constraints scope pc exit_unknowns n (If at e then_block else_block) =
       inner_constraint (pc ∷ named_atoms (value_label scope e)) n
-      ++ (raised_flows (pc ∷ named_atoms (raise_atoms scope e)) takers (raises e)
-      ++ (by_ends (block_ends scope.program yes_block) (inner_atom n) takers (λ t. block_constraints scope true (inner_atom n) t (suc n) yes_block)
-      ++ by_ends (block_ends scope.program no_block) (inner_atom n) takers (λ t. block_constraints scope true (inner_atom n) t (suc n + made_by_block yes_block) no_block)))
-  statement_constraints scope pc takers n (While at loop e body) =
-      let turn : NamedAtom = renamed Real (label_of scope.program (ToLoop scope.number loop)) in
+      ++ (raised_flows (pc ∷ named_atoms (raise_atoms scope e)) exit_unknowns (raises e)
+      ++ (by_ends (block_ends scope.program then_block) (inner_atom n) exit_unknowns (λ t. block_constraints scope true (inner_atom n) t (suc n) then_block)
+      ++ by_ends (block_ends scope.program else_block) (inner_atom n) exit_unknowns (λ t. block_constraints scope true (inner_atom n) t (suc n + made_by_block then_block) else_block)))
+  statement_constraints scope pc exit_unknowns n (While at loop e body) =
+      let loop_atom : NamedAtom = renamed Real (label_of scope.program (ToLoop scope.number loop)) in
       rule_constraint scope at 8 (pc ∷ []) (ToLoop scope.number loop)
-      ++ (inner_constraint (turn ∷ named_atoms (value_label scope e)) n
-      ++ (flow (inner_atom n ∷ []) (takers Normal)
-      ++ (raised_flows (turn ∷ named_atoms (raise_atoms scope e)) takers (raises e)
-      ++ (by_ends (block_ends scope.program body) (inner_atom n) (in_loop (suc n) takers) (λ t. block_constraints scope true (inner_atom n) t (suc (suc n)) body)
+      ++ (inner_constraint (loop_atom ∷ named_atoms (value_label scope e)) n
+      ++ (flow (inner_atom n ∷ []) (exit_unknowns Normal)
+      ++ (raised_flows (loop_atom ∷ named_atoms (raise_atoms scope e)) exit_unknowns (raises e)
+      ++ (by_ends (block_ends scope.program body) (inner_atom n) (in_loop (suc n) exit_unknowns) (λ t. block_constraints scope true (inner_atom n) t (suc (suc n)) body)
       ++ rule_constraint scope at 8 (inner_atom (suc n) ∷ []) (ToLoop scope.number loop)))))
-  statement_constraints scope pc takers n (Leave at exit) = flow (pc ∷ []) (takers exit)
-  statement_constraints scope pc takers n (ReturnWith at None) = flow (pc ∷ []) (takers Return)
-  statement_constraints scope pc takers n (ReturnWith at (Some e)) =
+  statement_constraints scope pc exit_unknowns n (Leave at exit) = flow (pc ∷ []) (exit_unknowns exit)
+  statement_constraints scope pc exit_unknowns n (ReturnWith at None) = flow (pc ∷ []) (exit_unknowns Return)
+  statement_constraints scope pc exit_unknowns n (ReturnWith at (Some e)) =
       let q : List NamedAtom = pc ∷ named_atoms (raise_atoms scope e) in
       rule_constraint scope at 10 (pc ∷ named_atoms (value_label scope e)) (ToValue scope.number)
-      ++ (flow q (takers Return) ++ raised_flows q takers (raises e))
-  statement_constraints scope pc takers n (Try at block handlers) =
+      ++ (flow q (exit_unknowns Return) ++ raised_flows q exit_unknowns (raises e))
+  statement_constraints scope pc exit_unknowns n (Try at block handlers) =
       let number : ℕ → ℕ = λ x. handler_number handlers n x in
-      by_ends (block_ends scope.program block) pc (in_try number handlers takers) (λ t. block_constraints scope true pc t (n + handler_count handlers) block)
-      ++ handlers_constraints scope number takers ((n + handler_count handlers) + made_by_block block) handlers
-  statement_constraints scope pc takers n (Nested at block) = by_ends (block_ends scope.program block) pc takers (λ t. block_constraints scope true pc t n block)
+      by_ends (block_ends scope.program block) pc (in_try number handlers exit_unknowns) (λ t. block_constraints scope true pc t (n + handler_count handlers) block)
+      ++ handlers_constraints scope number exit_unknowns ((n + handler_count handlers) + made_by_block block) handlers
+  statement_constraints scope pc exit_unknowns n (Nested at block) = by_ends (block_ends scope.program block) pc exit_unknowns (λ t. block_constraints scope true pc t n block)
 
   -- the statements of a block that is reached or not, by what the rule of blocks says of its ends
-  pub block_constraints : Scope → (reached : Bool) → (pc : NamedAtom) → Takers → ℕ → Block → List NamedConstraint
-  block_constraints scope reached pc takers n Empty = if reached then flow (pc ∷ []) (takers Normal) else []
-  block_constraints scope reached pc takers n (Then statement rest) =
+  pub block_constraints : Scope → (reached : Bool) → (pc : NamedAtom) → ExitUnknowns → ℕ → Block → List NamedConstraint
+  block_constraints scope reached pc exit_unknowns n Empty = if reached then flow (pc ∷ []) (exit_unknowns Normal) else []
+  block_constraints scope reached pc exit_unknowns n (Then statement rest) =
       let ends : List Exit = statement_ends scope.program statement in
-      single (one_end ends) pc (with_normal None takers) ends
-      ++ (statement_constraints scope pc (within_single (one_end ends) (with_normal (Some n) takers)) (suc n) statement
-      ++ block_constraints scope (has_end ends Normal) (onward_pc (one_end ends) pc n) takers (suc n + made_by_statement statement) rest)
+      single (one_end ends) pc (with_normal None exit_unknowns) ends
+      ++ (statement_constraints scope pc (within_single (one_end ends) (with_normal (Some n) exit_unknowns)) (suc n) statement
+      ++ block_constraints scope (has_end ends Normal) (onward_pc (one_end ends) pc n) exit_unknowns (suc n + made_by_statement statement) rest)
 
   -- handlers, of which each begins at the inner unknown that took its exception
-  pub handlers_constraints : Scope → (number : ℕ → ℕ) → Takers → ℕ → Handlers → List NamedConstraint
-  handlers_constraints scope number takers n NoMore = []
-  handlers_constraints scope number takers n (Catch at handled body rest) =
-      by_ends (block_ends scope.program body) (inner_atom (number handled)) takers (λ t. block_constraints scope true (inner_atom (number handled)) t n body)
-      ++ handlers_constraints scope number takers (n + made_by_block body) rest
+  pub handlers_constraints : Scope → (number : ℕ → ℕ) → ExitUnknowns → ℕ → Handlers → List NamedConstraint
+  handlers_constraints scope number exit_unknowns n NoMore = []
+  handlers_constraints scope number exit_unknowns n (Catch at handled body rest) =
+      by_ends (block_ends scope.program body) (inner_atom (number handled)) exit_unknowns (λ t. block_constraints scope true (inner_atom (number handled)) t n body)
+      ++ handlers_constraints scope number exit_unknowns (n + made_by_block body) rest
 
 -- a block of its own
-abbrev pub inner_block : Scope → (pc : NamedAtom) → Takers → ℕ → Block → List NamedConstraint
-inner_block scope pc takers n block =
-    by_ends (block_ends scope.program block) pc takers (λ t. block_constraints scope true pc t n block)
+abbrev pub inner_block : Scope → (pc : NamedAtom) → ExitUnknowns → ℕ → Block → List NamedConstraint
+inner_block scope pc exit_unknowns n block =
+    by_ends (block_ends scope.program block) pc exit_unknowns (λ t. block_constraints scope true pc t n block)
 
 -- ---- procedures and programs
 abbrev pub body_ends : Scope → List Exit
@@ -290,8 +290,8 @@ body_ends scope = block_ends scope.program (here scope).body
 abbrev pub has_one_end : Scope → Bool
 has_one_end scope = one_end (map as_one_end (body_ends scope))
 
-abbrev pub end_takers : Scope → ℕ → Takers
-end_takers scope n = if has_one_end scope then nowhere else at_end n (here scope).throws
+abbrev pub end_exit_unknowns : Scope → ℕ → ExitUnknowns
+end_exit_unknowns scope n = if has_one_end scope then nowhere else at_end n (here scope).throws
 
 -- the demands on the declared exceptions, of which the first has number n
 abbrev pub thrown_constraints : Scope → (number : ℕ → ℕ) → List ThrownEntry → List NamedConstraint
@@ -309,7 +309,7 @@ end_constraints scope n =
 -- a procedure: its end has number n, then come its exceptions, then what its body makes
 abbrev pub procedure_constraints : Scope → ℕ → List NamedConstraint
 procedure_constraints scope n =
-    inner_block scope (renamed Real (label_of scope.program (ToBegin scope.number))) (end_takers scope n)
+    inner_block scope (renamed Real (label_of scope.program (ToBegin scope.number))) (end_exit_unknowns scope n)
     (suc n + length (here scope).throws) (here scope).body
     ++ end_constraints scope n
 

@@ -3,7 +3,7 @@ use Rattle.std.proofs.Common.{◌≡◌, ℕ, zero, suc, ◌+◌, ◌<◌, ◌�
 use Rattle.std.specs.Option.{option_or}
 use Rattle.std.proofs.lemmas.List.{append-nil}
 use Rattle.std.proofs.lemmas.Option.{slice_get_within}
-use Rattle.handlers.specs.Targets.{is_before, target_from, IsNotBehind, IsAscending, next_of}
+use Rattle.handlers.specs.Targets.{is_before, target_from, IsNotAfter, IsAscending, next_of}
 use Rattle.handlers.specs.declared.entries.Next.{Next}
 use Rattle.handlers.specs.declared.entries.Next.TheVariants.{First, Second, Neither}
 use Rattle.handlers.specs.declared.entries.ThrowSite.{ThrowSite}
@@ -23,11 +23,11 @@ drop_none [] (suc i) h = refl
 drop_none {X = X} (y ∷ ys) zero h = absurd (let no : ◌≡◌ {A = Option X} (Some y) None = h in cc)
 drop_none (y ∷ ys) (suc i) h = drop_none ys i h
 
-not_behind_at : (site : ThrowSite) (ys : List TableEntry) (j : ℕ) → ((y : TableEntry) → slice_get ys j ≡ Some y → is_before y.site site ≡ false) → IsNotBehind site (drop j ys)
-not_behind_at site [] zero h = tt
-not_behind_at site [] (suc j) h = tt
-not_behind_at site (y ∷ ys) zero h = h y refl
-not_behind_at site (y ∷ ys) (suc j) h = not_behind_at site ys j h
+not_after_at : (site : ThrowSite) (ys : List TableEntry) (j : ℕ) → ((y : TableEntry) → slice_get ys j ≡ Some y → is_before y.site site ≡ false) → IsNotAfter site (drop j ys)
+not_after_at site [] zero h = tt
+not_after_at site [] (suc j) h = tt
+not_after_at site (y ∷ ys) zero h = h y refl
+not_after_at site (y ∷ ys) (suc j) h = not_after_at site ys j h
 
 -- ---- which entry is the next one
 
@@ -70,7 +70,7 @@ neither_next (Some x) (Some y) h = absurd (neither_by x y (is_before y.site x.si
 
 -- ---- the target, where the last entries are not there yet
 
--- the target at a site, which is the last one given where no entry stands behind it
+-- the target at a site, which is the last one given where no entry stands after it
 abbrev pub target_or : Option ℕ → List TableEntry → ThrowSite → Option ℕ → Option ℕ
 target_or target [] site rest = rest
 target_or target (entry ∷ entries) site rest = if is_before site entry.site then target else target_or entry.target entries site rest
@@ -92,11 +92,11 @@ last_target-push target [] entry = refl
 last_target-push target (s ∷ entries) entry = last_target-push s.target entries entry
 
 -- a target stays before the first entry
-stays : (target : Option ℕ) (entries : List TableEntry) (site other : ThrowSite) → IsNotBehind other entries → is_before site other ≡ true → target_from target entries site ≡ target
+stays : (target : Option ℕ) (entries : List TableEntry) (site other : ThrowSite) → IsNotAfter other entries → is_before site other ≡ true → target_from target entries site ≡ target
 stays target [] site other none h = refl
 stays target (entry ∷ entries) site other none h = rw (before_later site other entry.site h none) refl
 
-turned_first : (a b : Option ℕ) (x : TableEntry) (xs ys : List TableEntry) (site : ThrowSite) → IsNotBehind x.site ys
+turned_first : (a b : Option ℕ) (x : TableEntry) (xs ys : List TableEntry) (site : ThrowSite) → IsNotAfter x.site ys
     → (if is_before site x.site then option_or a b else option_or (target_from x.target xs site) (target_from b ys site)) ≡ option_or (target_from a (x ∷ xs) site) (target_from b ys site)
 turned_first a b x xs ys site none = go (is_before site x.site) refl
   where
@@ -105,7 +105,7 @@ turned_first a b x xs ys site none = go (is_before site x.site) refl
     go true h = ap (λ o. option_or a o) (sym (stays b ys site x.site none h))
     go false h = refl
 
-turned_second : (a b : Option ℕ) (y : TableEntry) (xs ys : List TableEntry) (site : ThrowSite) → IsNotBehind y.site xs
+turned_second : (a b : Option ℕ) (y : TableEntry) (xs ys : List TableEntry) (site : ThrowSite) → IsNotAfter y.site xs
     → (if is_before site y.site then option_or a b else option_or (target_from a xs site) (target_from y.target ys site)) ≡ option_or (target_from a xs site) (target_from b (y ∷ ys) site)
 turned_second a b y xs ys site none = go (is_before site y.site) refl
   where
@@ -119,7 +119,7 @@ turned_second a b y xs ys site none = go (is_before site y.site) refl
 abbrev pub with_target : TableEntry → Option ℕ → TableEntry
 with_target entry target = record { site = entry.site; target = target }
 
-head_stays : (site : ThrowSite) (entries xs ys : List TableEntry) (x : TableEntry) (target : Option ℕ) → IsNotBehind site (entries ++ x ∷ xs) → IsNotBehind site ((entries ++ with_target x target ∷ []) ++ ys)
+head_stays : (site : ThrowSite) (entries xs ys : List TableEntry) (x : TableEntry) (target : Option ℕ) → IsNotAfter site (entries ++ x ∷ xs) → IsNotAfter site ((entries ++ with_target x target ∷ []) ++ ys)
 head_stays site [] xs ys x target h = h
 head_stays site (s ∷ entries) xs ys x target h = h
 
@@ -127,13 +127,13 @@ ascends_here : (entries xs : List TableEntry) (x : TableEntry) (target : Option 
 ascends_here [] xs x target h = h
 ascends_here (s ∷ entries) xs x target h = (head_stays s.site entries xs xs x target h.0, ascends_here entries xs x target h.1)
 
-ascends_there : (entries xs ys : List TableEntry) (x : TableEntry) (target : Option ℕ) → IsAscending (entries ++ x ∷ xs) → IsAscending (entries ++ ys) → IsNotBehind x.site ys → IsAscending ((entries ++ with_target x target ∷ []) ++ ys)
+ascends_there : (entries xs ys : List TableEntry) (x : TableEntry) (target : Option ℕ) → IsAscending (entries ++ x ∷ xs) → IsAscending (entries ++ ys) → IsNotAfter x.site ys → IsAscending ((entries ++ with_target x target ∷ []) ++ ys)
 ascends_there [] xs ys x target h k none = (none, k)
 ascends_there (s ∷ entries) xs ys x target h k none = (head_stays s.site entries xs ys x target h.0, ascends_there entries xs ys x target h.1 k.1 none)
 
 -- ---- a merge on its way
 
--- what is there of two lists in one, which stand at these places and at these targets
+-- what is there of two lists in one, which stand at these indexes and at these targets
 pub record Merged (first second entries : List TableEntry) (i j : ℕ) (a b : Option ℕ) : Type 0 where
   pub first_in_range : i ≤ length first
   pub second_in_range : j ≤ length second
@@ -147,7 +147,7 @@ module _ (first second entries entries' : List TableEntry) (i j : ℕ) (a b : Op
   Merged-first next pushed =
       let found = first_next (slice_get first i) (slice_get second j) z next in
       let left : drop i first ≡ z ∷ drop (i + 1) first = drop_at first i z found.0 in
-      let none : IsNotBehind z.site (drop j second) = not_behind_at z.site second j found.1 in
+      let none : IsNotAfter z.site (drop j second) = not_after_at z.site second j found.1 in
       let there : i < length first = slice_get_within first i z found.0 in
       let ascends : IsAscending (entries ++ z ∷ drop (i + 1) first) = subst (λ (l : List TableEntry). IsAscending (entries ++ l)) left merged.first_ascends in
       record {
@@ -170,7 +170,7 @@ module _ (first second entries entries' : List TableEntry) (i j : ℕ) (a b : Op
   Merged-second next pushed =
       let found = second_next (slice_get first i) (slice_get second j) z next in
       let left : drop j second ≡ z ∷ drop (j + 1) second = drop_at second j z found.0 in
-      let none : IsNotBehind z.site (drop i first) = not_behind_at z.site first i found.1 in
+      let none : IsNotAfter z.site (drop i first) = not_after_at z.site first i found.1 in
       let there : j < length second = slice_get_within second j z found.0 in
       let ascends : IsAscending (entries ++ z ∷ drop (j + 1) second) = subst (λ (l : List TableEntry). IsAscending (entries ++ l)) left merged.second_ascends in
       record {

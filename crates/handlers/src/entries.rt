@@ -54,11 +54,11 @@ fn next_of(first: Option<TableEntry>, second: Option<TableEntry>) -> Next
     }
 }
 
-// A entry by its place, if it is there.
-fn entry_at(entries: &[TableEntry], place: usize) -> Option<TableEntry>
-    ensures { result ≡ slice_get entries.now place }
+// An entry by its index, if it is there.
+fn entry_at(entries: &[TableEntry], index: usize) -> Option<TableEntry>
+    ensures { result ≡ slice_get entries.now index }
 {
-    entries.get(place).copied()
+    entries.get(index).copied()
 }
 
 // The entries of two lists in one, by which a site has its target in the first list or, where it has none there, in the second.

@@ -47,58 +47,58 @@ not_there id xs e =
     ∙ ap (option_map contents_of) (find_at (has_id id) xs ∙ slice_get_past xs (position_or_len (has_id id) xs) (missing_place (has_id id) xs e))
 
 -- at the first place with an id stands its session
-at_first : (id : ℕ) (xs : List SessionRun) (place : ℕ) (d : SessionRun) → place < length xs → has_id id (get_or xs place d) ≡ true
-    → ((k : ℕ) → k < place → has_id id (get_or xs k d) ≡ false)
-    → session_of id (map contents_of xs) ≡ Some (contents_of (get_or xs place d))
-at_first id [] place d inside here before = absurd (omega arith)
+at_first : (id : ℕ) (xs : List SessionRun) (index : ℕ) (d : SessionRun) → index < length xs → has_id id (get_or xs index d) ≡ true
+    → ((k : ℕ) → k < index → has_id id (get_or xs k d) ≡ false)
+    → session_of id (map contents_of xs) ≡ Some (contents_of (get_or xs index d))
+at_first id [] index d inside here before = absurd (omega arith)
 at_first id (x ∷ xs) zero d inside here before =
     ap (λ b. cond b (Some (contents_of x)) (session_of id (map contents_of xs))) here
-at_first id (x ∷ xs) (suc place) d inside here before =
+at_first id (x ∷ xs) (suc index) d inside here before =
     let head : (x.id == id) ≡ false = before 0 (omega arith) in
     ap (λ b. cond b (Some (contents_of x)) (session_of id (map contents_of xs))) head
-    ∙ at_first id xs place d (omega arith) here (λ k below. before (suc k) (omega arith))
+    ∙ at_first id xs index d (omega arith) here (λ k below. before (suc k) (omega arith))
 
-pub there : (id : ℕ) (xs : List SessionRun) (place : ℕ) (d : SessionRun) → position (has_id id) xs ≡ Some place
-    → session_of id (map contents_of xs) ≡ Some (contents_of (get_or xs place d))
-there id xs place d e =
-    let at = position-Some (has_id id) xs place d e in
-    at_first id xs place d at.0 at.1 at.2
+pub there : (id : ℕ) (xs : List SessionRun) (index : ℕ) (d : SessionRun) → position (has_id id) xs ≡ Some index
+    → session_of id (map contents_of xs) ≡ Some (contents_of (get_or xs index d))
+there id xs index d e =
+    let at = position-Some (has_id id) xs index d e in
+    at_first id xs index d at.0 at.1 at.2
 
-pub somewhere : (id : ℕ) (xs : List SessionRun) (place : ℕ) → position (has_id id) xs ≡ Some place
+pub somewhere : (id : ℕ) (xs : List SessionRun) (index : ℕ) → position (has_id id) xs ≡ Some index
     → (session : SessionContents) × (session_of id (map contents_of xs) ≡ Some session)
-somewhere id [] place e = absurd (none-some place e)
-somewhere id (x ∷ xs) place e = (contents_of (get_or (x ∷ xs) place x), there id (x ∷ xs) place x e)
+somewhere id [] index e = absurd (none-some index e)
+somewhere id (x ∷ xs) index e = (contents_of (get_or (x ∷ xs) index x), there id (x ∷ xs) index x e)
 
 -- ---- changing
 
-changed_first : (id : ℕ) (xs : List SessionRun) (place : ℕ) (d new : SessionRun) → place < length xs → has_id id (get_or xs place d) ≡ true
-    → ((k : ℕ) → k < place → has_id id (get_or xs k d) ≡ false)
-    → (machine : Machine) → contents_of new ≡ record (contents_of (get_or xs place d)) { machine = machine }
-    → map contents_of (set xs place new) ≡ with_machine id machine (map contents_of xs)
-changed_first id [] place d new inside here before machine e = absurd (omega arith)
+changed_first : (id : ℕ) (xs : List SessionRun) (index : ℕ) (d new : SessionRun) → index < length xs → has_id id (get_or xs index d) ≡ true
+    → ((k : ℕ) → k < index → has_id id (get_or xs k d) ≡ false)
+    → (machine : Machine) → contents_of new ≡ record (contents_of (get_or xs index d)) { machine = machine }
+    → map contents_of (set xs index new) ≡ with_machine id machine (map contents_of xs)
+changed_first id [] index d new inside here before machine e = absurd (omega arith)
 changed_first id (x ∷ xs) zero d new inside here before machine e =
     let y = record (contents_of x) { machine = machine } in
     ap (λ s. s ∷ map contents_of xs) e
     ∙ sym (ap (λ b. cond b (y ∷ map contents_of xs) (contents_of x ∷ with_machine id machine (map contents_of xs))) here)
-changed_first id (x ∷ xs) (suc place) d new inside here before machine e =
+changed_first id (x ∷ xs) (suc index) d new inside here before machine e =
     let head : (x.id == id) ≡ false = before 0 (omega arith) in
     let y = record (contents_of x) { machine = machine } in
-    ap (λ s. contents_of x ∷ s) (changed_first id xs place d new (omega arith) here (λ k below. before (suc k) (omega arith)) machine e)
+    ap (λ s. contents_of x ∷ s) (changed_first id xs index d new (omega arith) here (λ k below. before (suc k) (omega arith)) machine e)
     ∙ sym (ap (λ b. cond b (y ∷ map contents_of xs) (contents_of x ∷ with_machine id machine (map contents_of xs))) head)
 
-pub changed : (id : ℕ) (xs : List SessionRun) (place : ℕ) (d new : SessionRun) → position (has_id id) xs ≡ Some place
-    → (machine : Machine) → contents_of new ≡ record (contents_of (get_or xs place d)) { machine = machine }
-    → map contents_of (set xs place new) ≡ with_machine id machine (map contents_of xs)
-changed id xs place d new e machine same =
-    let at = position-Some (has_id id) xs place d e in
-    changed_first id xs place d new at.0 at.1 at.2 machine same
+pub changed : (id : ℕ) (xs : List SessionRun) (index : ℕ) (d new : SessionRun) → position (has_id id) xs ≡ Some index
+    → (machine : Machine) → contents_of new ≡ record (contents_of (get_or xs index d)) { machine = machine }
+    → map contents_of (set xs index new) ≡ with_machine id machine (map contents_of xs)
+changed id xs index d new e machine same =
+    let at = position-Some (has_id id) xs index d e in
+    changed_first id xs index d new at.0 at.1 at.2 machine same
 
 -- the session of an id is another one with the same id and module
-pub turned : (id : ℕ) (xs : List SessionRun) (place : ℕ) (old new : SessionRun) → position (has_id id) xs ≡ Some place
-    → old ≡ get_or xs place old → new.id ≡ old.id → new.run.program ≡ old.run.program → new.under ≡ old.under
-    → map contents_of (set xs place new) ≡ with_machine id (machine_of new.run) (map contents_of xs)
-turned id xs place old new e at same_id same_program same_under =
-    changed id xs place old new e (machine_of new.run)
+pub turned : (id : ℕ) (xs : List SessionRun) (index : ℕ) (old new : SessionRun) → position (has_id id) xs ≡ Some index
+    → old ≡ get_or xs index old → new.id ≡ old.id → new.run.program ≡ old.run.program → new.under ≡ old.under
+    → map contents_of (set xs index new) ≡ with_machine id (machine_of new.run) (map contents_of xs)
+turned id xs index old new e at same_id same_program same_under =
+    changed id xs index old new e (machine_of new.run)
     (λ i. record {
       id = (same_id ∙ ap (λ (s : SessionRun). s.id) at) i;
       program = (same_program ∙ ap (λ (s : SessionRun). s.run.program) at) i;
@@ -123,17 +123,17 @@ module _ (host : HostRuns) (xs : List SessionRun) (are : xs ≡ host.sessions) (
   pub is_not_open : (r : Option ℕ) → r ≡ position (has_id id) xs → r ≡ None → IsNotOpen (host_of host) id
   is_not_open r found none = ap (λ l. session_of id (map contents_of l)) (sym are) ∙ not_there id xs (sym found ∙ none)
 
-  pub is_open : (r : Option ℕ) (place : ℕ) (session : SessionRun) → r ≡ position (has_id id) xs → r ≡ Some place
-      → session ≡ get_or xs place session → IsOpen (host_of host) id (contents_of session)
-  is_open r place session found some at =
+  pub is_open : (r : Option ℕ) (index : ℕ) (session : SessionRun) → r ≡ position (has_id id) xs → r ≡ Some index
+      → session ≡ get_or xs index session → IsOpen (host_of host) id (contents_of session)
+  is_open r index session found some at =
       ap (λ l. session_of id (map contents_of l)) (sym are)
-      ∙ there id xs place session (sym found ∙ some)
+      ∙ there id xs index session (sym found ∙ some)
       ∙ ap (λ s. Some (contents_of s)) (sym at)
 
-  pub is_open_somewhere : (r : Option ℕ) (place : ℕ) → r ≡ position (has_id id) xs → r ≡ Some place
+  pub is_open_somewhere : (r : Option ℕ) (index : ℕ) → r ≡ position (has_id id) xs → r ≡ Some index
       → (session : SessionContents) × IsOpen (host_of host) id session
-  is_open_somewhere r place found some =
-      let at = somewhere id xs place (sym found ∙ some) in
+  is_open_somewhere r index found some =
+      let at = somewhere id xs index (sym found ∙ some) in
       (at.0, ap (λ l. session_of id (map contents_of l)) (sym are) ∙ at.1)
 
 -- a host by its parts
@@ -168,7 +168,7 @@ pub not_made : {T : Type 0} (bytes : List ℕ) (world : List InputNumbers) (m : 
     → IsErrOf made (Refused UnknownChannel) ↔ (names_of world ≢ input_names m) → IfErr made (IfRefused (λ refusal. CannotOpen bytes world None (New refusal)))
 not_made bytes world m (Ok machine) loaded unknown = tt
 not_made bytes world m (Err NoMemory) loaded unknown = tt
-not_made bytes world m (Err (Refused UnknownChannel)) loaded unknown = (m, loaded.spelled, loaded.no_defect, unknown.0 refl)
+not_made bytes world m (Err (Refused UnknownChannel)) loaded unknown = (m, loaded.spelled, loaded.not_refused, unknown.0 refl)
 
 pub next_after : (id : ℕ) → id < 2 ^ 64 → (after : Option ℕ) → SomeIff after (id + 1 < 18446744073709551616) (id + 1) → next_of after ≡ id + 1
 next_after id below None none = omega (arith, none)

@@ -2,5 +2,5 @@ pub mod Meaning
 pub mod Values
 pub mod Laws
 pub mod Next
-pub mod Defects
+pub mod RefusalKinds
 pub mod Numbered

@@ -12,7 +12,7 @@ use Rattle.channels.specs.World.{InputNumbers, input_names, numbers_of_channel}
 use Rattle.machine.specs.Run.{ReportsStatus, WasRunning, names_of}
 use Rattle.machine.specs.declared.status.Status.{Status}
 use Rattle.machine.specs.declared.fault.NewRefusal.TheVariants.{UnknownChannel}
-use Rattle.verifier.specs.Refusals.{HasNoDefect}
+use Rattle.verifier.specs.Refusals.{IsNotRefused}
 use Rattle.verifier.specs.Loaded.{CannotLoad}
 use Rattle.modules.specs.Isolated.{module_view}
 use Rattle.common.specs.declared.fault.OrNoMemory.{OrNoMemory}
@@ -58,7 +58,7 @@ with_machine id machine (session ∷ sessions) =
 abbrev pub without : ℕ → List SessionContents → List SessionContents
 without id sessions = filter (λ session. not (session.id == id)) sessions
 
--- there is a place for one more session, and an id of 64 bits
+-- there is room for one more session, and an id of 64 bits
 pub record HasRoom (limit : ℕ) (host : HostContents) : Type 0 where
   pub room_left : length host.sessions < limit
   pub id_left : host.next < 2 ^ 64
@@ -96,11 +96,11 @@ hierarchy_under (Some larger) m = larger
 abbrev pub IsContained : ModuleContents → Option PrincipalHierarchy → Type 0
 IsContained m under = IfSome under (λ larger. ContainsHierarchy larger m.hierarchy)
 
--- bytes can be opened on a world as this module: they spell it, its code has no defect, the world is for its inputs, and a hierarchy
+-- bytes can be opened on a world as this module: they spell it, its code is not refused, the world is for its inputs, and a hierarchy
 -- that is given contains its own
 pub record CanOpen (bytes : List ℕ) (world : List InputNumbers) (under : Option PrincipalHierarchy) (m : ModuleContents) : Type 0 where
   pub spelled : Spells module_file m bytes
-  pub no_defect : HasNoDefect m
+  pub not_refused : IsNotRefused m
   pub named : names_of world ≡ input_names m
   pub contained : IsContained m under
 
@@ -125,9 +125,9 @@ with_opened host m world under = record {
 abbrev pub CannotOpen : List ℕ → List InputNumbers → Option PrincipalHierarchy → HostRefusal → Type 0
 CannotOpen bytes world under (Load refusal) = CannotLoad bytes refusal
 CannotOpen bytes world under (New UnknownChannel) =
-    (m : ModuleContents) × Spells module_file m bytes × HasNoDefect m × (names_of world ≢ input_names m)
+    (m : ModuleContents) × Spells module_file m bytes × IsNotRefused m × (names_of world ≢ input_names m)
 CannotOpen bytes world under NotContained =
-    (m : ModuleContents) × Spells module_file m bytes × HasNoDefect m × (names_of world ≡ input_names m) × ¬ IsContained m under
+    (m : ModuleContents) × Spells module_file m bytes × IsNotRefused m × (names_of world ≡ input_names m) × ¬ IsContained m under
 CannotOpen bytes world under Full = ⊥
 CannotOpen bytes world under UnknownId = ⊥
 CannotOpen bytes world under UnknownPrincipal = ⊥

@@ -1,4 +1,4 @@
-ghost use Rattle.host.specs.Defects.{refusal_number, refusal_words};
+ghost use Rattle.host.specs.RefusalKinds.{refusal_number, refusal_words};
 ghost use Rattle.host.specs.declared.fault.HostRefusal.TheVariants.{Load, New};
 ghost use Rattle.std.specs.Prelude.{◌≡◌, Some};
 
@@ -18,7 +18,7 @@ pub enum HostRefusal {
     UnknownId,
     /// 153: no principal of the session's hierarchy has this number.
     UnknownPrincipal,
-    /// 801 to 806, or 811 to 815: the bytes spell no module, or one with a defect in its code.
+    /// 801 to 806, or 811 to 815: the bytes spell no module, or one that is refused in its code.
     Load(LoadRefusal),
     /// 852: the names of the world's inputs are not those of the module's inputs, in order.
     New(NewRefusal),

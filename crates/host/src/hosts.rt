@@ -57,7 +57,7 @@ impl Host {
     ///
     /// # Errors
     ///
-    /// The first of these that applies: the host is full; the bytes spell no module; the module has a defect in its
+    /// The first of these that applies: the host is full; the bytes spell no module; the module is refused for its
     /// code; the names of the world's inputs are not those of the module's inputs. Out of memory may be answered
     /// in place of all but the first.
     pub fn open(&mut self, bytes: &[u8], world: World) -> Result<Id, HostFault>
@@ -118,10 +118,10 @@ impl Host {
         ensures { MayAnswer MAX_SESSIONS (host_of self.old) (Turn id steps) (turned_or result)
             (host_of self.new) }
     {
-        let Some(place) = find(&self.sessions, id) else {
+        let Some(index) = find(&self.sessions, id) else {
             return Err(OrNoMemory::Refused(HostRefusal::UnknownId));
         };
-        let session = &mut self.sessions[place];
+        let session = &mut self.sessions[index];
         Ok(session.turn(steps))
     }
 
@@ -136,10 +136,10 @@ impl Host {
         ensures { MayAnswer MAX_SESSIONS (host_of self.now) (View id principal) (viewed_or result)
             (host_of self.now) }
     {
-        let Some(place) = find(&self.sessions, id) else {
+        let Some(index) = find(&self.sessions, id) else {
             return Err(OrNoMemory::Refused(HostRefusal::UnknownId));
         };
-        let session = &self.sessions[place];
+        let session = &self.sessions[index];
         if principal >= session.hierarchy().count() {
             return Err(OrNoMemory::Refused(HostRefusal::UnknownPrincipal));
         }
@@ -157,10 +157,10 @@ impl Host {
         ensures rejected { IfErr result (λ fault. (fault ≡ faults.Refused UnknownId)
             × IsNotOpen (host_of self.now) id) }
     {
-        let Some(place) = find(&self.sessions, id) else {
+        let Some(index) = find(&self.sessions, id) else {
             return Err(OrNoMemory::Refused(HostRefusal::UnknownId));
         };
-        let session = &self.sessions[place];
+        let session = &self.sessions[index];
         Ok(session.sent())
     }
 

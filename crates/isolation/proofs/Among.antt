@@ -21,7 +21,7 @@ use Rattle.resolved.specs.Tree.{Expression, Integer, Logical, Read, Element, Una
 use Rattle.resolved.specs.Program.{Program, procedure_at}
 use Rattle.resolved.specs.Value.{Evaluated, Yields, Raises, then_with, truth_in, number_in, wrapped, literal_number, unless_zero, operator_value, decides, in_range, position_of, checked_index}
 use Rattle.resolved.specs.SourceState.{SourceState, value_of, values_of, cells, cell_at, assigned, stored, cleared}
-use Rattle.resolved.specs.Meaning.{OutOfTurns, Outcome, Ended, Stopped, normally, thrown, after, evaluated, looped, turns, caught, leaving, returned_to, received, sending, Calls, statement_meaning, block_meaning, handlers_meaning, frame_of, calls_with}
+use Rattle.resolved.specs.Meaning.{OutOfFuel, Outcome, Ended, Stopped, normally, thrown, after, evaluated, looped, fuel, caught, leaving, returned_to, received, sending, Calls, statement_meaning, block_meaning, handlers_meaning, frame_of, calls_with}
 use Rattle.resolved.specs.Ends.{same_exit, has_end, index_can_raise, divisor_can_raise, index_raises, operator_raises, raises, raises_all, thrown_ends, declared_by, leaves_loop, handles, passes, then_ends, statement_ends, block_ends, handlers_ends}
 use Rattle.resolved.specs.EndFaults.{may_end}
 use Rattle.isolation.specs.Runs.{EndsAmong}
@@ -225,18 +225,18 @@ loop-thrown xs body exit h =
     or_right (same_exit exit Normal) (has_end (thrown_ends xs ++ filter leaves_loop body) exit)
     (any-left (same_exit exit) (thrown_ends xs) (filter leaves_loop body) h)
 
-among-turns : (k : ℕ) (xs : List ℕ) (ends : List Exit) (condition : SourceState → Evaluated Value) (body : SourceState → Outcome) →
+among-fuel : (k : ℕ) (xs : List ℕ) (ends : List Exit) (condition : SourceState → Evaluated Value) (body : SourceState → Outcome) →
     ((t : SourceState) → RaisesAmong xs (condition t)) → ((t : SourceState) → Among ends (body t)) → (s : SourceState) →
-    Among (loop_ends xs ends) (turns k condition body s)
-among-turns zero xs ends condition body raised h s =
-    among-evaluated xs (loop_ends xs ends) (condition s) s (λ v. if truth_in v then Stopped OutOfTurns s else normally s) (raised s)
+    Among (loop_ends xs ends) (fuel k condition body s)
+among-fuel zero xs ends condition body raised h s =
+    among-evaluated xs (loop_ends xs ends) (condition s) s (λ v. if truth_in v then Stopped OutOfFuel s else normally s) (raised s)
     (loop-thrown xs ends) (λ v e.
-    among-if (loop_ends xs ends) (truth_in v) (Stopped OutOfTurns s) (normally s) (record { among = tt }) (record { among = refl }))
-among-turns (suc k) xs ends condition body raised h s =
+    among-if (loop_ends xs ends) (truth_in v) (Stopped OutOfFuel s) (normally s) (record { among = tt }) (record { among = refl }))
+among-fuel (suc k) xs ends condition body raised h s =
     among-evaluated xs (loop_ends xs ends) (condition s) s (λ v. if truth_in v then looped (body s)
-    (turns k condition body) else normally s) (raised s) (loop-thrown xs ends) (λ v e.
-    among-if (loop_ends xs ends) (truth_in v) (looped (body s) (turns k condition body)) (normally s)
-    (among-looped xs ends (body s) (turns k condition body) (h s) (among-turns k xs ends condition body raised h))
+    (fuel k condition body) else normally s) (raised s) (loop-thrown xs ends) (λ v e.
+    among-if (loop_ends xs ends) (truth_in v) (looped (body s) (fuel k condition body)) (normally s)
+    (among-looped xs ends (body s) (fuel k condition body) (h s) (among-fuel k xs ends condition body raised h))
     (record { among = refl }))
 
 -- an end that passes the handlers
@@ -270,8 +270,8 @@ pub thrown-right : (xs ys : List ℕ) (exit : Exit) → has_end (thrown_ends ys)
     has_end (thrown_ends (xs ++ ys)) exit ≡ true
 thrown-right xs ys exit h = rw (thrown-append xs ys) (any-right (same_exit exit) (thrown_ends xs) (thrown_ends ys) h)
 
-pub behind : (first : Exit) (rest : List Exit) (exit : Exit) → has_end rest exit ≡ true → has_end (first ∷ rest) exit ≡ true
-behind first rest exit h = or_right (same_exit exit first) (has_end rest exit) h
+pub in_rest : (first : Exit) (rest : List Exit) (exit : Exit) → has_end rest exit ≡ true → has_end (first ∷ rest) exit ≡ true
+in_rest first rest exit h = or_right (same_exit exit first) (has_end rest exit) h
 
 among-returned_to : (ends : List Exit) (target : Option Variable) (o : Outcome) → Among (Normal ∷ ends) o →
     Among (Normal ∷ ends) (returned_to target o)
@@ -314,54 +314,54 @@ mutual
       (s : SourceState) → Among (statement_ends program statement) (statement_meaning calls k statement s)
   statement-among (Assign at x e) program calls k h s =
       among-evaluated (raises e) (Normal ∷ thrown_ends (raises e)) (value_of s e) s (λ v. normally (assigned s x v)) (expression-raises s e)
-      (behind Normal (thrown_ends (raises e))) (λ v f.
+      (in_rest Normal (thrown_ends (raises e))) (λ v f.
       among-first Normal (thrown_ends (raises e)) None (assigned s x v))
   statement-among (Clear at slot) program calls k h s = among-first Normal [] None (cleared s slot)
   statement-among (Store at array len index e) program calls k h s =
       let xs : List ℕ = raises index ++ raises e ++ index_raises index len in
       among-evaluated (raises index) (Normal ∷ thrown_ends xs) (value_of s index) s _ (expression-raises s index)
-      (λ exit f. behind Normal (thrown_ends xs) exit (thrown-left (raises index ++ raises e) (index_raises index len) exit
+      (λ exit f. in_rest Normal (thrown_ends xs) exit (thrown-left (raises index ++ raises e) (index_raises index len) exit
       (thrown-left (raises index) (raises e) exit f))) (λ v f.
       among-evaluated (raises e) (Normal ∷ thrown_ends xs) (value_of s e) s _ (expression-raises s e)
-      (λ exit g. behind Normal (thrown_ends xs) exit (thrown-left (raises index ++ raises e) (index_raises index len) exit
+      (λ exit g. in_rest Normal (thrown_ends xs) exit (thrown-left (raises index ++ raises e) (index_raises index len) exit
       (thrown-right (raises index) (raises e) exit g))) (λ w g.
       among-evaluated (index_raises index len) (Normal ∷ thrown_ends xs) (checked_index v len) s (λ i. normally (stored s array i w))
       (raises-checked_index s index len v f)
-      (λ exit i. behind Normal (thrown_ends xs) exit (thrown-right (raises index ++ raises e) (index_raises index len) exit i)) (λ i j.
+      (λ exit i. in_rest Normal (thrown_ends xs) exit (thrown-right (raises index ++ raises e) (index_raises index len) exit i)) (λ i j.
       among-first Normal (thrown_ends xs) None (stored s array i w))))
   statement-among (Receive at channel target) program calls k h s = among-received (s.inputs channel) channel target s
   statement-among (Send at channel e) program calls k h s =
       among-evaluated (raises e) (Normal ∷ thrown_ends (raises e)) (value_of s e) s (λ v. normally (sending channel v s))
-      (expression-raises s e) (behind Normal (thrown_ends (raises e))) (λ v f.
+      (expression-raises s e) (in_rest Normal (thrown_ends (raises e))) (λ v f.
       among-first Normal (thrown_ends (raises e)) None (sending channel v s))
   statement-among (Call at procedure arguments target) program calls k h s =
       let declared : List ℕ = declared_by (procedure_at program procedure).throws in
       let xs : List ℕ = raises_all arguments ++ declared in
       among-evaluated (raises_all arguments) (Normal ∷ thrown_ends xs) (values_of s arguments) s
       (λ vs. returned_to target (calls procedure vs s)) (expressions-raise s arguments)
-      (λ exit f. behind Normal (thrown_ends xs) exit (thrown-left (raises_all arguments) declared exit f)) (λ vs f.
+      (λ exit f. in_rest Normal (thrown_ends xs) exit (thrown-left (raises_all arguments) declared exit f)) (λ vs f.
       among-returned_to (thrown_ends xs) target (calls procedure vs s)
       (among-more (Normal ∷ thrown_ends declared) (Normal ∷ thrown_ends xs) (calls procedure vs s)
       (λ exit g. call-more declared xs exit (thrown-right (raises_all arguments) declared) g) (h procedure vs s)))
-  statement-among (If at e yes_block no_block) program calls k h s =
-      let yes_ends : List Exit = block_ends program yes_block in
-      let no_ends : List Exit = block_ends program no_block in
+  statement-among (If at e then_block else_block) program calls k h s =
+      let yes_ends : List Exit = block_ends program then_block in
+      let no_ends : List Exit = block_ends program else_block in
       among-evaluated (raises e) (thrown_ends (raises e) ++ yes_ends ++ no_ends) (value_of s e) s
-      (λ v. if truth_in v then block_meaning calls k yes_block s else block_meaning calls k no_block s) (expression-raises s e)
+      (λ v. if truth_in v then block_meaning calls k then_block s else block_meaning calls k else_block s) (expression-raises s e)
       (λ exit f. any-left (same_exit exit) (thrown_ends (raises e) ++ yes_ends) no_ends
       (any-left (same_exit exit) (thrown_ends (raises e)) yes_ends f)) (λ v f.
-      among-if (thrown_ends (raises e) ++ yes_ends ++ no_ends) (truth_in v) (block_meaning calls k yes_block s) (block_meaning calls k no_block s)
-      (among-left (thrown_ends (raises e) ++ yes_ends) no_ends (block_meaning calls k yes_block s)
-      (among-right (thrown_ends (raises e)) yes_ends (block_meaning calls k yes_block s) (block-among yes_block program calls k h s)))
-      (among-right (thrown_ends (raises e) ++ yes_ends) no_ends (block_meaning calls k no_block s) (block-among no_block program calls k h s)))
+      among-if (thrown_ends (raises e) ++ yes_ends ++ no_ends) (truth_in v) (block_meaning calls k then_block s) (block_meaning calls k else_block s)
+      (among-left (thrown_ends (raises e) ++ yes_ends) no_ends (block_meaning calls k then_block s)
+      (among-right (thrown_ends (raises e)) yes_ends (block_meaning calls k then_block s) (block-among then_block program calls k h s)))
+      (among-right (thrown_ends (raises e) ++ yes_ends) no_ends (block_meaning calls k else_block s) (block-among else_block program calls k h s)))
   statement-among (While at loop e body) program calls k h s =
-      among-turns k (raises e) (block_ends program body) (λ t. value_of t e) (block_meaning calls k body) (λ t. expression-raises t e)
+      among-fuel k (raises e) (block_ends program body) (λ t. value_of t e) (block_meaning calls k body) (λ t. expression-raises t e)
       (block-among body program calls k h) s
   statement-among (Leave at exit) program calls k h s = among-first exit [] None s
   statement-among (ReturnWith at None) program calls k h s = among-first Return [] None s
   statement-among (ReturnWith at (Some e)) program calls k h s =
       among-evaluated (raises e) (Return ∷ thrown_ends (raises e)) (value_of s e) s (λ v. Ended Return (Some v) s) (expression-raises s e)
-      (behind Return (thrown_ends (raises e))) (λ v f.
+      (in_rest Return (thrown_ends (raises e))) (λ v f.
       among-first Return (thrown_ends (raises e)) (Some v) s)
   statement-among (Try at block handlers) program calls k h s =
       let ends : List Exit = block_ends program block in

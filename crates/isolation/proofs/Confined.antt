@@ -26,7 +26,7 @@ use Rattle.lattices.specs.Constraints.{holds}
 use Rattle.labels.specs.LabelLattice.{label_lattice}
 use Rattle.isolation.proofs.Among.{CallsAmong, expression-raises, thrown-among, statement-among, block-among}
 use Rattle.isolation.proofs.Observer.{Reader, View, view_of, AgreeFor, agree-itself, agree-through, agree-unread, agree-unread_input, agree-unread_sending, with_input, unread-left, unread-right, unread-flowing}
-use Rattle.isolation.proofs.Unseen.{hidden_end, hidden_return, Unseen, LoopExits, unseen-weaker, unseen-from, unseen-end, unseen-stop, unseen-evaluated, unseen-if, unseen-after, unseen-turns, unseen-caught}
+use Rattle.isolation.proofs.Unseen.{hidden_end, hidden_return, Unseen, LoopExits, unseen-weaker, unseen-from, unseen-end, unseen-stop, unseen-evaluated, unseen-if, unseen-after, unseen-fuel, unseen-caught}
 use Rattle.isolation.proofs.Closed.{read_exits, unseen-closed}
 use Rattle.common.specs.declared.exceptions.TheConstants.{END}
 
@@ -154,7 +154,7 @@ own-unread reader scope pc (Store at array len index e) fits unread =
 own-unread reader scope pc (Receive at channel target) fits unread = unread-left reader pc (one (label_of scope.program (ToChannel channel))) unread
 own-unread reader scope pc (Send at channel e) fits unread = unread-left reader pc (raise_label scope e) unread
 own-unread reader scope pc (Call at f arguments target) fits unread = unread-left reader pc (raise_labels scope arguments) unread
-own-unread reader scope pc (If at e yes_block no_block) fits unread = unread-left reader pc (raise_label scope e) unread
+own-unread reader scope pc (If at e then_block else_block) fits unread = unread-left reader pc (raise_label scope e) unread
 own-unread {h} {labelling} reader scope pc (While at loop e body) fits unread =
     let l : Join = one (label_of scope.program (ToLoop scope.number loop)) in
     let b : Join = own_label scope pc (While at loop e body) ++ value_label scope e in
@@ -272,32 +272,32 @@ module _ (h : PrincipalHierarchy) (labelling : Labelling) (reader : Reader h lab
         (λ m. unread-target reader scope at 6 (call_exits scope.program f q Normal ++ one (label_of scope.program (ToValue f))) target
         (fits-right h labelling (demand scope.program at 6 q (ToBegin f) ++ ds) ts fits)
         (unread-left reader (call_exits scope.program f q Normal) (one (label_of scope.program (ToValue f))) (each Normal)))))
-    statement-unseen (If at e yes_block no_block) pc fits unread s =
+    statement-unseen (If at e then_block else_block) pc fits unread s =
         let view = view_of reader scope in
         let value = reads_result reader (here scope) in
-        let q : Join = own_label scope pc (If at e yes_block no_block) in
+        let q : Join = own_label scope pc (If at e then_block else_block) in
         let b : Join = q ++ value_label scope e in
         let unread_b : reader.reads b ≡ false = unread-left reader q (value_label scope e) unread in
-        let exits = read_exits reader (statement_rule scope pc (If at e yes_block no_block)) in
-        let yes_ends = block_ends scope.program yes_block in
-        let no_ends = block_ends scope.program no_block in
-        let yes_exits : ExitLabels = at_ends yes_ends b (block_rule scope b yes_block) in
-        let no_exits : ExitLabels = at_ends no_ends b (block_rule scope b no_block) in
+        let exits = read_exits reader (statement_rule scope pc (If at e then_block else_block)) in
+        let yes_ends = block_ends scope.program then_block in
+        let no_ends = block_ends scope.program else_block in
+        let yes_exits : ExitLabels = at_ends yes_ends b (block_rule scope b then_block) in
+        let no_exits : ExitLabels = at_ends no_ends b (block_rule scope b else_block) in
         unseen-evaluated view value exits s (value_of s e)
-        (λ v. if truth_in v then block_meaning calls k yes_block s else block_meaning calls k no_block s)
+        (λ v. if truth_in v then block_meaning calls k then_block s else block_meaning calls k else_block s)
         (λ y f. unread-left reader (raised_exits e q (Throw y) ++ yes_exits (Throw y)) (no_exits (Throw y))
         (unread-left reader (raised_exits e q (Throw y)) (yes_exits (Throw y)) (unread-raised reader s e q y f unread))) (λ v f.
-        unseen-if view value exits s (truth_in v) (block_meaning calls k yes_block s) (block_meaning calls k no_block s)
-        (unseen-weaker view value (read_exits reader yes_exits) exits s (block_meaning calls k yes_block s)
-        (unseen-closed reader view value yes_ends b (block_rule scope b yes_block) s (block_meaning calls k yes_block s) unread_b
-        (block-among yes_block scope.program calls k confines.among s)
-        (block-unseen yes_block b (fits-left h labelling (block_demands scope b yes_block) (block_demands scope b no_block) fits) unread_b s))
+        unseen-if view value exits s (truth_in v) (block_meaning calls k then_block s) (block_meaning calls k else_block s)
+        (unseen-weaker view value (read_exits reader yes_exits) exits s (block_meaning calls k then_block s)
+        (unseen-closed reader view value yes_ends b (block_rule scope b then_block) s (block_meaning calls k then_block s) unread_b
+        (block-among then_block scope.program calls k confines.among s)
+        (block-unseen then_block b (fits-left h labelling (block_demands scope b then_block) (block_demands scope b else_block) fits) unread_b s))
         (λ exit m. unread-left reader (raised_exits e q exit ++ yes_exits exit) (no_exits exit)
         (unread-right reader (raised_exits e q exit) (yes_exits exit) m)))
-        (unseen-weaker view value (read_exits reader no_exits) exits s (block_meaning calls k no_block s)
-        (unseen-closed reader view value no_ends b (block_rule scope b no_block) s (block_meaning calls k no_block s) unread_b
-        (block-among no_block scope.program calls k confines.among s)
-        (block-unseen no_block b (fits-right h labelling (block_demands scope b yes_block) (block_demands scope b no_block) fits) unread_b s))
+        (unseen-weaker view value (read_exits reader no_exits) exits s (block_meaning calls k else_block s)
+        (unseen-closed reader view value no_ends b (block_rule scope b else_block) s (block_meaning calls k else_block s) unread_b
+        (block-among else_block scope.program calls k confines.among s)
+        (block-unseen else_block b (fits-right h labelling (block_demands scope b then_block) (block_demands scope b else_block) fits) unread_b s))
         (λ exit m. unread-right reader (raised_exits e q exit ++ yes_exits exit) (no_exits exit) m)))
     statement-unseen (While at loop e body) pc fits unread s =
         let view = view_of reader scope in
@@ -310,7 +310,7 @@ module _ (h : PrincipalHierarchy) (labelling : Labelling) (reader : Reader h lab
         let x : ExitLabels = at_ends ends b (block_rule scope b body) in
         let exits = read_exits reader (statement_rule scope pc (While at loop e body)) in
         let front = fits-left h labelling (demand scope.program at 8 pc (ToLoop scope.number loop) ++ block_demands scope b body) (demand scope.program at 8 (x Normal ++ x Continue) (ToLoop scope.number loop)) fits in
-        unseen-turns view value (read_exits reader x) exits k (λ t. value_of t e) (block_meaning calls k body)
+        unseen-fuel view value (read_exits reader x) exits k (λ t. value_of t e) (block_meaning calls k body)
         (λ t y f. unread-left reader (raised_exits e q (Throw y)) (loop_exits b x (Throw y)) (unread-raised reader t e q y f unread))
         (unread-right reader (raised_exits e q Normal) (b ++ x Break) (unread-left reader b (x Break) unread_b))
         (loop-read reader (raised_exits e q) b x)

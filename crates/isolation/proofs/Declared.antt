@@ -7,7 +7,7 @@ use Rattle.resolved.specs.Tree.{Empty}
 use Rattle.resolved.specs.Program.{Program, ProcedureEntry}
 use Rattle.resolved.specs.Ends.{has_end, block_ends}
 use Rattle.resolved.specs.EndFaults.{fault_unless, may_end, block_faults, procedure_faults, end_faults}
-use Rattle.resolved.specs.declared.fault.EndDefect.TheVariants.{NoValueReturned, Undeclared}
+use Rattle.resolved.specs.declared.fault.EndRefusalKind.TheVariants.{NoValueReturned, Undeclared}
 use Rattle.isolation.proofs.Among.{EndsAsDeclared}
 use Rattle.common.proofs.Cases.{append_empty}
 use Rattle.resolved.proofs.Exits.{no_fault-test}

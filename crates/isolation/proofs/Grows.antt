@@ -14,7 +14,7 @@ use Rattle.resolved.specs.Tree.{Statement, Assign, Clear, Store, Receive, Send, 
 use Rattle.resolved.specs.Program.{Program, procedure_at}
 use Rattle.resolved.specs.Value.{Evaluated, Yields, Raises, number_in, truth_in, checked_index}
 use Rattle.resolved.specs.SourceState.{SourceState, with_cells, assigned, stored, cleared, value_of, values_of}
-use Rattle.resolved.specs.Meaning.{Deep, OutOfTurns, Outcome, Ended, Stopped, normally, thrown, after, evaluated, looped, turns, caught, kept_in, received, sending, leaving, returned_to, Calls, statement_meaning, block_meaning, handlers_meaning, frame_of, calls_with, state_after}
+use Rattle.resolved.specs.Meaning.{Deep, OutOfFuel, Outcome, Ended, Stopped, normally, thrown, after, evaluated, looped, fuel, caught, kept_in, received, sending, leaving, returned_to, Calls, statement_meaning, block_meaning, handlers_meaning, frame_of, calls_with, state_after}
 
 -- from a state on, an outcome has only sent more
 pub record Grows (s : SourceState) (o : Outcome) : Type 0 where
@@ -50,16 +50,16 @@ grows-looped s (Ended Continue r t) again h rest = record { sent = prefix-throug
 grows-looped s (Ended (Throw x) r t) again h rest = record { sent = h.sent }
 grows-looped s (Stopped stop t) again h rest = record { sent = h.sent }
 
-pub grows-turns : (k : ℕ) (condition : SourceState → Evaluated Value) (body : SourceState → Outcome) → ((t : SourceState) → Grows t (body t)) →
-    (s : SourceState) → Grows s (turns k condition body s)
-grows-turns zero condition body h s =
-    grows-evaluated s (condition s) (λ v. if truth_in v then Stopped OutOfTurns s else normally s) (λ v.
-    grows-if s (truth_in v) (Stopped OutOfTurns s) (normally s) (grows-itself s s refl (Stopped OutOfTurns s) refl)
+pub grows-fuel : (k : ℕ) (condition : SourceState → Evaluated Value) (body : SourceState → Outcome) → ((t : SourceState) → Grows t (body t)) →
+    (s : SourceState) → Grows s (fuel k condition body s)
+grows-fuel zero condition body h s =
+    grows-evaluated s (condition s) (λ v. if truth_in v then Stopped OutOfFuel s else normally s) (λ v.
+    grows-if s (truth_in v) (Stopped OutOfFuel s) (normally s) (grows-itself s s refl (Stopped OutOfFuel s) refl)
     (grows-itself s s refl (normally s) refl))
-grows-turns (suc k) condition body h s =
-    grows-evaluated s (condition s) (λ v. if truth_in v then looped (body s) (turns k condition body) else normally s) (λ v.
-    grows-if s (truth_in v) (looped (body s) (turns k condition body)) (normally s)
-    (grows-looped s (body s) (turns k condition body) (h s) (grows-turns k condition body h))
+grows-fuel (suc k) condition body h s =
+    grows-evaluated s (condition s) (λ v. if truth_in v then looped (body s) (fuel k condition body) else normally s) (λ v.
+    grows-if s (truth_in v) (looped (body s) (fuel k condition body)) (normally s)
+    (grows-looped s (body s) (fuel k condition body) (h s) (grows-fuel k condition body h))
     (grows-itself s s refl (normally s) refl))
 
 pub grows-caught : (s : SourceState) (o : Outcome) (handle : ℕ → SourceState → Outcome) → Grows s o →
@@ -136,11 +136,11 @@ mutual
   statement-grows (Call at procedure arguments target) calls k h s =
       grows-evaluated s (values_of s arguments) (λ vs. returned_to target (calls procedure vs s)) (λ vs.
       grows-returned_to s target (calls procedure vs s) (h procedure vs s))
-  statement-grows (If at e yes_block no_block) calls k h s =
-      grows-evaluated s (value_of s e) (λ v. if truth_in v then block_meaning calls k yes_block s else block_meaning calls k no_block s) (λ v.
-      grows-if s (truth_in v) (block_meaning calls k yes_block s) (block_meaning calls k no_block s) (block-grows yes_block calls k h s)
-      (block-grows no_block calls k h s))
-  statement-grows (While at loop e body) calls k h s = grows-turns k (λ t. value_of t e) (block_meaning calls k body) (block-grows body calls k h) s
+  statement-grows (If at e then_block else_block) calls k h s =
+      grows-evaluated s (value_of s e) (λ v. if truth_in v then block_meaning calls k then_block s else block_meaning calls k else_block s) (λ v.
+      grows-if s (truth_in v) (block_meaning calls k then_block s) (block_meaning calls k else_block s) (block-grows then_block calls k h s)
+      (block-grows else_block calls k h s))
+  statement-grows (While at loop e body) calls k h s = grows-fuel k (λ t. value_of t e) (block_meaning calls k body) (block-grows body calls k h) s
   statement-grows (Leave at exit) calls k h s = grows-itself s s refl (Ended exit None s) refl
   statement-grows (ReturnWith at None) calls k h s = grows-itself s s refl (Ended Return None s) refl
   statement-grows (ReturnWith at (Some e)) calls k h s =

@@ -150,7 +150,7 @@ module _ (program : Program) (labelling : Labelling) (accepted : Accepted progra
         (body-fits f) unread u);
   }
 
-  -- two calls, with any numbers of turns and as many frames
+  -- two calls, with any amounts of fuel and as many frames
   pub calls-secure : (k m frames : ℕ) (caller : ℕ) (labels : Labelling) →
       Secures (under reader labels) (record { program = program; number = caller }) (calls_with program k frames)
       (calls_with program m frames)

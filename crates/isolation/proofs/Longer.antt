@@ -1,4 +1,4 @@
--- More turns change no end that was reached, and take nothing back of what was sent.
+-- More fuel changes no end that was reached, and takes nothing back of what was sent.
 use Rattle.std.proofs.Common.{◌≡◌, refl, ℕ, zero, suc, ◌≤◌, Bool, true, false, List, arith}
 use Rattle.std.specs.Prelude.{Option, Some, None, if◌then◌else◌, ◌==◌}
 use Rattle.labels.specs.Sent.{IsPrefix}
@@ -9,22 +9,22 @@ use Rattle.resolved.specs.Tree.{Statement, Call, If, While, ReturnWith, Try, Nes
 use Rattle.resolved.specs.Program.{Program, procedure_at}
 use Rattle.resolved.specs.Value.{Evaluated, Yields, Raises, truth_in}
 use Rattle.resolved.specs.SourceState.{SourceState, value_of, values_of}
-use Rattle.resolved.specs.Meaning.{Deep, OutOfTurns, Outcome, Ended, Stopped, normally, thrown, after, evaluated, looped, turns, caught, leaving, returned_to, Calls, statement_meaning, block_meaning, handlers_meaning, frame_of, calls_with, state_after}
+use Rattle.resolved.specs.Meaning.{Deep, OutOfFuel, Outcome, Ended, Stopped, normally, thrown, after, evaluated, looped, fuel, caught, leaving, returned_to, Calls, statement_meaning, block_meaning, handlers_meaning, frame_of, calls_with, state_after}
 use Rattle.isolation.specs.Runs.{GoesOn}
 use Rattle.labels.proofs.Prefixes.{prefix-itself}
-use Rattle.isolation.proofs.Grows.{Grows, CallsGrow, grows-after, grows-looped, grows-turns, grows-caught, grows-leaving, grows-returned_to, block-grows, handlers-grow, calls-grow}
+use Rattle.isolation.proofs.Grows.{Grows, CallsGrow, grows-after, grows-looped, grows-fuel, grows-caught, grows-leaving, grows-returned_to, block-grows, handlers-grow, calls-grow}
 
--- a run and the same run with more turns
+-- a run and the same run with more fuel
 record Longer (o more : Outcome) : Type 0 where
   goes_on : GoesOn o more
 
 longer-itself : (o : Outcome) → Longer o o
 longer-itself (Ended exit r s) = record { goes_on = refl }
 longer-itself (Stopped Deep s) = record { goes_on = refl }
-longer-itself (Stopped OutOfTurns s) = record { goes_on = prefix-itself s.sent }
+longer-itself (Stopped OutOfFuel s) = record { goes_on = prefix-itself s.sent }
 
--- what has sent more goes on after a run that was out of turns in the same state
-longer-grown : (s : SourceState) (more : Outcome) → Grows s more → Longer (Stopped OutOfTurns s) more
+-- what has sent more goes on after a run that was out of fuel in the same state
+longer-grown : (s : SourceState) (more : Outcome) → Grows s more → Longer (Stopped OutOfFuel s) more
 longer-grown s more h = record { goes_on = h.sent }
 
 longer-after : (o more : Outcome) (next further : SourceState → Outcome) → Longer o more → ((t : SourceState) → Longer (next t) (further t)) →
@@ -35,7 +35,7 @@ longer-after (Ended Break r s) more next further h rest grows = rw h.goes_on (lo
 longer-after (Ended Continue r s) more next further h rest grows = rw h.goes_on (longer-itself (Ended Continue r s))
 longer-after (Ended (Throw x) r s) more next further h rest grows = rw h.goes_on (longer-itself (Ended (Throw x) r s))
 longer-after (Stopped Deep s) more next further h rest grows = rw h.goes_on (longer-itself (Stopped Deep s))
-longer-after (Stopped OutOfTurns s) more next further h rest grows =
+longer-after (Stopped OutOfFuel s) more next further h rest grows =
     longer-grown s (after more further) (grows-after s more further (record { sent = h.goes_on }) grows)
 
 longer-looped : (o more : Outcome) (next further : SourceState → Outcome) → Longer o more → ((t : SourceState) → Longer (next t) (further t)) →
@@ -46,7 +46,7 @@ longer-looped (Ended Break r s) more next further h rest grows = rw h.goes_on (l
 longer-looped (Ended Continue r s) more next further h rest grows = rw h.goes_on (rest s)
 longer-looped (Ended (Throw x) r s) more next further h rest grows = rw h.goes_on (longer-itself (Ended (Throw x) r s))
 longer-looped (Stopped Deep s) more next further h rest grows = rw h.goes_on (longer-itself (Stopped Deep s))
-longer-looped (Stopped OutOfTurns s) more next further h rest grows =
+longer-looped (Stopped OutOfFuel s) more next further h rest grows =
     longer-grown s (looped more further) (grows-looped s more further (record { sent = h.goes_on }) grows)
 
 longer-caught : (o more : Outcome) (next further : ℕ → SourceState → Outcome) → Longer o more →
@@ -58,7 +58,7 @@ longer-caught (Ended Return r s) more next further h rest grows = rw h.goes_on (
 longer-caught (Ended Break r s) more next further h rest grows = rw h.goes_on (longer-itself (Ended Break r s))
 longer-caught (Ended Continue r s) more next further h rest grows = rw h.goes_on (longer-itself (Ended Continue r s))
 longer-caught (Stopped Deep s) more next further h rest grows = rw h.goes_on (longer-itself (Stopped Deep s))
-longer-caught (Stopped OutOfTurns s) more next further h rest grows =
+longer-caught (Stopped OutOfFuel s) more next further h rest grows =
     longer-grown s (caught more further) (grows-caught s more further (record { sent = h.goes_on }) grows)
 
 longer-evaluated : {A : Type 0} (e : Evaluated A) (s : SourceState) (next further : A → Outcome) →
@@ -74,7 +74,7 @@ longer-leaving : (back : SourceState → SourceState) → ((t : SourceState) →
     Longer (leaving back o) (leaving back more)
 longer-leaving back e (Ended exit r s) more h = rw h.goes_on (longer-itself (leaving back (Ended exit r s)))
 longer-leaving back e (Stopped Deep s) more h = rw h.goes_on (longer-itself (Stopped Deep (back s)))
-longer-leaving back e (Stopped OutOfTurns s) more h =
+longer-leaving back e (Stopped OutOfFuel s) more h =
     longer-grown (back s) (leaving back more) (record { sent = rw (← e s) (grows-leaving s back more e (record { sent = h.goes_on })).sent })
 
 longer-returned_to : (target : Option Variable) (o more : Outcome) → Longer o more →
@@ -82,33 +82,33 @@ longer-returned_to : (target : Option Variable) (o more : Outcome) → Longer o 
 longer-returned_to target (Ended exit r s) more h = rw h.goes_on (longer-itself (returned_to target (Ended exit r s)))
 longer-returned_to None (Stopped Deep s) more h = rw h.goes_on (longer-itself (Stopped Deep s))
 longer-returned_to (Some x) (Stopped Deep s) more h = rw h.goes_on (longer-itself (Stopped Deep s))
-longer-returned_to None (Stopped OutOfTurns s) more h =
+longer-returned_to None (Stopped OutOfFuel s) more h =
     longer-grown s (returned_to None more) (grows-returned_to s None more (record { sent = h.goes_on }))
-longer-returned_to (Some x) (Stopped OutOfTurns s) more h =
+longer-returned_to (Some x) (Stopped OutOfFuel s) more h =
     longer-grown s (returned_to (Some x) more) (grows-returned_to s (Some x) more (record { sent = h.goes_on }))
 
-longer-turns : (k m : ℕ) → k ≤ m → (condition : SourceState → Evaluated Value) (body further : SourceState → Outcome) →
+longer-fuel : (k m : ℕ) → k ≤ m → (condition : SourceState → Evaluated Value) (body further : SourceState → Outcome) →
     ((t : SourceState) → Longer (body t) (further t)) → ((t : SourceState) → Grows t (further t)) → (s : SourceState) →
-    Longer (turns k condition body s) (turns m condition further s)
-longer-turns zero zero le condition body further h grows s =
-    longer-itself (turns zero condition body s)
-longer-turns zero (suc m) le condition body further h grows s =
-    longer-evaluated (condition s) s (λ v. if truth_in v then Stopped OutOfTurns s else normally s)
-    (λ v. if truth_in v then looped (further s) (turns m condition further) else normally s) (λ v.
-    longer-if (truth_in v) (Stopped OutOfTurns s) (normally s) (looped (further s) (turns m condition further)) (normally s)
-    (longer-grown s (looped (further s) (turns m condition further))
-    (grows-looped s (further s) (turns m condition further) (grows s) (grows-turns m condition further grows)))
+    Longer (fuel k condition body s) (fuel m condition further s)
+longer-fuel zero zero le condition body further h grows s =
+    longer-itself (fuel zero condition body s)
+longer-fuel zero (suc m) le condition body further h grows s =
+    longer-evaluated (condition s) s (λ v. if truth_in v then Stopped OutOfFuel s else normally s)
+    (λ v. if truth_in v then looped (further s) (fuel m condition further) else normally s) (λ v.
+    longer-if (truth_in v) (Stopped OutOfFuel s) (normally s) (looped (further s) (fuel m condition further)) (normally s)
+    (longer-grown s (looped (further s) (fuel m condition further))
+    (grows-looped s (further s) (fuel m condition further) (grows s) (grows-fuel m condition further grows)))
     (longer-itself (normally s)))
-longer-turns (suc k) zero le condition body further h grows s = absurd (omega (arith, le))
-longer-turns (suc k) (suc m) le condition body further h grows s =
-    longer-evaluated (condition s) s (λ v. if truth_in v then looped (body s) (turns k condition body) else normally s)
-    (λ v. if truth_in v then looped (further s) (turns m condition further) else normally s) (λ v.
-    longer-if (truth_in v) (looped (body s) (turns k condition body)) (normally s) (looped (further s) (turns m condition further)) (normally s)
-    (longer-looped (body s) (further s) (turns k condition body) (turns m condition further) (h s)
-    (longer-turns k m (omega (arith, le)) condition body further h grows) (grows-turns m condition further grows))
+longer-fuel (suc k) zero le condition body further h grows s = absurd (omega (arith, le))
+longer-fuel (suc k) (suc m) le condition body further h grows s =
+    longer-evaluated (condition s) s (λ v. if truth_in v then looped (body s) (fuel k condition body) else normally s)
+    (λ v. if truth_in v then looped (further s) (fuel m condition further) else normally s) (λ v.
+    longer-if (truth_in v) (looped (body s) (fuel k condition body)) (normally s) (looped (further s) (fuel m condition further)) (normally s)
+    (longer-looped (body s) (further s) (fuel k condition body) (fuel m condition further) (h s)
+    (longer-fuel k m (omega (arith, le)) condition body further h grows) (grows-fuel m condition further grows))
     (longer-itself (normally s)))
 
--- calls with fewer turns and with more
+-- calls with less fuel and with more
 record LongerCalls (calls further : Calls) : Type 0 where
   longer : (f : ℕ) (vs : List Value) (s : SourceState) → Longer (calls f vs s) (further f vs s)
   grows : CallsGrow further
@@ -116,14 +116,14 @@ record LongerCalls (calls further : Calls) : Type 0 where
 mutual
   statement-longer : (statement : Statement) (calls further : Calls) (k m : ℕ) → k ≤ m → LongerCalls calls further → (s : SourceState) →
       Longer (statement_meaning calls k statement s) (statement_meaning further m statement s)
-  statement-longer (If at e yes_block no_block) calls further k m le h s =
-      longer-evaluated (value_of s e) s (λ v. if truth_in v then block_meaning calls k yes_block s else block_meaning calls k no_block s)
-      (λ v. if truth_in v then block_meaning further m yes_block s else block_meaning further m no_block s) (λ v.
-      longer-if (truth_in v) (block_meaning calls k yes_block s) (block_meaning calls k no_block s) (block_meaning further m yes_block s)
-      (block_meaning further m no_block s)
-      (block-longer yes_block calls further k m le h s) (block-longer no_block calls further k m le h s))
+  statement-longer (If at e then_block else_block) calls further k m le h s =
+      longer-evaluated (value_of s e) s (λ v. if truth_in v then block_meaning calls k then_block s else block_meaning calls k else_block s)
+      (λ v. if truth_in v then block_meaning further m then_block s else block_meaning further m else_block s) (λ v.
+      longer-if (truth_in v) (block_meaning calls k then_block s) (block_meaning calls k else_block s) (block_meaning further m then_block s)
+      (block_meaning further m else_block s)
+      (block-longer then_block calls further k m le h s) (block-longer else_block calls further k m le h s))
   statement-longer (While at loop e body) calls further k m le h s =
-      longer-turns k m le (λ t. value_of t e) (block_meaning calls k body) (block_meaning further m body)
+      longer-fuel k m le (λ t. value_of t e) (block_meaning calls k body) (block_meaning further m body)
       (block-longer body calls further k m le h) (block-grows body further m h.grows) s
   statement-longer (Call at procedure arguments target) calls further k m le h s =
       longer-evaluated (values_of s arguments) s (λ vs. returned_to target (calls procedure vs s))
@@ -172,7 +172,7 @@ calls-longer program k m le (suc frames) = record {
   grows = calls-grow program m (suc frames);
 }
 
--- a call with more turns goes on after the same call with fewer
+-- a call with more fuel goes on after the same call with less
 pub calls-go_on : (program : Program) (k m : ℕ) → k ≤ m → (frames f : ℕ) (vs : List Value) (s : SourceState) →
     GoesOn (calls_with program k frames f vs s) (calls_with program m frames f vs s)
 calls-go_on program k m le frames f vs s = ((calls-longer program k m le frames).longer f vs s).goes_on
@@ -181,4 +181,4 @@ calls-go_on program k m le frames f vs s = ((calls-longer program k m le frames)
 pub prefix-longer : (o more : Outcome) → GoesOn o more → IsPrefix (state_after o).sent (state_after more).sent
 prefix-longer (Ended exit r s) more h = rw h (prefix-itself s.sent)
 prefix-longer (Stopped Deep s) more h = rw h (prefix-itself s.sent)
-prefix-longer (Stopped OutOfTurns s) more h = h
+prefix-longer (Stopped OutOfFuel s) more h = h

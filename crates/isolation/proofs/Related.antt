@@ -12,10 +12,10 @@ use Rattle.resolved.specs.declared.statement.Exit.TheVariants.{Normal, Return, B
 use Rattle.resolved.specs.Tree.{Handlers}
 use Rattle.resolved.specs.Value.{Evaluated, Yields, Raises, truth_in}
 use Rattle.resolved.specs.SourceState.{SourceState}
-use Rattle.resolved.specs.Meaning.{Stop, OutOfTurns, Outcome, Ended, Stopped, normally, thrown, after, evaluated, looped, turns, caught, state_after}
+use Rattle.resolved.specs.Meaning.{Stop, OutOfFuel, Outcome, Ended, Stopped, normally, thrown, after, evaluated, looped, fuel, caught, state_after}
 use Rattle.resolved.specs.Ends.{same_exit, passes}
 use Rattle.labels.proofs.Prefixes.{prefix-through}
-use Rattle.isolation.proofs.Grows.{Grows, grows-itself, grows-after, grows-looped, grows-turns, grows-caught}
+use Rattle.isolation.proofs.Grows.{Grows, grows-itself, grows-after, grows-looped, grows-fuel, grows-caught}
 use Rattle.isolation.proofs.Observer.{View, shown, AgreeFor, agree-across, agree-back}
 use Rattle.isolation.proofs.Values.{Alike, both_give, both_raise, SameIf}
 use Rattle.isolation.proofs.Unseen.{Hidden, hidden-weaker, Unseen, LoopExits, unseen-after, unseen-looped, unseen-turn_zero, unseen-turn_suc, unseen-caught}
@@ -125,16 +125,16 @@ related-looped view value inner more o p again further (first_stops stop s _ h) 
 related-looped view value inner more o p again further (second_stops _ stop t h) loop normal continued ways =
     second_stops (looped o again) stop t (stopped-prefix view t o (looped o again) h (grown-looped o again ways.grows_first))
 
--- a run that is out of turns
+-- a run that is out of fuel
 out-first : (view : View) (value : Bool) (exits : Exit → Bool) (s t : SourceState) (p : Outcome) → AgreeFor view s t → Grows t p →
-    Related view value exits (Stopped OutOfTurns s) p
+    Related view value exits (Stopped OutOfFuel s) p
 out-first view value exits s t p h grows =
-    first_stops OutOfTurns s p (stopped-prefix view s (normally t) p (agree-prefix view s t h) grows)
+    first_stops OutOfFuel s p (stopped-prefix view s (normally t) p (agree-prefix view s t h) grows)
 
 out-second : (view : View) (value : Bool) (exits : Exit → Bool) (s t : SourceState) (o : Outcome) → AgreeFor view s t → Grows s o →
-    Related view value exits o (Stopped OutOfTurns t)
+    Related view value exits o (Stopped OutOfFuel t)
 out-second view value exits s t o h grows =
-    second_stops o OutOfTurns t (stopped-prefix view t (normally s) o (agree-prefix view t s (agree-back view s t h)) grows)
+    second_stops o OutOfFuel t (stopped-prefix view t (normally s) o (agree-prefix view t s (agree-back view s t h)) grows)
 
 -- a loop whose condition and label the observer reads
 pub record LoopRead (view : View) (value : Bool) (inner more : Exit → Bool) (condition : SourceState → Evaluated Value)
@@ -145,50 +145,50 @@ pub record LoopRead (view : View) (value : Bool) (inner more : Exit → Bool) (c
   pub continued : inner Continue ≡ false → ⊥
   pub ways : WaysOn view value inner body further
 
-pub related-turns : (view : View) (value : Bool) (inner more : Exit → Bool) (condition : SourceState →
+pub related-fuel : (view : View) (value : Bool) (inner more : Exit → Bool) (condition : SourceState →
     Evaluated Value) (body further : SourceState → Outcome) → LoopRead view value inner more condition body further →
-    (k m : ℕ) (s t : SourceState) → AgreeFor view s t → Related view value more (turns k condition body s) (turns m condition further t)
-related-turns view value inner more condition body further h zero zero s t agree =
+    (k m : ℕ) (s t : SourceState) → AgreeFor view s t → Related view value more (fuel k condition body s) (fuel m condition further t)
+related-fuel view value inner more condition body further h zero zero s t agree =
     related-evaluated (SameIf true) view value more s t (condition s) (condition t)
-    (λ v. if truth_in v then Stopped OutOfTurns s else normally s) (λ v. if truth_in v then Stopped OutOfTurns t else normally t)
+    (λ v. if truth_in v then Stopped OutOfFuel s else normally s) (λ v. if truth_in v then Stopped OutOfFuel t else normally t)
     agree (h.condition_alike s t agree) (λ v w e f same.
-    related-if view value more (truth_in v) (truth_in w) (Stopped OutOfTurns s) (normally s) (Stopped OutOfTurns t) (normally t)
+    related-if view value more (truth_in v) (truth_in w) (Stopped OutOfFuel s) (normally s) (Stopped OutOfFuel t) (normally t)
     (ap (λ x. truth_in x) (same refl))
-    (out-first view value more s t (Stopped OutOfTurns t) agree (grows-itself t t refl (Stopped OutOfTurns t) refl))
+    (out-first view value more s t (Stopped OutOfFuel t) agree (grows-itself t t refl (Stopped OutOfFuel t) refl))
     (same_end Normal s t agree))
-related-turns view value inner more condition body further h zero (suc m) s t agree =
+related-fuel view value inner more condition body further h zero (suc m) s t agree =
     related-evaluated (SameIf true) view value more s t (condition s) (condition t)
-    (λ v. if truth_in v then Stopped OutOfTurns s else normally s)
-    (λ v. if truth_in v then looped (further t) (turns m condition further) else normally t)
+    (λ v. if truth_in v then Stopped OutOfFuel s else normally s)
+    (λ v. if truth_in v then looped (further t) (fuel m condition further) else normally t)
     agree (h.condition_alike s t agree) (λ v w e f same.
-    related-if view value more (truth_in v) (truth_in w) (Stopped OutOfTurns s) (normally s)
-    (looped (further t) (turns m condition further)) (normally t) (ap (λ x. truth_in x) (same refl))
-    (out-first view value more s t (looped (further t) (turns m condition further)) agree
-    (grows-looped t (further t) (turns m condition further) (h.ways.grows_second t)
-    (grows-turns m condition further h.ways.grows_second)))
+    related-if view value more (truth_in v) (truth_in w) (Stopped OutOfFuel s) (normally s)
+    (looped (further t) (fuel m condition further)) (normally t) (ap (λ x. truth_in x) (same refl))
+    (out-first view value more s t (looped (further t) (fuel m condition further)) agree
+    (grows-looped t (further t) (fuel m condition further) (h.ways.grows_second t)
+    (grows-fuel m condition further h.ways.grows_second)))
     (same_end Normal s t agree))
-related-turns view value inner more condition body further h (suc k) zero s t agree =
+related-fuel view value inner more condition body further h (suc k) zero s t agree =
     related-evaluated (SameIf true) view value more s t (condition s) (condition t)
-    (λ v. if truth_in v then looped (body s) (turns k condition body) else normally s) (λ v. if truth_in v then Stopped OutOfTurns t else normally t)
+    (λ v. if truth_in v then looped (body s) (fuel k condition body) else normally s) (λ v. if truth_in v then Stopped OutOfFuel t else normally t)
     agree (h.condition_alike s t agree) (λ v w e f same.
-    related-if view value more (truth_in v) (truth_in w) (looped (body s) (turns k condition body)) (normally s) (Stopped OutOfTurns t)
+    related-if view value more (truth_in v) (truth_in w) (looped (body s) (fuel k condition body)) (normally s) (Stopped OutOfFuel t)
     (normally t) (ap (λ x. truth_in x) (same refl))
-    (out-second view value more s t (looped (body s) (turns k condition body)) agree
-    (grows-looped s (body s) (turns k condition body) (h.ways.grows_first s) (grows-turns k condition body h.ways.grows_first)))
+    (out-second view value more s t (looped (body s) (fuel k condition body)) agree
+    (grows-looped s (body s) (fuel k condition body) (h.ways.grows_first s) (grows-fuel k condition body h.ways.grows_first)))
     (same_end Normal s t agree))
-related-turns view value inner more condition body further h (suc k) (suc m) s t agree =
+related-fuel view value inner more condition body further h (suc k) (suc m) s t agree =
     related-evaluated (SameIf true) view value more s t (condition s) (condition t)
-    (λ v. if truth_in v then looped (body s) (turns k condition body) else normally s)
-    (λ v. if truth_in v then looped (further t) (turns m condition further) else normally t)
+    (λ v. if truth_in v then looped (body s) (fuel k condition body) else normally s)
+    (λ v. if truth_in v then looped (further t) (fuel m condition further) else normally t)
     agree (h.condition_alike s t agree) (λ v w e f same.
-    related-if view value more (truth_in v) (truth_in w) (looped (body s) (turns k condition body)) (normally s)
-    (looped (further t) (turns m condition further)) (normally t) (ap (λ x. truth_in x) (same refl))
-    (related-looped view value inner more (body s) (further t) (turns k condition body) (turns m condition further)
+    related-if view value more (truth_in v) (truth_in w) (looped (body s) (fuel k condition body)) (normally s)
+    (looped (further t) (fuel m condition further)) (normally t) (ap (λ x. truth_in x) (same refl))
+    (related-looped view value inner more (body s) (further t) (fuel k condition body) (fuel m condition further)
     (h.ways.related s t agree) h.loop h.normal h.continued
     (record {
-      related = related-turns view value inner more condition body further h k m;
-      grows_first = grows-turns k condition body h.ways.grows_first;
-      grows_second = grows-turns m condition further h.ways.grows_second;
+      related = related-fuel view value inner more condition body further h k m;
+      grows_first = grows-fuel k condition body h.ways.grows_first;
+      grows_second = grows-fuel m condition further h.ways.grows_second;
     }))
     (same_end Normal s t agree))
 
@@ -204,31 +204,31 @@ pub record LoopUnread (view : View) (value : Bool) (inner more : Exit → Bool) 
 
 pub unseen-once : (view : View) (value : Bool) (inner more : Exit → Bool) (b : Bool) (condition : SourceState →
     Evaluated Value) (body : SourceState → Outcome) → LoopUnread view value inner more b condition body →
-    (k : ℕ) (s : SourceState) (v : Value) → condition s ≡ Yields v → Unseen view value more s (turns k condition body s)
+    (k : ℕ) (s : SourceState) (v : Value) → condition s ≡ Yields v → Unseen view value more s (fuel k condition body s)
 unseen-once view value inner more b condition body h zero s v e =
     unseen-turn_zero view value more condition body s (λ x f. absurd (cc)) h.over
 unseen-once view value inner more b condition body h (suc k) s v e =
     unseen-turn_suc view value inner more k condition body s (λ x f. absurd (cc)) h.over h.loop (h.each s)
     (λ t m. absurd (h.normal m)) (λ t m. absurd (h.continued m))
 
-turns-raised : (k : ℕ) (condition : SourceState → Evaluated Value) (body : SourceState → Outcome) (s : SourceState) (x : ℕ) → condition s ≡ Raises x →
-    turns k condition body s ≡ thrown x s
-turns-raised zero condition body s x e = rw e refl
-turns-raised (suc k) condition body s x e = rw e refl
+fuel-raised : (k : ℕ) (condition : SourceState → Evaluated Value) (body : SourceState → Outcome) (s : SourceState) (x : ℕ) → condition s ≡ Raises x →
+    fuel k condition body s ≡ thrown x s
+fuel-raised zero condition body s x e = rw e refl
+fuel-raised (suc k) condition body s x e = rw e refl
 
 pub related-once : (view : View) (value : Bool) (inner more : Exit → Bool) (b : Bool) (condition : SourceState →
     Evaluated Value) (body further : SourceState → Outcome) → LoopUnread view value inner more b condition body →
     LoopUnread view value inner more b condition further → (k m : ℕ) (s t : SourceState) → AgreeFor view s t →
-    Alike (SameIf b) (condition s) (condition t) → Related view value more (turns k condition body s) (turns m condition further t)
+    Alike (SameIf b) (condition s) (condition t) → Related view value more (fuel k condition body s) (fuel m condition further t)
 related-once view value inner more b condition body further h i k m s t agree alike = go (condition s) (condition t) refl refl alike
   where
     go : (o p : Evaluated Value) → condition s ≡ o → condition t ≡ p → Alike (SameIf b) o p →
-        Related view value more (turns k condition body s) (turns m condition further t)
+        Related view value more (fuel k condition body s) (fuel m condition further t)
     go o p e f (both_give v w same) =
-        both-unseen view value more s t (turns k condition body s) (turns m condition further t) agree
+        both-unseen view value more s t (fuel k condition body s) (fuel m condition further t) agree
         (unseen-once view value inner more b condition body h k s v e) (unseen-once view value inner more b condition further i m t w f)
     go o p e f (both_raise x) =
-        rw (turns-raised k condition body s x e, turns-raised m condition further t x f) (same_end (Throw x) s t agree)
+        rw (fuel-raised k condition body s x e, fuel-raised m condition further t x f) (same_end (Throw x) s t agree)
 
 grown-caught : (o : Outcome) (handle : ℕ → SourceState → Outcome) → ((x : ℕ) (s : SourceState) → Grows s (handle x s)) →
     Grows (state_after o) (caught o handle)

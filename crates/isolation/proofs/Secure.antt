@@ -22,7 +22,7 @@ use Rattle.isolation.proofs.Among.{statement-among, block-among}
 use Rattle.isolation.proofs.Observer.{Reader, View, view_of, AgreeFor, agree-with_cells, agree-with_input, agree-sending, with_input, read-left, read-right, unread-left, unread-right}
 use Rattle.isolation.proofs.Values.{SameIf, index-alike, expression-alike, ArgumentsAlike, no_arguments, one_more, arguments-alike, read-label_if}
 use Rattle.isolation.proofs.Unseen.{unseen-weaker, unseen-if}
-use Rattle.isolation.proofs.Related.{Related, same_end, same_return, both-unseen, related-evaluated, related-if, related-weaker, related-after, related-turns, related-once, related-caught}
+use Rattle.isolation.proofs.Related.{Related, same_end, same_return, both-unseen, related-evaluated, related-if, related-weaker, related-after, related-fuel, related-once, related-caught}
 use Rattle.isolation.proofs.Closed.{read_exits, unseen-closed, related-closed}
 use Rattle.isolation.proofs.Confined.{Confines, reads_result, fits-left, fits-right, fits-one, unread-label_if, unread-target, loop-read, statement-unseen, block-unseen, handlers-unseen}
 use Rattle.isolation.proofs.Calls.{RelatedCall, related-returned_to, declared_label}
@@ -197,61 +197,61 @@ module _ (h : PrincipalHierarchy) (labelling : Labelling) (reader : Reader h lab
         (unread-declared reader scope.program f q Normal u)))
         (λ x e reads. sym (reader.written _) ∙ read-right reader (call_exits scope.program f q Normal) (one (label_of scope.program (ToValue f)))
         (target-read reader scope at 6 left target last x e reads))))
-    statement-secure (If at e yes_block no_block) pc fits s t agree =
+    statement-secure (If at e then_block else_block) pc fits s t agree =
         let view = view_of reader scope in
         let value = reads_result reader (here scope) in
-        let q : Join = own_label scope pc (If at e yes_block no_block) in
+        let q : Join = own_label scope pc (If at e then_block else_block) in
         let b : Join = q ++ value_label scope e in
-        let exits = read_exits reader (statement_rule scope pc (If at e yes_block no_block)) in
-        let yes_ends = block_ends scope.program yes_block in
-        let no_ends = block_ends scope.program no_block in
-        let yes_exits : ExitLabels = at_ends yes_ends b (block_rule scope b yes_block) in
-        let no_exits : ExitLabels = at_ends no_ends b (block_rule scope b no_block) in
-        let yes_fits = fits-left h labelling (block_demands scope b yes_block) (block_demands scope b no_block) fits in
-        let no_fits = fits-right h labelling (block_demands scope b yes_block) (block_demands scope b no_block) fits in
+        let exits = read_exits reader (statement_rule scope pc (If at e then_block else_block)) in
+        let yes_ends = block_ends scope.program then_block in
+        let no_ends = block_ends scope.program else_block in
+        let yes_exits : ExitLabels = at_ends yes_ends b (block_rule scope b then_block) in
+        let no_exits : ExitLabels = at_ends no_ends b (block_rule scope b else_block) in
+        let yes_fits = fits-left h labelling (block_demands scope b then_block) (block_demands scope b else_block) fits in
+        let no_fits = fits-right h labelling (block_demands scope b then_block) (block_demands scope b else_block) fits in
         let yes_more : (exit : Exit) → reader.reads (yes_exits exit) ≡ false → exits exit ≡ false = λ exit u. unread-left reader
         (raised_exits e q exit ++ yes_exits exit) (no_exits exit) (unread-right reader (raised_exits e q exit) (yes_exits exit) u) in
         let no_more : (exit : Exit) → reader.reads (no_exits exit) ≡ false → exits exit ≡ false = λ exit u. unread-right reader
         (raised_exits e q exit ++ yes_exits exit) (no_exits exit) u in
-        by-reading (reader.reads q) (both-hidden (If at e yes_block no_block) pc fits s t agree) (λ read.
+        by-reading (reader.reads q) (both-hidden (If at e then_block else_block) pc fits s t agree) (λ read.
         related-evaluated (SameIf (reader.reads (value_label scope e))) view value exits s t (value_of s e) (value_of t e)
-        (λ v. if truth_in v then block_meaning calls k yes_block s else block_meaning calls k no_block s)
-        (λ v. if truth_in v then block_meaning further m yes_block t else block_meaning further m no_block t) agree
+        (λ v. if truth_in v then block_meaning calls k then_block s else block_meaning calls k else_block s)
+        (λ v. if truth_in v then block_meaning further m then_block t else block_meaning further m else_block t) agree
         (expression-alike reader scope s t agree e (read-right reader pc (raise_label scope e) read)) (λ v w f g same.
         by-reading (reader.reads (value_label scope e))
         (λ unread.
         let unread_b : reader.reads b ≡ false = unread-right reader q (value_label scope e) unread in
-        both-unseen view value exits s t (if truth_in v then block_meaning calls k yes_block s else block_meaning calls k no_block s)
-        (if truth_in w then block_meaning further m yes_block t else block_meaning further m no_block t) agree
-        (unseen-if view value exits s (truth_in v) (block_meaning calls k yes_block s) (block_meaning calls k no_block s)
-        (unseen-weaker view value (read_exits reader yes_exits) exits s (block_meaning calls k yes_block s)
-        (unseen-closed reader view value yes_ends b (block_rule scope b yes_block) s (block_meaning calls k yes_block s) unread_b
-        (block-among yes_block scope.program calls k secures.first.among s)
-        (block-unseen h labelling reader scope calls k secures.first yes_block b yes_fits unread_b s)) yes_more)
-        (unseen-weaker view value (read_exits reader no_exits) exits s (block_meaning calls k no_block s)
-        (unseen-closed reader view value no_ends b (block_rule scope b no_block) s (block_meaning calls k no_block s) unread_b
-        (block-among no_block scope.program calls k secures.first.among s)
-        (block-unseen h labelling reader scope calls k secures.first no_block b no_fits unread_b s)) no_more))
-        (unseen-if view value exits t (truth_in w) (block_meaning further m yes_block t) (block_meaning further m no_block t)
-        (unseen-weaker view value (read_exits reader yes_exits) exits t (block_meaning further m yes_block t)
-        (unseen-closed reader view value yes_ends b (block_rule scope b yes_block) t (block_meaning further m yes_block t) unread_b
-        (block-among yes_block scope.program further m secures.second.among t)
-        (block-unseen h labelling reader scope further m secures.second yes_block b yes_fits unread_b t)) yes_more)
-        (unseen-weaker view value (read_exits reader no_exits) exits t (block_meaning further m no_block t)
-        (unseen-closed reader view value no_ends b (block_rule scope b no_block) t (block_meaning further m no_block t) unread_b
-        (block-among no_block scope.program further m secures.second.among t)
-        (block-unseen h labelling reader scope further m secures.second no_block b no_fits unread_b t)) no_more)))
+        both-unseen view value exits s t (if truth_in v then block_meaning calls k then_block s else block_meaning calls k else_block s)
+        (if truth_in w then block_meaning further m then_block t else block_meaning further m else_block t) agree
+        (unseen-if view value exits s (truth_in v) (block_meaning calls k then_block s) (block_meaning calls k else_block s)
+        (unseen-weaker view value (read_exits reader yes_exits) exits s (block_meaning calls k then_block s)
+        (unseen-closed reader view value yes_ends b (block_rule scope b then_block) s (block_meaning calls k then_block s) unread_b
+        (block-among then_block scope.program calls k secures.first.among s)
+        (block-unseen h labelling reader scope calls k secures.first then_block b yes_fits unread_b s)) yes_more)
+        (unseen-weaker view value (read_exits reader no_exits) exits s (block_meaning calls k else_block s)
+        (unseen-closed reader view value no_ends b (block_rule scope b else_block) s (block_meaning calls k else_block s) unread_b
+        (block-among else_block scope.program calls k secures.first.among s)
+        (block-unseen h labelling reader scope calls k secures.first else_block b no_fits unread_b s)) no_more))
+        (unseen-if view value exits t (truth_in w) (block_meaning further m then_block t) (block_meaning further m else_block t)
+        (unseen-weaker view value (read_exits reader yes_exits) exits t (block_meaning further m then_block t)
+        (unseen-closed reader view value yes_ends b (block_rule scope b then_block) t (block_meaning further m then_block t) unread_b
+        (block-among then_block scope.program further m secures.second.among t)
+        (block-unseen h labelling reader scope further m secures.second then_block b yes_fits unread_b t)) yes_more)
+        (unseen-weaker view value (read_exits reader no_exits) exits t (block_meaning further m else_block t)
+        (unseen-closed reader view value no_ends b (block_rule scope b else_block) t (block_meaning further m else_block t) unread_b
+        (block-among else_block scope.program further m secures.second.among t)
+        (block-unseen h labelling reader scope further m secures.second else_block b no_fits unread_b t)) no_more)))
         (λ seen.
-        related-if view value exits (truth_in v) (truth_in w) (block_meaning calls k yes_block s) (block_meaning calls k no_block s)
-        (block_meaning further m yes_block t) (block_meaning further m no_block t) (ap (λ x. truth_in x) (same seen))
-        (related-weaker view value (read_exits reader yes_exits) exits (block_meaning calls k yes_block s) (block_meaning further m yes_block t)
-        (related-closed reader view value yes_ends b (block_rule scope b yes_block) (block_meaning calls k yes_block s)
-        (block_meaning further m yes_block t) (block-among yes_block scope.program calls k secures.first.among s)
-        (block-among yes_block scope.program further m secures.second.among t) (block-secure yes_block b yes_fits s t agree)) yes_more)
-        (related-weaker view value (read_exits reader no_exits) exits (block_meaning calls k no_block s) (block_meaning further m no_block t)
-        (related-closed reader view value no_ends b (block_rule scope b no_block) (block_meaning calls k no_block s)
-        (block_meaning further m no_block t) (block-among no_block scope.program calls k secures.first.among s)
-        (block-among no_block scope.program further m secures.second.among t) (block-secure no_block b no_fits s t agree)) no_more))))
+        related-if view value exits (truth_in v) (truth_in w) (block_meaning calls k then_block s) (block_meaning calls k else_block s)
+        (block_meaning further m then_block t) (block_meaning further m else_block t) (ap (λ x. truth_in x) (same seen))
+        (related-weaker view value (read_exits reader yes_exits) exits (block_meaning calls k then_block s) (block_meaning further m then_block t)
+        (related-closed reader view value yes_ends b (block_rule scope b then_block) (block_meaning calls k then_block s)
+        (block_meaning further m then_block t) (block-among then_block scope.program calls k secures.first.among s)
+        (block-among then_block scope.program further m secures.second.among t) (block-secure then_block b yes_fits s t agree)) yes_more)
+        (related-weaker view value (read_exits reader no_exits) exits (block_meaning calls k else_block s) (block_meaning further m else_block t)
+        (related-closed reader view value no_ends b (block_rule scope b else_block) (block_meaning calls k else_block s)
+        (block_meaning further m else_block t) (block-among else_block scope.program calls k secures.first.among s)
+        (block-among else_block scope.program further m secures.second.among t) (block-secure else_block b no_fits s t agree)) no_more))))
     statement-secure (While at loop e body) pc fits s t agree =
         let view = view_of reader scope in
         let value = reads_result reader (here scope) in
@@ -301,7 +301,7 @@ module _ (h : PrincipalHierarchy) (labelling : Labelling) (reader : Reader h lab
         })
         k m s t agree (expression-alike reader scope s t agree e read_r))
         (λ seen.
-        related-turns view value (read_exits reader x) exits (λ u. value_of u e) (block_meaning calls k body) (block_meaning further m body)
+        related-fuel view value (read_exits reader x) exits (λ u. value_of u e) (block_meaning calls k body) (block_meaning further m body)
         (record {
           condition_alike = λ u u' same. rw seen at (expression-alike reader scope u u' same e read_r);
           loop = loop_exits_read;

@@ -10,7 +10,7 @@ use Rattle.resolved.specs.declared.statement.Exit.TheVariants.{Normal, Return, B
 use Rattle.resolved.specs.Tree.{Statement, Call, If, While, ReturnWith, Try, Nested, Block, Empty, Then, Handlers, NoMore, Catch, place_of}
 use Rattle.resolved.specs.Ends.{same_exit, has_end, raises, thrown_ends, leaves_loop, passes, then_ends, statement_ends, block_ends, handlers_ends}
 use Rattle.resolved.specs.EndFaults.{fault_unless, may_stand, inner_faults, block_faults, handlers_faults}
-use Rattle.resolved.specs.declared.fault.EndDefect.TheVariants.{OutsideLoop, Unreachable, NeverRaised}
+use Rattle.resolved.specs.declared.fault.EndRefusalKind.TheVariants.{OutsideLoop, Unreachable, NeverRaised}
 use Rattle.resolved.specs.declared.target.Target.TheVariants.{ToLoop}
 use Rattle.resolved.specs.Labelled.{Scope, ExitLabels, demand, FitsDemands, value_label, label_if, at_ends, own_label, raised_exits, loop_exits, statement_rule, block_rule, handlers_rule, statement_demands, block_demands, handlers_demands, Labelling, Join, one, label_of}
 use Rattle.isolation.proofs.Observer.{Reader, unread-left, unread-right}
@@ -70,30 +70,30 @@ module _ (h : PrincipalHierarchy) (labelling : Labelling) (reader : Reader h lab
     statement-ends-unread (Call at f arguments target) pc in_loop faults fits unread exit among =
         unread-call reader scope.program f (own_label scope pc (Call at f arguments target))
         (own-unread reader scope pc (Call at f arguments target) fits unread) exit
-    statement-ends-unread (If at e yes_block no_block) pc in_loop faults fits unread exit among =
-        let q : Join = own_label scope pc (If at e yes_block no_block) in
+    statement-ends-unread (If at e then_block else_block) pc in_loop faults fits unread exit among =
+        let q : Join = own_label scope pc (If at e then_block else_block) in
         let b : Join = q ++ value_label scope e in
-        let unread_q = own-unread reader scope pc (If at e yes_block no_block) fits unread in
+        let unread_q = own-unread reader scope pc (If at e then_block else_block) fits unread in
         let unread_b = unread-left reader q (value_label scope e) unread_q in
-        let yes_ends = block_ends scope.program yes_block in
-        let no_ends = block_ends scope.program no_block in
-        let yes_exits : ExitLabels = at_ends yes_ends b (block_rule scope b yes_block) in
-        let no_exits : ExitLabels = at_ends no_ends b (block_rule scope b no_block) in
-        let parts = append_empty (block_faults scope.program in_loop true yes_block) (block_faults scope.program in_loop true no_block) faults in
+        let yes_ends = block_ends scope.program then_block in
+        let no_ends = block_ends scope.program else_block in
+        let yes_exits : ExitLabels = at_ends yes_ends b (block_rule scope b then_block) in
+        let no_exits : ExitLabels = at_ends no_ends b (block_rule scope b else_block) in
+        let parts = append_empty (block_faults scope.program in_loop true then_block) (block_faults scope.program in_loop true else_block) faults in
         ⊎_elim
         (λ front. ⊎_elim
         (λ raised. unread-left reader (raised_exits e q exit ++ yes_exits exit) (no_exits exit)
         (unread-left reader (raised_exits e q exit) (yes_exits exit) (raised-end (raises e) q exit unread_q raised)))
         (λ yes. unread-left reader (raised_exits e q exit ++ yes_exits exit) (no_exits exit)
         (unread-right reader (raised_exits e q exit) (yes_exits exit)
-        (closed-unread reader yes_ends b (block_rule scope b yes_block) exit (λ one. unread_b) yes
-        (block-ends-unread yes_block b in_loop true parts.0 (fits-left h labelling (block_demands scope b yes_block)
-        (block_demands scope b no_block) fits) unread_b exit yes))))
+        (closed-unread reader yes_ends b (block_rule scope b then_block) exit (λ one. unread_b) yes
+        (block-ends-unread then_block b in_loop true parts.0 (fits-left h labelling (block_demands scope b then_block)
+        (block_demands scope b else_block) fits) unread_b exit yes))))
         (either-end (thrown_ends (raises e)) yes_ends exit front))
         (λ no. unread-right reader (raised_exits e q exit ++ yes_exits exit) (no_exits exit)
-        (closed-unread reader no_ends b (block_rule scope b no_block) exit (λ one. unread_b) no
-        (block-ends-unread no_block b in_loop true parts.1 (fits-right h labelling (block_demands scope b yes_block)
-        (block_demands scope b no_block) fits) unread_b exit no)))
+        (closed-unread reader no_ends b (block_rule scope b else_block) exit (λ one. unread_b) no
+        (block-ends-unread else_block b in_loop true parts.1 (fits-right h labelling (block_demands scope b then_block)
+        (block_demands scope b else_block) fits) unread_b exit no)))
         (either-end (thrown_ends (raises e) ++ yes_ends) no_ends exit among)
     statement-ends-unread (While at loop e body) pc in_loop faults fits unread exit among =
         let l : Join = one (label_of scope.program (ToLoop scope.number loop)) in

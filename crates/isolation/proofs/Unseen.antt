@@ -7,7 +7,7 @@ use Rattle.resolved.specs.declared.statement.Exit.TheVariants.{Normal, Return, B
 use Rattle.resolved.specs.Tree.{Handlers}
 use Rattle.resolved.specs.Value.{Evaluated, Yields, Raises, truth_in}
 use Rattle.resolved.specs.SourceState.{SourceState}
-use Rattle.resolved.specs.Meaning.{Stop, OutOfTurns, Outcome, Ended, Stopped, normally, after, evaluated, looped, turns, caught, state_after}
+use Rattle.resolved.specs.Meaning.{Stop, OutOfFuel, Outcome, Ended, Stopped, normally, after, evaluated, looped, fuel, caught, state_after}
 use Rattle.resolved.specs.Ends.{same_exit, leaves_loop, passes}
 use Rattle.isolation.proofs.Observer.{View, AgreeFor, agree-itself, agree-through}
 
@@ -88,39 +88,39 @@ unseen-looped view value body more o again (hidden_return r t m none) loop norma
     record { agree = agree-itself view t; hidden = hidden_return r t (loop.leaving Return refl m) none }
 unseen-looped view value body more o again (hidden_stop stop t) loop normal continued = unseen-stop view value more t stop
 
--- one turn
+-- one round
 pub unseen-turn_zero : (view : View) (value : Bool) (more : Exit → Bool) (condition : SourceState → Evaluated Value) (body : SourceState →
     Outcome) (s : SourceState) → ((x : ℕ) → condition s ≡ Raises x → more (Throw x) ≡ false) → more Normal ≡ false →
-    Unseen view value more s (turns zero condition body s)
+    Unseen view value more s (fuel zero condition body s)
 unseen-turn_zero view value more condition body s raised over =
-    unseen-evaluated view value more s (condition s) (λ v. if truth_in v then Stopped OutOfTurns s else normally s) raised (λ v e.
-    unseen-if view value more s (truth_in v) (Stopped OutOfTurns s) (normally s) (unseen-stop view value more s OutOfTurns)
+    unseen-evaluated view value more s (condition s) (λ v. if truth_in v then Stopped OutOfFuel s else normally s) raised (λ v e.
+    unseen-if view value more s (truth_in v) (Stopped OutOfFuel s) (normally s) (unseen-stop view value more s OutOfFuel)
     (unseen-end view value more s Normal over))
 
 pub unseen-turn_suc : (view : View) (value : Bool) (inner more : Exit → Bool) (k : ℕ) (condition : SourceState →
     Evaluated Value) (body : SourceState → Outcome) (s : SourceState) → ((x : ℕ) → condition s ≡ Raises x → more (Throw x) ≡ false) →
     more Normal ≡ false → LoopExits inner more → Unseen view value inner s (body s) →
-    ((t : SourceState) → inner Normal ≡ false → Unseen view value more t (turns k condition body t)) →
-    ((t : SourceState) → inner Continue ≡ false → Unseen view value more t (turns k condition body t)) →
-    Unseen view value more s (turns (suc k) condition body s)
+    ((t : SourceState) → inner Normal ≡ false → Unseen view value more t (fuel k condition body t)) →
+    ((t : SourceState) → inner Continue ≡ false → Unseen view value more t (fuel k condition body t)) →
+    Unseen view value more s (fuel (suc k) condition body s)
 unseen-turn_suc view value inner more k condition body s raised over loop once normal continued =
-    unseen-evaluated view value more s (condition s) (λ v. if truth_in v then looped (body s) (turns k condition body) else normally s) raised (λ v e.
-    unseen-if view value more s (truth_in v) (looped (body s) (turns k condition body)) (normally s)
-    (unseen-from view value more s (state_after (body s)) (looped (body s) (turns k condition body)) once.agree
-    (unseen-looped view value inner more (body s) (turns k condition body) once.hidden loop normal continued))
+    unseen-evaluated view value more s (condition s) (λ v. if truth_in v then looped (body s) (fuel k condition body) else normally s) raised (λ v e.
+    unseen-if view value more s (truth_in v) (looped (body s) (fuel k condition body)) (normally s)
+    (unseen-from view value more s (state_after (body s)) (looped (body s) (fuel k condition body)) once.agree
+    (unseen-looped view value inner more (body s) (fuel k condition body) once.hidden loop normal continued))
     (unseen-end view value more s Normal over))
 
 -- a loop of which nothing is seen, its condition included
-pub unseen-turns : (view : View) (value : Bool) (inner more : Exit → Bool) (k : ℕ) (condition : SourceState →
+pub unseen-fuel : (view : View) (value : Bool) (inner more : Exit → Bool) (k : ℕ) (condition : SourceState →
     Evaluated Value) (body : SourceState → Outcome) → ((t : SourceState) (x : ℕ) → condition t ≡ Raises x → more (Throw x) ≡ false) →
     more Normal ≡ false → LoopExits inner more → ((t : SourceState) → Unseen view value inner t (body t)) → (s : SourceState) →
-    Unseen view value more s (turns k condition body s)
-unseen-turns view value inner more zero condition body raised over loop each s =
+    Unseen view value more s (fuel k condition body s)
+unseen-fuel view value inner more zero condition body raised over loop each s =
     unseen-turn_zero view value more condition body s (raised s) over
-unseen-turns view value inner more (suc k) condition body raised over loop each s =
+unseen-fuel view value inner more (suc k) condition body raised over loop each s =
     unseen-turn_suc view value inner more k condition body s (raised s) over loop (each s)
-    (λ t m. unseen-turns view value inner more k condition body raised over loop each t)
-    (λ t m. unseen-turns view value inner more k condition body raised over loop each t)
+    (λ t m. unseen-fuel view value inner more k condition body raised over loop each t)
+    (λ t m. unseen-fuel view value inner more k condition body raised over loop each t)
 
 pub unseen-caught : (view : View) (value : Bool) (handlers : Handlers) (inner more : Exit → Bool) (o : Outcome) (handle : ℕ → SourceState →
     Outcome) → Hidden value inner o → ((exit : Exit) → passes handlers exit ≡ true → inner exit ≡ false → more exit ≡ false) →

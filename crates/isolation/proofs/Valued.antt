@@ -10,7 +10,7 @@ use Rattle.resolved.specs.SourceState.{SourceState}
 use Rattle.resolved.specs.Meaning.{Outcome, Ended, Stopped, leaving, entering, calls_with, block_meaning}
 use Rattle.resolved.specs.Ends.{has_end, block_ends}
 use Rattle.resolved.specs.EndFaults.{fault_unless, may_end, block_faults, procedure_faults}
-use Rattle.resolved.specs.declared.fault.EndDefect.TheVariants.{NoValueReturned, Undeclared}
+use Rattle.resolved.specs.declared.fault.EndRefusalKind.TheVariants.{NoValueReturned, Undeclared}
 use Rattle.resolved.specs.WellFormed.{has_result, same_base}
 use Rattle.resolved.specs.Kinds.{OutcomeFits}
 use Rattle.resolved.proofs.WellFormedParts.{ProcedureParts, procedure_there, procedure_at_is}

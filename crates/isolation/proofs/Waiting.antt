@@ -4,9 +4,9 @@ use Rattle.resolved.specs.declared.expression.Value.{Value}
 use Rattle.resolved.specs.declared.expression.Value.TheVariants.{Truth}
 use Rattle.resolved.specs.Value.{Evaluated, Yields}
 use Rattle.resolved.specs.SourceState.{SourceState}
-use Rattle.resolved.specs.Meaning.{OutOfTurns, Outcome, Stopped, normally, turns}
+use Rattle.resolved.specs.Meaning.{OutOfFuel, Outcome, Stopped, normally, fuel}
 
 pub waits-for_ever : (k : ℕ) (condition : SourceState → Evaluated Value) (body : SourceState → Outcome) (s : SourceState) →
-    condition s ≡ Yields (Truth true) → body s ≡ normally s → turns k condition body s ≡ Stopped OutOfTurns s
+    condition s ≡ Yields (Truth true) → body s ≡ normally s → fuel k condition body s ≡ Stopped OutOfFuel s
 waits-for_ever zero condition body s holds nothing = rw holds refl
 waits-for_ever (suc k) condition body s holds nothing = rw (holds, nothing) (waits-for_ever k condition body s holds nothing)

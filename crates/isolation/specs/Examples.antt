@@ -74,6 +74,6 @@ comes z (suc channel) = []
 abbrev pub sends : ℤ → List Pair
 sends z = record { channel = 1; number = z } ∷ []
 
--- what Bob sees of the first k turns of the waiting program
+-- what Bob sees of the waiting program with fuel k
 abbrev pub bob_sees : World → (k : ℕ) → List Pair
 bob_sees world k = pairs_for two_principals (channel_label waiting) bob (sent_by waiting world k)

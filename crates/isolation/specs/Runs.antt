@@ -1,4 +1,4 @@
--- What the laws of runs say: which ends a statement comes to, and how a run goes on with more turns.
+-- What the laws of runs say: which ends a statement comes to, and how a run goes on with more fuel.
 -- Source: our own.
 use Rattle.std.specs.Prelude.{◌≡◌, ℕ, ◌≤◌, List, [], ◌∷◌, Some, None, IsTrue, slice_get}
 use Rattle.labels.specs.Sent.{IsPrefix}
@@ -10,7 +10,7 @@ use Rattle.resolved.specs.Tree.{Statement, Block}
 use Rattle.resolved.specs.Program.{Program, ProcedureEntry, ResultEntry, procedure_at}
 use Rattle.resolved.specs.Value.{base_of}
 use Rattle.resolved.specs.SourceState.{World, SourceState}
-use Rattle.resolved.specs.Meaning.{Outcome, Ended, Stopped, OutOfTurns, Deep, state_after, statement_meaning, block_meaning, calls_with, run_within, sent_by}
+use Rattle.resolved.specs.Meaning.{Outcome, Ended, Stopped, OutOfFuel, Deep, state_after, statement_meaning, block_meaning, calls_with, run_within, sent_by}
 use Rattle.resolved.specs.Ends.{has_end, thrown_ends, declared_by, statement_ends, block_ends}
 use Rattle.resolved.specs.EndFaults.{end_faults}
 use Rattle.resolved.specs.WellFormed.{parameters_of, well_formed}
@@ -64,14 +64,14 @@ SentStaysSent program =
     (frames k : ℕ) (statement : Statement) (s : SourceState)
     → IsPrefix s.sent (state_after (statement_meaning (calls_with program k frames) k statement s)).sent
 
--- the second outcome is that of the first run with more turns: where the first run was out of turns, the second has sent what
+-- the second outcome is that of the first run with more fuel: where the first run was out of fuel, the second has sent what
 -- the first has, and perhaps more; where it had come to an end, or was too deep, the second is the same
 abbrev pub GoesOn : Outcome → Outcome → Type 0
-GoesOn (Stopped OutOfTurns s) more = IsPrefix s.sent (state_after more).sent
+GoesOn (Stopped OutOfFuel s) more = IsPrefix s.sent (state_after more).sent
 GoesOn (Stopped Deep s) more = more ≡ Stopped Deep s
 GoesOn (Ended exit returned s) more = more ≡ Ended exit returned s
 
--- so it is for all runs of a program, and what it sends with fewer turns is a prefix of what it sends with more
+-- so it is for all runs of a program, and what it sends with less fuel is a prefix of what it sends with more
 abbrev pub RunsGoOn : Program → Type 0
 RunsGoOn program =
     (frames : ℕ) (world : World) (k m : ℕ) → k ≤ m → GoesOn (run_within frames program world k) (run_within frames program world m)

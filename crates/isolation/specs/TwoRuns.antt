@@ -27,7 +27,7 @@ OutcomesAgree scope labelling p exits (Ended exit returned s) (Stopped stop t) =
 OutcomesAgree scope labelling p exits (Stopped stop s) (Stopped other t) = SeesPrefix scope p s t ⊎ SeesPrefix scope p t s
 
 -- in a labelled program without a fault of its ends, two runs of a labelled statement from states that are the same for a principal
--- agree for it, each with any number of turns and both with the same frames left
+-- agree for it, each with any amount of fuel and both with the same frames left
 abbrev pub StatementsAgree : Scope → Labelling → Type 0
 StatementsAgree scope labelling =
     end_faults scope.program ≡ [] → Labelled scope.program

@@ -5,7 +5,7 @@ ghost use Rattle.resolved.specs.Labelled.{Labelling, Scope};
 
 /// At a label that a principal may not read, a labelled statement changes no variable, no input and no seen pair that the principal
 /// may read, and the label of the end that it comes to is one that the principal may not read: in every procedure of a labelled
-/// program without a fault of its ends, from every state, with every number of turns and frames, and also where the run is stopped.
+/// program without a fault of its ends, from every state, with every amount of fuel and number of frames, and also where the run is stopped.
 pub fn statements_are_confined()
     ensures { (scope : Scope) (labelling : Labelling) → StatementsAreConfined scope labelling }
 {}

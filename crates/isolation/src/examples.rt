@@ -17,7 +17,7 @@ pub fn a_label_decides()
     ensures leaks { Isolated (relay []) → ⊥ }
 {}
 
-/// A labelled program whose runs on two worlds that agree for Bob show him lists of different lengths, with however many turns: a
+/// A labelled program whose runs on two worlds that agree for Bob show him lists of different lengths, with whatever fuel: a
 /// loop that waits for ever on a number of Alice keeps it from sending.
 pub fn lists_may_differ_in_length()
     ensures faultless { end_faults waiting ≡ [] }

@@ -11,7 +11,7 @@ ghost use Rattle.resolved.specs.Program.{Program};
 ghost use Rattle.std.specs.Prelude.{[], ℕ, ◌≡◌};
 
 /// Two runs of a labelled statement from states that are the same for a principal agree for it, at whatever label the statement is
-/// reached and with whatever turns: where both end, their states are the same for it, and where it may read the label of either
+/// reached and with whatever fuel: where both end, their states are the same for it, and where it may read the label of either
 /// end, both ended so; where one is stopped, what the principal sees of it is a prefix of what it sees
 /// of the other.
 pub fn two_runs_agree()
@@ -19,7 +19,7 @@ pub fn two_runs_agree()
 {}
 
 /// Every labelled program without a fault of its ends is isolated: for every principal, all worlds that agree for it and all two
-/// bounds on the turns of loops, one of the lists that it sees is a prefix of the other.
+/// bounds on the rounds of loops, one of the lists that it sees is a prefix of the other.
 pub fn labelled_programs_are_isolated()
     ensures { (program : Program) → end_faults program ≡ [] → Labelled program → Isolated program }
 {}

@@ -1,10 +1,10 @@
-//! Laws of runs: how they end, and how they go on with more turns.
+//! Laws of runs: how they end, and how they go on with more fuel.
 
 ghost use Rattle.isolation.specs.Runs.{BlocksEndAsTheyMay, CallsEndAsDeclared, CallsGiveTheirValue, RunsGoOn, SentOnlyGrows, SentStaysSent, StatementsEndAsTheyMay};
 ghost use Rattle.resolved.specs.Program.{Program};
 
 /// Each end that the meaning gives a statement or a block is one of its possible ends, in every program without a fault of its
-/// ends, from every state, with every number of turns and of frames. A call ends normally or by an exception that its procedure
+/// ends, from every state, with every amount of fuel and number of frames. A call ends normally or by an exception that its procedure
 /// declares.
 pub fn ends_are_possible()
     ensures statements { (program : Program) → StatementsEndAsTheyMay program }
@@ -13,7 +13,7 @@ pub fn ends_are_possible()
 {}
 
 /// A call of a procedure with a value that ends normally gives one, of the procedure's base type, in every well-formed program without
-/// a fault of its ends, with every number of turns and of frames.
+/// a fault of its ends, with every amount of fuel and number of frames.
 pub fn calls_give_their_value()
     ensures { (program : Program) → CallsGiveTheirValue program }
 {}
@@ -23,8 +23,8 @@ pub fn sent_stays_sent()
     ensures { (program : Program) → SentStaysSent program }
 {}
 
-/// More turns change no end that was reached, and add to what was sent at its end only.
-pub fn more_turns_go_on()
+/// More fuel changes no end that was reached, and adds to what was sent at its end only.
+pub fn more_fuel_goes_on()
     ensures runs { (program : Program) → RunsGoOn program }
     ensures sent { (program : Program) → SentOnlyGrows program }
 {}

@@ -95,6 +95,6 @@ module _ (words others : List ℕ) (at : ℕ) (room : at + 4 ≤ length words) (
         subst (λ i. word (put_chunk at words joined) i ≡ bit_or (word words i) (word others i)) is
         (get_or-put_chunk_at at words joined k 0 (omega (arith, inside, long-joined)) (omega (arith, room, long-joined)) ∙ union-at k inside);
     before = λ j lt. get_or-put_chunk_below at words joined j 0 lt;
-    behind = λ j ge. get_or-put_chunk_above at words joined j 0 (omega (arith, ge, long-joined));
+    after = λ j ge. get_or-put_chunk_above at words joined j 0 (omega (arith, ge, long-joined));
     grow = grow;
   }

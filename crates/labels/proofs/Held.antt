@@ -77,7 +77,7 @@ each-made P es label row is itself each part made =
     ⊎_elim (λ same. subst P (sym (eqb-true part label same)) itself) (λ held. each part (sym (ap (λ r. has r part) is) ∙ held))
     (or_cases (part == label) (has (row_at es label) part) made)
 
--- what holds of all in a row below a number, and of the next one, holds of all below the one behind that
+-- what holds of all in a row below a number, and of the next one, holds of all below the one after that
 pub each-more : (P : ℕ → Type 0) (row other : List Bool) (from part : ℕ) → IsFirstBeyond row other from part →
     ((n : ℕ) → n < from → IsTrue (has row n) → P n) → ((n : ℕ) → IsTrue (has other n) → P n) → P part → (n : ℕ) → n < part + 1 → IsTrue (has row n) → P n
 each-more P row other from part first each among this n lt held =
@@ -123,11 +123,11 @@ has-none zero k = refl
 has-none (suc n) zero = refl
 has-none (suc n) (suc k) = has-none n k
 
-or-turn : (a b c : Bool) → ((a || b) || c) ≡ (b || (a || c))
-or-turn true true c = refl
-or-turn true false c = refl
-or-turn false true c = refl
-or-turn false false c = refl
+or-round : (a b c : Bool) → ((a || b) || c) ≡ (b || (a || c))
+or-round true true c = refl
+or-round true false c = refl
+or-round false true c = refl
+or-round false false c = refl
 
 or-again : (a b c : Bool) → ((a || b) || c) ≡ (a || (b || c))
 or-again true b c = refl
@@ -142,7 +142,7 @@ pub parts-added : (es : List Entry) (label part : ℕ) (old more new : List Bool
     has new part ≡ (has (set old label true) part || has more part) → has new part ≡ (has old part || made_of es label part)
 parts-added es label part old more new room row is =
     is ∙ (ap (λ t. t || has more part) (has-set old label part room)
-    ∙ (or-turn (part == label) (has old part) (has more part) ∙ ap (λ r. has old part || (part == label || has r part)) (sym row)))
+    ∙ (or-round (part == label) (has old part) (has more part) ∙ ap (λ r. has old part || (part == label || has r part)) (sym row)))
 
 pub part-added : (es : List Entry) (label part : ℕ) (old : List Bool) → label < length old → row_at es label ≡ [] →
     has (set old label true) part ≡ (has old part || made_of es label part)

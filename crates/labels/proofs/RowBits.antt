@@ -28,7 +28,7 @@ bits-beyond words i (suc n) (suc k) h = bits-beyond words (suc i) n k (omega (ar
 pub bits-at : (words : List ℕ) (n k : ℕ) → k < n → has (bits_of words 0 n) k ≡ has_bit words k
 bits-at words n k h = bits-from words 0 n k h ∙ ap (has_bit words) (omega arith)
 
--- where no bit is set behind the last number, the values are all the bits
+-- where no bit is set after the last number, the values are all the bits
 pub bits-all : (words : List ℕ) (n : ℕ) → ((k : ℕ) → n ≤ k → has_bit words k ≡ false) → (k : ℕ) → has (bits_of words 0 n) k ≡ has_bit words k
 bits-all words n clear k = ⊎_elim (λ (lt : k < n). bits-at words n k lt) (λ (ge : n ≤ k). bits-beyond words 0 n k ge ∙ sym (clear k ge)) (cases_lt k n)
 
@@ -145,7 +145,7 @@ pub included-bits : (old others new : List ℕ) (grew : Bool) → AreJoined old 
 included-bits old others new grew joined k = ⊎_elim
     (λ (lt : k / 64 < length others). joined-bit old others new k (joined.joined (k / 64) (omega arith) lt))
     (λ (ge : length others ≤ k / 64).
-    ap (λ w. bit_at w (k % 64) == 1) (joined.behind (k / 64) ge) ∙ sym (ap (λ b. has_bit old k || b) (bit-beyond others k ge) ∙ or-false (has_bit old k)))
+    ap (λ w. bit_at w (k % 64) == 1) (joined.after (k / 64) ge) ∙ sym (ap (λ b. has_bit old k || b) (bit-beyond others k ge) ∙ or-false (has_bit old k)))
     (cases_lt (k / 64) (length others))
 
 -- what words that keep the bits of others mean

@@ -18,7 +18,7 @@ use Rattle.std.proofs.lemmas.Map.Keys.{IsStrictlyIncreasing-from_sorted}
 use Rattle.std.proofs.lemmas.Map.Lookups.{CmpEqualImpliesEq, exact_unsigned}
 use Rattle.labels.specs.Label.{ReaderPolicy, Label}
 use Rattle.labels.specs.Sets.{SameSet, ascending_set}
-use Rattle.labels.specs.Canonical.{IsCanonicalPolicy, IsCanonicalLabel, policy_cmp, readers_beside, written_policy, written_label, joined}
+use Rattle.labels.specs.Canonical.{IsCanonicalPolicy, IsCanonicalLabel, policy_cmp, readers_with, written_policy, written_label, joined}
 use Rattle.labels.specs.PolicyOrder.{policy_cmp-total, policy_eq, policy_eq-equivalence, label_eq}
 use Rattle.labels.proofs.Ascending.{sorted_nil, ascending_set-sorted, ascending_set-SameSet, ascending_set-unique, sorted_unique}
 use Rattle.labels.proofs.Elements.{All-from_each, each_from_All}
@@ -59,15 +59,15 @@ dedup-sorted_policies = dedup-sorted policy_cmp-total policy_cmp-exact policy_eq
 -- ---- a written policy
 
 -- the readers sorted, then each once, then without the owner
-pub readers_beside-made : (owner : ℕ) (readers sorted once kept : List ℕ) → IsPermutation readers sorted → IsSorted nat_cmp sorted → once ≡ dedup ◌==◌ sorted →
-    kept ≡ filter (λ reader. not (reader == owner)) once → kept ≡ readers_beside owner readers
-readers_beside-made owner readers sorted once kept moved ascending each_once filtered =
+pub readers_with-made : (owner : ℕ) (readers sorted once kept : List ℕ) → IsPermutation readers sorted → IsSorted nat_cmp sorted → once ≡ dedup ◌==◌ sorted →
+    kept ≡ filter (λ reader. not (reader == owner)) once → kept ≡ readers_with owner readers
+readers_with-made owner readers sorted once kept moved ascending each_once filtered =
     filtered ∙ ap (λ items. filter (λ reader. not (reader == owner)) items) (each_once ∙ dedup-sorted_numbers readers sorted moved ascending)
 
-pub readers_beside-owner : (owner : ℕ) (readers : List ℕ) → ¬ Contains (readers_beside owner readers) owner
-readers_beside-owner owner readers contained =
+pub readers_with-owner : (owner : ℕ) (readers : List ℕ) → ¬ Contains (readers_with owner readers) owner
+readers_with-owner owner readers contained =
     let passes : not (owner == owner) ≡ true =
-    All-contains (λ reader. not (reader == owner) ≡ true) (readers_beside owner readers) owner
+    All-contains (λ reader. not (reader == owner) ≡ true) (readers_with owner readers) owner
     (filter_passes (λ reader. not (reader == owner)) (ascending_set nat_cmp readers)) contained in
     let same = eq-eqb owner owner refl in
     absurd (cc)
@@ -75,9 +75,9 @@ readers_beside-owner owner readers contained =
 pub IsCanonicalPolicy-written : (owner : ℕ) (readers : List ℕ) → IsCanonicalPolicy (written_policy owner readers)
 IsCanonicalPolicy-written owner readers = record {
   readers_ascend =
-      IsStrictlyIncreasing-from_sorted (readers_beside owner readers)
+      IsStrictlyIncreasing-from_sorted (readers_with owner readers)
       (IsStrictlySortedBy-filter nat_cmp (λ reader. not (reader == owner)) (ascending_set nat_cmp readers) (ascending_set-sorted nat_cmp_total readers));
-  owner_left_out = readers_beside-owner owner readers;
+  owner_left_out = readers_with-owner owner readers;
 }
 
 -- ---- a written label

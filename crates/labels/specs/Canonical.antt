@@ -24,12 +24,12 @@ pub record IsCanonicalLabel (label : Label) : Type 0 where
   pub each_canonical : All IsCanonicalPolicy label
 
 -- the readers of a written policy without its owner, in ascending order and each once
-abbrev pub readers_beside : ℕ → List ℕ → List ℕ
-readers_beside owner readers = filter (λ reader. not (reader == owner)) (ascending_set nat_cmp readers)
+abbrev pub readers_with : ℕ → List ℕ → List ℕ
+readers_with owner readers = filter (λ reader. not (reader == owner)) (ascending_set nat_cmp readers)
 
 -- the policy that is written with an owner and any readers
 abbrev pub written_policy : ℕ → List ℕ → ReaderPolicy
-written_policy owner readers = record { owner = owner; readers = readers_beside owner readers }
+written_policy owner readers = record { owner = owner; readers = readers_with owner readers }
 
 -- the label that is written with these policies
 abbrev pub written_label : List ReaderPolicy → Label

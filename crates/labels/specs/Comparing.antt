@@ -14,7 +14,7 @@ use Rattle.labels.specs.declared.right_side.CoveredSide.{CoveredSide}
 use Rattle.labels.specs.declared.policy_bits.Role.{Role}
 use Rattle.labels.specs.declared.policy_bits.Role.TheVariants.{Owner, Reader}
 
--- the own policies of all entries, one entry behind another, and how many stand before those of one
+-- the own policies of all entries, one entry after another, and how many stand before those of one
 abbrev pub slots : List Entry → List ReaderPolicy
 slots [] = []
 slots (entry ∷ entries) = own_of entry ++ slots entries

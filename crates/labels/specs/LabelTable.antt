@@ -12,7 +12,7 @@ label_at labels number = slice_index_or labels number []
 abbrev pub labels_of : List Label → List ℕ → List ReaderPolicy
 labels_of labels numbers = flat_map (label_at labels) numbers
 
--- later labels are earlier ones with further labels behind them
+-- later labels are earlier ones with further labels after them
 pub record Extends (before after : List Label) : Type 0 where
   pub more : List Label
   pub after_is : after ≡ before ++ more

@@ -16,7 +16,7 @@ AreWords words = (j : ℕ) → word words j < 2 ^ 64
 abbrev pub has_bit : List ℕ → ℕ → Bool
 has_bit words i = bit_at (word words (i / 64)) (i % 64) == 1
 
--- the bits of so many numbers, from one on
+-- the bits of this many numbers, from one on
 abbrev pub bits_of : List ℕ → (from count : ℕ) → List Bool
 bits_of words i zero = []
 bits_of words i (suc n) = has_bit words i ∷ bits_of words (suc i) n
@@ -47,14 +47,14 @@ pub record AreJoined (old others new : List ℕ) (first last : ℕ) (grew : Bool
   pub count : length new ≡ length old
   pub joined : (j : ℕ) → first ≤ j → j < last → word new j ≡ bit_or (word old j) (word others j)
   pub before : (j : ℕ) → j < first → word new j ≡ word old j
-  pub behind : (j : ℕ) → last ≤ j → word new j ≡ word old j
+  pub after : (j : ℕ) → last ≤ j → word new j ≡ word old j
   pub grow : GrowBetween old others first last grew
 
 -- the words below a place keep the bits that others have too, and the other words stay
 pub record AreMet (old others new : List ℕ) (last : ℕ) : Type 0 where
   pub count : length new ≡ length old
   pub met : (j : ℕ) → j < last → word new j ≡ bit_and (word old j) (word others j)
-  pub behind : (j : ℕ) → last ≤ j → word new j ≡ word old j
+  pub after : (j : ℕ) → last ≤ j → word new j ≡ word old j
 
 -- each number from one on and below another one whose bit is set here has it set in others too
 abbrev pub NoneNew : (words others : List ℕ) → (from to : ℕ) → Type 0

@@ -54,7 +54,7 @@ impl<'a> Model for Comparisons<'a> {
 
 impl Under<'_> {
     // Takes the other left side where it has more of these labels, and no others, or where the last one has others.
-    fn turn(&self, kept: &mut Memo, labels: &Row)
+    fn choose_left(&self, kept: &mut Memo, labels: &Row)
         requires kept { IsKept self.now.hierarchy.now self.now.entries.now kept.old }
         requires count { length labels.now ≡ length self.now.entries.now }
         ensures { IsKept self.now.hierarchy.now self.now.entries.now kept.new }
@@ -78,7 +78,7 @@ impl Under<'_> {
         if self.are_named(labels, to) {
             return Ok(true);
         }
-        self.turn(kept, labels);
+        self.choose_left(kept, labels);
         self.widen(&kept.bits, &mut kept.left, labels)?;
         self.cover(&mut kept.bits, &mut kept.right, to)?;
         Ok(kept.right.covered.covers(&kept.left.policies))

@@ -14,7 +14,7 @@ use principals::Hierarchy;
 use std::alloc::{AllocError, Global};
 use std::sync::ArcSlice;
 
-// So many own policies are held against a policy before it is looked up.
+// This many own policies are held against a policy before it is looked up.
 const FEW: usize = 8;
 
 /// What the text of a label says: the labels that it names, by their numbers, and its own policies, both in ascending order and each

@@ -31,7 +31,7 @@ pub(crate) struct Bits {
     pub spare: usize,
 }
 
-// No row for each of so many numbers.
+// No row for each of this many numbers.
 pub(crate) fn no_rows(alloc: Global, count: usize) -> Result<Vec<Option<Row>>, AllocError>
     ensures { IfOk result (λ kept. All (λ row. row ≡ None) kept.items) }
 {

@@ -10,10 +10,10 @@ use crate::rows::Row;
 use crate::under::Under;
 use std::alloc::AllocError;
 
-// What more than so many own policies cover is kept.
+// What more than this many own policies cover is kept.
 const FEW_POLICIES: usize = 8;
 
-// It is kept of at most so many labels.
+// It is kept of at most this many labels.
 pub(crate) const MOST_WIDE: usize = 256;
 
 /// The last right side, and policies that it covers.

@@ -29,7 +29,7 @@ impl Model for Row {
     ghost invariant = { IsStoredRow };
 }
 
-// So many words without bits. One is made at once: most rows have no more.
+// This many words without bits. One is made at once: most rows have no more.
 fn zero_words(alloc: Global, count: usize) -> Result<SmallVec<u64, 1>, AllocError>
     ensures { IfOk result (λ words. words.items ≡ replicate count 0) }
 {

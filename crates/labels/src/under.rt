@@ -10,7 +10,7 @@ use crate::entries::{Entry, find_uncovered, is_made_of, next_beyond, row_at};
 use crate::rows::Row;
 use principals::Hierarchy;
 
-// So many labels are held against a right side by names before bits are looked at.
+// This many labels are held against a right side by names before bits are looked at.
 const FEW_LABELS: usize = 8;
 
 // A hierarchy, and labels as their texts say.

@@ -54,8 +54,8 @@ less-same code a b = less_by code a b (ltb a b) refl
 
 -- ---- fetched
 
-behind : (x : Instruction) (rest : List Instruction) (n w : ℕ) → 0 < n → w ≤ n → cond (eqb n 0) (Some x) (cond (ltb n w) None (instruction_at rest (n - w))) ≡ instruction_at rest (n - w)
-behind x rest n w some most =
+after : (x : Instruction) (rest : List Instruction) (n w : ℕ) → 0 < n → w ≤ n → cond (eqb n 0) (Some x) (cond (ltb n w) None (instruction_at rest (n - w))) ≡ instruction_at rest (n - w)
+after x rest n w some most =
     let not_first : eqb n 0 ≡ false = ne_eqb n 0 (λ e. absurd (omega arith)) in
     let not_inside : ltb n w ≡ false = le-ltb n w most in
     rw (not_first, not_inside) refl

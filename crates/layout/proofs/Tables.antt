@@ -15,15 +15,15 @@ pub offset-end : (code : List Instruction) → offset code (length code) ≡ cod
 offset-end [] = refl
 offset-end (x ∷ code) = ap (λ (n : ℕ). width_of x + n) (offset-end code)
 
--- no offset is behind the bytes of the code
+-- no offset is after the bytes of the code
 pub offset-within : (code : List Instruction) (k : ℕ) → k ≤ length code → offset code k ≤ code_length code
 offset-within code k h = omega (arith, offset-most code k (length code) h, offset-end code)
 
--- the offset behind an instruction
+-- the offset after an instruction
 pub next-offset : (code : List Instruction) (i : ℕ) (d : Instruction) → i < length code → offset code i + width_of (get_or code i d) ≡ offset code (i + 1)
 next-offset code i d below = next_at code i (get_or code i d) (slice_get-get_or code i d below) ∙ ap (offset code) (sym (add-one i))
 
--- a table with one more entry behind the others
+-- a table with one more entry after the others
 pub length_more : (table new : List ℕ) (i n : ℕ) → length table ≡ i → new ≡ table ++ n ∷ [] → length new ≡ i + 1
 length_more table new i n size pushed = ap length pushed ∙ length-append table (n ∷ []) ∙ ap (λ (k : ℕ). k + 1) size
 

@@ -1,14 +1,14 @@
--- Cuts of a text, one behind another, and why there is one at most.
+-- Cuts of a text, one after another, and why there is one at most.
 use Rattle.std.proofs.Common.{◌≡◌, ℕ, ◌+◌, List, [], ◌∷◌, ◌++◌, length, refl, sym, ap, subst, ◌∙◌}
 use Rattle.std.specs.Str.{chars}
 use Rattle.lexer.specs.Terminal.{Terminal}
 use Rattle.lexer.specs.Lexeme.{Lexeme, Word, Gap, LargeLiteral, OpenComment}
-use Rattle.lexer.specs.Cut.{Cuts, Nothing, Token, Between, IsNextLexeme, HasDefect, IsStuck, terminal_at, size}
+use Rattle.lexer.specs.Cut.{Cuts, Nothing, Token, Between, IsNextLexeme, IsRefusedFor, IsStuck, terminal_at, size}
 use Rattle.lexer.specs.Laws.{HasOneCut, IsNotCutAndRefused, HasOneRefusal}
 use Rattle.lexer.specs.declared.token.Kind.{Kind}
 use Rattle.lexer.specs.declared.token.Kind.TheVariants.{End}
-use Rattle.lexer.specs.declared.fault.LexDefect.{LexDefect}
-use Rattle.lexer.specs.declared.fault.LexDefect.TheVariants.{NoToken, LiteralTooLarge, UnclosedComment}
+use Rattle.lexer.specs.declared.fault.LexRefusalKind.{LexRefusalKind}
+use Rattle.lexer.specs.declared.fault.LexRefusalKind.TheVariants.{NoToken, LiteralTooLarge, UnclosedComment}
 use Rattle.lexer.specs.declared.fault.LexRefusal.{LexRefusal}
 use Rattle.lexer.proofs.Fronts.{nonempty}
 use Rattle.lexer.proofs.Nexts.{one_next}
@@ -98,7 +98,7 @@ halts_at text front rest lexeme no_word no_gap next = record {
   no_gap = λ back left other. no_gap (one_next text front rest back left lexeme Gap next other).0;
 }
 
-pub halts_stuck : (text : List ℕ) (defect : LexDefect) → HasDefect text defect → Halts text
+pub halts_stuck : (text : List ℕ) (kind : LexRefusalKind) → IsRefusedFor text kind → Halts text
 halts_stuck text NoToken stuck = record {
   no_token = λ kind front left next. stuck.none (Word kind) front left next.is next.text_is;
   no_gap = λ front left next. stuck.none Gap front left next.is next.text_is;
@@ -106,32 +106,32 @@ halts_stuck text NoToken stuck = record {
 halts_stuck text LiteralTooLarge (front, rest, next) = halts_at text front rest LargeLiteral (λ kind h. cc) (λ h. cc) next
 halts_stuck text UnclosedComment (front, rest, next) = halts_at text front rest OpenComment (λ kind h. cc) (λ h. cc) next
 
-some_stuck : (text : List ℕ) (defect : LexDefect) → HasDefect text defect → text ≡ [] → ⊥
+some_stuck : (text : List ℕ) (kind : LexRefusalKind) → IsRefusedFor text kind → text ≡ [] → ⊥
 some_stuck text NoToken stuck e = stuck.goes_on e
 some_stuck text LiteralTooLarge (front, rest, next) e = front_nil LargeLiteral text front rest next e
 some_stuck text UnclosedComment (front, rest, next) e = front_nil OpenComment text front rest next e
 
-one_defect : (text : List ℕ) (defect other : LexDefect) → HasDefect text defect → HasDefect text other → defect ≡ other
-one_defect text NoToken NoToken h k = refl
-one_defect text NoToken LiteralTooLarge h (front, rest, next) = absurd (h.none LargeLiteral front rest next.is next.text_is)
-one_defect text NoToken UnclosedComment h (front, rest, next) = absurd (h.none OpenComment front rest next.is next.text_is)
-one_defect text LiteralTooLarge NoToken (front, rest, next) k = absurd (k.none LargeLiteral front rest next.is next.text_is)
-one_defect text LiteralTooLarge LiteralTooLarge h k = refl
-one_defect text LiteralTooLarge UnclosedComment (front, rest, next) (back, left, other) =
+one_kind : (text : List ℕ) (kind other : LexRefusalKind) → IsRefusedFor text kind → IsRefusedFor text other → kind ≡ other
+one_kind text NoToken NoToken h k = refl
+one_kind text NoToken LiteralTooLarge h (front, rest, next) = absurd (h.none LargeLiteral front rest next.is next.text_is)
+one_kind text NoToken UnclosedComment h (front, rest, next) = absurd (h.none OpenComment front rest next.is next.text_is)
+one_kind text LiteralTooLarge NoToken (front, rest, next) k = absurd (k.none LargeLiteral front rest next.is next.text_is)
+one_kind text LiteralTooLarge LiteralTooLarge h k = refl
+one_kind text LiteralTooLarge UnclosedComment (front, rest, next) (back, left, other) =
     let e = (one_next text front rest back left LargeLiteral OpenComment next other).0 in
     absurd cc
-one_defect text UnclosedComment NoToken (front, rest, next) k = absurd (k.none OpenComment front rest next.is next.text_is)
-one_defect text UnclosedComment LiteralTooLarge (front, rest, next) (back, left, other) =
+one_kind text UnclosedComment NoToken (front, rest, next) k = absurd (k.none OpenComment front rest next.is next.text_is)
+one_kind text UnclosedComment LiteralTooLarge (front, rest, next) (back, left, other) =
     let e = (one_next text front rest back left OpenComment LargeLiteral next other).0 in
     absurd cc
-one_defect text UnclosedComment UnclosedComment h k = refl
+one_kind text UnclosedComment UnclosedComment h k = refl
 
 one_stuck : (place : ℕ) (text : List ℕ) (refusal other : LexRefusal) → IsStuck place text refusal
     → IsStuck place text other → refusal ≡ other
 one_stuck place text refusal other (here, h) (there, k) =
-    let defects = one_defect text refusal.defect other.defect h k in
+    let kinds = one_kind text refusal.kind other.kind h k in
     let places : refusal.at ≡ other.at = here ∙ sym there in
-    λ i. record { defect = defects i; at = places i }
+    λ i. record { kind = kinds i; at = places i }
 
 -- the laws
 pub has_one_cut : HasOneCut
@@ -141,14 +141,14 @@ has_one_cut text tokens others h k =
 
 pub not_cut_and_refused : IsNotCutAndRefused
 not_cut_and_refused text tokens refusal h k =
-    let halts = halts_stuck k.rest refusal.defect k.stuck.1 in
+    let halts = halts_stuck k.rest refusal.kind k.stuck.1 in
     let same = one_way 0 (chars text) h.words (length text) [] k.words k.place k.rest h.cuts halts_nil k.cuts halts in
-    some_stuck k.rest refusal.defect k.stuck.1 (sym same.rest_same)
+    some_stuck k.rest refusal.kind k.stuck.1 (sym same.rest_same)
 
 pub has_one_refusal : HasOneRefusal
 has_one_refusal text refusal other h k =
-    let halts = halts_stuck h.rest refusal.defect h.stuck.1 in
-    let other_halts = halts_stuck k.rest other.defect k.stuck.1 in
+    let halts = halts_stuck h.rest refusal.kind h.stuck.1 in
+    let other_halts = halts_stuck k.rest other.kind k.stuck.1 in
     let same = one_way 0 (chars text) h.words h.place h.rest k.words k.place k.rest h.cuts halts k.cuts other_halts in
     one_stuck k.place k.rest refusal other
     (subst (λ p. IsStuck p k.rest refusal) same.end_same (subst (λ r. IsStuck h.place r refusal) same.rest_same h.stuck)) k.stuck

@@ -20,7 +20,7 @@ use Rattle.lexer.proofs.Fronts.{nonempty}
 use Rattle.lexer.proofs.Reading.{digits_ascii}
 use Rattle.lexer.proofs.Tables.{same_lookup}
 
--- the bytes of two lists one behind the other
+-- the bytes of two lists one after the other
 pub size-append : (xs ys : List ℕ) → size (xs ++ ys) ≡ size xs + size ys
 size-append xs ys = ap length (encodes-append xs ys) ∙ length-append (encode_utf8_all xs) (encode_utf8_all ys)
 

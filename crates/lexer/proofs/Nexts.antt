@@ -105,7 +105,7 @@ next_line cs rest line stops = record {
   longest = bounded Solidus 47 (47 ∷ (cs ++ rest)) (suc (length cs)) class-Solidus (after_line cs rest stops);
 }
 
--- no lexeme goes on behind the first `*/` of a comment
+-- no lexeme goes on after the first `*/` of a comment
 closed_shortest : (cs rest body more : List ℕ) → IsClosed cs → cs ++ rest ≡ body ++ more
     → ((before after : List ℕ) → body ≡ before ++ (codes "*/" ++ after) → after ≡ []) → length body ≤ length cs
 closed_shortest cs rest body more closed e once =

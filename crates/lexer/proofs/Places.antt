@@ -1,11 +1,8 @@
 -- Places, byte by byte.
-use Rattle.std.proofs.Common.{◌≡◌, ℕ, ◌+◌, ◌≤◌, ◌<◌, Bool, true, false, not, cond, List, [], ◌∷◌, length, get_or, take, refl, ap, sym, ◌∙◌, arith}
-use Rattle.std.specs.List.{take_while}
-use Rattle.std.specs.Prelude.{reverse}
-use Rattle.std.proofs.lemmas.List.{length-take, length-reverse}
-use Rattle.std.proofs.lemmas.List.Sums.{count_by-le-length, count_by_more_yes, count_by_more_no, take_while-cons}
+use Rattle.std.proofs.Common.{◌≡◌, ℕ, ◌+◌, ◌<◌, Bool, true, false, cond, List, length, get_or, refl, ap, sym, ◌∙◌}
+use Rattle.std.proofs.lemmas.List.Sums.{count_by_more_yes, count_by_more_no}
 use Rattle.lexer.specs.declared.token.Place.{Place}
-use Rattle.lexer.specs.Position.{begins_character, bytes_of_line, column_of, is_line_feed, line_of, place_at}
+use Rattle.lexer.specs.Position.{begins_character, column_of, is_line_feed, line_of, place_at}
 use Rattle.lexer.proofs.Lines.{column_of-line_feed, column_of-begin, column_of-within}
 use Rattle.lexer.specs.NextPlace.{next_place}
 
@@ -52,6 +49,6 @@ module _ (text : List ℕ) (i d : ℕ) (within : i < length text) where
   by_feed true is = at_feed is
   by_feed false is = by_begin (begins_character byte) is refl
 
-  -- the place behind a byte of a text
+  -- the place after a byte of a text
   pub next-place_at : next_place (place_at text i) byte ≡ place_at text (i + 1)
   next-place_at = by_feed (is_line_feed byte) refl

@@ -146,25 +146,25 @@ closed_cons c cs none closed = record {
   once = once_cons c cs none closed.once;
 }
 
--- the characters, behind the `*` that came before them, if one did
-abbrev pub behind : Bool → List ℕ → List ℕ
-behind true cs = 42 ∷ cs
-behind false cs = cs
+-- the characters, after the `*` that came before them, if one did
+abbrev pub beyond : Bool → List ℕ → List ℕ
+beyond true cs = 42 ∷ cs
+beyond false cs = cs
 
-unstar_open : (b : Bool) (c : ℕ) (cs : List ℕ) → (c == 42) ≡ b → HasNoCommentEnd (behind b cs) → HasNoCommentEnd (c ∷ cs)
+unstar_open : (b : Bool) (c : ℕ) (cs : List ℕ) → (c == 42) ≡ b → HasNoCommentEnd (beyond b cs) → HasNoCommentEnd (c ∷ cs)
 unstar_open true c cs e h = subst (λ x. HasNoCommentEnd (x ∷ cs)) (sym (eqb-true c 42 e)) h
 unstar_open false c cs e h = open_cons c cs (λ after k m. eqb-false c 42 e k) h
 
-unstar_closed : (b : Bool) (c : ℕ) (cs : List ℕ) → (c == 42) ≡ b → IsClosed (behind b cs) → IsClosed (c ∷ cs)
+unstar_closed : (b : Bool) (c : ℕ) (cs : List ℕ) → (c == 42) ≡ b → IsClosed (beyond b cs) → IsClosed (c ∷ cs)
 unstar_closed true c cs e h = subst (λ x. IsClosed (x ∷ cs)) (sym (eqb-true c 42 e)) h
 unstar_closed false c cs e h = closed_cons c cs (λ after k m. eqb-false c 42 e k) h
 
-star_open : (s : Bool) (c : ℕ) (cs : List ℕ) → (s && c == 47) ≡ false → HasNoCommentEnd (c ∷ cs) → HasNoCommentEnd (behind s (c ∷ cs))
+star_open : (s : Bool) (c : ℕ) (cs : List ℕ) → (s && c == 47) ≡ false → HasNoCommentEnd (c ∷ cs) → HasNoCommentEnd (beyond s (c ∷ cs))
 star_open false c cs e h = h
 star_open true c cs e h = open_cons 42 (c ∷ cs) (λ after k m. let f : c ≡ 47 = cc in eqb-false c 47 e f) h
 
 star_closed : (s : Bool) (c : ℕ) (cs : List ℕ) → (s && c == 47) ≡ false → IsClosed (c ∷ cs)
-    → IsClosed (behind s (c ∷ cs))
+    → IsClosed (beyond s (c ∷ cs))
 star_closed false c cs e h = h
 star_closed true c cs e h = closed_cons 42 (c ∷ cs) (λ after k m. let f : c ≡ 47 = cc in eqb-false c 47 e f) h
 
@@ -172,7 +172,7 @@ open_nil : HasNoCommentEnd []
 open_nil [] after e = cc
 open_nil (b ∷ before) after e = cc
 
-open_end : (s : Bool) → HasNoCommentEnd (behind s [])
+open_end : (s : Bool) → HasNoCommentEnd (beyond s [])
 open_end false = open_nil
 open_end true = open_cons 42 [] (λ after k m. cc) open_nil
 
@@ -181,14 +181,14 @@ once_pair before after e =
     let n = ap length e ∙ length-append before (codes "*/" ++ after) in
     nil_from_length after (omega arith)
 
-closed_end : (s : Bool) (c : ℕ) → (s && c == 47) ≡ true → IsClosed (behind s (c ∷ []))
+closed_end : (s : Bool) (c : ℕ) → (s && c == 47) ≡ true → IsClosed (beyond s (c ∷ []))
 closed_end s c e =
     let (starred, solidus) = and_parts s (c == 47) e in
-    let pair : IsClosed (behind true (47 ∷ [])) = record { inner = []; ends = refl; once = once_pair } in
-    subst (λ t. IsClosed (behind t (c ∷ []))) (sym starred)
-    (subst (λ x. IsClosed (behind true (x ∷ []))) (sym (eqb-true c 47 solidus)) pair)
+    let pair : IsClosed (beyond true (47 ∷ [])) = record { inner = []; ends = refl; once = once_pair } in
+    subst (λ t. IsClosed (beyond t (c ∷ []))) (sym starred)
+    (subst (λ x. IsClosed (beyond true (x ∷ []))) (sym (eqb-true c 47 solidus)) pair)
 
-close_none : (s : Bool) (cs : List ℕ) → after_close s cs ≡ None → HasNoCommentEnd (behind s cs)
+close_none : (s : Bool) (cs : List ℕ) → after_close s cs ≡ None → HasNoCommentEnd (beyond s cs)
 close_none s [] e = open_end s
 close_none s (c ∷ cs) e =
     elim (cases_Bool (s && c == 47)) [
@@ -201,7 +201,7 @@ close_none s (c ∷ cs) e =
     ]
 
 close_some : (s : Bool) (cs rest : List ℕ) → after_close s cs ≡ Some rest
-    → (body : List ℕ) × ((cs ≡ body ++ rest) × IsClosed (behind s body))
+    → (body : List ℕ) × ((cs ≡ body ++ rest) × IsClosed (beyond s body))
 close_some s [] rest e = absurd cc
 close_some s (c ∷ cs) rest e =
     elim (cases_Bool (s && c == 47)) [

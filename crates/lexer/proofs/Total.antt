@@ -7,14 +7,14 @@ use Rattle.std.specs.Str.{chars, IsUtf8}
 use Rattle.lexer.specs.Terminal.{Terminal}
 use Rattle.lexer.specs.Words.{is_white_space, may_begin, may_continue}
 use Rattle.lexer.specs.Lexeme.{Lexeme, Word, Gap, LargeLiteral, OpenComment, sign_of}
-use Rattle.lexer.specs.Cut.{Cuts, Nothing, Token, Between, IsNextLexeme, IsCut, HasDefect, IsStuck, HasNoLexeme, terminal_at, size}
+use Rattle.lexer.specs.Cut.{Cuts, Nothing, Token, Between, IsNextLexeme, IsCut, IsRefusedFor, IsStuck, HasNoLexeme, terminal_at, size}
 use Rattle.lexer.specs.Laws.{IsCutOrRefused}
 use Rattle.lexer.specs.Scan.{after_close, after_run, IsNoDouble, IsNoTriple}
 use Rattle.lexer.specs.declared.token.Kind.{Kind}
 use Rattle.lexer.specs.declared.token.Kind.TheVariants.{End}
 use Rattle.lexer.specs.declared.fault.LexRefusal.{LexRefusal}
-use Rattle.lexer.specs.declared.fault.LexDefect.{LexDefect}
-use Rattle.lexer.specs.declared.fault.LexDefect.TheVariants.{NoToken, LiteralTooLarge, UnclosedComment}
+use Rattle.lexer.specs.declared.fault.LexRefusalKind.{LexRefusalKind}
+use Rattle.lexer.specs.declared.fault.LexRefusalKind.TheVariants.{NoToken, LiteralTooLarge, UnclosedComment}
 use Rattle.lexer.proofs.Letters.{class_of, Other}
 use Rattle.lexer.proofs.Fronts.{nonempty}
 use Rattle.lexer.proofs.Nexts.{next_white, next_literal, next_word, next_solidus, next_triple, next_double, next_single, none_next}
@@ -104,13 +104,13 @@ record Cutting (start : ℕ) (text : List ℕ) : Type 0 where
   cuts : Cuts start text words end rest
   stops : (rest ≡ []) ⊎ ((fault : LexRefusal) × IsStuck end rest fault)
 
-stuck : (start : ℕ) (text : List ℕ) (defect : LexDefect) → HasDefect text defect → Cutting start text
-stuck start text defect h = record {
+stuck : (start : ℕ) (text : List ℕ) (kind : LexRefusalKind) → IsRefusedFor text kind → Cutting start text
+stuck start text kind h = record {
   words = [];
   end = start;
   rest = text;
   cuts = Nothing start text;
-  stops = inr (record { defect = defect; at = start }, (refl, h));
+  stops = inr (record { kind = kind; at = start }, (refl, h));
 }
 
 shorter : (lexeme : Lexeme) (text front rest : List ℕ) → IsNextLexeme text lexeme front rest → length rest < length text

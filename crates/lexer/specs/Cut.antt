@@ -6,8 +6,8 @@ use Rattle.lexer.specs.Terminal.{Terminal}
 use Rattle.lexer.specs.Lexeme.{Lexeme, Word, Gap, LargeLiteral, OpenComment, IsLexeme}
 use Rattle.lexer.specs.declared.token.Kind.{Kind}
 use Rattle.lexer.specs.declared.token.Kind.TheVariants.{End}
-use Rattle.lexer.specs.declared.fault.LexDefect.{LexDefect}
-use Rattle.lexer.specs.declared.fault.LexDefect.TheVariants.{NoToken, LiteralTooLarge, UnclosedComment}
+use Rattle.lexer.specs.declared.fault.LexRefusalKind.{LexRefusalKind}
+use Rattle.lexer.specs.declared.fault.LexRefusalKind.TheVariants.{NoToken, LiteralTooLarge, UnclosedComment}
 use Rattle.lexer.specs.declared.fault.LexRefusal.{LexRefusal}
 
 -- the text begins with the lexeme `front`, and with no longer one; `rest` follows
@@ -29,15 +29,15 @@ terminal_at start kind cs = record { kind = kind; text = encode_utf8_all cs; sta
 pub data Cuts : ℕ → List ℕ → List Terminal → ℕ → List ℕ → Type 0 where
   -- nothing is cut off
   Nothing : (start : ℕ) (text : List ℕ) → Cuts start text [] start text
-  -- the next lexeme is a token, and the cut goes on behind it
+  -- the next lexeme is a token, and the cut goes on after it
   Token : (start : ℕ) (text : List ℕ) (kind : Kind) (front left : List ℕ) (tokens : List Terminal) (end : ℕ)
       (rest : List ℕ) → IsNextLexeme text (Word kind) front left → Cuts (start + size front) left tokens end rest
       → Cuts start text (terminal_at start kind front ∷ tokens) end rest
-  -- the next lexeme gives no token, and the cut goes on behind it
+  -- the next lexeme gives no token, and the cut goes on after it
   Between : (start : ℕ) (text front left : List ℕ) (tokens : List Terminal) (end : ℕ) (rest : List ℕ)
       → IsNextLexeme text Gap front left → Cuts (start + size front) left tokens end rest → Cuts start text tokens end rest
 
--- the tokens of the whole text, with the end marker behind them
+-- the tokens of the whole text, with the end marker after them
 pub record IsCut (text : List ℕ) (tokens : List Terminal) : Type 0 where
   pub words : List Terminal
   pub cuts : Cuts 0 (chars text) words (length text) []
@@ -49,14 +49,14 @@ pub record HasNoLexeme (text : List ℕ) : Type 0 where
   pub none : (lexeme : Lexeme) (front rest : List ℕ) → IsLexeme lexeme front → text ≡ front ++ rest → ⊥
 
 -- the text goes on with no lexeme, or with one that is refused
-abbrev pub HasDefect : List ℕ → LexDefect → Type 0
-HasDefect text NoToken = HasNoLexeme text
-HasDefect text LiteralTooLarge = (front : List ℕ) × (rest : List ℕ) × IsNextLexeme text LargeLiteral front rest
-HasDefect text UnclosedComment = (front : List ℕ) × (rest : List ℕ) × IsNextLexeme text OpenComment front rest
+abbrev pub IsRefusedFor : List ℕ → LexRefusalKind → Type 0
+IsRefusedFor text NoToken = HasNoLexeme text
+IsRefusedFor text LiteralTooLarge = (front : List ℕ) × (rest : List ℕ) × IsNextLexeme text LargeLiteral front rest
+IsRefusedFor text UnclosedComment = (front : List ℕ) × (rest : List ℕ) × IsNextLexeme text OpenComment front rest
 
 -- the refusal is how the text goes on at the byte `start`
 abbrev pub IsStuck : ℕ → List ℕ → LexRefusal → Type 0
-IsStuck start text refusal = (refusal.at ≡ start) × HasDefect text refusal.defect
+IsStuck start text refusal = (refusal.at ≡ start) × IsRefusedFor text refusal.kind
 
 -- what stands before the refusal is cut into tokens, and the refusal is what comes then
 pub record IsTextRefused (text : List ℕ) (refusal : LexRefusal) : Type 0 where

@@ -1,5 +1,5 @@
 pub mod Cut
-pub mod Defects
+pub mod RefusalKinds
 pub mod Laws
 pub mod Lexeme
 pub mod Listing

@@ -11,7 +11,7 @@ use Rattle.lexer.specs.declared.token.Kind.{Kind}
 use Rattle.lexer.specs.declared.token.Kind.TheVariants.{Name, Integer, End}
 use Rattle.common.specs.declared.limits.TheConstants.{MAX_INTEGER}
 
--- the terminals stand one behind another, from the byte `start` to the byte `end`
+-- the terminals stand one after another, from the byte `start` to the byte `end`
 abbrev pub IsInOrder : ℕ → List Terminal → ℕ → Type 0
 IsInOrder start [] end = start ≤ end
 IsInOrder start (t ∷ ts) end = (start ≤ t.start) × (t.start ≤ t.end) × IsInOrder t.end ts end

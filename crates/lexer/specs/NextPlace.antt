@@ -4,7 +4,7 @@ use Rattle.std.specs.Prelude.{ℕ, ◌+◌, if◌then◌else◌}
 use Rattle.lexer.specs.declared.token.Place.{Place}
 use Rattle.lexer.specs.Position.{begins_character, is_line_feed}
 
--- the place behind a byte at a place
+-- the place after a byte at a place
 abbrev pub next_place : Place → (byte : ℕ) → Place
 next_place place byte =
     if is_line_feed byte then record { line = place.line + 1; column = 1 }

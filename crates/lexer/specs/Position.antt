@@ -16,7 +16,7 @@ is_line_feed byte = byte == 10
 abbrev pub line_of : List ℕ → (at : ℕ) → ℕ
 line_of text at = count_by is_line_feed (take at text) + 1
 
--- the bytes before it and behind the last line feed before it, the nearest first
+-- the bytes before it and after the last line feed before it, the nearest first
 abbrev pub bytes_of_line : List ℕ → (at : ℕ) → List ℕ
 bytes_of_line text at = take_while (λ byte. not (is_line_feed byte)) (reverse (take at text))
 

@@ -32,7 +32,7 @@ begins_sign c = not (is_white_space c || is_ascii_digit c || may_begin c || c ==
 abbrev pub has_front : ℕ → ℕ → List ℕ → Bool
 has_front count c word = nat_eq (length word) count && nat_eq (get_or word 0 0) c
 
--- the character begins a sign of so many characters
+-- the character begins a sign of this many characters
 abbrev pub begins_sign_of : ℕ → ℕ → Bool
 begins_sign_of count c = list_any (λ row. has_front count c row.0) signs
 

@@ -1,5 +1,5 @@
 -- A token as contracts see it, without references: a terminal symbol of a grammar, with its text and its place.
--- Source: the usual notion of a terminal symbol, and of an end marker behind the last one.
+-- Source: the usual notion of a terminal symbol, and of an end marker after the last one.
 use Rattle.std.specs.Prelude.{◌≡◌, ◌≢◌, ◌⊎◌, ◌+◌, ℕ, List, [], ◌∷◌, length, map}
 use Rattle.lexer.specs.declared.token.Kind.{Kind}
 use Rattle.lexer.specs.declared.token.Kind.TheVariants.{End}

@@ -1,4 +1,4 @@
-ghost use Rattle.lexer.specs.Defects.{lex_defect_number, lex_defect_words};
+ghost use Rattle.lexer.specs.RefusalKinds.{lex_refusal_number, lex_refusal_words};
 ghost use Rattle.std.specs.Prelude.{◌≡◌, Some};
 
 use common::OrNoMemory;
@@ -7,7 +7,7 @@ use std::fmt;
 
 /// What is wrong with a text that has no tokens.
 #[derive(Clone, Copy, Debug, Drop, PartialEq, Eq)]
-pub enum LexDefect {
+pub enum LexRefusalKind {
     /// 101: no token, white space or comment begins here.
     NoToken,
     /// 102: an integer above 2147483647 begins here.
@@ -16,26 +16,26 @@ pub enum LexDefect {
     UnclosedComment,
 }
 
-impl LexDefect {
-    /// The number that the defect is reported by, 101 to 103.
+impl LexRefusalKind {
+    /// The number that the refusal is reported by, 101 to 103.
     pub fn number(self) -> u32
-        ensures { result ≡ lex_defect_number self }
+        ensures { result ≡ lex_refusal_number self }
     {
         match self {
-            LexDefect::NoToken => 101,
-            LexDefect::LiteralTooLarge => 102,
-            LexDefect::UnclosedComment => 103,
+            LexRefusalKind::NoToken => 101,
+            LexRefusalKind::LiteralTooLarge => 102,
+            LexRefusalKind::UnclosedComment => 103,
         }
     }
 
-    /// The words that the defect is reported by.
+    /// The words that the refusal is reported by.
     pub fn words(self) -> &'static str
-        ensures { result.now ≡ lex_defect_words self }
+        ensures { result.now ≡ lex_refusal_words self }
     {
         match self {
-            LexDefect::NoToken => "no token",
-            LexDefect::LiteralTooLarge => "literal too large",
-            LexDefect::UnclosedComment => "open comment",
+            LexRefusalKind::NoToken => "no token",
+            LexRefusalKind::LiteralTooLarge => "literal too large",
+            LexRefusalKind::UnclosedComment => "open comment",
         }
     }
 }
@@ -43,15 +43,15 @@ impl LexDefect {
 /// Why a text has no tokens: what is wrong, and the byte at which it stands.
 #[derive(Clone, Copy, Debug, Drop, PartialEq, Eq)]
 pub struct LexRefusal {
-    pub defect: LexDefect,
+    pub kind: LexRefusalKind,
     pub at: usize,
 }
 
 impl fmt::Display for LexRefusal {
-    ghost output = { λ refusal. Some (lex_defect_words refusal.defect) };
+    ghost output = { λ refusal. Some (lex_refusal_words refusal.kind) };
 
     fn fmt<W: fmt::Write>(&self, f: &mut fmt::Formatter<W>) -> fmt::Result {
-        write!(f, "{}", self.defect.words())
+        write!(f, "{}", self.kind.words())
     }
 }
 

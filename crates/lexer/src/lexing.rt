@@ -12,7 +12,7 @@ use crate::token::{Kind, Token};
 use common::OrNoMemory;
 use std::alloc::Global;
 
-/// The tokens of `src` by longest match, with an `End` behind them.
+/// The tokens of `src` by longest match, with an `End` after them.
 ///
 /// White space and comments give no token. The first refusal in the text is reported, unless memory ran
 /// out before.

@@ -11,7 +11,7 @@ mod pieces;
 pub mod position;
 pub mod token;
 
-pub use fault::{LexDefect, LexFault, LexRefusal};
+pub use fault::{LexFault, LexRefusal, LexRefusalKind};
 pub use lexing::{lex, one_reading};
 pub use names::is_name;
 pub use position::place;

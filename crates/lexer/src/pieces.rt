@@ -7,7 +7,7 @@ ghost use Rattle.std.specs.Prelude.{◌≡◌, ◌&&◌, ◌++◌, ◌∷◌, []
 ghost use Rattle.std.specs.Char.{is_ascii_digit};
 ghost use Rattle.std.specs.Str.{chars};
 
-use crate::fault::{LexDefect, LexRefusal};
+use crate::fault::{LexRefusal, LexRefusalKind};
 use crate::names::{begins_name, continues_name, find_keyword};
 use crate::token::Kind;
 use common::limits::MAX_INTEGER;
@@ -69,7 +69,7 @@ pub(crate) fn cut_piece<'a>(
         cut_solidus(text, after, at)
     } else {
         cut_sign(text, first, after).ok_or(LexRefusal {
-            defect: LexDefect::NoToken,
+            kind: LexRefusalKind::NoToken,
             at,
         })
     }
@@ -100,7 +100,7 @@ fn cut_literal<'a>(
             rest,
         }),
         _ => Err(LexRefusal {
-            defect: LexDefect::LiteralTooLarge,
+            kind: LexRefusalKind::LiteralTooLarge,
             at,
         }),
     }
@@ -135,7 +135,7 @@ fn cut_solidus<'a>(text: &'a str, after: &'a str, at: usize) -> Result<Piece<'a>
         Some('*') => match skip_comment(characters.as_str()) {
             Some(rest) => Ok(Piece { kind: None, rest }),
             None => Err(LexRefusal {
-                defect: LexDefect::UnclosedComment,
+                kind: LexRefusalKind::UnclosedComment,
                 at,
             }),
         },
@@ -181,8 +181,8 @@ fn cut_triple_sign(first: char, after: &str) -> Option<(Kind, &str)>
     if !begins_triple(first) {
         return None;
     }
-    let (second, behind) = split_first(after)?;
-    let (third, rest) = split_first(behind)?;
+    let (second, beyond) = split_first(after)?;
+    let (third, rest) = split_first(beyond)?;
     let kind = kind_of_triple(first, second, third)?;
     Some((kind, rest))
 }

@@ -7,7 +7,7 @@ ghost use Rattle.std.specs.Prelude.{length, ◌+◌, ◌<◌, ◌^◌, ◌≡◌
 
 use crate::token::Place;
 
-/// The line and the column of the byte `at` of a text, both from 1; of a byte behind the text, those of its end.
+/// The line and the column of the byte `at` of a text, both from 1; of a byte after the text, those of its end.
 ///
 /// A line ends with U+000A, and a column is one character. The text may be no UTF-8, and the byte may lie within a character: those
 /// that begin before it are counted.
@@ -33,7 +33,7 @@ pub fn place_after(text: &[u8], start: Place, from: usize, to: usize) -> Place
     place
 }
 
-// The place behind a byte that stands at this place.
+// The place after a byte that stands at this place.
 fn next(place: Place, byte: u8) -> Place
     requires few_lines { place.line + 1 < 2 ^ 64 }
     requires few_columns { place.column + 1 < 2 ^ 64 }

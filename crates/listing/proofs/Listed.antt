@@ -72,7 +72,7 @@ procedures_next procedures k d procedure small is =
     at_drop_more (procedures_text k) procedures k d small
     ∙ ap (λ p. procedure_text k p ++ procedures_text (k + 1) (drop (k + 1) procedures)) (sym is)
 
--- ---- one text behind another
+-- ---- one text after another
 
 pub cut_second : (old mid new : Option (List ℕ)) (bytes first second : List ℕ) → bytes ≡ first → Appends old mid bytes
     → AppendsPrefix mid new second → AppendsPrefix old new (first ++ second)

@@ -1,4 +1,4 @@
--- Pieces of code with their handlers, added one behind the other.
+-- Pieces of code with their handlers, added one after the other.
 use Rattle.std.proofs.Common.{◌≡◌, refl, sym, ap, ◌∙◌, ℕ, ◌+◌, List, [], ◌++◌, length, append_assoc, append-nil}
 use Rattle.modules.specs.declared.instruction.Instruction.{Instruction}
 use Rattle.modules.specs.declared.declaration.Handler.{Handler}
@@ -10,11 +10,11 @@ use Rattle.lowering.specs.Added.{IsAdded, IsStatementAdded, IsBlockAdded}
 use Rattle.lowering.proofs.Sizes.{statement-sized, block-sized, jump-sized}
 use Rattle.lowering.proofs.Appending.{both, longer}
 
--- two pieces, the second for the place behind the first
+-- two pieces, the second for the position after the first
 pub added-both : (first second : ℕ → List Instruction) (front back : ℕ → List Handler) (n : ℕ) (before middle after : List Instruction) (table_before table_middle table_after : List Handler)
     → length (first (length before)) ≡ n
     → IsAdded first front before middle table_before table_middle → IsAdded second back middle after table_middle table_after
-    → IsAdded (λ place. first place ++ second (place + n)) (λ place. front place ++ back (place + n)) before after table_before table_after
+    → IsAdded (λ position. first position ++ second (position + n)) (λ position. front position ++ back (position + n)) before after table_before table_after
 added-both first second front back n before middle after table_before table_middle table_after size a b = record {
   code = both before middle after first second n a.code size b.code;
   handlers = b.handlers
@@ -24,7 +24,7 @@ added-both first second front back n before middle after table_before table_midd
 
 -- a piece without handlers
 pub added-code : (piece : ℕ → List Instruction) (before after : List Instruction) (table : List Handler)
-    → after ≡ before ++ piece (length before) → IsAdded piece (λ place. []) before after table table
+    → after ≡ before ++ piece (length before) → IsAdded piece (λ position. []) before after table table
 added-code piece before after table is = record { code = is; handlers = sym (append-nil table) }
 
 -- what was added so far, and what is left to be added, is the whole
@@ -35,7 +35,7 @@ pub record AreLeft (whole : ℕ → List Instruction) (entries : ℕ → List Ha
 
 pub left-next : (whole first left : ℕ → List Instruction) (entries front left_entries : ℕ → List Handler) (n : ℕ) (before now after : List Instruction) (table_before table table_after : List Handler)
     → length (first (length now)) ≡ n
-    → AreLeft whole entries (λ place. first place ++ left (place + n)) (λ place. front place ++ left_entries (place + n)) before now table_before table
+    → AreLeft whole entries (λ position. first position ++ left (position + n)) (λ position. front position ++ left_entries (position + n)) before now table_before table
     → IsAdded first front now after table table_after
     → AreLeft whole entries left left_entries before after table_before table_after
 left-next whole first left entries front left_entries n before now after table_before table table_after size so_far a =
@@ -58,14 +58,14 @@ jump_grown wanted target before after is = longer before after (jump_code wanted
 
 -- the next statement of a block
 pub block-next : (program : Program) (loop : Loop) (all left : Block) (statement : Statement) (before now after : List Instruction) (table_before table table_after : List Handler)
-    → AreLeft (λ place. block_code program loop place all) (λ place. block_table program place all)
-    (λ place. block_code program loop place (Then statement left)) (λ place. block_table program place (Then statement left)) before now table_before table
+    → AreLeft (λ position. block_code program loop position all) (λ position. block_table program position all)
+    (λ position. block_code program loop position (Then statement left)) (λ position. block_table program position (Then statement left)) before now table_before table
     → IsStatementAdded program loop statement now after table table_after
-    → AreLeft (λ place. block_code program loop place all) (λ place. block_table program place all)
-    (λ place. block_code program loop place left) (λ place. block_table program place left) before after table_before table_after
+    → AreLeft (λ position. block_code program loop position all) (λ position. block_table program position all)
+    (λ position. block_code program loop position left) (λ position. block_table program position left) before after table_before table_after
 block-next program loop all left statement before now after table_before table table_after so_far a =
-    left-next (λ place. block_code program loop place all) (λ place. statement_code program loop place statement) (λ place. block_code program loop place left)
-    (λ place. block_table program place all) (λ place. statement_table program place statement) (λ place. block_table program place left)
+    left-next (λ position. block_code program loop position all) (λ position. statement_code program loop position statement) (λ position. block_code program loop position left)
+    (λ position. block_table program position all) (λ position. statement_table program position statement) (λ position. block_table program position left)
     (statement_size program statement) before now after table_before table table_after (statement-sized program loop (length now) statement) so_far a
 
 pub ruleset grown = (statement_grown, block_grown, jump_grown)

@@ -1,4 +1,4 @@
--- Code that is appended piece by piece, each piece made for the place at which it stands.
+-- Code that is appended piece by piece, each piece made for the position at which it stands.
 use Rattle.common.specs.Functions.{same_truth}
 use Rattle.std.proofs.Common.{◌≡◌, ℕ, ◌+◌, List, [], ◌∷◌, ◌++◌, length, ap, ◌∙◌, sym, refl, arith, length-append, append_assoc}
 use Rattle.modules.specs.declared.instruction.Instruction.{Instruction}
@@ -10,11 +10,11 @@ use Rattle.lowering.specs.Expressions.{store_element_of, operator_instruction, v
 use Rattle.std.specs.Prelude.{Bool, if◌then◌else◌}
 use Rattle.lowering.proofs.Sizes.{value-sized, branch-sized}
 
--- how long code is after a piece of so many instructions
+-- how long code is after a piece of this many instructions
 pub longer : {A : Type 0} (before after piece : List A) (n : ℕ) → after ≡ before ++ piece → length piece ≡ n → length after ≡ length before + n
 longer before after piece n is size = ap length is ∙ (length-append before piece ∙ ap (λ m. length before + m) size)
 
--- two pieces, the second for the place behind the first
+-- two pieces, the second for the position after the first
 pub both : {A : Type 0} (before middle after : List A) (first second : ℕ → List A) (n : ℕ)
     → middle ≡ before ++ first (length before) → length (first (length before)) ≡ n → after ≡ middle ++ second (length middle)
     → after ≡ before ++ (first (length before) ++ second (length before + n))
@@ -32,20 +32,20 @@ branch_grown before after wanted target e is =
 
 pub ruleset growing = (value_grown, branch_grown)
 
-pub short-branched : (before middle after : List Instruction) (left right : Expression) (connective : Connective) (e : Expression) (wanted decides : Bool) (target behind inner : ℕ)
-    → decides ≡ deciding connective → behind ≡ length before + branch_size decides left + branch_size wanted right
-    → inner ≡ (if same_truth wanted decides then target else behind)
+pub short-branched : (before middle after : List Instruction) (left right : Expression) (connective : Connective) (e : Expression) (wanted decides : Bool) (target beyond inner : ℕ)
+    → decides ≡ deciding connective → beyond ≡ length before + branch_size decides left + branch_size wanted right
+    → inner ≡ (if same_truth wanted decides then target else beyond)
     → middle ≡ before ++ branch_code decides (length before) inner left
     → after ≡ middle ++ branch_code wanted (length middle) target right
     → e ≡ Short connective left right
     → after ≡ before ++ branch_code wanted (length before) target e
-short-branched before middle after left right connective e wanted decides target behind inner is_deciding is_behind is_inner first second tree =
+short-branched before middle after left right connective e wanted decides target beyond inner is_deciding is_after is_inner first second tree =
     let b = deciding connective in
-    let place : behind ≡ length before + branch_size b left + branch_size wanted right =
-    is_behind ∙ ap (λ (d : Bool). length before + branch_size d left + branch_size wanted right) is_deciding in
+    let position : beyond ≡ length before + branch_size b left + branch_size wanted right =
+    is_after ∙ ap (λ (d : Bool). length before + branch_size d left + branch_size wanted right) is_deciding in
     let inner_is : inner ≡ (if same_truth wanted b then target else length before + branch_size b left + branch_size wanted right) =
-    is_inner ∙ (ap (λ (d : Bool). if same_truth wanted d then target else behind) is_deciding
-    ∙ ap (λ (n : ℕ). if same_truth wanted b then target else n) place) in
+    is_inner ∙ (ap (λ (d : Bool). if same_truth wanted d then target else beyond) is_deciding
+    ∙ ap (λ (n : ℕ). if same_truth wanted b then target else n) position) in
     let first_is : middle ≡ before ++ branch_code b (length before) (if same_truth wanted b then target else length before + branch_size b left + branch_size wanted right) left =
     first ∙ (ap (λ (d : Bool). before ++ branch_code d (length before) inner left) is_deciding
     ∙ ap (λ (n : ℕ). before ++ branch_code b (length before) n left) inner_is) in
@@ -73,7 +73,7 @@ pub short-pushed : (before middle after : List Instruction) (left right : Expres
     → e ≡ Short connective left right
     → after ≡ before ++ value_code (length before) e
 short-pushed before middle after left right connective e first second tree =
-    both before middle after (λ at. value_code at left) (λ at. rest_of_short connective at (value_size right) (λ place. value_code place right)) (value_size left)
+    both before middle after (λ at. value_code at left) (λ at. rest_of_short connective at (value_size right) (λ position. value_code position right)) (value_size left)
     first (value-sized left (length before)) second
     ∙ sym (ap (λ d. before ++ value_code (length before) d) tree)
 

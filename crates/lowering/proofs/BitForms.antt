@@ -10,10 +10,10 @@ use Rattle.resolved.specs.BitUse.{expression_uses_bits, statement_uses_bits, blo
 use Rattle.resolved.proofs.Views.{next-statement, next-handler, tree-if, tree-while, tree-try, tree-nested}
 use Rattle.lowering.proofs.Forms.{nodes_if, nodes_while, nodes_try, nodes_nested, nodes_next, nodes_next_handler}
 
-pub bits_if : (s : S.Statement) (at : ℕ) (e : E.Expression) (yes_block no_block : Vec S.Statement Global) → s ≡ S.If at e yes_block no_block
+pub bits_if : (s : S.Statement) (at : ℕ) (e : E.Expression) (then_block else_block : Vec S.Statement Global) → s ≡ S.If at e then_block else_block
     → statement_uses_bits (statement_of s)
-    ≡ (expression_uses_bits (expression_of e) || block_uses_bits (block_of yes_block.items) || block_uses_bits (block_of no_block.items))
-bits_if s at e yes_block no_block is = ap statement_uses_bits (tree-if s at e yes_block no_block yes_block.items no_block.items is refl refl)
+    ≡ (expression_uses_bits (expression_of e) || block_uses_bits (block_of then_block.items) || block_uses_bits (block_of else_block.items))
+bits_if s at e then_block else_block is = ap statement_uses_bits (tree-if s at e then_block else_block then_block.items else_block.items is refl refl)
 
 pub bits_while : (s : S.Statement) (at loop : ℕ) (e : E.Expression) (body : Vec S.Statement Global) → s ≡ S.While at loop e body
     → statement_uses_bits (statement_of s) ≡ (expression_uses_bits (expression_of e) || block_uses_bits (block_of body.items))

@@ -1,4 +1,4 @@
--- Code of a condition goes to its target where the condition has the wanted truth, and else on behind.
+-- Code of a condition goes to its target where the condition has the wanted truth, and else on after.
 use Rattle.common.specs.Functions.{same_truth}
 use Rattle.std.proofs.Common.{◌≡◌, ℕ, ◌+◌, Bool, true, false, not, ℤ, pos, negsuc, List, [], ◌∷◌, refl, sym, ap, subst, arith}
 use Rattle.std.specs.Prelude.{Option, if◌then◌else◌, int_le, int_lt}
@@ -30,18 +30,18 @@ use Rattle.lowering.proofs.Negated.{operands-fit, negated-fits}
 use Rattle.lowering.proofs.CodePieces.{Stands, stands-front, stands-back}
 use Rattle.lowering.proofs.Sizes.{value-sized, branch-sized}
 use Rattle.lowering.proofs.Steps.{Leads, Strides, leads-through, strides-through, strides-leads}
-use Rattle.lowering.proofs.States.{Setting, place, thrown_to}
-use Rattle.lowering.proofs.Rows.{does_stride, onward}
+use Rattle.lowering.proofs.States.{Setting, position, thrown_to}
+use Rattle.lowering.proofs.SingleSteps.{does_stride, onward}
 use Rattle.lowering.proofs.Values.{Finds, finds-part, ValueRuns}
 use Rattle.lowering.proofs.Expressions.{value-runs}
 
--- the place to which a condition leads by its truth
+-- the position to which a condition leads by its truth
 abbrev pub lead_by : (wanted truth : Bool) → (target end : ℕ) → ℕ
 lead_by wanted truth target end = if same_truth wanted truth then target else end
 
--- in at least one step the machine comes to the target or behind the code, or to where the exception goes
+-- in at least one step the machine comes to the target or after the code, or to where the exception goes
 abbrev pub BranchRuns : Setting → (ℕ → Option ℕ) → (wanted : Bool) → (target : ℕ) → Machine → (end : ℕ) → source.SourceState → Evaluated Value → Type 0
-BranchRuns g h wanted target from end s (Yields v) = Strides g.p from (place g (lead_by wanted (truth_in v) target end) [] s)
+BranchRuns g h wanted target from end s (Yields v) = Strides g.p from (position g (lead_by wanted (truth_in v) target end) [] s)
 BranchRuns g h wanted target from end s (Raises exception) = Leads g.p from (thrown_to g (h exception) exception s)
 
 -- ---- negated conditions
@@ -119,10 +119,10 @@ module _ (g : Setting) (h : ℕ → Option ℕ) (s : source.SourceState) (fit : 
   after-test target mid from more (Yields (Number z)) typed run stands = absurd (let no : base.Int ≡ base.Boolean = typed in cc)
   after-test target mid from more (Raises exception) typed run stands = run
 
-  -- a condition behind `!`
+  -- a condition after `!`
   not-branch : (wanted : Bool) (target end : ℕ) (from : Machine) (o : Evaluated Value)
       → BranchRuns g h (not wanted) target from end s o → BranchRuns g h wanted target from end s (then_with o (λ x. Yields (prefix_value prefix.Not x)))
-  not-branch wanted target end from (Yields v) run = subst (λ (b : Bool). Strides g.p from (place g (if b then target else end) [] s)) (same wanted (truth_in v)) run
+  not-branch wanted target end from (Yields v) run = subst (λ (b : Bool). Strides g.p from (position g (if b then target else end) [] s)) (same wanted (truth_in v)) run
     where
       same : (a b : Bool) → same_truth (not a) b ≡ same_truth a (not b)
       same true b = refl
@@ -132,33 +132,33 @@ module _ (g : Setting) (h : ℕ → Option ℕ) (s : source.SourceState) (fit : 
 
   negated-branch : (target end : ℕ) (from : Machine) (o : Evaluated Value)
       → BranchRuns g h false target from end s (then_with o (λ x. Yields (prefix_value prefix.Not x))) → BranchRuns g h true target from end s o
-  negated-branch target end from (Yields v) run = subst (λ (b : Bool). Strides g.p from (place g (if b then target else end) [] s)) (sym (twice (truth_in v))) run
+  negated-branch target end from (Yields v) run = subst (λ (b : Bool). Strides g.p from (position g (if b then target else end) [] s)) (sym (twice (truth_in v))) run
   negated-branch target end from (Raises exception) run = run
 
   test-runs : (wanted : Bool) (e : Expression) (at target : ℕ) → has_base g.program g.procedure base.Boolean e ≡ true
       → Stands g.code (test_code wanted at target e) at → Finds g at (value_size (tested wanted e) + 1) h
-      → BranchRuns g h wanted target (place g at [] s) (at + (value_size (tested wanted e) + 1)) s (value_of s e)
+      → BranchRuns g h wanted target (position g at [] s) (at + (value_size (tested wanted e) + 1)) s (value_of s e)
   test-runs false e at target typed stands finds =
       let mid = at + value_size e in
-      branch-at false target (place g at [] s) (mid + 1) (at + (value_size e + 1)) (value_of s e) (omega arith)
-      (after-test target mid (place g at [] s) [] (value_of s e) (value_fits g.program g.procedure s fit base.Boolean e typed)
+      branch-at false target (position g at [] s) (mid + 1) (at + (value_size e + 1)) (value_of s e) (omega arith)
+      (after-test target mid (position g at [] s) [] (value_of s e) (value_fits g.program g.procedure s fit base.Boolean e typed)
       (value-runs g h s fit e base.Boolean at [] typed (stands-front g.code (value_code at e) (JumpIfFalse target ∷ []) at stands)
       (finds-part g at (value_size e + 1) h at (value_size e) (omega arith) (omega arith) finds))
       (stands-back g.code (value_code at e) (JumpIfFalse target ∷ []) at (value_size e) (value-sized e at) stands))
   test-runs true e at target typed stands finds =
       let mid = at + value_size (negated e) in
       let fits : has_base g.program g.procedure base.Boolean (negated e) ≡ true = negated-fits g.program g.procedure e typed in
-      negated-branch target (at + (value_size (negated e) + 1)) (place g at [] s) (value_of s e)
-      (subst (λ (o : Evaluated Value). BranchRuns g h false target (place g at [] s) (at + (value_size (negated e) + 1)) s o) (negated-value e typed)
-      (branch-at false target (place g at [] s) (mid + 1) (at + (value_size (negated e) + 1)) (value_of s (negated e)) (omega arith)
-      (after-test target mid (place g at [] s) [] (value_of s (negated e)) (value_fits g.program g.procedure s fit base.Boolean (negated e) fits)
+      negated-branch target (at + (value_size (negated e) + 1)) (position g at [] s) (value_of s e)
+      (subst (λ (o : Evaluated Value). BranchRuns g h false target (position g at [] s) (at + (value_size (negated e) + 1)) s o) (negated-value e typed)
+      (branch-at false target (position g at [] s) (mid + 1) (at + (value_size (negated e) + 1)) (value_of s (negated e)) (omega arith)
+      (after-test target mid (position g at [] s) [] (value_of s (negated e)) (value_fits g.program g.procedure s fit base.Boolean (negated e) fits)
       (value-runs g h s fit (negated e) base.Boolean at [] fits (stands-front g.code (value_code at (negated e)) (JumpIfFalse target ∷ []) at stands)
       (finds-part g at (value_size (negated e) + 1) h at (value_size (negated e)) (omega arith) (omega arith) finds))
       (stands-back g.code (value_code at (negated e)) (JumpIfFalse target ∷ []) at (value_size (negated e)) (value-sized (negated e) at) stands))))
 
   short-branch : (connective : Connective) (wanted : Bool) (target mid end : ℕ) (from : Machine) (o right : Evaluated Value) → GivesBase base.Boolean o
       → BranchRuns g h (deciding connective) (if same_truth wanted (deciding connective) then target else end) from mid s o
-      → BranchRuns g h wanted target (place g mid [] s) end s right
+      → BranchRuns g h wanted target (position g mid [] s) end s right
       → BranchRuns g h wanted target from end s (then_with o (λ v. if decides connective v then Yields v else right))
   short-branch And wanted target mid end from (Yields (Truth true)) right typed run next = branch-from wanted target from _ end right (strides-leads g.p _ _ run) next
   short-branch And wanted target mid end from (Yields (Truth false)) right typed run next = run
@@ -169,14 +169,14 @@ module _ (g : Setting) (h : ℕ → Option ℕ) (s : source.SourceState) (fit : 
 
   pub branch-runs : (e : Expression) (wanted : Bool) (at target : ℕ) → has_base g.program g.procedure base.Boolean e ≡ true
       → Stands g.code (branch_code wanted at target e) at → Finds g at (branch_size wanted e) h
-      → BranchRuns g h wanted target (place g at [] s) (at + branch_size wanted e) s (value_of s e)
+      → BranchRuns g h wanted target (position g at [] s) (at + branch_size wanted e) s (value_of s e)
   branch-runs (Integer n) wanted at target typed stands finds = test-runs wanted (Integer n) at target typed stands finds
   branch-runs (Logical b) wanted at target typed stands finds = test-runs wanted (Logical b) at target typed stands finds
   branch-runs (Read x) wanted at target typed stands finds = test-runs wanted (Read x) at target typed stands finds
   branch-runs (Element array count index) wanted at target typed stands finds = test-runs wanted (Element array count index) at target typed stands finds
   branch-runs (Unary prefix.Negate e) wanted at target typed stands finds = test-runs wanted (Unary prefix.Negate e) at target typed stands finds
   branch-runs (Unary prefix.Not e) wanted at target typed stands finds =
-      not-branch wanted target (at + branch_size (not wanted) e) (place g at [] s) (value_of s e) (branch-runs e (not wanted) at target typed stands finds)
+      not-branch wanted target (at + branch_size (not wanted) e) (position g at [] s) (value_of s e) (branch-runs e (not wanted) at target typed stands finds)
   branch-runs (Binary op d e) wanted at target typed stands finds = test-runs wanted (Binary op d e) at target typed stands finds
   branch-runs (Short connective d e) wanted at target typed stands finds =
       let parts : (has_base g.program g.procedure base.Boolean d ≡ true) × (has_base g.program g.procedure base.Boolean e ≡ true) =
@@ -185,8 +185,8 @@ module _ (g : Setting) (h : ℕ → Option ℕ) (s : source.SourceState) (fit : 
       let m = branch_size wanted e in
       let mid = at + n in
       let inner = (if same_truth wanted (deciding connective) then target else mid + m) in
-      branch-at wanted target (place g at [] s) (mid + m) (at + (n + m)) (value_of s (Short connective d e)) (omega arith)
-      (short-branch connective wanted target mid (mid + m) (place g at [] s) (value_of s d) (value_of s e) (value_fits g.program g.procedure s fit base.Boolean d parts.0)
+      branch-at wanted target (position g at [] s) (mid + m) (at + (n + m)) (value_of s (Short connective d e)) (omega arith)
+      (short-branch connective wanted target mid (mid + m) (position g at [] s) (value_of s d) (value_of s e) (value_fits g.program g.procedure s fit base.Boolean d parts.0)
       (branch-runs d (deciding connective) at inner parts.0 (stands-front g.code (branch_code (deciding connective) at inner d) (branch_code wanted mid target e) at stands)
       (finds-part g at (n + m) h at n (omega arith) (omega arith) finds))
       (branch-runs e wanted mid target parts.1

@@ -11,7 +11,7 @@ use Rattle.resolved.specs.SourceState as source
 use Rattle.resolved.specs.Value.{base_of}
 use Rattle.resolved.specs.Ends.{thrown_ends, declared_by}
 use Rattle.resolved.specs.EndFaults.{end_faults}
-use Rattle.resolved.specs.Meaning.{Outcome, Ended, Stopped, Deep, OutOfTurns, leaving, entering, calls_with, block_meaning}
+use Rattle.resolved.specs.Meaning.{Outcome, Ended, Stopped, Deep, OutOfFuel, leaving, entering, calls_with, block_meaning}
 use Rattle.resolved.specs.WellFormed.{well_formed, parameters_of, has_result, same_base}
 use Rattle.resolved.specs.Kinds.{StateFits, OutcomeFits, ArgumentsFit}
 use Rattle.resolved.proofs.WellFormedParts.{ProcedureParts, procedure_at_is}
@@ -32,9 +32,9 @@ use Rattle.lowering.specs.Graphs.{end_code, no_loop, body_code}
 use Rattle.lowering.proofs.CodePieces.{Stands, stands-front, stands-back}
 use Rattle.lowering.proofs.Sizes.{block-sized}
 use Rattle.lowering.proofs.Steps.{Leads, leads-through}
-use Rattle.lowering.proofs.States.{state_at, place, cells_of, thrown_to, returned_to}
-use Rattle.lowering.proofs.Rows.{does}
-use Rattle.lowering.proofs.Tables.{nothing_behind}
+use Rattle.lowering.proofs.States.{state_at, position, cells_of, thrown_to, returned_to}
+use Rattle.lowering.proofs.SingleSteps.{does}
+use Rattle.lowering.proofs.Tables.{nothing_after}
 use Rattle.lowering.proofs.Outcomes.{Runs, NotNormal}
 use Rattle.lowering.proofs.Simple.{returns-nothing}
 use Rattle.lowering.proofs.Falls.{block-stays}
@@ -50,32 +50,32 @@ module _ (program : Program) (formed : well_formed program ≡ true) (none : end
   -- the body of a procedure from its begin on
   pub body-run : (d f : ℕ) (entry : ProcedureEntry) (there : slice_get program.procedures f ≡ Some entry) (callers : List Caller) (s : source.SourceState)
       → CallsRun (setting_of program formed world f entry there callers) (calls_with program k d) k → StateFits program entry s
-      → Runs (setting_of program formed world f entry there callers) no_loop nowhere k (place (setting_of program formed world f entry there callers) 0 [] s)
+      → Runs (setting_of program formed world f entry there callers) no_loop nowhere k (position (setting_of program formed world f entry there callers) 0 [] s)
       (0 + block_size program entry.body) (block_meaning (calls_with program k d) k entry.body s)
   body-run d f entry there callers s run fit =
       let g = setting_of program formed world f entry there callers in
       let fits : ProcedureParts program entry = parts.procedure_there program formed f entry there in
       let code = block_code program no_loop 0 entry.body in
-      let whole : Stands g.code (code ++ end_code (block_falls entry.body)) 0 = record { before = []; behind = []; parts = sym (append-nil (body_code program entry.body)); place = refl } in
+      let whole : Stands g.code (code ++ end_code (block_falls entry.body)) 0 = record { before = []; beyond = []; parts = sym (append-nil (body_code program entry.body)); position = refl } in
       block-runs g (calls_with program k d) k (calls_keep program formed k d) run entry.body no_loop nowhere 0 s fits.body_fits
       (stands-front g.code code (end_code (block_falls entry.body)) 0 whole)
-      (record { finds = λ i least most e. found-there program f entry there i e ∙ sym (nothing_behind (machine.handler_for (block_table program 0 entry.body) i e)) })
+      (record { finds = λ i least most e. found-there program f entry there i e ∙ sym (nothing_after (machine.handler_for (block_table program 0 entry.body) i e)) })
       fit
 
   -- a body that ended normally returns
   pub body-returns : (d f : ℕ) (entry : ProcedureEntry) (there : slice_get program.procedures f ≡ Some entry) (callers : List Caller) (s t : source.SourceState) (returned : Option Value)
       → block_meaning (calls_with program k d) k entry.body s ≡ Ended Normal returned t → is_none entry.result ≡ true
-      → Leads (setting_of program formed world f entry there callers).p (place (setting_of program formed world f entry there callers) (0 + block_size program entry.body) [] t)
+      → Leads (setting_of program formed world f entry there callers).p (position (setting_of program formed world f entry there callers) (0 + block_size program entry.body) [] t)
       (returned_to (setting_of program formed world f entry there callers) None t)
   body-returns d f entry there callers s t returned is nothing = go (block_falls entry.body) refl
     where
       go : (falls : Bool) → block_falls entry.body ≡ falls
-          → Leads (setting_of program formed world f entry there callers).p (place (setting_of program formed world f entry there callers) (0 + block_size program entry.body) [] t)
+          → Leads (setting_of program formed world f entry there callers).p (position (setting_of program formed world f entry there callers) (0 + block_size program entry.body) [] t)
           (returned_to (setting_of program formed world f entry there callers) None t)
       go true e =
           let g = setting_of program formed world f entry there callers in
           let code = block_code program no_loop 0 entry.body in
-          let whole : Stands g.code (code ++ end_code (block_falls entry.body)) 0 = record { before = []; behind = []; parts = sym (append-nil (body_code program entry.body)); place = refl } in
+          let whole : Stands g.code (code ++ end_code (block_falls entry.body)) 0 = record { before = []; beyond = []; parts = sym (append-nil (body_code program entry.body)); position = refl } in
           let last : Stands g.code (end_code (block_falls entry.body)) (0 + block_size program entry.body) =
           stands-back g.code code (end_code (block_falls entry.body)) 0 (block_size program entry.body) (block-sized program no_loop 0 entry.body) whole in
           returns-nothing g no_loop nowhere k t (0 + block_size program entry.body) [] nothing
@@ -127,8 +127,8 @@ module _ (program : Program) (formed : well_formed program ≡ true) (none : end
         → OutcomeFits program callee Return callee.result o → EndsAmong (Normal ∷ thrown_ends (declared_by callee.throws)) (leaving back o)
         → ((value : ResultEntry) → result ≡ Some value → GivesValue value.base (leaving back o))
         → Runs (setting_of program formed world q callee found (waiting ∷ callers)) no_loop nowhere k
-        (place (setting_of program formed world q callee found (waiting ∷ callers)) 0 [] inner) (0 + block_size program callee.body) o
-        → Called (setting_of program formed world f entry there callers) k (place (setting_of program formed world q callee found (waiting ∷ callers)) 0 [] inner) at result (leaving back o)
+        (position (setting_of program formed world q callee found (waiting ∷ callers)) 0 [] inner) (0 + block_size program callee.body) o
+        → Called (setting_of program formed world f entry there callers) k (position (setting_of program formed world q callee found (waiting ∷ callers)) 0 [] inner) at result (leaving back o)
     body-called q callee found d inner None (Ended Normal None t) is ended fit among gives run =
         leads-through (setting_of program formed world f entry there callers).p _ _ _ run
         (body-returns d q callee found (waiting ∷ callers) inner t None ended (ap is_none is))
@@ -142,10 +142,10 @@ module _ (program : Program) (formed : well_formed program ≡ true) (none : end
     body-called q callee found d inner result (Ended Break returned t) is ended fit among gives run = absurd (false≢true (sym (thrown-break (declared_by callee.throws)) ∙ among))
     body-called q callee found d inner result (Ended Continue returned t) is ended fit among gives run = absurd (false≢true (sym (thrown-continue (declared_by callee.throws)) ∙ among))
     body-called q callee found d inner result (Ended (Throw e) returned t) is ended fit among gives run =
-        subst (λ (m : Machine). Leads (setting_of program formed world f entry there callers).p (place (setting_of program formed world q callee found (waiting ∷ callers)) 0 [] inner) m)
+        subst (λ (m : Machine). Leads (setting_of program formed world f entry there callers).p (position (setting_of program formed world q callee found (waiting ∷ callers)) 0 [] inner) m)
         (thrown_back q callee found t e) run
     body-called q callee found d inner result (Stopped Deep t) is ended fit among gives run = run
-    body-called q callee found d inner result (Stopped OutOfTurns t) is ended fit among gives run = run
+    body-called q callee found d inner result (Stopped OutOfFuel t) is ended fit among gives run = run
 
     -- what the machine does at the call
     entered : (q : ℕ) (callee : ProcedureEntry) (found : slice_get program.procedures q ≡ Some callee) (vs : List Value) → ArgumentsFit (parameters_of callee) vs
@@ -162,7 +162,7 @@ module _ (program : Program) (formed : well_formed program ≡ true) (none : end
     begins : (q : ℕ) (callee : ProcedureEntry) (found : slice_get program.procedures q ≡ Some callee) (vs : List Value) → ArgumentsFit (parameters_of callee) vs → length callers + 1 < 512
         → enters (setting_of program formed world f entry there callers).p (state_at (setting_of program formed world f entry there callers) at (pushed vs []) s) q
         (map slot_contents callee.slots) (Some (cells_of vs, []))
-        ≡ place (setting_of program formed world q callee found (waiting ∷ callers)) 0 [] (entering callee vs s)
+        ≡ position (setting_of program formed world q callee found (waiting ∷ callers)) 0 [] (entering callee vs s)
     begins q callee found vs matches room =
         let few : nat_lt (length callers + 1) 512 ≡ true = grind (arith, nat_tests) in
         let S = state_at (setting_of program formed world f entry there callers) at (pushed vs []) s in
@@ -183,14 +183,14 @@ module _ (program : Program) (formed : well_formed program ≡ true) (none : end
       → CallsRun (setting_of program formed world f entry there callers) (calls_with program k d) k
   calls-run zero f entry there callers full q at callee more vs s found matches fit stands =
       let g = setting_of program formed world f entry there callers in
-      let run : Leads g.p (place g at (pushed vs []) s) (machine.Ended machine.Deep s.sent) =
+      let run : Leads g.p (position g at (pushed vs []) s) (machine.Ended machine.Deep s.sent) =
       does g more (instruction.Call q) at (pushed vs []) s _ stands
       (entered f entry there callers at s q callee found vs matches ∙ deep f entry there callers at s q callee vs full) in
       too_deep callee.result run
     where
       too_deep : (result : Option ResultEntry)
-          → Leads (setting_of program formed world f entry there callers).p (place (setting_of program formed world f entry there callers) at (pushed vs []) s) (machine.Ended machine.Deep s.sent)
-          → Called (setting_of program formed world f entry there callers) k (place (setting_of program formed world f entry there callers) at (pushed vs []) s) at result (Stopped Deep s)
+          → Leads (setting_of program formed world f entry there callers).p (position (setting_of program formed world f entry there callers) at (pushed vs []) s) (machine.Ended machine.Deep s.sent)
+          → Called (setting_of program formed world f entry there callers) k (position (setting_of program formed world f entry there callers) at (pushed vs []) s) at result (Stopped Deep s)
       too_deep None run = run
       too_deep (Some value) run = run
   calls-run (suc d) f entry there callers full q at callee more vs s found matches fit stands =
@@ -212,13 +212,13 @@ module _ (program : Program) (formed : well_formed program ≡ true) (none : end
       subst (λ (x : Outcome). EndsAmong (Normal ∷ thrown_ends (declared_by callee.throws)) x) whole
       (subst (λ (p : ProcedureEntry). EndsAmong (Normal ∷ thrown_ends (declared_by p.throws)) (calls_with program k (suc d) q vs s)) is
       (calls-among program k (suc d) (ends-as-declared program none) q vs s).among) in
-      let called : Called g k (place g' 0 [] inner) at callee.result (leave o) =
+      let called : Called g k (position g' 0 [] inner) at callee.result (leave o) =
       body-called f entry there callers at s q callee found d inner callee.result o refl refl
       (meaning_keeps_types program formed callee callee.body fits.body_fits d k inner inner_fit) among
       (λ value result. subst (GivesValue value.base) whole (calls-give program formed none q callee value found result entry s fit vs matches (suc d) k))
       (body-run d q callee found (caller ∷ callers) inner deeper inner_fit) in
-      let enter : Leads g.p (place g at (pushed vs []) s) (place g' 0 [] inner) =
+      let enter : Leads g.p (position g at (pushed vs []) s) (position g' 0 [] inner) =
       does g more (instruction.Call q) at (pushed vs []) s _ stands
       (entered f entry there callers at s q callee found vs matches ∙ begins f entry there callers at s q callee found vs matches room) in
-      subst (λ (x : Outcome). Called g k (place g at (pushed vs []) s) at callee.result x) (sym whole)
-      (called-from g no_loop nowhere k (place g at (pushed vs []) s) (place g' 0 [] inner) at callee.result (leave o) enter called)
+      subst (λ (x : Outcome). Called g k (position g at (pushed vs []) s) at callee.result x) (sym whole)
+      (called-from g no_loop nowhere k (position g at (pushed vs []) s) (position g' 0 [] inner) at callee.result (leave o) enter called)

@@ -3,33 +3,33 @@ use Rattle.std.proofs.Common.{◌≡◌, ℕ, ◌+◌, List, ◌∷◌, ◌++◌
 use Rattle.modules.specs.declared.instruction.Instruction.{Instruction}
 use Rattle.verifier.proofs.Indices.{get-seam}
 
--- a piece of code stands at a place
+-- a piece of code stands at a position
 pub record Stands (code piece : List Instruction) (at : ℕ) : Type 0 where
   pub before : List Instruction
-  pub behind : List Instruction
-  pub parts : code ≡ before ++ (piece ++ behind)
-  pub place : length before ≡ at
+  pub beyond : List Instruction
+  pub parts : code ≡ before ++ (piece ++ beyond)
+  pub position : length before ≡ at
 
 pub stands-front : (code xs ys : List Instruction) (at : ℕ) → Stands code (xs ++ ys) at → Stands code xs at
 stands-front code xs ys at h = record {
   before = h.before;
-  behind = ys ++ h.behind;
-  parts = h.parts ∙ ap (λ l. h.before ++ l) (append_assoc xs ys h.behind);
-  place = h.place;
+  beyond = ys ++ h.beyond;
+  parts = h.parts ∙ ap (λ l. h.before ++ l) (append_assoc xs ys h.beyond);
+  position = h.position;
 }
 
--- behind a piece of so many instructions
+-- after a piece of this many instructions
 pub stands-back : (code xs ys : List Instruction) (at n : ℕ) → length xs ≡ n → Stands code (xs ++ ys) at → Stands code ys (at + n)
 stands-back code xs ys at n size h = record {
   before = h.before ++ xs;
-  behind = h.behind;
-  parts = h.parts ∙ ap (λ l. h.before ++ l) (append_assoc xs ys h.behind) ∙ sym (append_assoc h.before xs (ys ++ h.behind));
-  place = length-append h.before xs ∙ omega (arith, size, h.place);
+  beyond = h.beyond;
+  parts = h.parts ∙ ap (λ l. h.before ++ l) (append_assoc xs ys h.beyond) ∙ sym (append_assoc h.before xs (ys ++ h.beyond));
+  position = length-append h.before xs ∙ omega (arith, size, h.position);
 }
 
--- the instruction at the place of a piece is its first
+-- the instruction at the position of a piece is its first
 pub stands-here : (code more : List Instruction) (i : Instruction) (at : ℕ) → Stands code (i ∷ more) at → slice_get code at ≡ Some i
 stands-here code more i at h =
     ap (λ c. slice_get c at) h.parts
-    ∙ ap (λ n. slice_get (h.before ++ i ∷ (more ++ h.behind)) n) (sym h.place)
-    ∙ get-seam h.before i (more ++ h.behind)
+    ∙ ap (λ n. slice_get (h.before ++ i ∷ (more ++ h.beyond)) n) (sym h.position)
+    ∙ get-seam h.before i (more ++ h.beyond)

@@ -1,4 +1,4 @@
--- Code that does not end normally by its form does not go on behind its last instruction; and a form that may end normally has a normal
+-- Code that does not end normally by its form does not go on after its last instruction; and a form that may end normally has a normal
 -- end, so that a procedure with a value, which has none, has no return without one.
 use Rattle.std.proofs.Common.{◌≡◌, refl, sym, ap, ◌∙◌, subst, ℕ, zero, suc, ◌+◌, ◌<◌, ◌⊎◌, inl, inr, Bool, true, false, not, ◌&&◌, ◌||◌, List, [], ◌∷◌, ◌++◌, length, Option, Some, None, slice_get, arith, append-nil}
 use Rattle.std.specs.Prelude.{filter, if◌then◌else◌}
@@ -12,13 +12,13 @@ use Rattle.resolved.specs.Tree.{Expression, Statement, Assign, Clear, Store, Rec
 use Rattle.resolved.specs.Program.{Program, ProcedureEntry}
 use Rattle.resolved.specs.Ends.{same_exit, has_end, raises, thrown_ends, passes, then_ends, statement_ends, block_ends, handlers_ends}
 use Rattle.resolved.specs.EndFaults.{fault_unless, may_stand, inner_faults, block_faults, handlers_faults}
-use Rattle.resolved.specs.declared.fault.EndDefect.TheVariants.{OutsideLoop, Unreachable, NeverRaised}
+use Rattle.resolved.specs.declared.fault.EndRefusalKind.TheVariants.{OutsideLoop, Unreachable, NeverRaised}
 use Rattle.resolved.specs.WellFormed.{has_base, is_exception, statement_fits, block_fits, handlers_fit}
 use Rattle.modules.specs.declared.instruction.Instruction.{Instruction}
 use Rattle.modules.specs.declared.instruction.Instruction.TheVariants as instruction
 use Rattle.modules.specs.Targets.{goes_on}
 use Rattle.lowering.specs.Expressions.{value_code, branch_size, branch_code}
-use Rattle.lowering.specs.Code.{Loop, statement_falls, block_falls, handlers_fall, jump_size, jump_code, jumps_over, jumps_behind, leave_code, return_code, statement_size, block_size, handlers_size, statement_code, block_code, handlers_code}
+use Rattle.lowering.specs.Code.{Loop, statement_falls, block_falls, handlers_fall, jump_size, jump_code, jumps_over, jumps_after, leave_code, return_code, statement_size, block_size, handlers_size, statement_code, block_code, handlers_code}
 use Rattle.lowering.proofs.Unreached.{statement-none}
 use Rattle.common.proofs.Cases.{by_test, append_empty}
 use Rattle.resolved.proofs.Exits.{no_fault-test, end-filter}
@@ -44,9 +44,9 @@ stops-more x code h = record { filled = omega arith; stays = stay }
     stay zero j e goes = omega (arith, h.filled)
     stay (suc k) j e goes = omega (arith, h.stays k j e goes)
 
-pub stops-behind : (xs ys : List Instruction) → Stops ys → Stops (xs ++ ys)
-stops-behind [] ys h = h
-stops-behind (x ∷ xs) ys h = stops-more x (xs ++ ys) (stops-behind xs ys h)
+pub stops-beyond : (xs ys : List Instruction) → Stops ys → Stops (xs ++ ys)
+stops-beyond [] ys h = h
+stops-beyond (x ∷ xs) ys h = stops-more x (xs ++ ys) (stops-beyond xs ys h)
 
 pub stops-alone : (xs : List Instruction) → Stops xs → Stops (xs ++ [])
 stops-alone xs h = subst Stops (sym (append-nil xs)) h
@@ -54,31 +54,31 @@ stops-alone xs h = subst Stops (sym (append-nil xs)) h
 leave-stops : (loop : Loop) (exit : Exit) → Stops (leave_code loop exit ∷ [])
 leave-stops loop Normal = stops-one instruction.Return refl
 leave-stops loop Return = stops-one instruction.Return refl
-leave-stops loop Break = stops-one (instruction.Jump loop.behind) refl
+leave-stops loop Break = stops-one (instruction.Jump loop.beyond) refl
 leave-stops loop Continue = stops-one (instruction.Jump loop.test) refl
 leave-stops loop (Throw exception) = stops-one (instruction.Throw exception) refl
 
-return-stops : (place : ℕ) (e : Option Expression) → Stops (return_code place e)
-return-stops place None = stops-one instruction.Return refl
-return-stops place (Some e) = stops-behind (value_code place e) (instruction.ReturnValue ∷ []) (stops-one instruction.ReturnValue refl)
+return-stops : (position : ℕ) (e : Option Expression) → Stops (return_code position e)
+return-stops position None = stops-one instruction.Return refl
+return-stops position (Some e) = stops-beyond (value_code position e) (instruction.ReturnValue ∷ []) (stops-one instruction.ReturnValue refl)
 
 module _ (program : Program) (procedure : ProcedureEntry) where
-  -- a block that does not end normally, and the handlers behind it, if there are any
-  behind-stops : (loop : Loop) (end place : ℕ) (block : Block) (code : List Instruction) (handlers : Handlers) → block_falls block ≡ false → Stops code
-      → Stops (handlers_code program loop end place handlers) ⊎ (handlers ≡ NoMore)
-      → Stops (code ++ (jump_code (jumps_behind block handlers) end ++ handlers_code program loop end place handlers))
-  behind-stops loop end place block code handlers falls stops (inl more) =
-      stops-behind code (jump_code (jumps_behind block handlers) end ++ handlers_code program loop end place handlers)
-      (stops-behind (jump_code (jumps_behind block handlers) end) (handlers_code program loop end place handlers) more)
-  behind-stops loop end place block code handlers falls stops (inr none) =
-      subst (λ (h : Handlers). Stops (code ++ (jump_code (jumps_behind block h) end ++ handlers_code program loop end place h))) (sym none)
+  -- a block that does not end normally, and the handlers after it, if there are any
+  beyond-stops : (loop : Loop) (end position : ℕ) (block : Block) (code : List Instruction) (handlers : Handlers) → block_falls block ≡ false → Stops code
+      → Stops (handlers_code program loop end position handlers) ⊎ (handlers ≡ NoMore)
+      → Stops (code ++ (jump_code (jumps_after block handlers) end ++ handlers_code program loop end position handlers))
+  beyond-stops loop end position block code handlers falls stops (inl more) =
+      stops-beyond code (jump_code (jumps_after block handlers) end ++ handlers_code program loop end position handlers)
+      (stops-beyond (jump_code (jumps_after block handlers) end) (handlers_code program loop end position handlers) more)
+  beyond-stops loop end position block code handlers falls stops (inr none) =
+      subst (λ (h : Handlers). Stops (code ++ (jump_code (jumps_after block h) end ++ handlers_code program loop end position h))) (sym none)
       (subst (λ (b : Bool). Stops (code ++ (jump_code (b && false) end ++ []))) (sym falls) (stops-alone code stops))
 
-  -- nothing stands behind a statement that does not end normally
-  rest-stops : (in_loop : Bool) (loop : Loop) (place : ℕ) (goes : Bool) (code : List Instruction) (rest : Block) → goes ≡ false → block_faults program in_loop goes rest ≡ []
-      → Stops code → Stops (code ++ block_code program loop place rest)
-  rest-stops in_loop loop place goes code Empty none faults stops = stops-alone code stops
-  rest-stops in_loop loop place goes code (Then statement rest) none faults stops =
+  -- nothing stands after a statement that does not end normally
+  rest-stops : (in_loop : Bool) (loop : Loop) (position : ℕ) (goes : Bool) (code : List Instruction) (rest : Block) → goes ≡ false → block_faults program in_loop goes rest ≡ []
+      → Stops code → Stops (code ++ block_code program loop position rest)
+  rest-stops in_loop loop position goes code Empty none faults stops = stops-alone code stops
+  rest-stops in_loop loop position goes code (Then statement rest) none faults stops =
       let first = fault_unless (may_stand in_loop statement) OutsideLoop (place_of statement) in
       let second = fault_unless goes Unreachable (place_of statement) in
       let later = append_empty (first ++ second ++ inner_faults program in_loop statement) _ faults in
@@ -87,38 +87,38 @@ module _ (program : Program) (procedure : ProcedureEntry) where
       absurd (let no : true ≡ false = sym reached ∙ none in cc)
 
   mutual
-    statement-stops : (loop : Loop) (in_loop : Bool) (place : ℕ) (statement : Statement) → statement_fits program procedure statement ≡ true
-        → inner_faults program in_loop statement ≡ [] → statement_falls statement ≡ false → Stops (statement_code program loop place statement)
-    statement-stops loop in_loop place (If mark e yes_block no_block) fits faults falls =
+    statement-stops : (loop : Loop) (in_loop : Bool) (position : ℕ) (statement : Statement) → statement_fits program procedure statement ≡ true
+        → inner_faults program in_loop statement ≡ [] → statement_falls statement ≡ false → Stops (statement_code program loop position statement)
+    statement-stops loop in_loop position (If mark e then_block else_block) fits faults falls =
         let b = branch_size false e in
-        let j = jumps_over yes_block no_block in
-        let other = place + b + block_size program yes_block + jump_size j in
-        let jump = jump_code j (other + block_size program no_block) in
-        let last = block_code program loop other no_block in
-        let parts = and_parts (has_base program procedure Boolean e && block_fits program procedure yes_block) (block_fits program procedure no_block) fits in
-        let none = append_empty (block_faults program in_loop true yes_block) (block_faults program in_loop true no_block) faults in
-        stops-behind (branch_code false place other e) (block_code program loop (place + b) yes_block ++ (jump ++ last))
-        (stops-behind (block_code program loop (place + b) yes_block) (jump ++ last)
-        (stops-behind jump last (block-stops loop in_loop true other no_block parts.1 none.1 (or_parts (block_falls yes_block) (block_falls no_block) falls).1)))
-    statement-stops loop in_loop place (Leave mark exit) fits faults falls = leave-stops loop exit
-    statement-stops loop in_loop place (ReturnWith mark e) fits faults falls = return-stops place e
-    statement-stops loop in_loop place (Try mark block handlers) fits faults falls =
-        let behind = place + block_size program block + jump_size (jumps_behind block handlers) in
-        let end = behind + handlers_size program handlers in
+        let j = jumps_over then_block else_block in
+        let other = position + b + block_size program then_block + jump_size j in
+        let jump = jump_code j (other + block_size program else_block) in
+        let last = block_code program loop other else_block in
+        let parts = and_parts (has_base program procedure Boolean e && block_fits program procedure then_block) (block_fits program procedure else_block) fits in
+        let none = append_empty (block_faults program in_loop true then_block) (block_faults program in_loop true else_block) faults in
+        stops-beyond (branch_code false position other e) (block_code program loop (position + b) then_block ++ (jump ++ last))
+        (stops-beyond (block_code program loop (position + b) then_block) (jump ++ last)
+        (stops-beyond jump last (block-stops loop in_loop true other else_block parts.1 none.1 (or_parts (block_falls then_block) (block_falls else_block) falls).1)))
+    statement-stops loop in_loop position (Leave mark exit) fits faults falls = leave-stops loop exit
+    statement-stops loop in_loop position (ReturnWith mark e) fits faults falls = return-stops position e
+    statement-stops loop in_loop position (Try mark block handlers) fits faults falls =
+        let beyond = position + block_size program block + jump_size (jumps_after block handlers) in
+        let end = beyond + handlers_size program handlers in
         let parts = and_parts (block_fits program procedure block) (handlers_fit program procedure handlers) fits in
         let none = append_empty (block_faults program in_loop true block) (handlers_faults program in_loop (block_ends program block) handlers) faults in
         let ends = or_parts (block_falls block) (handlers_fall handlers) falls in
-        behind-stops loop end behind block (block_code program loop place block) handlers ends.0 (block-stops loop in_loop true place block parts.0 none.0 ends.0)
-        (handlers-stop loop in_loop end behind (block_ends program block) handlers parts.1 none.1 ends.1)
-    statement-stops loop in_loop place (Nested mark block) fits faults falls = block-stops loop in_loop true place block fits faults falls
-    statement-stops loop in_loop place _ fits faults falls = absurd (let no : true ≡ false = falls in cc)
+        beyond-stops loop end beyond block (block_code program loop position block) handlers ends.0 (block-stops loop in_loop true position block parts.0 none.0 ends.0)
+        (handlers-stop loop in_loop end beyond (block_ends program block) handlers parts.1 none.1 ends.1)
+    statement-stops loop in_loop position (Nested mark block) fits faults falls = block-stops loop in_loop true position block fits faults falls
+    statement-stops loop in_loop position _ fits faults falls = absurd (let no : true ≡ false = falls in cc)
 
-    pub block-stops : (loop : Loop) (in_loop reached : Bool) (place : ℕ) (block : Block) → block_fits program procedure block ≡ true
-        → block_faults program in_loop reached block ≡ [] → block_falls block ≡ false → Stops (block_code program loop place block)
-    block-stops loop in_loop reached place Empty fits faults falls = absurd (let no : true ≡ false = falls in cc)
-    block-stops loop in_loop reached place (Then statement rest) fits faults falls =
-        let behind = place + statement_size program statement in
-        let code = statement_code program loop place statement in
+    pub block-stops : (loop : Loop) (in_loop reached : Bool) (position : ℕ) (block : Block) → block_fits program procedure block ≡ true
+        → block_faults program in_loop reached block ≡ [] → block_falls block ≡ false → Stops (block_code program loop position block)
+    block-stops loop in_loop reached position Empty fits faults falls = absurd (let no : true ≡ false = falls in cc)
+    block-stops loop in_loop reached position (Then statement rest) fits faults falls =
+        let beyond = position + statement_size program statement in
+        let code = statement_code program loop position statement in
         let first = fault_unless (may_stand in_loop statement) OutsideLoop (place_of statement) in
         let second = fault_unless reached Unreachable (place_of statement) in
         let goes = has_end (statement_ends program statement) Normal in
@@ -128,15 +128,15 @@ module _ (program : Program) (procedure : ProcedureEntry) where
         by_test (statement_falls statement)
         (λ h.
         let last : block_falls rest ≡ false = sym (ap (λ (b : Bool). b && block_falls rest) h) ∙ falls in
-        stops-behind code (block_code program loop behind rest) (block-stops loop in_loop goes behind rest parts.1 later.1 last))
-        (λ h. rest-stops in_loop loop behind goes code rest (statement-none program procedure statement parts.0 h) later.1 (statement-stops loop in_loop place statement parts.0 here.1 h))
+        stops-beyond code (block_code program loop beyond rest) (block-stops loop in_loop goes beyond rest parts.1 later.1 last))
+        (λ h. rest-stops in_loop loop beyond goes code rest (statement-none program procedure statement parts.0 h) later.1 (statement-stops loop in_loop position statement parts.0 here.1 h))
 
-    handlers-stop : (loop : Loop) (in_loop : Bool) (end place : ℕ) (ends : List Exit) (handlers : Handlers) → handlers_fit program procedure handlers ≡ true
+    handlers-stop : (loop : Loop) (in_loop : Bool) (end position : ℕ) (ends : List Exit) (handlers : Handlers) → handlers_fit program procedure handlers ≡ true
         → handlers_faults program in_loop ends handlers ≡ [] → handlers_fall handlers ≡ false
-        → Stops (handlers_code program loop end place handlers) ⊎ (handlers ≡ NoMore)
-    handlers-stop loop in_loop end place ends NoMore fits faults falls = inr refl
-    handlers-stop loop in_loop end place ends (Catch mark exception body rest) fits faults falls =
-        let behind = place + block_size program body + jump_size (jumps_behind body rest) in
+        → Stops (handlers_code program loop end position handlers) ⊎ (handlers ≡ NoMore)
+    handlers-stop loop in_loop end position ends NoMore fits faults falls = inr refl
+    handlers-stop loop in_loop end position ends (Catch mark exception body rest) fits faults falls =
+        let beyond = position + block_size program body + jump_size (jumps_after body rest) in
         let parts = and_parts (is_exception program exception && block_fits program procedure body) (handlers_fit program procedure rest) fits in
         let body_fits : block_fits program procedure body ≡ true = (and_parts (is_exception program exception) (block_fits program procedure body) parts.0).1 in
         let raised = fault_unless (has_end ends (Throw exception)) NeverRaised mark in
@@ -144,9 +144,9 @@ module _ (program : Program) (procedure : ProcedureEntry) where
         let later = append_empty (raised ++ block_faults program in_loop true body) (handlers_faults program in_loop others rest) faults in
         let here = append_empty raised (block_faults program in_loop true body) later.0 in
         let both_end = or_parts (block_falls body) (handlers_fall rest) falls in
-        inl (behind-stops loop end behind body (block_code program loop place body) rest both_end.0
-        (block-stops loop in_loop true place body body_fits here.1 both_end.0)
-        (handlers-stop loop in_loop end behind others rest parts.1 later.1 both_end.1))
+        inl (beyond-stops loop end beyond body (block_code program loop position body) rest both_end.0
+        (block-stops loop in_loop true position body body_fits here.1 both_end.0)
+        (handlers-stop loop in_loop end beyond others rest parts.1 later.1 both_end.1))
 
 -- ---- normal ends
 some-left : (xs ys : List Exit) → has_end xs Normal ≡ true → has_end (xs ++ ys) Normal ≡ true
@@ -169,11 +169,11 @@ module _ (program : Program) where
     statement-normal (Receive mark channel target) falls = refl
     statement-normal (Send mark channel e) falls = refl
     statement-normal (Call mark f arguments target) falls = refl
-    statement-normal (If mark e yes_block no_block) falls =
+    statement-normal (If mark e then_block else_block) falls =
         let raised = thrown_ends (raises e) in
-        elim (or_cases (block_falls yes_block) (block_falls no_block) falls) [
-          | inl h ↦ some-left (raised ++ block_ends program yes_block) (block_ends program no_block) (some-right raised (block_ends program yes_block) (block-normal yes_block h))
-          | inr h ↦ some-right (raised ++ block_ends program yes_block) (block_ends program no_block) (block-normal no_block h)
+        elim (or_cases (block_falls then_block) (block_falls else_block) falls) [
+          | inl h ↦ some-left (raised ++ block_ends program then_block) (block_ends program else_block) (some-right raised (block_ends program then_block) (block-normal then_block h))
+          | inr h ↦ some-right (raised ++ block_ends program then_block) (block_ends program else_block) (block-normal else_block h)
         ]
     statement-normal (While mark loop e body) falls = refl
     statement-normal (Leave mark exit) falls = absurd (let no : false ≡ true = falls in cc)

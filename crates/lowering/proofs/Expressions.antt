@@ -36,8 +36,8 @@ use Rattle.lowering.specs.Expressions.{load_element_of, prefix_instruction, oper
 use Rattle.lowering.proofs.CodePieces.{Stands, stands-front, stands-back}
 use Rattle.lowering.proofs.Sizes.{value-sized}
 use Rattle.lowering.proofs.Steps.{Leads, leads-through}
-use Rattle.lowering.proofs.States.{Setting, state_at, place, cell_of, thrown_to, raised-is}
-use Rattle.lowering.proofs.Rows.{does, onward}
+use Rattle.lowering.proofs.States.{Setting, state_at, position, cell_of, thrown_to, raised-is}
+use Rattle.lowering.proofs.SingleSteps.{does, onward}
 use Rattle.lowering.proofs.Values.{Finds, finds-part, ValueRuns, value-from, value-to, value-at, then-runs, read-runs, element-runs}
 use Rattle.common.specs.Bits.{bits_and, bits_or, bits_xor, shifted_left, shifted_right, shifted_right_unsigned}
 use Rattle.common.specs.Integers.{is_zero}
@@ -68,7 +68,7 @@ module _ (g : Setting) (h : ℕ → Option ℕ) (s : source.SourceState) where
       → is_zero z ≡ test → Stands g.code (i ∷ more) at → ((exception : ℕ) → g.p.find g.number at exception ≡ h exception)
       → act g.p i (state_at g at (cell.Int z ∷ cell.Int a ∷ operands) s)
       ≡ pushes_number g.p (state_at g at (cell.Int z ∷ cell.Int a ∷ operands) s) operands (if is_zero z then None else Some result)
-      → ValueRuns g h operands (place g at (cell.Int z ∷ cell.Int a ∷ operands) s) (at + 1) s (if test then Raises 0 else Yields (Number result))
+      → ValueRuns g h operands (position g at (cell.Int z ∷ cell.Int a ∷ operands) s) (at + 1) s (if test then Raises 0 else Yields (Number result))
   division-runs i a z result true at operands more e stands finds acts =
       let before = cell.Int z ∷ cell.Int a ∷ operands in
       does g more i at before s _ stands
@@ -83,12 +83,12 @@ module _ (g : Setting) (h : ℕ → Option ℕ) (s : source.SourceState) where
   -- an instruction that pushes one value in place of some
   pub gives-runs : (i : Instruction) (at : ℕ) (before operands : List Cell) (v : Value) (more : List Instruction) → Stands g.code (i ∷ more) at
       → act g.p i (state_at g at before s) ≡ goes_on g.p (state_at g at before s) (cell_of v ∷ operands)
-      → Leads g.p (place g at before s) (place g (at + 1) (cell_of v ∷ operands) s)
+      → Leads g.p (position g at before s) (position g (at + 1) (cell_of v ∷ operands) s)
   gives-runs i at before operands v more stands acts = does g more i at before s _ stands (acts ∙ onward g at before (cell_of v ∷ operands) s)
 
   numbers-run : (op : Operator) (a b : ℤ) (at : ℕ) (operands : List Cell) (more : List Instruction) → operand_base op ≡ base.Int
       → Stands g.code (operator_instruction op ∷ more) at → ((exception : ℕ) → g.p.find g.number at exception ≡ h exception)
-      → ValueRuns g h operands (place g at (cell.Int b ∷ cell.Int a ∷ operands) s) (at + 1) s (operator_value op (Number a) (Number b))
+      → ValueRuns g h operands (position g at (cell.Int b ∷ cell.Int a ∷ operands) s) (at + 1) s (operator_value op (Number a) (Number b))
   numbers-run (operator.Compute computation.Add) a b at operands more ints stands finds = gives-runs _ at _ operands (Number (wrapped (a +ℤ b))) more stands refl
   numbers-run (operator.Compute computation.Subtract) a b at operands more ints stands finds = gives-runs _ at _ operands (Number (wrapped (a -ℤ b))) more stands refl
   numbers-run (operator.Compute computation.Multiply) a b at operands more ints stands finds = gives-runs _ at _ operands (Number (wrapped (a *ℤ b))) more stands refl
@@ -122,7 +122,7 @@ module _ (g : Setting) (h : ℕ → Option ℕ) (s : source.SourceState) where
 
   truths-run : (op : Operator) (a b : Bool) (at : ℕ) (operands : List Cell) (more : List Instruction) → operand_base op ≡ base.Boolean
       → Stands g.code (operator_instruction op ∷ more) at
-      → ValueRuns g h operands (place g at (cell.Bool b ∷ cell.Bool a ∷ operands) s) (at + 1) s (operator_value op (Truth a) (Truth b))
+      → ValueRuns g h operands (position g at (cell.Bool b ∷ cell.Bool a ∷ operands) s) (at + 1) s (operator_value op (Truth a) (Truth b))
   truths-run (operator.Match sameness.Same) a b at operands more truths stands =
       gives-runs _ at _ operands (Truth (same_truth a b)) more stands refl
   truths-run (operator.Match sameness.Different) a b at operands more truths stands =
@@ -132,7 +132,7 @@ module _ (g : Setting) (h : ℕ → Option ℕ) (s : source.SourceState) where
   operator-runs : (op : Operator) (v w : Value) (at : ℕ) (operands : List Cell) (more : List Instruction)
       → base_of v ≡ operand_base op → base_of w ≡ operand_base op
       → Stands g.code (operator_instruction op ∷ more) at → ((exception : ℕ) → g.p.find g.number at exception ≡ h exception)
-      → ValueRuns g h operands (place g at (cell_of w ∷ cell_of v ∷ operands) s) (at + 1) s (operator_value op v w)
+      → ValueRuns g h operands (position g at (cell_of w ∷ cell_of v ∷ operands) s) (at + 1) s (operator_value op v w)
   operator-runs op (Number a) (Number b) at operands more left right stands finds = numbers-run op a b at operands more (sym left) stands finds
   operator-runs op (Truth a) (Truth b) at operands more left right stands finds = truths-run op a b at operands more (sym left) stands
   operator-runs op (Number a) (Truth b) at operands more left right stands finds = absurd (let no : base.Int ≡ base.Boolean = left ∙ sym right in cc)
@@ -140,7 +140,7 @@ module _ (g : Setting) (h : ℕ → Option ℕ) (s : source.SourceState) where
 
   prefix-runs : (sign : Prefix) (v : Value) (at : ℕ) (operands : List Cell) (more : List Instruction)
       → base_of v ≡ prefix_base sign → Stands g.code (prefix_instruction sign ∷ more) at
-      → Leads g.p (place g at (cell_of v ∷ operands) s) (place g (at + 1) (cell_of (prefix_value sign v) ∷ operands) s)
+      → Leads g.p (position g at (cell_of v ∷ operands) s) (position g (at + 1) (cell_of (prefix_value sign v) ∷ operands) s)
   prefix-runs prefix.Negate (Number a) at operands more fits stands = gives-runs _ at _ operands (Number (wrapped (neg_ℤ a))) more stands refl
   prefix-runs prefix.Not (Truth b) at operands more fits stands = gives-runs _ at _ operands (Truth (not b)) more stands refl
   prefix-runs prefix.Negate (Truth b) at operands more fits stands = cc
@@ -148,28 +148,28 @@ module _ (g : Setting) (h : ℕ → Option ℕ) (s : source.SourceState) where
 
   -- ---- connectives
   pub jump-runs : (target at : ℕ) (operands : List Cell) (more : List Instruction) → Stands g.code (instruction.Jump target ∷ more) at
-      → Leads g.p (place g at operands s) (place g target operands s)
+      → Leads g.p (position g at operands s) (position g target operands s)
   jump-runs target at operands more stands = does g more (instruction.Jump target) at operands s _ stands refl
 
   pub branch-on : (target at : ℕ) (operands : List Cell) (more : List Instruction) → Stands g.code (instruction.JumpIfFalse target ∷ more) at
-      → Leads g.p (place g at (cell.Bool true ∷ operands) s) (place g (at + 1) operands s)
+      → Leads g.p (position g at (cell.Bool true ∷ operands) s) (position g (at + 1) operands s)
   branch-on target at operands more stands =
       does g more (instruction.JumpIfFalse target) at (cell.Bool true ∷ operands) s _ stands (onward g at (cell.Bool true ∷ operands) operands s)
 
   pub branch-off : (target at : ℕ) (operands : List Cell) (more : List Instruction) → Stands g.code (instruction.JumpIfFalse target ∷ more) at
-      → Leads g.p (place g at (cell.Bool false ∷ operands) s) (place g target operands s)
+      → Leads g.p (position g at (cell.Bool false ∷ operands) s) (position g target operands s)
   branch-off target at operands more stands = does g more (instruction.JumpIfFalse target) at (cell.Bool false ∷ operands) s _ stands refl
 
-  -- behind the left operand, whose value is a truth
+  -- after the left operand, whose value is a truth
   short-runs : (connective : Connective) (t : Bool) (at n : ℕ) (right : ℕ → List Instruction) (operands : List Cell) (o : Evaluated Value)
       → ((q : ℕ) → length (right q) ≡ n) → Stands g.code (rest_of_short connective at n right) at
-      → ((q : ℕ) → at ≤ q → q + n ≤ at + (1 + (n + 2)) → Stands g.code (right q) q → ValueRuns g h operands (place g q operands s) (q + n) s o)
-      → ValueRuns g h operands (place g at (cell.Bool t ∷ operands) s) (at + (1 + (n + 2))) s (if decides connective (Truth t) then Yields (Truth t) else o)
+      → ((q : ℕ) → at ≤ q → q + n ≤ at + (1 + (n + 2)) → Stands g.code (right q) q → ValueRuns g h operands (position g q operands s) (q + n) s o)
+      → ValueRuns g h operands (position g at (cell.Bool t ∷ operands) s) (at + (1 + (n + 2))) s (if decides connective (Truth t) then Yields (Truth t) else o)
   short-runs And true at n right operands o sized stands each =
       let second = stands-back g.code (instruction.JumpIfFalse (at + 1 + n + 1) ∷ []) (right (at + 1) ++ instruction.Jump (at + 1 + n + 1 + 1) ∷ instruction.PushBoolean false ∷ []) at 1 refl stands in
       let jump = stands-back g.code (right (at + 1)) (instruction.Jump (at + 1 + n + 1 + 1) ∷ instruction.PushBoolean false ∷ []) (at + 1) n (sized (at + 1)) second in
       value-at g h operands _ (at + 1 + n + 1 + 1) (at + (1 + (n + 2))) s o (omega arith)
-      (value-from g h operands _ (place g (at + 1) operands s) (at + 1 + n + 1 + 1) s o
+      (value-from g h operands _ (position g (at + 1) operands s) (at + 1 + n + 1 + 1) s o
       (branch-on (at + 1 + n + 1) at operands (right (at + 1) ++ instruction.Jump (at + 1 + n + 1 + 1) ∷ instruction.PushBoolean false ∷ []) stands)
       (value-to g h operands _ (at + 1 + n) (at + 1 + n + 1 + 1) s o
       (each (at + 1) (omega arith) (omega arith) (stands-front g.code (right (at + 1)) (instruction.Jump (at + 1 + n + 1 + 1) ∷ instruction.PushBoolean false ∷ []) (at + 1) second))
@@ -198,14 +198,14 @@ module _ (g : Setting) (h : ℕ → Option ℕ) (s : source.SourceState) where
       let jump = stands-back g.code (instruction.PushBoolean true ∷ []) (instruction.Jump (at + 1 + 1 + 1 + n) ∷ rest) (at + 1) 1 refl second in
       let last = stands-back g.code (instruction.Jump (at + 1 + 1 + 1 + n) ∷ []) rest (at + 1 + 1) 1 refl jump in
       value-at g h operands _ (at + 1 + 1 + 1 + n) (at + (1 + (n + 2))) s o (omega arith)
-      (value-from g h operands _ (place g (at + 1 + 1 + 1) operands s) (at + 1 + 1 + 1 + n) s o
+      (value-from g h operands _ (position g (at + 1 + 1 + 1) operands s) (at + 1 + 1 + 1 + n) s o
       (branch-off (at + 1 + 1 + 1) at operands (instruction.PushBoolean true ∷ instruction.Jump (at + 1 + 1 + 1 + n) ∷ rest) stands)
       (each (at + 1 + 1 + 1) (omega arith) (omega arith) last))
 
 module _ (g : Setting) (h : ℕ → Option ℕ) (s : source.SourceState) (fit : StateFits g.program g.procedure s) where
   pub value-runs : (e : Expression) (b : Base) (at : ℕ) (operands : List Cell) → has_base g.program g.procedure b e ≡ true
       → Stands g.code (value_code at e) at → Finds g at (value_size e) h
-      → ValueRuns g h operands (place g at operands s) (at + value_size e) s (value_of s e)
+      → ValueRuns g h operands (position g at operands s) (at + value_size e) s (value_of s e)
   value-runs (Integer n) b at operands typed stands finds = gives-runs g h s (instruction.Push (literal_number n)) at operands operands (Number (literal_number n)) [] stands refl
   value-runs (Logical t) b at operands typed stands finds = gives-runs g h s (instruction.PushBoolean t) at operands operands (Truth t) [] stands refl
   value-runs (Read x) b at operands typed stands finds = read-runs g h s fit x b at operands [] typed stands
@@ -274,7 +274,7 @@ module _ (g : Setting) (h : ℕ → Option ℕ) (s : source.SourceState) (fit : 
     where
       decided : (connective : Connective) (v : Value) (mid m : ℕ) (right : ℕ → List Instruction) (operands : List Cell) (o : Evaluated Value) → base_of v ≡ base.Boolean
           → ((q : ℕ) → length (right q) ≡ m) → Stands g.code (rest_of_short connective mid m right) mid
-          → ((q : ℕ) → mid ≤ q → q + m ≤ mid + (1 + (m + 2)) → Stands g.code (right q) q → ValueRuns g h operands (place g q operands s) (q + m) s o)
-          → ValueRuns g h operands (place g mid (cell_of v ∷ operands) s) (mid + (1 + (m + 2))) s (if decides connective v then Yields v else o)
+          → ((q : ℕ) → mid ≤ q → q + m ≤ mid + (1 + (m + 2)) → Stands g.code (right q) q → ValueRuns g h operands (position g q operands s) (q + m) s o)
+          → ValueRuns g h operands (position g mid (cell_of v ∷ operands) s) (mid + (1 + (m + 2))) s (if decides connective v then Yields v else o)
       decided connective (Truth t) mid m right operands o typed sized stands each = short-runs g h s connective t mid m right operands o sized stands each
       decided connective (Number z) mid m right operands o typed sized stands each = absurd (let no : base.Int ≡ base.Boolean = typed in cc)

@@ -4,7 +4,7 @@ use Rattle.std.proofs.Math.Bool.{and-true, and-false}
 use Rattle.resolved.specs.declared.statement.Statement as S
 use Rattle.resolved.specs.declared.statement.Handler.{Handler}
 use Rattle.resolved.specs.TreeOf.{block_of, handlers_of}
-use Rattle.lowering.specs.Code.{block_falls, jumps_over, jumps_behind}
+use Rattle.lowering.specs.Code.{block_falls, jumps_over, jumps_after}
 
 pub first-decides : (a b r : Bool) → r ≡ a → r ≡ true → r ≡ (a || b)
 first-decides a b r is holds = holds ∙ sym (ap (λ (x : Bool). x || b) (sym is ∙ holds))
@@ -16,6 +16,6 @@ pub over-filled : (first second : List S.Statement) (r : Bool) → 0 < length se
 over-filled first [] r h is = absurd (omega (arith, h))
 over-filled first (s ∷ rest) r h is = is ∙ sym (and-true (block_falls (block_of first)))
 
-pub behind-filled : (block : List S.Statement) (behind : List Handler) (r : Bool) → 0 < length behind → r ≡ block_falls (block_of block) → r ≡ jumps_behind (block_of block) (handlers_of behind)
-behind-filled block [] r h is = absurd (omega (arith, h))
-behind-filled block (handler ∷ rest) r h is = is ∙ sym (and-true (block_falls (block_of block)))
+pub beyond-filled : (block : List S.Statement) (beyond : List Handler) (r : Bool) → 0 < length beyond → r ≡ block_falls (block_of block) → r ≡ jumps_after (block_of block) (handlers_of beyond)
+beyond-filled block [] r h is = absurd (omega (arith, h))
+beyond-filled block (handler ∷ rest) r h is = is ∙ sym (and-true (block_falls (block_of block)))

@@ -56,11 +56,11 @@ not-left program (Throw exception) s h = tt
 module _ (program : Program) (procedure : ProcedureEntry) (calls : Calls) (k : ℕ) where
   mutual
     pub statement-stays : (statement : Statement) → statement_fits program procedure statement ≡ true → statement_falls statement ≡ false → (s : SourceState) → NotNormal (statement_meaning calls k statement s)
-    statement-stays (If at e yes_block no_block) fits falls s =
-        let parts = and_parts (has_base program procedure Boolean e && block_fits program procedure yes_block) (block_fits program procedure no_block) fits in
-        let yes_fits : block_fits program procedure yes_block ≡ true = (and_parts (has_base program procedure Boolean e) (block_fits program procedure yes_block) parts.0).1 in
-        let ends = or_parts (block_falls yes_block) (block_falls no_block) falls in
-        not-evaluated (value_of s e) s _ (λ v. not-either (truth_in v) _ _ (block-stays yes_block yes_fits ends.0 s) (block-stays no_block parts.1 ends.1 s))
+    statement-stays (If at e then_block else_block) fits falls s =
+        let parts = and_parts (has_base program procedure Boolean e && block_fits program procedure then_block) (block_fits program procedure else_block) fits in
+        let yes_fits : block_fits program procedure then_block ≡ true = (and_parts (has_base program procedure Boolean e) (block_fits program procedure then_block) parts.0).1 in
+        let ends = or_parts (block_falls then_block) (block_falls else_block) falls in
+        not-evaluated (value_of s e) s _ (λ v. not-either (truth_in v) _ _ (block-stays then_block yes_fits ends.0 s) (block-stays else_block parts.1 ends.1 s))
     statement-stays (Leave at exit) fits falls s = not-left program exit s fits
     statement-stays (ReturnWith at None) fits falls s = tt
     statement-stays (ReturnWith at (Some e)) fits falls s = not-evaluated (value_of s e) s _ (λ v. tt)

@@ -10,7 +10,7 @@ use Rattle.resolved.specs.declared.statement.Exit.TheVariants.{Normal}
 use Rattle.resolved.specs.Program.{Program, ProcedureEntry, ResultEntry}
 use Rattle.resolved.specs.Ends.{has_end, block_ends}
 use Rattle.resolved.specs.EndFaults.{fault_unless, block_faults, may_end, procedure_faults, end_faults}
-use Rattle.resolved.specs.declared.fault.EndDefect.TheVariants.{NoValueReturned, Undeclared}
+use Rattle.resolved.specs.declared.fault.EndRefusalKind.TheVariants.{NoValueReturned, Undeclared}
 use Rattle.resolved.specs.WellFormed.{variable_type, well_formed, block_fits}
 use Rattle.resolved.proofs.WellFormedParts as parts
 use Rattle.modules.specs.Contents.{ChannelContents, ProcedureContents, ModuleContents}
@@ -26,8 +26,8 @@ use Rattle.verifier.proofs.NeverStuck.{never_stuck}
 use Rattle.lowering.specs.Interface.{slot_contents, channel_contents, global_contents, returned_kind}
 use Rattle.lowering.specs.Code.{block_falls, block_size, block_code, block_table}
 use Rattle.lowering.specs.Graphs.{end_code, no_loop, body_code, procedure_contents, graph_of}
-use Rattle.lowering.specs.Laws.{ModulesHaveNoDefect, ModulesAreNeverStuck}
-use Rattle.lowering.proofs.Ending.{Stops, stops-one, stops-behind, stops-alone, block-stops, block-normal}
+use Rattle.lowering.specs.Laws.{ModulesAreNotRefused, ModulesAreNeverStuck}
+use Rattle.lowering.proofs.Ending.{Stops, stops-one, stops-beyond, stops-alone, block-stops, block-normal}
 use Rattle.lowering.proofs.Unthreaded.{unthreaded_procedure}
 use Rattle.lowering.proofs.Finals.{all-at}
 use Rattle.lowering.proofs.Threads.{threaded-sound}
@@ -71,7 +71,7 @@ stated program formed entry = record {
         slice_get-map slot_of (map global_contents program.globals) k ∙ ap (option_map slot_of) (slice_get-map global_contents program.globals k)
         ∙ option_twice global_contents slot_of (slice_get program.globals k) ∙ global_there program formed k (slice_get program.globals k) refl
 
--- ---- a body, and the return behind it
+-- ---- a body, and the return after it
 module _ (program : Program) (formed : well_formed program ≡ true) (entry : ProcedureEntry)
     (fits : block_fits program entry entry.body ≡ true) (faults : procedure_faults program entry ≡ []) where
   abbrev module_is : ModuleContents
@@ -121,15 +121,15 @@ module _ (program : Program) (formed : well_formed program ≡ true) (entry : Pr
 
   here : Here module_is own (body_code program entry.body) (body_code program entry.body) 0 []
   here = record {
-    stands = record { before = []; behind = []; parts = sym (append-nil (body_code program entry.body)); place = refl };
+    stands = record { before = []; beyond = []; parts = sym (append-nil (body_code program entry.body)); position = refl };
     kinds_are = refl;
   }
 
   no-loops : LoopFlows module_is own (body_code program entry.body) false no_loop
-  no-loops = record { behind = λ h. absurd (let no : false ≡ true = h in cc); test = λ h. absurd (let no : false ≡ true = h in cc) }
+  no-loops = record { beyond = λ h. absurd (let no : false ≡ true = h in cc); test = λ h. absurd (let no : false ≡ true = h in cc) }
 
   body-stops : (falls : Bool) → block_falls entry.body ≡ falls → Stops (block_code program no_loop 0 entry.body ++ end_code falls)
-  body-stops true is = stops-behind (block_code program no_loop 0 entry.body) (instruction.Return ∷ []) (stops-one instruction.Return refl)
+  body-stops true is = stops-beyond (block_code program no_loop 0 entry.body) (instruction.Return ∷ []) (stops-one instruction.Return refl)
   body-stops false is = stops-alone (block_code program no_loop 0 entry.body) (block-stops program entry no_loop false true 0 entry.body fits body-faults is)
 
   pub body-sound : HasPositions (procedure_contents program entry) → Sound module_is (procedure_contents program entry)
@@ -157,18 +157,18 @@ sound-at program formed none k g e =
     (body-sound program formed entry (parts.procedure_there program formed k entry from.1).body_fits (faultless-there program program.procedures none k entry from.1)
     (subst HasPositions (sym from.2) positions))
 
-pub modules-have-no-defect : ModulesHaveNoDefect
-modules-have-no-defect program formed none =
+pub modules-are-not-refused : ModulesAreNotRefused
+modules-are-not-refused program formed none =
     let m = laid_out (graph_of program) in
     record {
       fixed = procedures-right m 0 (graph_of program).procedures (sound-at program formed none);
       flow = λ refusal found.
           let from = there_map_only laid_out_procedure (graph_of program).procedures refusal.procedure found.procedure found.there in
-          subst (FlowsWell m) from.2 (sound-flows m from.0 (sound-at program formed none refusal.procedure from.0 from.1)) refusal.offset refusal.defect found.defect;
+          subst (FlowsWell m) from.2 (sound-flows m from.0 (sound-at program formed none refusal.procedure from.0 from.1)) refusal.offset refusal.kind found.kind;
     }
 
 pub modules-run : ModulesAreNeverStuck
 modules-run program formed none fits =
     let m = laid_out (graph_of program) in
     let fits_there = Fits-laid_out (graph_of program) (record { positions = graphs-positioned program formed none; limits = fits }) in
-    never_stuck m (bounded m fits_there) (modules-have-no-defect program formed none)
+    never_stuck m (bounded m fits_there) (modules-are-not-refused program formed none)

@@ -19,7 +19,7 @@ use Rattle.modules.specs.Form.{Fits}
 use Rattle.modules.specs.Format.{is_among, is_built_in, direction, label, channel_after, channels, channel_names, declared}
 use Rattle.lowering.specs.Interface.{channel_contents}
 use Rattle.lowering.proofs.Fronts.{FitEach-from_fronts, All-at_seam, not_among_front}
-use Rattle.lowering.proofs.FittingNames.{kept_name, behind_different, none_in_front, not_contained, name_fits, exceptions_fit}
+use Rattle.lowering.proofs.FittingNames.{kept_name, after_different, none_in_front, not_contained, name_fits, exceptions_fit}
 use Rattle.lowering.proofs.FittingLabels.{label-fits}
 use Rattle.common.specs.Exceptions.{built_in_names}
 
@@ -91,9 +91,9 @@ channels_fit h names entries few some small fits short free new different canoni
     }))
     (subst AllDifferent (sym (same_names entries)) different)
 
-behind-all : {A : Type 0} (P : A → Type 0) (xs ys : List A) → All P (xs ++ ys) → All P ys
-behind-all P [] ys all = all
-behind-all P (x ∷ xs) ys all = behind-all P xs ys (All-tail P x (xs ++ ys) all)
+beyond-all : {A : Type 0} (P : A → Type 0) (xs ys : List A) → All P (xs ++ ys) → All P ys
+beyond-all P [] ys all = all
+beyond-all P (x ∷ xs) ys all = beyond-all P xs ys (All-tail P x (xs ++ ys) all)
 
 pub declared-fits : (h : PrincipalHierarchy) (names : List (List ℕ)) (entries : List ChannelEntry) → length h.names ≤ 256 → length names ≤ 1048576
     → length entries ≤ 1048576 → list_all (λ (entry : ChannelEntry). nat_le (label_nodes entry.label) node_limit) entries ≡ true
@@ -105,11 +105,11 @@ pub declared-fits : (h : PrincipalHierarchy) (names : List (List ℕ)) (entries 
 unfolding declared
 declared-fits h names entries few exceptions some small fits short different canonical =
     let kept = names ++ map name_of entries in
-    let apart : AllDifferent kept = behind_different built_in_names kept different in
+    let apart : AllDifferent kept = after_different built_in_names kept different in
     let free : All (λ name. ¬ Contains built_in_names name) kept = none_in_front built_in_names kept different in (
       exceptions_fit names exceptions (all_front IsShortName names (map name_of entries) short)
           (all_front (λ name. ¬ Contains built_in_names name) names (map name_of entries) free) (pairs_front (λ first second. first ≢ second) names (map name_of entries) apart),
-      channels_fit h names entries few some small fits (behind-all IsShortName names (map name_of entries) short)
-          (behind-all (λ name. ¬ Contains built_in_names name) names (map name_of entries) free) (none_in_front names (map name_of entries) apart)
-          (behind_different names (map name_of entries) apart) canonical,
+      channels_fit h names entries few some small fits (beyond-all IsShortName names (map name_of entries) short)
+          (beyond-all (λ name. ¬ Contains built_in_names name) names (map name_of entries) free) (none_in_front names (map name_of entries) apart)
+          (after_different names (map name_of entries) apart) canonical,
     )

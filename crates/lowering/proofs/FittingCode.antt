@@ -35,9 +35,9 @@ use Rattle.modules.specs.declared.instruction.Instruction.TheVariants as instruc
 use Rattle.modules.specs.declared.declaration.Handler.{Handler}
 use Rattle.modules.specs.declared.version.Version.{Version}
 use Rattle.modules.specs.declared.version.Version.TheVariants.{Two}
-use Rattle.modules.specs.Opcodes.{OperandFits, row_of, has_instruction}
+use Rattle.modules.specs.Opcodes.{OperandFits, entry_of as opcode_entry, has_instruction}
 use Rattle.lowering.specs.Expressions.{load_of, store_of, load_element_of, store_element_of, prefix_instruction, operator_instruction, negated_operator, value_size, value_code, rest_of_short, arguments_code, negated, deciding, branch_size, branch_code, test_code}
-use Rattle.lowering.specs.Code.{Loop, jump_code, jumps_over, jumps_behind, kept_code, result_code, leave_code, return_code, entry_of, no_place, test_place, handlers_place, statement_size, block_size, handlers_size, statement_code, block_code, handlers_code, statement_table, block_table, handlers_table}
+use Rattle.lowering.specs.Code.{Loop, jump_code, jumps_over, jumps_after, kept_code, result_code, leave_code, return_code, entry_of, no_position, test_position, handlers_position, statement_size, block_size, handlers_size, statement_code, block_code, handlers_code, statement_table, block_table, handlers_table}
 use Rattle.lowering.specs.Graphs.{end_code}
 
 -- ---- instructions
@@ -47,7 +47,7 @@ abbrev pub IsNumbered : Version → Instruction → Type 0
 IsNumbered version (instruction.Jump target) = Unit {0}
 IsNumbered version (instruction.JumpIfFalse target) = Unit {0}
 IsNumbered version (instruction.Compute operator) = IsTrue (has_instruction version (instruction.Compute operator))
-IsNumbered version x = OperandFits (row_of x).operand
+IsNumbered version x = OperandFits (opcode_entry x).operand
 
 pub record AreNumbered (version : Version) (code : List Instruction) : Type 0 where
   pub each : AllByRecursion (IsNumbered version) code
@@ -118,7 +118,7 @@ pub end-numbered : {version : Version} (falls : Bool) → AreNumbered version (e
 end-numbered true = numbered-one instruction.Return tt
 end-numbered false = numbered-none
 
-short-numbered : {version : Version} (connective : Connective) (at size : ℕ) (right : ℕ → List Instruction) → ((place : ℕ) → AreNumbered version (right place)) → AreNumbered version (rest_of_short connective at size right)
+short-numbered : {version : Version} (connective : Connective) (at size : ℕ) (right : ℕ → List Instruction) → ((position : ℕ) → AreNumbered version (right position)) → AreNumbered version (rest_of_short connective at size right)
 short-numbered And at size right h =
     numbered-more (instruction.JumpIfFalse (at + 1 + size + 1)) _ tt
     (numbered-both (right (at + 1)) _ (h (at + 1)) (numbered-more (instruction.Jump (at + 1 + size + 1 + 1)) _ tt (numbered-one (instruction.PushBoolean false) tt)))
@@ -248,7 +248,7 @@ module _ (version : Version) (program : Program) (procedure : ProcedureEntry) (s
       let parts = and_parts (same_base Boolean base && has_base program procedure Boolean d) (has_base program procedure Boolean e) h in
       let left = (and_parts (same_base Boolean base) (has_base program procedure Boolean d) parts.0).1 in
       numbered-both (value_code at d) _ (value-numbered d Boolean at left (allows-first version (expression_uses_bits d) (expression_uses_bits e) k))
-      (short-numbered connective (at + value_size d) (value_size e) (λ place. value_code place e) (λ place. value-numbered e Boolean place parts.1 (allows-second version (expression_uses_bits d) (expression_uses_bits e) k)))
+      (short-numbered connective (at + value_size d) (value_size e) (λ position. value_code position e) (λ position. value-numbered e Boolean position parts.1 (allows-second version (expression_uses_bits d) (expression_uses_bits e) k)))
 
   -- a condition that is negated as a whole
   not-numbered : (e : Expression) (at : ℕ) → has_base program procedure Boolean e ≡ true → Allows version (expression_uses_bits e)
@@ -372,30 +372,30 @@ module _ (version : Version) (program : Program) (procedure : ProcedureEntry) (s
         (numbered-one (instruction.Send channel) (channel-small channel Output (slice_get program.channels channel) refl parts.0))
     statement-numbered loop p (Call at f arguments target) h k =
         call-numbered f arguments target p (procedure_at program f).result (slice_get program.procedures f) refl h k
-    statement-numbered loop p (If at e yes_block no_block) h k =
-        let parts = and_parts (has_base program procedure Boolean e && block_fits program procedure yes_block) (block_fits program procedure no_block) h in
-        let first = and_parts (has_base program procedure Boolean e) (block_fits program procedure yes_block) parts.0 in
-        let front = allows-first version (expression_uses_bits e || block_uses_bits yes_block) (block_uses_bits no_block) k in
-        let no = no_place program p e yes_block no_block in
-        numbered-both (branch_code false p no e) _ (branch-numbered e false p no first.0 (allows-first version (expression_uses_bits e) (block_uses_bits yes_block) front))
-        (numbered-both (block_code program loop (p + branch_size false e) yes_block) _ (block-numbered loop (p + branch_size false e) yes_block first.1 (allows-second version (expression_uses_bits e) (block_uses_bits yes_block) front))
-        (numbered-both (jump_code (jumps_over yes_block no_block) _) _ (jump-numbered (jumps_over yes_block no_block) (no + block_size program no_block))
-        (block-numbered loop no no_block parts.1 (allows-second version (expression_uses_bits e || block_uses_bits yes_block) (block_uses_bits no_block) k))))
+    statement-numbered loop p (If at e then_block else_block) h k =
+        let parts = and_parts (has_base program procedure Boolean e && block_fits program procedure then_block) (block_fits program procedure else_block) h in
+        let first = and_parts (has_base program procedure Boolean e) (block_fits program procedure then_block) parts.0 in
+        let front = allows-first version (expression_uses_bits e || block_uses_bits then_block) (block_uses_bits else_block) k in
+        let no = no_position program p e then_block else_block in
+        numbered-both (branch_code false p no e) _ (branch-numbered e false p no first.0 (allows-first version (expression_uses_bits e) (block_uses_bits then_block) front))
+        (numbered-both (block_code program loop (p + branch_size false e) then_block) _ (block-numbered loop (p + branch_size false e) then_block first.1 (allows-second version (expression_uses_bits e) (block_uses_bits then_block) front))
+        (numbered-both (jump_code (jumps_over then_block else_block) _) _ (jump-numbered (jumps_over then_block else_block) (no + block_size program else_block))
+        (block-numbered loop no else_block parts.1 (allows-second version (expression_uses_bits e || block_uses_bits then_block) (block_uses_bits else_block) k))))
     statement-numbered loop p (While at number e body) h k =
         let parts = and_parts (has_base program procedure Boolean e) (block_fits program procedure body) h in
-        let test = test_place program p body in
+        let test = test_position program p body in
         numbered-more (instruction.Jump test) _ tt
         (numbered-both (block_code program _ (p + 1) body) _
-        (block-numbered (record { behind = test + branch_size true e; test = test }) (p + 1) body parts.1 (allows-second version (expression_uses_bits e) (block_uses_bits body) k))
+        (block-numbered (record { beyond = test + branch_size true e; test = test }) (p + 1) body parts.1 (allows-second version (expression_uses_bits e) (block_uses_bits body) k))
         (branch-numbered e true test (p + 1) parts.0 (allows-first version (expression_uses_bits e) (block_uses_bits body) k)))
     statement-numbered loop p (Leave at exit) h k = numbered-one _ (leave-numbered loop exit h)
     statement-numbered loop p (ReturnWith at e) h k = return-numbered e at p h k
     statement-numbered loop p (Try at block handlers) h k =
         let parts = and_parts (block_fits program procedure block) (handlers_fit program procedure handlers) h in
-        let place = handlers_place program p block handlers in
+        let position = handlers_position program p block handlers in
         numbered-both (block_code program loop p block) _ (block-numbered loop p block parts.0 (allows-first version (block_uses_bits block) (handlers_use_bits handlers) k))
-        (numbered-both (jump_code (jumps_behind block handlers) _) _ (jump-numbered (jumps_behind block handlers) (place + handlers_size program handlers))
-        (handlers-numbered loop (place + handlers_size program handlers) place handlers parts.1 (allows-second version (block_uses_bits block) (handlers_use_bits handlers) k)))
+        (numbered-both (jump_code (jumps_after block handlers) _) _ (jump-numbered (jumps_after block handlers) (position + handlers_size program handlers))
+        (handlers-numbered loop (position + handlers_size program handlers) position handlers parts.1 (allows-second version (block_uses_bits block) (handlers_use_bits handlers) k)))
     statement-numbered loop p (Nested at block) h k = block-numbered loop p block h k
 
     pub block-numbered : (loop : Loop) (p : ℕ) (block : Block) → block_fits program procedure block ≡ true
@@ -413,8 +413,8 @@ module _ (version : Version) (program : Program) (procedure : ProcedureEntry) (s
         let parts = and_parts (is_exception program exception && block_fits program procedure body) (handlers_fit program procedure rest) h in
         let first = and_parts (is_exception program exception) (block_fits program procedure body) parts.0 in
         numbered-both (block_code program loop p body) _ (block-numbered loop p body first.1 (allows-first version (block_uses_bits body) (handlers_use_bits rest) k))
-        (numbered-both (jump_code (jumps_behind body rest) end) _ (jump-numbered (jumps_behind body rest) end)
-        (handlers-numbered loop end (handlers_place program p body rest) rest parts.1 (allows-second version (block_uses_bits body) (handlers_use_bits rest) k)))
+        (numbered-both (jump_code (jumps_after body rest) end) _ (jump-numbered (jumps_after body rest) end)
+        (handlers-numbered loop end (handlers_position program p body rest) rest parts.1 (allows-second version (block_uses_bits body) (handlers_use_bits rest) k)))
 
   mutual
     statement-catches : (p : ℕ) (statement : Statement) → statement_fits program procedure statement ≡ true → AreCatches (statement_nodes statement) (statement_table program p statement)
@@ -424,11 +424,11 @@ module _ (version : Version) (program : Program) (procedure : ProcedureEntry) (s
     statement-catches p (Receive at channel target) h = catches-none _
     statement-catches p (Send at channel e) h = catches-none _
     statement-catches p (Call at f arguments target) h = catches-none _
-    statement-catches p (If at e yes_block no_block) h =
-        let parts = and_parts (has_base program procedure Boolean e && block_fits program procedure yes_block) (block_fits program procedure no_block) h in
-        let first = and_parts (has_base program procedure Boolean e) (block_fits program procedure yes_block) parts.0 in
-        catches-both (block_nodes yes_block) (block_nodes no_block) _ _ _
-        (block-catches (p + branch_size false e) yes_block first.1) (block-catches (no_place program p e yes_block no_block) no_block parts.1) (omega arith)
+    statement-catches p (If at e then_block else_block) h =
+        let parts = and_parts (has_base program procedure Boolean e && block_fits program procedure then_block) (block_fits program procedure else_block) h in
+        let first = and_parts (has_base program procedure Boolean e) (block_fits program procedure then_block) parts.0 in
+        catches-both (block_nodes then_block) (block_nodes else_block) _ _ _
+        (block-catches (p + branch_size false e) then_block first.1) (block-catches (no_position program p e then_block else_block) else_block parts.1) (omega arith)
     statement-catches p (While at number e body) h =
         let parts = and_parts (has_base program procedure Boolean e) (block_fits program procedure body) h in
         catches-more (block_nodes body) _ _ (block-catches (p + 1) body parts.1) (omega arith)
@@ -438,7 +438,7 @@ module _ (version : Version) (program : Program) (procedure : ProcedureEntry) (s
         let parts = and_parts (block_fits program procedure block) (handlers_fit program procedure handlers) h in
         catches-both (block_nodes block) (handlers_nodes handlers) _ _ _
         (block-catches p block parts.0)
-        (handlers-catches p (p + block_size program block) (handlers_place program p block handlers) handlers parts.1) (omega arith)
+        (handlers-catches p (p + block_size program block) (handlers_position program p block handlers) handlers parts.1) (omega arith)
     statement-catches p (Nested at block) h = catches-more (block_nodes block) _ _ (block-catches p block h) (omega arith)
 
     pub block-catches : (p : ℕ) (block : Block) → block_fits program procedure block ≡ true → AreCatches (block_nodes block) (block_table program p block)
@@ -456,5 +456,5 @@ module _ (version : Version) (program : Program) (procedure : ProcedureEntry) (s
         catches-both 1 (block_nodes body + handlers_nodes rest) _ _ _
         (entry-catches start end exception p (exception-small exception first.0))
         (catches-both (block_nodes body) (handlers_nodes rest) _ _ _
-        (block-catches p body first.1) (handlers-catches start end (handlers_place program p body rest) rest parts.1) (omega arith))
+        (block-catches p body first.1) (handlers-catches start end (handlers_position program p body rest) rest parts.1) (omega arith))
         (omega arith)

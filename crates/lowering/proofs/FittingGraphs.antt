@@ -31,7 +31,7 @@ use Rattle.lowering.specs.Interface.{module_version, returned_kind}
 use Rattle.lowering.specs.Code.{block_falls, block_size, block_code, block_table}
 use Rattle.lowering.specs.Fitting.{HasShortValues}
 use Rattle.lowering.specs.Graphs.{end_code, no_loop, body_code, procedure_contents, graph_of}
-use Rattle.lowering.specs.Threaded.{final_place, threaded}
+use Rattle.lowering.specs.Threaded.{final_position, threaded}
 use Rattle.lowering.proofs.Finals.{length-threaded}
 use Rattle.lowering.proofs.FittingChannels.{declared-fits}
 use Rattle.lowering.proofs.FittingCode.{Allows, IsNumbered, numbered-both, end-numbered, IsOfException, HasShortTables, block-numbered, block-catches}
@@ -146,7 +146,7 @@ procedure-fits version program entry short few parts placed allowed =
             slots-fit program.hierarchy entry.parameters entry.slots (omega (arith, few)) parameters parts.parameters_written parts.slots_fit
                 (leb-true (sum_by (λ (slot : SlotEntry). cell_count slot.size) entry.slots) MAX_CELLS parts.frame_cells),
             (
-              code-fits version code long (renamed-each version (final_place (body_code program body)) (body_code program body) numbers.each) placed.targets,
+              code-fits version code long (renamed-each version (final_position (body_code program body)) (body_code program body) numbers.each) placed.targets,
               handlers-fits (length code) (block_table program 0 body) (omega (arith, long)) (omega (arith, few, catches.few)) placed.handlers catches.each,
             ),
           ),

@@ -20,11 +20,11 @@ use Rattle.common.specs.Exceptions.{built_in_names}
 later_different : (x : List ℕ) (xs : List (List ℕ)) → AllDifferent (x ∷ xs) → AllDifferent xs
 later_different x xs different i j d below within = different (suc i) (suc j) d (omega (arith, below)) (omega (arith, within))
 
-pub behind_different : (xs ys : List (List ℕ)) → AllDifferent (xs ++ ys) → AllDifferent ys
-behind_different [] ys different = different
-behind_different (x ∷ xs) ys different = behind_different xs ys (later_different x (xs ++ ys) different)
+pub after_different : (xs ys : List (List ℕ)) → AllDifferent (xs ++ ys) → AllDifferent ys
+after_different [] ys different = different
+after_different (x ∷ xs) ys different = after_different xs ys (later_different x (xs ++ ys) different)
 
--- a name behind others is none of them
+-- a name after others is none of them
 pub none_in_front : (xs ys : List (List ℕ)) → AllDifferent (xs ++ ys) → All (λ y. ¬ Contains xs y) ys
 none_in_front xs ys different k d within found =
     let y = get_or ys k d in

@@ -14,7 +14,7 @@ use Rattle.resolved.specs.declared.expression.Value.{Value}
 use Rattle.resolved.specs.declared.expression.Value.TheVariants.{Number, Truth}
 use Rattle.resolved.specs.Program.{GlobalEntry, SlotEntry}
 use Rattle.resolved.specs.WellFormed.{size_fits, cell_count, label_fits, first_fits, written_fits, parameter_fits}
-use Rattle.modules.specs.declared.fault.FormatDefect.TheVariants.{BadValue}
+use Rattle.modules.specs.declared.fault.FormatRefusalKind.TheVariants.{BadValue}
 use Rattle.modules.specs.declared.value.ValueKind.{ValueKind}
 use Rattle.modules.specs.declared.value.ValueKind.TheVariants as kind
 use Rattle.modules.specs.declared.declaration.Slot.{Slot}
@@ -165,8 +165,8 @@ array_slot-again k size some = ap (λ b. if b then slot.Scalar k else slot.Array
 
 array_slot-fits : (parameters : ℕ) (before : List Slot) (k : ValueKind) (size : ℕ) → IsLength size → parameters ≤ length before → slot_cells before + cells_of_size size ≤ 1048576 → Fits (slot_after parameters before) (slot.Array k size)
 unfolding slot_after
-array_slot-fits parameters before k size long behind room =
-    let past : (leb parameters (length before) || eqb size 0) ≡ true = ap (λ b. b || eqb size 0) (le-leb parameters (length before) behind) in
+array_slot-fits parameters before k size long beyond room =
+    let past : (leb parameters (length before) || eqb size 0) ≡ true = ap (λ b. b || eqb size 0) (le-leb parameters (length before) beyond) in
     ((kind-fits k, (omega (arith, long.few), and_from _ _ (size-tested (slot_cells before) size long.few room) past)), array_slot-again k size long.some)
 
 abbrev cells_of_slot : Slot → ℕ
@@ -181,11 +181,11 @@ slot-fits : (parameters : ℕ) (before : List Slot) (entry : SlotEntry) (size : 
 slot-fits parameters before entry None h scalar room = scalar_slot-fits parameters before (kind_of_base entry.base) room
 slot-fits parameters before entry (Some size) h scalar room =
     let long = length-from size h in
-    array_slot-fits parameters before (kind_of_base entry.base) size long (behind (leb parameters (length before)) refl) (omega (arith, room, cells-are size long.some))
+    array_slot-fits parameters before (kind_of_base entry.base) size long (beyond (leb parameters (length before)) refl) (omega (arith, room, cells-are size long.some))
   where
-    behind : (b : Bool) → leb parameters (length before) ≡ b → parameters ≤ length before
-    behind true e = leb-true parameters (length before) e
-    behind false e = absurd (let none = scalar (leb-false parameters (length before) e) in cc)
+    beyond : (b : Bool) → leb parameters (length before) ≡ b → parameters ≤ length before
+    beyond true e = leb-true parameters (length before) e
+    beyond false e = absurd (let none = scalar (leb-false parameters (length before) e) in cc)
 
 abbrev pub is_fit_slot : PrincipalHierarchy → SlotEntry → Bool
 is_fit_slot h entry = size_fits entry.size && written_fits h entry.written

@@ -1,5 +1,5 @@
--- The kinds of the operands along code. They follow from the first instruction to the last: behind one at which control goes on they are
--- what it leaves, and behind another what it leaves without the top. So each position has one list, and code flows where each instruction
+-- The kinds of the operands along code. They follow from the first instruction to the last: after one at which control goes on they are
+-- what it leaves, and after another what it leaves without the top. So each position has one list, and code flows where each instruction
 -- finds its operands and leaves what the position has to which it jumps.
 use Rattle.std.proofs.Common.{◌≡◌, refl, sym, ap, ◌∙◌, subst, ℕ, zero, suc, ◌+◌, Bool, true, false, List, [], ◌∷◌, ◌++◌, length, take, Some, None, slice_get, arith, append_assoc, length-append}
 use Rattle.std.proofs.Math.Seq.{take-append_seam}
@@ -9,7 +9,7 @@ use Rattle.modules.specs.declared.instruction.Instruction.{Instruction}
 use Rattle.modules.specs.declared.instruction.Instruction.TheVariants as instruction
 use Rattle.modules.specs.declared.value.ValueKind.{ValueKind}
 use Rattle.modules.specs.declared.value.ValueKind.TheVariants.{Boolean}
-use Rattle.verifier.specs.Fixed.{instruction_defect}
+use Rattle.verifier.specs.Fixed.{instruction_refusal}
 use Rattle.modules.specs.Targets.{goes_on, target_of}
 use Rattle.verifier.specs.Flow.{Effect, Leaves, Misses, effect}
 use Rattle.lowering.proofs.CodePieces.{Stands, stands-front, stands-back}
@@ -24,12 +24,12 @@ following false (Leaves after) = below_top after
 following true (Misses wrong) = []
 following false (Misses wrong) = []
 
-taken : (whole before behind : List Instruction) (k : ℕ) → whole ≡ before ++ behind → length before ≡ k → take k whole ≡ before
-taken whole before behind k parts size =
-    ap (take k) parts ∙ (ap (λ (n : ℕ). take n (before ++ behind)) (sym size) ∙ take-append_seam before behind)
+taken : (whole before beyond : List Instruction) (k : ℕ) → whole ≡ before ++ beyond → length before ≡ k → take k whole ≡ before
+taken whole before beyond k parts size =
+    ap (take k) parts ∙ (ap (λ (n : ℕ). take n (before ++ beyond)) (sym size) ∙ take-append_seam before beyond)
 
 module _ (m : ModuleContents) (p : ProcedureContents) where
-  -- the kinds behind an instruction, and behind code
+  -- the kinds after an instruction, and after code
   abbrev pub onward : Instruction → List ValueKind → List ValueKind
   onward i kinds = following (goes_on i) (effect m p i kinds)
 
@@ -41,13 +41,13 @@ module _ (m : ModuleContents) (p : ProcedureContents) where
   along-append [] ys kinds = refl
   along-append (x ∷ xs) ys kinds = along-append xs ys (onward x kinds)
 
-  -- an instruction that jumps nowhere, finds its operands and has no defect by itself, with the kinds before and behind it
-  pub record Does (i : Instruction) (before behind : List ValueKind) : Type 0 where
+  -- an instruction that jumps nowhere, finds its operands and is not refused by itself, with the kinds before and after it
+  pub record Does (i : Instruction) (before beyond : List ValueKind) : Type 0 where
     pub after : List ValueKind
     pub leaves : effect m p i before ≡ Leaves after
-    pub follows : following (goes_on i) (Leaves after) ≡ behind
+    pub follows : following (goes_on i) (Leaves after) ≡ beyond
     pub no_target : target_of i ≡ None
-    pub fixed : instruction_defect m p i ≡ None
+    pub fixed : instruction_refusal m p i ≡ None
 
 -- the kinds at the positions of the code of a procedure
 module _ (m : ModuleContents) (p : ProcedureContents) (whole : List Instruction) where
@@ -57,15 +57,15 @@ module _ (m : ModuleContents) (p : ProcedureContents) (whole : List Instruction)
   reaches : (code : List Instruction) (at n : ℕ) → length code ≡ n → Stands whole code at → kinds_at (at + n) ≡ along m p code (kinds_at at)
   reaches code at n size h =
       ap (λ c. along m p c [])
-      (taken whole (h.before ++ code) h.behind (at + n) (h.parts ∙ sym (append_assoc h.before code h.behind)) (length-append h.before code ∙ omega (arith, size, h.place)))
-      ∙ (along-append m p h.before code [] ∙ ap (λ c. along m p code (along m p c [])) (sym (taken whole h.before (code ++ h.behind) at h.parts h.place)))
+      (taken whole (h.before ++ code) h.beyond (at + n) (h.parts ∙ sym (append_assoc h.before code h.beyond)) (length-append h.before code ∙ omega (arith, size, h.position)))
+      ∙ (along-append m p h.before code [] ∙ ap (λ c. along m p code (along m p c [])) (sym (taken whole h.before (code ++ h.beyond) at h.parts h.position)))
 
   -- an instruction at a position with some kinds
   pub record IsSound (i : Instruction) (kinds : List ValueKind) : Type 0 where
     pub after : List ValueKind
     pub leaves : effect m p i kinds ≡ Leaves after
     pub jumps : (to : ℕ) → target_of i ≡ Some to → kinds_at to ≡ after
-    pub fixed : target_of i ≡ None → instruction_defect m p i ≡ None
+    pub fixed : target_of i ≡ None → instruction_refusal m p i ≡ None
 
   abbrev pub EachSound : List Instruction → List ValueKind → Type 0
   EachSound [] kinds = Unit {0}
@@ -81,7 +81,7 @@ module _ (m : ModuleContents) (p : ProcedureContents) (whole : List Instruction)
   sound-at (x ∷ code) kinds zero i h e = let same : x ≡ i = cc in subst (λ y. IsSound y kinds) same h.0
   sound-at (x ∷ code) kinds (suc k) i h e = sound-at code (onward m p x kinds) k i h.1 e
 
-  -- a piece of the code at a place to which control comes with some kinds
+  -- a piece of the code at a position to which control comes with some kinds
   pub record Here (code : List Instruction) (at : ℕ) (kinds : List ValueKind) : Type 0 where
     pub stands : Stands whole code at
     pub kinds_are : kinds_at at ≡ kinds
@@ -96,9 +96,9 @@ module _ (m : ModuleContents) (p : ProcedureContents) (whole : List Instruction)
   here-back xs ys at n a b size passes h =
       record { stands = stands-back whole xs ys at n size h.stands; kinds_are = here-end xs at n a b size passes (here-front xs ys at a h) }
 
-  -- a piece of code for a place, with the kinds before and behind it; its instructions are fine wherever it stands, given some aims
-  pub record Flows (at : ℕ) (code : List Instruction) (aims : Type 0) (before behind : List ValueKind) : Type 0 where
-    pub passes : along m p code before ≡ behind
+  -- a piece of code for a position, with the kinds before and after it; its instructions are fine wherever it stands, given some aims
+  pub record Flows (at : ℕ) (code : List Instruction) (aims : Type 0) (before beyond : List ValueKind) : Type 0 where
+    pub passes : along m p code before ≡ beyond
     pub each : Here code at before → aims → EachSound code before
 
   pub flows-none : {at : ℕ} {aims : Type 0} {a : List ValueKind} → Flows at [] aims a a

@@ -14,7 +14,7 @@ use Rattle.modules.specs.Machine.{State, Machine, Running, Ended, Stuck, Machine
 use Rattle.modules.specs.Targets.{renamed_instruction}
 use Rattle.layout.specs.Runs.{graph_program}
 use Rattle.lowering.specs.Direct.{jump_of}
-use Rattle.lowering.specs.Threaded.{onward, followed, final_place}
+use Rattle.lowering.specs.Threaded.{onward, followed, final_position}
 use Rattle.lowering.proofs.Unthreaded.{threaded_procedure, threaded_graph}
 use Rattle.lowering.proofs.Acting.{act-same}
 use Rattle.lowering.proofs.Steps.{counted, count, counts}
@@ -105,27 +105,27 @@ module _ (p : MachineCode) (s : State) (operands : List Cell) (code : List Instr
   abbrev at : ℕ → Machine
   at position = goes_to s operands position
 
-  jumps-once : (place target : ℕ) (to : Machine) → jump_of (slice_get code place) ≡ Some target → Follows p 0 0 (at target) to → Follows p 0 0 (at place) to
-  jumps-once place target to e h =
-      let goes : step p (at place) ≡ at target =
-      ap (λ (o : Option Instruction). acts p (record s { frame = record s.frame { operands = operands; position = place } }) o)
-      (fetched place ∙ jump-is (slice_get code place) target e) in
-      let free : count p (at place) ≡ 0 = ap (λ (o : Option Instruction). counted (jump_of o)) (fetched place) ∙ ap counted e in
-      let made = follows-step p 0 0 (at place) to (subst (λ m. Follows p 0 0 m to) (sym goes) h) in
+  jumps-once : (position target : ℕ) (to : Machine) → jump_of (slice_get code position) ≡ Some target → Follows p 0 0 (at target) to → Follows p 0 0 (at position) to
+  jumps-once position target to e h =
+      let goes : step p (at position) ≡ at target =
+      ap (λ (o : Option Instruction). acts p (record s { frame = record s.frame { operands = operands; position = position } }) o)
+      (fetched position ∙ jump-is (slice_get code position) target e) in
+      let free : count p (at position) ≡ 0 = ap (λ (o : Option Instruction). counted (jump_of o)) (fetched position) ∙ ap counted e in
+      let made = follows-step p 0 0 (at position) to (subst (λ m. Follows p 0 0 m to) (sym goes) h) in
       record { steps = made.steps; enough = omega arith; few = omega (arith, made.few, free); reached = made.reached }
 
-  leads-by : (on : ℕ → ℕ) → ((target : ℕ) → Follows p 0 0 (at target) (at (on target))) → (place : ℕ) (o : Option ℕ) → jump_of (slice_get code place) ≡ o
-      → Follows p 0 0 (at place) (at (onward place on o))
-  leads-by on each place None e = follows-nowhere p _
-  leads-by on each place (Some target) e = forward (ltb place target)
+  leads-by : (on : ℕ → ℕ) → ((target : ℕ) → Follows p 0 0 (at target) (at (on target))) → (position : ℕ) (o : Option ℕ) → jump_of (slice_get code position) ≡ o
+      → Follows p 0 0 (at position) (at (onward position on o))
+  leads-by on each position None e = follows-nowhere p _
+  leads-by on each position (Some target) e = forward (ltb position target)
     where
-      forward : (b : Bool) → Follows p 0 0 (at place) (at (cond b (on target) place))
-      forward true = jumps-once place target (at (on target)) e (each target)
+      forward : (b : Bool) → Follows p 0 0 (at position) (at (cond b (on target) position))
+      forward true = jumps-once position target (at (on target)) e (each target)
       forward false = follows-nowhere p _
 
-  leads-on : (jumps place : ℕ) → Follows p 0 0 (at place) (at (followed jumps code place))
-  leads-on zero place = follows-nowhere p _
-  leads-on (suc jumps) place = leads-by (followed jumps code) (leads-on jumps) place (jump_of (slice_get code place)) refl
+  leads-on : (jumps position : ℕ) → Follows p 0 0 (at position) (at (followed jumps code position))
+  leads-on zero position = follows-nowhere p _
+  leads-on (suc jumps) position = leads-by (followed jumps code) (leads-on jumps) position (jump_of (slice_get code position)) refl
 
 -- ---- graphs
 
@@ -134,9 +134,9 @@ headers-same [] = refl
 headers-same (procedure ∷ procedures) = ap (λ (rest : List Header). header_of procedure ∷ rest) (headers-same procedures)
 
 fetched-in : (o : Option ProcedureContents) (k : ℕ)
-    → slice_get (code_of (option_map threaded_procedure o)) k ≡ option_map (renamed_instruction (final_place (code_of o))) (slice_get (code_of o) k)
+    → slice_get (code_of (option_map threaded_procedure o)) k ≡ option_map (renamed_instruction (final_position (code_of o))) (slice_get (code_of o) k)
 fetched-in None k = refl
-fetched-in (Some procedure) k = slice_get-map (renamed_instruction (final_place procedure.code)) procedure.code k
+fetched-in (Some procedure) k = slice_get-map (renamed_instruction (final_position procedure.code)) procedure.code k
 
 handlers-in : (o : Option ProcedureContents) → handlers_of (option_map threaded_procedure o) ≡ handlers_of o
 handlers-in None = refl
@@ -151,7 +151,7 @@ module _ (g : ModuleContents) where
   code_in procedure = code_of (slice_get g.procedures procedure)
 
   abbrev pub aims : ℕ → ℕ → ℕ
-  aims procedure target = final_place (code_in procedure) target
+  aims procedure target = final_position (code_in procedure) target
 
   there : (k : ℕ) → slice_get (threaded_graph g).procedures k ≡ option_map threaded_procedure (slice_get g.procedures k)
   there k = slice_get-map threaded_procedure g.procedures k

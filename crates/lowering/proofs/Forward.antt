@@ -17,11 +17,11 @@ use Rattle.resolved.specs.Tree.{Expression, Integer, Logical, Read, Element, Una
 use Rattle.resolved.specs.Program.{Program, ResultEntry, procedure_at}
 use Rattle.resolved.specs.Ends.{same_exit, has_end, statement_ends, block_ends}
 use Rattle.resolved.specs.EndFaults.{fault_unless, may_leave, may_stand, inner_faults, block_faults, handlers_faults}
-use Rattle.resolved.specs.declared.fault.EndDefect.TheVariants.{OutsideLoop, Unreachable, NeverRaised}
+use Rattle.resolved.specs.declared.fault.EndRefusalKind.TheVariants.{OutsideLoop, Unreachable, NeverRaised}
 use Rattle.modules.specs.declared.instruction.Instruction.{Instruction}
 use Rattle.modules.specs.declared.instruction.Instruction.TheVariants as instruction
 use Rattle.lowering.specs.Expressions.{load_of, store_of, load_element_of, store_element_of, prefix_instruction, operator_instruction, value_size, value_code, rest_of_short, arguments_size, arguments_code, tested, deciding, branch_size, branch_code, test_code}
-use Rattle.lowering.specs.Code.{Loop, block_falls, jump_size, jump_code, jumps_over, jumps_behind, kept_code, result_code, leave_code, return_code, statement_size, block_size, handlers_size, statement_code, block_code, handlers_code}
+use Rattle.lowering.specs.Code.{Loop, block_falls, jump_size, jump_code, jumps_over, jumps_after, kept_code, result_code, leave_code, return_code, statement_size, block_size, handlers_size, statement_code, block_code, handlers_code}
 use Rattle.lowering.specs.Graphs.{end_code, no_loop, body_code}
 use Rattle.lowering.specs.Direct.{jump_of}
 use Rattle.lowering.proofs.Finals.{GoForward}
@@ -29,7 +29,7 @@ use Rattle.lowering.proofs.Sizes.{value-sized, arguments-sized, branch-sized, ju
 use Rattle.common.proofs.Cases.{append_empty}
 use Rattle.resolved.proofs.Exits.{no_fault-test}
 
--- the unconditional jumps of code for a place go forward
+-- the unconditional jumps of code for a position go forward
 record Ahead (at : ℕ) (code : List Instruction) : Type 0 where
   pub each : (k target : ℕ) → jump_of (slice_get code k) ≡ Some target → at + k < target
 
@@ -94,7 +94,7 @@ operator-still (operator.Match sameness.Same) = refl
 operator-still (operator.Match sameness.Different) = refl
 
 -- ---- expressions
-short-ahead : (connective : Connective) (at size : ℕ) (right : ℕ → List Instruction) → ((place : ℕ) → Ahead place (right place)) → ((place : ℕ) → length (right place) ≡ size)
+short-ahead : (connective : Connective) (at size : ℕ) (right : ℕ → List Instruction) → ((position : ℕ) → Ahead position (right position)) → ((position : ℕ) → length (right position) ≡ size)
     → Ahead at (rest_of_short connective at size right)
 short-ahead And at size right h sized =
     ahead-more at (instruction.JumpIfFalse (at + 1 + size + 1)) _ refl
@@ -119,7 +119,7 @@ value-ahead (Binary o d e) at =
     (ahead-one (at + value_size d + value_size e) _ (operator-still o)))
 value-ahead (Short connective d e) at =
     ahead-both at (value_size d) (value_code at d) _ (value-sized d at) (value-ahead d at)
-    (short-ahead connective (at + value_size d) (value_size e) (λ place. value_code place e) (λ place. value-ahead e place) (λ place. value-sized e place))
+    (short-ahead connective (at + value_size d) (value_size e) (λ position. value_code position e) (λ position. value-ahead e position) (λ position. value-sized e position))
 
 arguments-ahead : (es : List Expression) (at : ℕ) → Ahead at (arguments_code at es)
 arguments-ahead [] at = ahead-none at
@@ -157,18 +157,18 @@ return-ahead at None = ahead-one at instruction.Return refl
 return-ahead at (Some e) =
     ahead-both at (value_size e) (value_code at e) _ (value-sized e at) (value-ahead e at) (ahead-one (at + value_size e) instruction.ReturnValue refl)
 
--- where a loop goes: to places behind, if there is a loop
+-- where a loop goes: to positions after, if there is a loop
 record LoopAhead (at : ℕ) (in_loop : Bool) (loop : Loop) : Type 0 where
-  pub behind : in_loop ≡ true → at ≤ loop.behind
+  pub beyond : in_loop ≡ true → at ≤ loop.beyond
   pub test : in_loop ≡ true → at ≤ loop.test
 
 sooner : (at end : ℕ) (in_loop : Bool) (loop : Loop) → at ≤ end → LoopAhead end in_loop loop → LoopAhead at in_loop loop
-sooner at end in_loop loop less h = record { behind = λ e. omega (arith, less, h.behind e); test = λ e. omega (arith, less, h.test e) }
+sooner at end in_loop loop less h = record { beyond = λ e. omega (arith, less, h.beyond e); test = λ e. omega (arith, less, h.test e) }
 
 leave-ahead : (at : ℕ) (in_loop : Bool) (loop : Loop) (exit : Exit) → LoopAhead (at + 1) in_loop loop → may_leave in_loop exit ≡ true → Ahead at (leave_code loop exit ∷ [])
 leave-ahead at in_loop loop Normal loops h = ahead-one at _ refl
 leave-ahead at in_loop loop Return loops h = ahead-one at _ refl
-leave-ahead at in_loop loop Break loops h = ahead-jump at loop.behind [] (omega (arith, loops.behind h)) (ahead-none (at + 1))
+leave-ahead at in_loop loop Break loops h = ahead-jump at loop.beyond [] (omega (arith, loops.beyond h)) (ahead-none (at + 1))
 leave-ahead at in_loop loop Continue loops h = ahead-jump at loop.test [] (omega (arith, loops.test h)) (ahead-none (at + 1))
 leave-ahead at in_loop loop (Throw exception) loops h = ahead-one at _ refl
 
@@ -191,31 +191,31 @@ module _ (program : Program) where
     statement-ahead loop in_loop p (Call at f arguments target) stands faults loops =
         ahead-both p (arguments_size arguments) (arguments_code p arguments) _ (arguments-sized arguments p) (arguments-ahead arguments p)
         (ahead-more (p + arguments_size arguments) (instruction.Call f) _ refl (result-ahead (p + arguments_size arguments + 1) (procedure_at program f).result target))
-    statement-ahead loop in_loop p (If at e yes_block no_block) stands faults loops =
+    statement-ahead loop in_loop p (If at e then_block else_block) stands faults loops =
         let b = branch_size false e in
-        let y = block_size program yes_block in
-        let j = jumps_over yes_block no_block in
+        let y = block_size program then_block in
+        let j = jumps_over then_block else_block in
         let k = jump_size j in
-        let z = block_size program no_block in
-        let none = append_empty (block_faults program in_loop true yes_block) (block_faults program in_loop true no_block) faults in
+        let z = block_size program else_block in
+        let none = append_empty (block_faults program in_loop true then_block) (block_faults program in_loop true else_block) faults in
         ahead-both p b (branch_code false p (p + b + y + k) e) _ (branch-sized e false p (p + b + y + k)) (branch-ahead e false p (p + b + y + k))
-        (ahead-both (p + b) y (block_code program loop (p + b) yes_block) _ (block-sized program loop (p + b) yes_block)
-        (block-ahead loop in_loop true (p + b) yes_block none.0 (sooner (p + b + y) (p + (b + (y + (k + z)))) in_loop loop (omega arith) loops))
+        (ahead-both (p + b) y (block_code program loop (p + b) then_block) _ (block-sized program loop (p + b) then_block)
+        (block-ahead loop in_loop true (p + b) then_block none.0 (sooner (p + b + y) (p + (b + (y + (k + z)))) in_loop loop (omega arith) loops))
         (ahead-both (p + b + y) k (jump_code j (p + b + y + k + z)) _ (jump-sized j (p + b + y + k + z)) (jump-ahead (p + b + y) j (p + b + y + k + z) (omega arith))
-        (block-ahead loop in_loop true (p + b + y + k) no_block none.1 (sooner (p + b + y + k + z) (p + (b + (y + (k + z)))) in_loop loop (omega arith) loops))))
+        (block-ahead loop in_loop true (p + b + y + k) else_block none.1 (sooner (p + b + y + k + z) (p + (b + (y + (k + z)))) in_loop loop (omega arith) loops))))
     statement-ahead loop in_loop p (While at number e body) stands faults loops =
         let m = block_size program body in
         let b = branch_size true e in
-        let inner : Loop = record { behind = p + 1 + m + b; test = p + 1 + m } in
+        let inner : Loop = record { beyond = p + 1 + m + b; test = p + 1 + m } in
         ahead-jump p (p + 1 + m) _ (omega arith)
         (ahead-both (p + 1) m (block_code program inner (p + 1) body) _ (block-sized program inner (p + 1) body)
-        (block-ahead inner true true (p + 1) body faults (record { behind = λ h. omega arith; test = λ h. omega arith }))
+        (block-ahead inner true true (p + 1) body faults (record { beyond = λ h. omega arith; test = λ h. omega arith }))
         (branch-ahead e true (p + 1 + m) (p + 1)))
     statement-ahead loop in_loop p (Leave at exit) stands faults loops = leave-ahead p in_loop loop exit loops stands
     statement-ahead loop in_loop p (ReturnWith at e) stands faults loops = return-ahead p e
     statement-ahead loop in_loop p (Try at block handlers) stands faults loops =
         let m = block_size program block in
-        let j = jumps_behind block handlers in
+        let j = jumps_after block handlers in
         let k = jump_size j in
         let z = handlers_size program handlers in
         let none = append_empty (block_faults program in_loop true block) (handlers_faults program in_loop (block_ends program block) handlers) faults in
@@ -242,23 +242,23 @@ module _ (program : Program) where
         (statement-ahead loop in_loop p statement stands here.1 (sooner (p + m) (p + (m + z)) in_loop loop (omega arith) loops))
         (block-ahead loop in_loop goes (p + m) rest later.1 (sooner (p + m + z) (p + (m + z)) in_loop loop (omega arith) loops))
 
-    handlers-ahead : (loop : Loop) (in_loop : Bool) (behind p : ℕ) (ends : List Exit) (handlers : Handlers) → handlers_faults program in_loop ends handlers ≡ []
-        → p + handlers_size program handlers ≡ behind → LoopAhead behind in_loop loop → Ahead p (handlers_code program loop behind p handlers)
-    handlers-ahead loop in_loop behind p ends NoMore faults size loops = ahead-none p
-    handlers-ahead loop in_loop behind p ends (Catch at exception body rest) faults size loops =
+    handlers-ahead : (loop : Loop) (in_loop : Bool) (beyond p : ℕ) (ends : List Exit) (handlers : Handlers) → handlers_faults program in_loop ends handlers ≡ []
+        → p + handlers_size program handlers ≡ beyond → LoopAhead beyond in_loop loop → Ahead p (handlers_code program loop beyond p handlers)
+    handlers-ahead loop in_loop beyond p ends NoMore faults size loops = ahead-none p
+    handlers-ahead loop in_loop beyond p ends (Catch at exception body rest) faults size loops =
         let m = block_size program body in
-        let j = jumps_behind body rest in
+        let j = jumps_after body rest in
         let k = jump_size j in
         let z = handlers_size program rest in
         let raised = fault_unless (has_end ends (Throw exception)) NeverRaised at in
         let others = filter (λ exit. not (same_exit (Throw exception) exit)) ends in
         let later = append_empty (raised ++ block_faults program in_loop true body) (handlers_faults program in_loop others rest) faults in
         let here = append_empty raised (block_faults program in_loop true body) later.0 in
-        let is : p + (m + (k + z)) ≡ behind = size in
+        let is : p + (m + (k + z)) ≡ beyond = size in
         ahead-both p m (block_code program loop p body) _ (block-sized program loop p body)
-        (block-ahead loop in_loop true p body here.1 (sooner (p + m) behind in_loop loop (omega (arith, is)) loops))
-        (ahead-both (p + m) k (jump_code j behind) _ (jump-sized j behind) (jump-ahead (p + m) j behind (omega (arith, is)))
-        (handlers-ahead loop in_loop behind (p + m + k) others rest later.1 (omega (arith, is)) loops))
+        (block-ahead loop in_loop true p body here.1 (sooner (p + m) beyond in_loop loop (omega (arith, is)) loops))
+        (ahead-both (p + m) k (jump_code j beyond) _ (jump-sized j beyond) (jump-ahead (p + m) j beyond (omega (arith, is)))
+        (handlers-ahead loop in_loop beyond (p + m + k) others rest later.1 (omega (arith, is)) loops))
 
 end-ahead : (at : ℕ) (falls : Bool) → Ahead at (end_code falls)
 end-ahead at true = ahead-one at instruction.Return refl
@@ -268,6 +268,6 @@ pub body-forward : (program : Program) (body : Block) → block_faults program f
 body-forward program body faults =
     let code = ahead-both 0 (block_size program body) (block_code program no_loop 0 body) (end_code (block_falls body)) (block-sized program no_loop 0 body)
     (block-ahead program no_loop false true 0 body faults
-    (record { behind = λ h. absurd (let no : false ≡ true = h in cc); test = λ h. absurd (let no : false ≡ true = h in cc) }))
+    (record { beyond = λ h. absurd (let no : false ≡ true = h in cc); test = λ h. absurd (let no : false ≡ true = h in cc) }))
     (end-ahead (0 + block_size program body) (block_falls body)) in
-    λ place target e. omega (arith, code.each place target e)
+    λ position target e. omega (arith, code.each position target e)

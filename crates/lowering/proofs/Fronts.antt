@@ -34,7 +34,7 @@ module _ {A : Type 0} (front : List A) (x : A) (rest : List A) where
   within_seam : length front < length (front ++ x ∷ rest)
   within_seam = omega (arith, length-append front (x ∷ rest))
 
-  -- what holds of each element holds of the one behind the front
+  -- what holds of each element holds of the one after the front
   pub All-at_seam : (P : A → Type 0) → All P (front ++ x ∷ rest) → P x
   All-at_seam P all = subst P (at_seam x) (all (length front) x within_seam)
 
@@ -80,6 +80,6 @@ passes_among_first test zero front x rest below h = absurd (omega (arith, below)
 passes_among_first test (suc n) [] x rest below h = (and_parts (test x) _ h).0
 passes_among_first test (suc n) (y ∷ front) x rest below h = passes_among_first test n front x rest (omega (arith, below)) (and_parts (test y) _ h).1
 
--- a sum over all is at least that over the front with the term behind it
+-- a sum over all is at least that over the front with the term after it
 pub sum_at_seam : {A : Type 0} (f : A → ℕ) (front : List A) (x : A) (rest : List A) → sum_by f front + f x ≤ sum_by f (front ++ x ∷ rest)
 sum_at_seam f front x rest = omega (arith, sum_by-append f front (x ∷ rest), sum_by-cons f x rest)

@@ -13,7 +13,7 @@ use Rattle.resolved.specs.Tree.{Expression, Statement, Assign, Clear, Store, Rec
 use Rattle.resolved.specs.Program.{Program, ProcedureEntry, ResultEntry, procedure_at}
 use Rattle.resolved.specs.Ends.{same_exit, has_end, statement_ends, block_ends}
 use Rattle.resolved.specs.EndFaults.{fault_unless, may_leave, may_stand, inner_faults, block_faults, handlers_faults, may_end, procedure_faults, end_faults}
-use Rattle.resolved.specs.declared.fault.EndDefect.TheVariants.{OutsideLoop, Unreachable, NeverRaised, NoValueReturned, Undeclared}
+use Rattle.resolved.specs.declared.fault.EndRefusalKind.TheVariants.{OutsideLoop, Unreachable, NeverRaised, NoValueReturned, Undeclared}
 use Rattle.resolved.specs.WellFormed.{has_base, is_exception, statement_fits, block_fits, handlers_fit, procedure_fits}
 use Rattle.resolved.proofs.WellFormedParts.{program_parts, procedure_parts, passes_at}
 use Rattle.modules.specs.declared.instruction.Instruction.{Instruction}
@@ -21,7 +21,7 @@ use Rattle.modules.specs.declared.instruction.Instruction.TheVariants as instruc
 use Rattle.modules.specs.declared.declaration.Handler.{Handler}
 use Rattle.layout.specs.Graph.{IsHandlerIn, HasPositions}
 use Rattle.lowering.specs.Expressions.{value_size, value_code, arguments_code, branch_size}
-use Rattle.lowering.specs.Code.{Loop, statement_falls, block_falls, handlers_fall, is_empty, is_none_left, jump_size, jump_code, jumps_over, jumps_behind, result_code, leave_code, return_code, return_size, entry_of, statement_size, block_size, handlers_size, statement_code, block_code, handlers_code, statement_table, block_table, handlers_table}
+use Rattle.lowering.specs.Code.{Loop, statement_falls, block_falls, handlers_fall, is_empty, is_none_left, jump_size, jump_code, jumps_over, jumps_after, result_code, leave_code, return_code, return_size, entry_of, statement_size, block_size, handlers_size, statement_code, block_code, handlers_code, statement_table, block_table, handlers_table}
 use Rattle.lowering.specs.Graphs.{end_code, no_loop, body_code, procedure_contents}
 use Rattle.lowering.specs.Laws.{GraphsHavePositions}
 use Rattle.lowering.proofs.Sizes.{both_sized, block-sized}
@@ -53,14 +53,14 @@ record EndsIn (n end : ℕ) (falls : Bool) : Type 0 where
 
 -- where a loop goes: to positions, if there is a loop
 record LoopIn (n : ℕ) (in_loop : Bool) (loop : Loop) : Type 0 where
-  pub behind : in_loop ≡ true → loop.behind < n
+  pub beyond : in_loop ≡ true → loop.beyond < n
   pub test : in_loop ≡ true → loop.test < n
 
 -- ---- a part that does not end normally has code
 module _ (program : Program) where
   mutual
     statement-filled : (statement : Statement) → statement_falls statement ≡ false → 1 ≤ statement_size program statement
-    statement-filled (If at e yes_block no_block) falls = omega (arith, branch-filled e false)
+    statement-filled (If at e then_block else_block) falls = omega (arith, branch-filled e false)
     statement-filled (Leave at exit) falls = omega arith
     statement-filled (ReturnWith at None) falls = omega arith
     statement-filled (ReturnWith at (Some e)) falls = omega arith
@@ -92,7 +92,7 @@ result-below n (Some entry) target = one-below n _ (kept-below n target)
 leave-below : (n : ℕ) (in_loop : Bool) (loop : Loop) (exit : Exit) → LoopIn n in_loop loop → may_leave in_loop exit ≡ true → Below n (leave_code loop exit)
 leave-below n in_loop loop Normal loops h = tt
 leave-below n in_loop loop Return loops h = tt
-leave-below n in_loop loop Break loops h = loops.behind h
+leave-below n in_loop loop Break loops h = loops.beyond h
 leave-below n in_loop loop Continue loops h = loops.test h
 leave-below n in_loop loop (Throw exception) loops h = tt
 
@@ -146,32 +146,32 @@ module _ (program : Program) (procedure : ProcedureEntry) (n : ℕ) where
     statement-placed loop in_loop p (Call at f arguments target) fits stands faults loops ends =
         plain (both-below n (arguments_code p arguments) _ (arguments-below arguments p n (omega (arith, ends.within)))
         (more-below n (instruction.Call f) _ tt (result-below n (procedure_at program f).result target)))
-    statement-placed loop in_loop p (If at e yes_block no_block) fits stands faults loops ends =
+    statement-placed loop in_loop p (If at e then_block else_block) fits stands faults loops ends =
         let b = branch_size false e in
-        let y = block_size program yes_block in
-        let j = jumps_over yes_block no_block in
+        let y = block_size program then_block in
+        let j = jumps_over then_block else_block in
         let k = jump_size j in
-        let z = block_size program no_block in
-        let parts = and_parts (has_base program procedure Boolean e && block_fits program procedure yes_block) (block_fits program procedure no_block) fits in
-        let yes_fits : block_fits program procedure yes_block ≡ true = (and_parts (has_base program procedure Boolean e) (block_fits program procedure yes_block) parts.0).1 in
-        let no_fault = append_empty (block_faults program in_loop true yes_block) (block_faults program in_loop true no_block) faults in
+        let z = block_size program else_block in
+        let parts = and_parts (has_base program procedure Boolean e && block_fits program procedure then_block) (block_fits program procedure else_block) fits in
+        let yes_fits : block_fits program procedure then_block ≡ true = (and_parts (has_base program procedure Boolean e) (block_fits program procedure then_block) parts.0).1 in
+        let no_fault = append_empty (block_faults program in_loop true then_block) (block_faults program in_loop true else_block) faults in
         let within : p + (b + (y + (k + z))) ≤ n = ends.within in
-        let first : block_falls yes_block ≡ true → p + (b + (y + (k + z))) < n = λ h. ends.strict (or_left (block_falls yes_block) (block_falls no_block) h) in
-        let second : block_falls no_block ≡ true → p + (b + (y + (k + z))) < n = λ h. ends.strict (or_right (block_falls yes_block) (block_falls no_block) h) in
-        let yes_ends : EndsIn n (p + b + y) (block_falls yes_block) = record { within = omega (arith, within); strict = λ h. omega (arith, first h) } in
-        let no_ends : EndsIn n (p + b + y + k + z) (block_falls no_block) = record { within = omega (arith, within); strict = λ h. omega (arith, second h) } in
-        let over : j ≡ true → p + b + y + k + z < n = λ h. omega (arith, first (and_parts (block_falls yes_block) (not (is_empty no_block)) h).0) in
-        placed-both (plain (branch-below e false p (p + b + y + k) n (inside program yes_block (p + b) n yes_ends) (inside program no_block (p + b + y + k) n no_ends)))
-        (placed-both (block-placed loop in_loop true (p + b) yes_block yes_fits no_fault.0 loops yes_ends)
+        let first : block_falls then_block ≡ true → p + (b + (y + (k + z))) < n = λ h. ends.strict (or_left (block_falls then_block) (block_falls else_block) h) in
+        let second : block_falls else_block ≡ true → p + (b + (y + (k + z))) < n = λ h. ends.strict (or_right (block_falls then_block) (block_falls else_block) h) in
+        let yes_ends : EndsIn n (p + b + y) (block_falls then_block) = record { within = omega (arith, within); strict = λ h. omega (arith, first h) } in
+        let no_ends : EndsIn n (p + b + y + k + z) (block_falls else_block) = record { within = omega (arith, within); strict = λ h. omega (arith, second h) } in
+        let over : j ≡ true → p + b + y + k + z < n = λ h. omega (arith, first (and_parts (block_falls then_block) (not (is_empty else_block)) h).0) in
+        placed-both (plain (branch-below e false p (p + b + y + k) n (inside program then_block (p + b) n yes_ends) (inside program else_block (p + b + y + k) n no_ends)))
+        (placed-both (block-placed loop in_loop true (p + b) then_block yes_fits no_fault.0 loops yes_ends)
         (placed-both (plain (jump-below n j (p + b + y + k + z) over))
-        (block-placed loop in_loop true (p + b + y + k) no_block parts.1 no_fault.1 loops no_ends)))
+        (block-placed loop in_loop true (p + b + y + k) else_block parts.1 no_fault.1 loops no_ends)))
     statement-placed loop in_loop p (While at number e body) fits stands faults loops ends =
         let m = block_size program body in
         let b = branch_size true e in
         let strict : p + (1 + (m + b)) < n = ends.strict refl in
-        let inner : Loop = record { behind = p + 1 + m + b; test = p + 1 + m } in
+        let inner : Loop = record { beyond = p + 1 + m + b; test = p + 1 + m } in
         let placed = block-placed inner true true (p + 1) body (and_parts (has_base program procedure Boolean e) (block_fits program procedure body) fits).1 faults
-        (record { behind = λ h. omega (arith, strict); test = λ h. omega (arith, strict) })
+        (record { beyond = λ h. omega (arith, strict); test = λ h. omega (arith, strict) })
         (record { within = omega (arith, strict); strict = λ h. omega (arith, strict) }) in
         record {
           code = more-below n (instruction.Jump (p + 1 + m)) _ (omega (arith, strict))
@@ -182,7 +182,7 @@ module _ (program : Program) (procedure : ProcedureEntry) (n : ℕ) where
     statement-placed loop in_loop p (ReturnWith at e) fits stands faults loops ends = plain (return-below n p e ends.within)
     statement-placed loop in_loop p (Try at block handlers) fits stands faults loops ends =
         let m = block_size program block in
-        let j = jumps_behind block handlers in
+        let j = jumps_after block handlers in
         let k = jump_size j in
         let z = handlers_size program handlers in
         let parts = and_parts (block_fits program procedure block) (handlers_fit program procedure handlers) fits in
@@ -221,14 +221,14 @@ module _ (program : Program) (procedure : ProcedureEntry) (n : ℕ) where
         (λ h. block-placed loop in_loop goes_on (p + m) rest parts.1 later.1 loops (rest_ends h))
         (λ h. unreached loop in_loop goes_on (p + m) rest (statement-none program procedure statement parts.0 h) later.1))
 
-    handlers-placed : (loop : Loop) (in_loop : Bool) (start end behind p : ℕ) (ends : List Exit) (handlers : Handlers)
+    handlers-placed : (loop : Loop) (in_loop : Bool) (start end beyond p : ℕ) (ends : List Exit) (handlers : Handlers)
         → handlers_fit program procedure handlers ≡ true → handlers_faults program in_loop ends handlers ≡ [] → LoopIn n in_loop loop
-        → end ≤ n → p + handlers_size program handlers ≡ behind → EndsIn n behind (handlers_fall handlers)
-        → Placed n (handlers_code program loop behind p handlers) (handlers_table program start end p handlers)
-    handlers-placed loop in_loop start end behind p ends NoMore fits faults loops tried size last = plain (none-below n)
-    handlers-placed loop in_loop start end behind p ends (Catch at exception body rest) fits faults loops tried size last =
+        → end ≤ n → p + handlers_size program handlers ≡ beyond → EndsIn n beyond (handlers_fall handlers)
+        → Placed n (handlers_code program loop beyond p handlers) (handlers_table program start end p handlers)
+    handlers-placed loop in_loop start end beyond p ends NoMore fits faults loops tried size last = plain (none-below n)
+    handlers-placed loop in_loop start end beyond p ends (Catch at exception body rest) fits faults loops tried size last =
         let m = block_size program body in
-        let j = jumps_behind body rest in
+        let j = jumps_after body rest in
         let k = jump_size j in
         let z = handlers_size program rest in
         let parts = and_parts (is_exception program exception && block_fits program procedure body) (handlers_fit program procedure rest) fits in
@@ -237,12 +237,12 @@ module _ (program : Program) (procedure : ProcedureEntry) (n : ℕ) where
         let others = filter (λ exit. not (same_exit (Throw exception) exit)) ends in
         let later = append_empty (raised ++ block_faults program in_loop true body) (handlers_faults program in_loop others rest) faults in
         let here = append_empty raised (block_faults program in_loop true body) later.0 in
-        let is : p + (m + (k + z)) ≡ behind = size in
-        let first : block_falls body ≡ true → behind < n = λ h. last.strict (or_left (block_falls body) (handlers_fall rest) h) in
+        let is : p + (m + (k + z)) ≡ beyond = size in
+        let first : block_falls body ≡ true → beyond < n = λ h. last.strict (or_left (block_falls body) (handlers_fall rest) h) in
         let body_ends : EndsIn n (p + m) (block_falls body) = record { within = omega (arith, is, last.within); strict = λ h. omega (arith, is, first h) } in
         let placed = placed-both (block-placed loop in_loop true p body body_fits here.1 loops body_ends)
-        (placed-both (plain (jump-below n j behind (λ h. first (and_parts (block_falls body) (not (is_none_left rest)) h).0)))
-        (handlers-placed loop in_loop start end behind (p + m + k) others rest parts.1 later.1 loops tried (omega (arith, is))
+        (placed-both (plain (jump-below n j beyond (λ h. first (and_parts (block_falls body) (not (is_none_left rest)) h).0)))
+        (handlers-placed loop in_loop start end beyond (p + m + k) others rest parts.1 later.1 loops tried (omega (arith, is))
         (record { within = last.within; strict = λ h. last.strict (or_right (block_falls body) (handlers_fall rest) h) }))) in
         record {
           code = placed.code;
@@ -259,7 +259,7 @@ procedure-placed program procedure fits faults =
     both_sized (block_code program no_loop 0 body) (end_code (block_falls body)) (block_size program body) (length (end_code (block_falls body))) (block-sized program no_loop 0 body) refl in
     let one : block_falls body ≡ true → length (end_code (block_falls body)) ≡ 1 = λ h. ap (λ (b : Bool). length (end_code b)) h in
     let placed = block-placed program procedure n no_loop false true 0 body fits faults
-    (record { behind = λ h. absurd (let no : false ≡ true = h in cc); test = λ h. absurd (let no : false ≡ true = h in cc) })
+    (record { beyond = λ h. absurd (let no : false ≡ true = h in cc); test = λ h. absurd (let no : false ≡ true = h in cc) })
     (record { within = omega (arith, size); strict = λ h. omega (arith, size, one h) }) in
     record {
       targets = (both-below n (block_code program no_loop 0 body) (end_code (block_falls body)) placed.code (end-below n (block_falls body))).each;

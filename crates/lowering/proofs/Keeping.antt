@@ -45,7 +45,7 @@ record Still (p : machine.MachineCode) (m : ℕ) (from : Machine) (sent : List P
 running : (state : machine.State) (ending : machine.Ending) (sent : List Pair) → ◌≡◌ {A = Machine} (Running state) (machine.Ended ending sent) → ⊥
 running state ending sent e = cc
 
--- steps that do not count are unconditional jumps, so a machine still runs behind them
+-- steps that do not count are unconditional jumps, so a machine still runs after them
 idle-by : (p : machine.MachineCode) (m : ℕ) (state : machine.State) (sent : List Pair)
     → ((on : machine.State) (sent : List Pair) → counts p m (Running on) ≤ 0 → on.sent ≡ sent → Still p m (Running on) sent)
     → counts p (suc m) (Running state) ≤ 0 → state.sent ≡ sent

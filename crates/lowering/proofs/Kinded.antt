@@ -24,9 +24,9 @@ use Rattle.modules.specs.declared.declaration.Slot.{Slot}
 use Rattle.modules.specs.declared.declaration.Slot.TheVariants as slot
 use Rattle.modules.specs.declared.value.ValueKind.{ValueKind}
 use Rattle.modules.specs.declared.value.ValueKind.TheVariants.{Int, Boolean}
-use Rattle.verifier.specs.declared.fault.CodeDefect.{CodeDefect}
-use Rattle.verifier.specs.declared.fault.CodeDefect.TheVariants.{OperandKind, SlotOrIndex}
-use Rattle.verifier.specs.Fixed.{instruction_defect, unless}
+use Rattle.verifier.specs.declared.fault.CodeRefusalKind.{CodeRefusalKind}
+use Rattle.verifier.specs.declared.fault.CodeRefusalKind.TheVariants.{OperandKind, SlotOrIndex}
+use Rattle.verifier.specs.Fixed.{instruction_refusal, unless}
 use Rattle.modules.specs.Targets.{goes_on, target_of}
 use Rattle.verifier.specs.Flow.{Effect, Leaves, Misses, exchanged, all_popped, and_then, pushed, effect}
 use Rattle.verifier.specs.Signatures.{called, exchange, is_array, is_input, is_output, is_scalar, slot_kind, value_kinds}
@@ -56,7 +56,7 @@ pops-all (kind ∷ wanted) kinds =
     ∙ pops-all wanted kinds
 
 -- ---- what a table has
-unless-right : (right : Bool) (wrong : CodeDefect) → right ≡ true → unless right wrong ≡ None
+unless-right : (right : Bool) (wrong : CodeRefusalKind) → right ≡ true → unless right wrong ≡ None
 unless-right right wrong h = ap (λ (b : Bool). unless b wrong) h
 
 -- a scalar whose base type passes a test
@@ -112,7 +112,7 @@ module _ (m : ModuleContents) (p : ProcedureContents) where
   slot_in (Local k) = slice_get p.slots k
 
   going : (i : Instruction) (before after : List ValueKind) → effect m p i before ≡ Leaves after → goes_on i ≡ true → target_of i ≡ None
-      → instruction_defect m p i ≡ None → Does m p i before after
+      → instruction_refusal m p i ≡ None → Does m p i before after
   going i before after leaves goes no_target fixed =
       record { after = after; leaves = leaves; follows = ap (λ (b : Bool). following b (Leaves after)) goes; no_target = no_target; fixed = fixed }
 

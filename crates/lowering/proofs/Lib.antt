@@ -8,7 +8,7 @@ pub mod Finals
 pub mod CodePieces
 pub mod Sizes
 pub mod States
-pub mod Rows
+pub mod SingleSteps
 pub mod Values
 pub mod Expressions
 pub mod Branches

@@ -20,7 +20,7 @@ use Rattle.resolved.specs.Value.{base_of}
 use Rattle.resolved.specs.Ends.{thrown_ends, declared_by}
 use Rattle.resolved.specs.EndFaults.{end_faults}
 use Rattle.resolved.specs.Meaning as meaning
-use Rattle.resolved.specs.Meaning.{Outcome, Ended, Stopped, Deep, OutOfTurns, leaving, entering, calls_with, block_meaning, state_after, first_cells_of_globals, channel_numbers, numbers_by}
+use Rattle.resolved.specs.Meaning.{Outcome, Ended, Stopped, Deep, OutOfFuel, leaving, entering, calls_with, block_meaning, state_after, first_cells_of_globals, channel_numbers, numbers_by}
 use Rattle.resolved.specs.WellFormed.{well_formed, parameters_of, has_result, same_base, main_fits, first_fits, size_fits, label_fits, is_zero_value}
 use Rattle.resolved.specs.Kinds.{StateFits, OutcomeFits, ArgumentsFit}
 use Rattle.resolved.proofs.WellFormedParts.{ProcedureParts, procedure_at_is, program_parts, passes_at}
@@ -43,7 +43,7 @@ use Rattle.lowering.specs.Graphs.{no_loop}
 use Rattle.lowering.proofs.Unthreaded.{unthreaded_graph}
 use Rattle.lowering.specs.SameMeaning.{ending_of}
 use Rattle.lowering.proofs.Steps.{Leads, Waits, leads-through}
-use Rattle.lowering.proofs.States.{place, cell_of, cells_of, left_of, left_by}
+use Rattle.lowering.proofs.States.{position, cell_of, cells_of, left_of, left_by}
 use Rattle.lowering.proofs.Outcomes.{Runs}
 use Rattle.lowering.proofs.Frames.{setting_of, procedure_there, slots-begin, cells_replicated}
 use Rattle.lowering.proofs.Calls.{nowhere, body-run, body-returns, calls-run}
@@ -92,7 +92,7 @@ rest_begins (Some entry) numbers = by entry.direction
 begins-so : (program : Program) (formed : well_formed program ≡ true) (world : source.World) (main : ProcedureEntry) (there : slice_get program.procedures program.main ≡ Some main)
     → ArgumentsFit (parameters_of main) []
     → ◌≡◌ {A = Machine} (Running (machine.first_state (unthreaded_graph program) world))
-    (place (setting_of program formed world program.main main there []) 0 [] (entering main [] (meaning.first_state program world)))
+    (position (setting_of program formed world program.main main there []) 0 [] (entering main [] (meaning.first_state program world)))
 begins-so program formed world main there none =
     let graph = unthreaded_graph program in
     let globals : (λ k. machine.cells_of_global (slice_get graph.globals k)) ≡ (λ n. cells_of (first_cells_of_globals (slice_get program.globals n))) =
@@ -128,9 +128,9 @@ module _ (program : Program) (formed : well_formed program ≡ true) (none : end
     ends-by : (s : source.SourceState) (back : source.SourceState → source.SourceState) (o : Outcome) → block_meaning (calls_with program k 511) k main.body s ≡ o
         → ((t : source.SourceState) → (back t).sent ≡ t.sent) → OutcomeFits program main Return main.result o
         → EndsAmong (Normal ∷ thrown_ends (declared_by main.throws)) (leaving back o)
-        → Runs (setting_of program formed world program.main main there []) no_loop nowhere k (place (setting_of program formed world program.main main there []) 0 [] s) (0 + block_size program main.body) o
-        → Comes (setting_of program formed world program.main main there []).p (place (setting_of program formed world program.main main there []) 0 [] s) (leaving back o)
-        ⊎ GoesOn (setting_of program formed world program.main main there []).p k (place (setting_of program formed world program.main main there []) 0 [] s) (leaving back o)
+        → Runs (setting_of program formed world program.main main there []) no_loop nowhere k (position (setting_of program formed world program.main main there []) 0 [] s) (0 + block_size program main.body) o
+        → Comes (setting_of program formed world program.main main there []).p (position (setting_of program formed world program.main main there []) 0 [] s) (leaving back o)
+        ⊎ GoesOn (setting_of program formed world program.main main there []).p k (position (setting_of program formed world program.main main there []) 0 [] s) (leaving back o)
     ends-by s back (Ended Normal None t) is same fit among run =
         inl (record { ending = machine.Finished; so = refl; leads = rw (same t) (leads-through _ _ _ _ run (body-returns program formed none world k 511 program.main main there [] s t None is (ap is_none nothing))) })
     ends-by s back (Ended Normal (Some v) t) is same fit among run = absurd (false≢true fit.returned)
@@ -141,7 +141,7 @@ module _ (program : Program) (formed : well_formed program ≡ true) (none : end
     ends-by s back (Ended Continue returned t) is same fit among run = absurd (false≢true (sym (thrown-continue (declared_by main.throws)) ∙ among))
     ends-by s back (Ended (Throw e) returned t) is same fit among run = inl (record { ending = machine.Threw e; so = refl; leads = rw (same t) run })
     ends-by s back (Stopped Deep t) is same fit among run = inl (record { ending = machine.Deep; so = refl; leads = rw (same t) run })
-    ends-by s back (Stopped OutOfTurns t) is same fit among run = inr (record { no_end = refl; waits = rw (same t) run })
+    ends-by s back (Stopped OutOfFuel t) is same fit among run = inr (record { no_end = refl; waits = rw (same t) run })
 
   abbrev Done : Outcome → Type 0
   Done o = Comes (graph_program (unthreaded_graph program)) (Running (machine.first_state (unthreaded_graph program) world)) o

@@ -28,9 +28,9 @@ use Rattle.lowering.proofs.Kinded.{scalar-type, array-type, Stated, load-does, l
 
 -- ---- values
 module _ (m : ModuleContents) (p : ProcedureContents) (whole : List Instruction) where
-  -- behind the left operand of a connective
-  short-flows : (connective : Connective) (at n : ℕ) (right : ℕ → List Instruction) (kinds : List ValueKind) → ((place : ℕ) → length (right place) ≡ n)
-      → ((place : ℕ) → Flows m p whole place (right place) (Unit {0}) kinds (Boolean ∷ kinds))
+  -- after the left operand of a connective
+  short-flows : (connective : Connective) (at n : ℕ) (right : ℕ → List Instruction) (kinds : List ValueKind) → ((position : ℕ) → length (right position) ≡ n)
+      → ((position : ℕ) → Flows m p whole position (right position) (Unit {0}) kinds (Boolean ∷ kinds))
       → Flows m p whole at (rest_of_short connective at n right) (Unit {0}) (Boolean ∷ kinds) (Boolean ∷ kinds)
   short-flows And at n right kinds size flows =
       flows-given m p whole ((kinds_at m p whole (at + 1 + n + 1) ≡ kinds) × (kinds_at m p whole (at + 1 + n + 1 + 1) ≡ Boolean ∷ kinds))
@@ -96,8 +96,8 @@ module _ (program : Program) (procedure : ProcedureEntry) (m : ModuleContents) (
       let inner = and_parts (same_base base.Boolean wanted) (has_base program procedure base.Boolean d) outer.0 in
       as-base base.Boolean wanted (same_base_is base.Boolean wanted inner.0)
       (flows-both m p whole (value_size d) (value-sized d at) (value-flows d base.Boolean at kinds inner.1)
-      (short-flows m p whole connective (at + value_size d) (value_size e) (λ place. value_code place e) kinds
-      (λ place. value-sized e place) (λ place. value-flows e base.Boolean place kinds outer.1)))
+      (short-flows m p whole connective (at + value_size d) (value_size e) (λ position. value_code position e) kinds
+      (λ position. value-sized e position) (λ position. value-flows e base.Boolean position kinds outer.1)))
 
   -- arguments, from the left: the last one is on the top
   pub arguments-flow : (parameters : List SlotEntry) (es : List Expression) (at : ℕ) (kinds : List ValueKind) → arguments_match program procedure parameters es ≡ true
@@ -137,8 +137,8 @@ module _ (program : Program) (procedure : ProcedureEntry) (m : ModuleContents) (
   branch-flows (Binary op d e) wanted at target kinds typed = test-flows (Binary op d e) wanted at target kinds typed
   branch-flows (Short connective d e) wanted at target kinds typed =
       let left = branch_size (deciding connective) d in
-      let behind = at + left + branch_size wanted e in
-      let decided = (if same_truth wanted (deciding connective) then target else behind) in
+      let beyond = at + left + branch_size wanted e in
+      let decided = (if same_truth wanted (deciding connective) then target else beyond) in
       let outer = and_parts (same_base base.Boolean base.Boolean && has_base program procedure base.Boolean d) (has_base program procedure base.Boolean e) typed in
       let first = branch-flows d (deciding connective) at decided kinds outer.0 in
       let second = branch-flows e wanted (at + left) target kinds outer.1 in
@@ -149,6 +149,6 @@ module _ (program : Program) (procedure : ProcedureEntry) (m : ModuleContents) (
       (λ h arrives.
       let next = here-back m p whole first_code second_code at left kinds kinds sized first.passes h in
       let ends = here-end m p whole second_code (at + left) (branch_size wanted e) kinds kinds (branch-sized e wanted (at + left) target) second.passes next in
-      (either-at (same_truth wanted (deciding connective)) target behind kinds arrives ends, arrives))
+      (either-at (same_truth wanted (deciding connective)) target beyond kinds arrives ends, arrives))
       (flows-both m p whole left sized (flows-given m p whole (kinds_at m p whole decided ≡ kinds) (λ h aims. aims.0) first)
       (flows-given m p whole (kinds_at m p whole target ≡ kinds) (λ h aims. aims.1) second))

@@ -10,7 +10,7 @@ use Rattle.resolved.specs.Program.{Program, ProcedureEntry, ResultEntry, procedu
 use Rattle.resolved.specs.WellFormed.{expression_nodes, some_nodes, statement_nodes, block_nodes, handlers_nodes, procedure_nodes, program_nodes, node_limit, well_formed}
 use Rattle.lowering.specs.Expressions.{value_size, arguments_size, branch_size, deciding}
 use Rattle.modules.specs.declared.instruction.Instruction.{Instruction}
-use Rattle.lowering.specs.Code.{Loop, block_code, jump_size, jumps_over, jumps_behind, result_size, return_size, statement_size, block_size, handlers_size}
+use Rattle.lowering.specs.Code.{Loop, block_code, jump_size, jumps_over, jumps_after, result_size, return_size, statement_size, block_size, handlers_size}
 use Rattle.lowering.specs.Graphs.{end_code}
 use Rattle.lowering.proofs.Sizes.{block-sized}
 
@@ -65,13 +65,13 @@ mutual
   statement-room program (Receive at channel target) = omega arith
   statement-room program (Send at channel e) = omega (arith, value-room e)
   statement-room program (Call at f arguments target) = omega (arith, arguments-room arguments, result-room (procedure_at program f).result)
-  statement-room program (If at e yes_block no_block) =
-      omega (arith, branch-room e false, block-room program yes_block, jump-room (jumps_over yes_block no_block), block-room program no_block)
+  statement-room program (If at e then_block else_block) =
+      omega (arith, branch-room e false, block-room program then_block, jump-room (jumps_over then_block else_block), block-room program else_block)
   statement-room program (While at number e body) = omega (arith, block-room program body, branch-room e true)
   statement-room program (Leave at exit) = omega arith
   statement-room program (ReturnWith at e) = omega (arith, return-room e)
   statement-room program (Try at block handlers) =
-      omega (arith, block-room program block, jump-room (jumps_behind block handlers), handlers-room program handlers)
+      omega (arith, block-room program block, jump-room (jumps_after block handlers), handlers-room program handlers)
   statement-room program (Nested at block) = omega (arith, block-room program block)
 
   pub block-room : (program : Program) (block : Block) → block_size program block ≤ 4 * block_nodes block
@@ -81,7 +81,7 @@ mutual
   handlers-room : (program : Program) (handlers : Handlers) → handlers_size program handlers ≤ 4 * handlers_nodes handlers
   handlers-room program NoMore = omega arith
   handlers-room program (Catch at exception body rest) =
-      omega (arith, block-room program body, jump-room (jumps_behind body rest), handlers-room program rest)
+      omega (arith, block-room program body, jump-room (jumps_after body rest), handlers-room program rest)
 
 -- the code of each procedure of a well-formed program
 pub bodies-short : (program : Program) → IsTrue (well_formed program) → All (λ (p : ProcedureEntry). block_size program p.body + 1 < 2 ^ 32) program.procedures
@@ -97,7 +97,7 @@ pub end-room : (falls : Bool) → length (end_code falls) ≤ 1
 end-room true = omega arith
 end-room false = omega arith
 
--- a body with the return behind it
+-- a body with the return after it
 pub body-short : (program : Program) (loop : Loop) (body : Block) (falls : Bool) (none code whole read : List Instruction) → block_size program body + 1 < 2 ^ 32
     → none ≡ [] → code ≡ none ++ block_code program loop (length none) body → whole ≡ code ++ end_code falls → read ≡ whole → length read < 2 ^ 32
 body-short program loop body falls none code whole read few empty made ended same =

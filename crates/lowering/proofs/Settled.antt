@@ -14,7 +14,7 @@ use Rattle.resolved.specs.Tree.{Expression, Statement, Assign, Clear, Store, Rec
 use Rattle.resolved.specs.Program.{Program, ProcedureEntry, ResultEntry, SlotEntry, procedure_at}
 use Rattle.resolved.specs.Ends.{same_exit, has_end, statement_ends, block_ends}
 use Rattle.resolved.specs.EndFaults.{fault_unless, may_leave, may_stand, inner_faults, block_faults, handlers_faults}
-use Rattle.resolved.specs.declared.fault.EndDefect.TheVariants.{OutsideLoop, Unreachable, NeverRaised}
+use Rattle.resolved.specs.declared.fault.EndRefusalKind.TheVariants.{OutsideLoop, Unreachable, NeverRaised}
 use Rattle.resolved.specs.WellFormed.{VariableType, variable_type, has_base, same_base, scalar_by, array_by, target_by, has_result, channel_is, parameters_of, arguments_match, call_matches, is_array, is_exception, may_leave_by, statement_fits, block_fits, handlers_fit}
 use Rattle.resolved.proofs.WellFormedParts.{procedure_at_is}
 use Rattle.resolved.proofs.Sound.Values.{same_base_is}
@@ -31,7 +31,7 @@ use Rattle.verifier.specs.Signatures.{is_input, is_output}
 use Rattle.verifier.specs.Flow.{pushed}
 use Rattle.lowering.specs.Interface.{kind_of_base, declared_slot, returned_kind}
 use Rattle.lowering.specs.Expressions.{store_of, store_element_of, value_size, value_code, arguments_size, arguments_code, branch_size, branch_code}
-use Rattle.lowering.specs.Code.{Loop, jump_size, jump_code, jumps_over, jumps_behind, kept_code, result_code, leave_code, return_code, entry_of, statement_size, block_size, handlers_size, statement_code, block_code, handlers_code, statement_table, block_table, handlers_table}
+use Rattle.lowering.specs.Code.{Loop, jump_size, jump_code, jumps_over, jumps_after, kept_code, result_code, leave_code, return_code, entry_of, statement_size, block_size, handlers_size, statement_code, block_code, handlers_code, statement_table, block_table, handlers_table}
 use Rattle.lowering.proofs.States.{slot_of_type}
 use Rattle.lowering.proofs.Sizes.{value-sized, arguments-sized, branch-sized, jump-sized, statement-sized, block-sized, handlers-sized}
 use Rattle.lowering.proofs.Flowing.{Does, Flows, Here, kinds_at, here-front, here-back, here-end, flows-none, flows-both, flows-given, flows-free, flows-one, flows-jump}
@@ -61,7 +61,7 @@ module _ (m : ModuleContents) (p : ProcedureContents) (whole : List Instruction)
     pub empty : kinds_at m p whole handler.target ≡ []
     pub there : nat_lt handler.exception (machine_code m).exceptions ≡ true
 
-  -- code with its handlers, without operands before and behind it
+  -- code with its handlers, without operands before and after it
   pub record Settles (at : ℕ) (code : List Instruction) (table : List Handler) (aims : Type 0) : Type 0 where
     pub flows : Flows m p whole at code aims [] []
     pub caught : Here m p whole code at [] → All Catches table
@@ -77,7 +77,7 @@ module _ (m : ModuleContents) (p : ProcedureContents) (whole : List Instruction)
         (second.caught (here-back m p whole xs ys at n [] [] size first.flows.passes h));
   }
 
-  -- behind code with handlers stands code without any
+  -- after code with handlers stands code without any
   pub settles-front : {at : ℕ} {xs ys : List Instruction} {es : List Handler} {aims : Type 0} (n : ℕ) → length xs ≡ n
       → Settles at xs es aims → Flows m p whole (at + n) ys aims [] [] → Settles at (xs ++ ys) es aims
   settles-front {at = at} {xs = xs} {ys = ys} n size first second = record {
@@ -91,7 +91,7 @@ module _ (m : ModuleContents) (p : ProcedureContents) (whole : List Instruction)
 
   -- where a loop goes there are no operands, if there is a loop
   pub record LoopFlows (in_loop : Bool) (loop : Loop) : Type 0 where
-    pub behind : in_loop ≡ true → kinds_at m p whole loop.behind ≡ []
+    pub beyond : in_loop ≡ true → kinds_at m p whole loop.beyond ≡ []
     pub test : in_loop ≡ true → kinds_at m p whole loop.test ≡ []
 
   jump-flows : (wanted : Bool) (at target : ℕ) (aims : Type 0) → (aims → kinds_at m p whole target ≡ []) → Flows m p whole at (jump_code wanted target) aims [] []
@@ -99,61 +99,61 @@ module _ (m : ModuleContents) (p : ProcedureContents) (whole : List Instruction)
   jump-flows false at target aims arrives = flows-none m p whole
 
   -- ---- forms that have blocks
-  -- a condition that goes behind the first block and its jump, and a first block that jumps over the second
-  if-settles : (place b y k z : ℕ) (j : Bool) (test first second : List Instruction) (es fs : List Handler) (aims : Type 0)
-      → length test ≡ b → length first ≡ y → length (jump_code j (place + b + y + k + z)) ≡ k → length second ≡ z
-      → Flows m p whole place test (kinds_at m p whole (place + b + y + k) ≡ []) [] []
-      → Settles (place + b) first es aims → Settles (place + b + y + k) second fs aims
-      → Settles place (test ++ (first ++ (jump_code j (place + b + y + k + z) ++ second))) (es ++ fs) aims
-  if-settles place b y k z j test first second es fs aims test_size first_size jump_sized second_size tests one other =
-      let jump = jump_code j (place + b + y + k + z) in
-      let Else : Type 0 = (kinds_at m p whole (place + b + y + k) ≡ []) in
-      let End : Type 0 = (kinds_at m p whole (place + b + y + k + z) ≡ []) in
-      let jumps = jump-flows j (place + b + y) (place + b + y + k + z) (aims × Else × End) (λ g. g.2) in
+  -- a condition that goes after the first block and its jump, and a first block that jumps over the second
+  if-settles : (position b y k z : ℕ) (j : Bool) (test first second : List Instruction) (es fs : List Handler) (aims : Type 0)
+      → length test ≡ b → length first ≡ y → length (jump_code j (position + b + y + k + z)) ≡ k → length second ≡ z
+      → Flows m p whole position test (kinds_at m p whole (position + b + y + k) ≡ []) [] []
+      → Settles (position + b) first es aims → Settles (position + b + y + k) second fs aims
+      → Settles position (test ++ (first ++ (jump_code j (position + b + y + k + z) ++ second))) (es ++ fs) aims
+  if-settles position b y k z j test first second es fs aims test_size first_size jump_sized second_size tests one other =
+      let jump = jump_code j (position + b + y + k + z) in
+      let Else : Type 0 = (kinds_at m p whole (position + b + y + k) ≡ []) in
+      let End : Type 0 = (kinds_at m p whole (position + b + y + k + z) ≡ []) in
+      let jumps = jump-flows j (position + b + y) (position + b + y + k + z) (aims × Else × End) (λ g. g.2) in
       settles-given (aims × Else × End)
       (λ h g.
-      let h1 = here-back m p whole test (first ++ (jump ++ second)) place b [] [] test_size tests.passes h in
-      let h2 = here-back m p whole first (jump ++ second) (place + b) y [] [] first_size one.flows.passes h1 in
-      let h3 = here-back m p whole jump second (place + b + y) k [] [] jump_sized jumps.passes h2 in
-      (g, h3.kinds_are, here-end m p whole second (place + b + y + k) z [] [] second_size other.flows.passes h3))
+      let h1 = here-back m p whole test (first ++ (jump ++ second)) position b [] [] test_size tests.passes h in
+      let h2 = here-back m p whole first (jump ++ second) (position + b) y [] [] first_size one.flows.passes h1 in
+      let h3 = here-back m p whole jump second (position + b + y) k [] [] jump_sized jumps.passes h2 in
+      (g, h3.kinds_are, here-end m p whole second (position + b + y + k) z [] [] second_size other.flows.passes h3))
       (settles-both b test_size (settles-plain (flows-given m p whole Else (λ h g. g.1) tests))
       (settles-both y first_size (settles-given aims (λ h g. g.0) one)
       (settles-both k jump_sized (settles-plain jumps) (settles-given aims (λ h g. g.0) other))))
 
-  -- a loop: its test stands behind its body
-  while-settles : (place n b : ℕ) (body test : List Instruction) (es : List Handler) (aims : Type 0) → length body ≡ n → length test ≡ b
-      → Settles (place + 1) body es (LoopFlows true (record { behind = place + 1 + n + b; test = place + 1 + n }))
-      → Flows m p whole (place + 1 + n) test (kinds_at m p whole (place + 1) ≡ []) [] []
-      → Settles place (instruction.Jump (place + 1 + n) ∷ (body ++ test)) es aims
-  while-settles place n b body test es aims body_size test_size inner tests =
-      let Inner : Type 0 = LoopFlows true (record { behind = place + 1 + n + b; test = place + 1 + n }) in
-      let Start : Type 0 = (kinds_at m p whole (place + 1) ≡ []) in
-      let Test : Type 0 = (kinds_at m p whole (place + 1 + n) ≡ []) in
-      let begins : Settles (place + 1) (body ++ test) es (Inner × Start × Test) =
+  -- a loop: its test stands after its body
+  while-settles : (position n b : ℕ) (body test : List Instruction) (es : List Handler) (aims : Type 0) → length body ≡ n → length test ≡ b
+      → Settles (position + 1) body es (LoopFlows true (record { beyond = position + 1 + n + b; test = position + 1 + n }))
+      → Flows m p whole (position + 1 + n) test (kinds_at m p whole (position + 1) ≡ []) [] []
+      → Settles position (instruction.Jump (position + 1 + n) ∷ (body ++ test)) es aims
+  while-settles position n b body test es aims body_size test_size inner tests =
+      let Inner : Type 0 = LoopFlows true (record { beyond = position + 1 + n + b; test = position + 1 + n }) in
+      let Start : Type 0 = (kinds_at m p whole (position + 1) ≡ []) in
+      let Test : Type 0 = (kinds_at m p whole (position + 1 + n) ≡ []) in
+      let begins : Settles (position + 1) (body ++ test) es (Inner × Start × Test) =
       settles-front n body_size (settles-given Inner (λ h g. g.0) inner) (flows-given m p whole Start (λ h g. g.1) tests) in
-      let jumps : Flows m p whole place (instruction.Jump (place + 1 + n) ∷ []) (Inner × Start × Test) [] [] = flows-jump m p whole (place + 1 + n) (λ g. g.2) in
+      let jumps : Flows m p whole position (instruction.Jump (position + 1 + n) ∷ []) (Inner × Start × Test) [] [] = flows-jump m p whole (position + 1 + n) (λ g. g.2) in
       settles-given (Inner × Start × Test)
       (λ h g.
-      let h1 = here-back m p whole (instruction.Jump (place + 1 + n) ∷ []) (body ++ test) place 1 [] [] refl refl h in
-      let h2 = here-back m p whole body test (place + 1) n [] [] body_size inner.flows.passes h1 in
-      let end = here-end m p whole test (place + 1 + n) b [] [] test_size tests.passes h2 in
-      (record { behind = λ is. end; test = λ is. h2.kinds_are }, h1.kinds_are, h2.kinds_are))
+      let h1 = here-back m p whole (instruction.Jump (position + 1 + n) ∷ []) (body ++ test) position 1 [] [] refl refl h in
+      let h2 = here-back m p whole body test (position + 1) n [] [] body_size inner.flows.passes h1 in
+      let end = here-end m p whole test (position + 1 + n) b [] [] test_size tests.passes h2 in
+      (record { beyond = λ is. end; test = λ is. h2.kinds_are }, h1.kinds_are, h2.kinds_are))
       (settles-both 1 refl (settles-plain jumps) begins)
 
-  -- a block, a jump behind the handlers, and their bodies
-  try-settles : (place n k z : ℕ) (j : Bool) (block handlers : List Instruction) (es fs : List Handler) (aims : Type 0)
-      → length block ≡ n → length (jump_code j (place + n + k + z)) ≡ k → length handlers ≡ z
-      → Settles place block es aims → Settles (place + n + k) handlers fs (aims × (kinds_at m p whole (place + n + k + z) ≡ []))
-      → Settles place (block ++ (jump_code j (place + n + k + z) ++ handlers)) (es ++ fs) aims
-  try-settles place n k z j block handlers es fs aims block_size jump_sized handlers_size tries handles =
-      let jump = jump_code j (place + n + k + z) in
-      let End : Type 0 = (kinds_at m p whole (place + n + k + z) ≡ []) in
-      let jumps = jump-flows j (place + n) (place + n + k + z) (aims × End) (λ g. g.1) in
+  -- a block, a jump after the handlers, and their bodies
+  try-settles : (position n k z : ℕ) (j : Bool) (block handlers : List Instruction) (es fs : List Handler) (aims : Type 0)
+      → length block ≡ n → length (jump_code j (position + n + k + z)) ≡ k → length handlers ≡ z
+      → Settles position block es aims → Settles (position + n + k) handlers fs (aims × (kinds_at m p whole (position + n + k + z) ≡ []))
+      → Settles position (block ++ (jump_code j (position + n + k + z) ++ handlers)) (es ++ fs) aims
+  try-settles position n k z j block handlers es fs aims block_size jump_sized handlers_size tries handles =
+      let jump = jump_code j (position + n + k + z) in
+      let End : Type 0 = (kinds_at m p whole (position + n + k + z) ≡ []) in
+      let jumps = jump-flows j (position + n) (position + n + k + z) (aims × End) (λ g. g.1) in
       settles-given (aims × End)
       (λ h g.
-      let h1 = here-back m p whole block (jump ++ handlers) place n [] [] block_size tries.flows.passes h in
-      let h2 = here-back m p whole jump handlers (place + n) k [] [] jump_sized jumps.passes h1 in
-      (g, here-end m p whole handlers (place + n + k) z [] [] handlers_size handles.flows.passes h2))
+      let h1 = here-back m p whole block (jump ++ handlers) position n [] [] block_size tries.flows.passes h in
+      let h2 = here-back m p whole jump handlers (position + n) k [] [] jump_sized jumps.passes h1 in
+      (g, here-end m p whole handlers (position + n + k) z [] [] handlers_size handles.flows.passes h2))
       (settles-both n block_size (settles-given aims (λ h g. g.0) tries) (settles-both k jump_sized (settles-plain jumps) handles))
 
   entry-catches : (start end exception target : ℕ) → Catches (record { start = start; end = end; exception = exception; target = target })
@@ -164,18 +164,18 @@ module _ (m : ModuleContents) (p : ProcedureContents) (whole : List Instruction)
       by true = All-cons Catches (record { start = start; end = end; exception = exception; target = target }) [] h (All-nil Catches)
       by false = All-nil Catches
 
-  -- the body of a handler, a jump behind the handlers, and those that follow
-  catch-settles : (place n k start end exception behind : ℕ) (j : Bool) (body rest : List Instruction) (es fs : List Handler) (aims : Type 0)
-      → length body ≡ n → length (jump_code j behind) ≡ k → nat_lt exception (machine_code m).exceptions ≡ true
-      → Settles place body es aims → Settles (place + n + k) rest fs (aims × (kinds_at m p whole behind ≡ []))
-      → Settles place (body ++ (jump_code j behind ++ rest)) (entry_of start end exception place ++ (es ++ fs)) (aims × (kinds_at m p whole behind ≡ []))
-  catch-settles place n k start end exception behind j body rest es fs aims body_size jump_sized there catches others =
-      let jumps = jump-flows j (place + n) behind (aims × (kinds_at m p whole behind ≡ [])) (λ g. g.1) in
+  -- the body of a handler, a jump after the handlers, and those that follow
+  catch-settles : (position n k start end exception beyond : ℕ) (j : Bool) (body rest : List Instruction) (es fs : List Handler) (aims : Type 0)
+      → length body ≡ n → length (jump_code j beyond) ≡ k → nat_lt exception (machine_code m).exceptions ≡ true
+      → Settles position body es aims → Settles (position + n + k) rest fs (aims × (kinds_at m p whole beyond ≡ []))
+      → Settles position (body ++ (jump_code j beyond ++ rest)) (entry_of start end exception position ++ (es ++ fs)) (aims × (kinds_at m p whole beyond ≡ []))
+  catch-settles position n k start end exception beyond j body rest es fs aims body_size jump_sized there catches others =
+      let jumps = jump-flows j (position + n) beyond (aims × (kinds_at m p whole beyond ≡ [])) (λ g. g.1) in
       let all = settles-both n body_size (settles-given aims (λ h g. g.0) catches) (settles-both k jump_sized (settles-plain jumps) others) in
       record {
         flows = all.flows;
-        caught = λ h. All-append Catches (entry_of start end exception place) (es ++ fs)
-            (entry-catches start end exception place (record { empty = h.kinds_are; there = there })) (all.caught h);
+        caught = λ h. All-append Catches (entry_of start end exception position) (es ++ fs)
+            (entry-catches start end exception position (record { empty = h.kinds_are; there = there })) (all.caught h);
       }
 
 module _ (program : Program) (procedure : ProcedureEntry) (m : ModuleContents) (p : ProcedureContents) (whole : List Instruction) (stated : Stated program procedure m p) where
@@ -225,7 +225,7 @@ module _ (program : Program) (procedure : ProcedureEntry) (m : ModuleContents) (
       → Flows m p whole at (leave_code loop exit ∷ []) (LoopFlows m p whole in_loop loop) [] []
   leave-flows in_loop loop Normal at fits stands = absurd (let no : false ≡ true = fits in cc)
   leave-flows in_loop loop Return at fits stands = absurd (let no : false ≡ true = fits in cc)
-  leave-flows in_loop loop Break at fits stands = flows-jump m p whole loop.behind (λ loops. loops.behind stands)
+  leave-flows in_loop loop Break at fits stands = flows-jump m p whole loop.beyond (λ loops. loops.beyond stands)
   leave-flows in_loop loop Continue at fits stands = flows-jump m p whole loop.test (λ loops. loops.test stands)
   leave-flows in_loop loop (Throw exception) at fits stands = flows-one m p whole (throw-does m p exception (exception-there exception fits))
 
@@ -286,63 +286,63 @@ module _ (program : Program) (procedure : ProcedureEntry) (m : ModuleContents) (
 
   -- ---- statements, blocks and handlers
   mutual
-    pub statement-settles : (loop : Loop) (in_loop : Bool) (place : ℕ) (statement : Statement) → statement_fits program procedure statement ≡ true
+    pub statement-settles : (loop : Loop) (in_loop : Bool) (position : ℕ) (statement : Statement) → statement_fits program procedure statement ≡ true
         → may_stand in_loop statement ≡ true → inner_faults program in_loop statement ≡ []
-        → Settles m p whole place (statement_code program loop place statement) (statement_table program place statement) (LoopFlows m p whole in_loop loop)
-    statement-settles loop in_loop place (Assign mark x e) fits stands faults = free (assign-flows place x e fits)
-    statement-settles loop in_loop place (Clear mark k) fits stands faults = free (clear-flows place k fits)
-    statement-settles loop in_loop place (Store mark array size index e) fits stands faults = free (store-flows place array size index e mark fits)
-    statement-settles loop in_loop place (Receive mark channel target) fits stands faults = free (receive-flows place channel target mark fits)
-    statement-settles loop in_loop place (Send mark channel e) fits stands faults = free (send-flows place channel e mark fits)
-    statement-settles loop in_loop place (Call mark f arguments target) fits stands faults =
-        free (call-flows place f (slice_get program.procedures f) arguments target refl fits)
-    statement-settles loop in_loop place (If mark e yes_block no_block) fits stands faults =
+        → Settles m p whole position (statement_code program loop position statement) (statement_table program position statement) (LoopFlows m p whole in_loop loop)
+    statement-settles loop in_loop position (Assign mark x e) fits stands faults = free (assign-flows position x e fits)
+    statement-settles loop in_loop position (Clear mark k) fits stands faults = free (clear-flows position k fits)
+    statement-settles loop in_loop position (Store mark array size index e) fits stands faults = free (store-flows position array size index e mark fits)
+    statement-settles loop in_loop position (Receive mark channel target) fits stands faults = free (receive-flows position channel target mark fits)
+    statement-settles loop in_loop position (Send mark channel e) fits stands faults = free (send-flows position channel e mark fits)
+    statement-settles loop in_loop position (Call mark f arguments target) fits stands faults =
+        free (call-flows position f (slice_get program.procedures f) arguments target refl fits)
+    statement-settles loop in_loop position (If mark e then_block else_block) fits stands faults =
         let b = branch_size false e in
-        let y = block_size program yes_block in
-        let j = jumps_over yes_block no_block in
+        let y = block_size program then_block in
+        let j = jumps_over then_block else_block in
         let k = jump_size j in
-        let z = block_size program no_block in
-        let parts = and_parts (has_base program procedure base.Boolean e && block_fits program procedure yes_block) (block_fits program procedure no_block) fits in
-        let first = and_parts (has_base program procedure base.Boolean e) (block_fits program procedure yes_block) parts.0 in
-        let none = append_empty (block_faults program in_loop true yes_block) (block_faults program in_loop true no_block) faults in
-        let other = place + b + y + k in
-        if-settles m p whole place b y k z j (branch_code false place other e) (block_code program loop (place + b) yes_block) (block_code program loop other no_block)
-        (block_table program (place + b) yes_block) (block_table program other no_block) (LoopFlows m p whole in_loop loop)
-        (branch-sized e false place other) (block-sized program loop (place + b) yes_block) (jump-sized j (other + z)) (block-sized program loop other no_block)
-        (branch-flows program procedure m p whole stated e false place other [] first.0)
-        (block-settles loop in_loop true (place + b) yes_block first.1 none.0) (block-settles loop in_loop true other no_block parts.1 none.1)
-    statement-settles loop in_loop place (While mark number e body) fits stands faults =
+        let z = block_size program else_block in
+        let parts = and_parts (has_base program procedure base.Boolean e && block_fits program procedure then_block) (block_fits program procedure else_block) fits in
+        let first = and_parts (has_base program procedure base.Boolean e) (block_fits program procedure then_block) parts.0 in
+        let none = append_empty (block_faults program in_loop true then_block) (block_faults program in_loop true else_block) faults in
+        let other = position + b + y + k in
+        if-settles m p whole position b y k z j (branch_code false position other e) (block_code program loop (position + b) then_block) (block_code program loop other else_block)
+        (block_table program (position + b) then_block) (block_table program other else_block) (LoopFlows m p whole in_loop loop)
+        (branch-sized e false position other) (block-sized program loop (position + b) then_block) (jump-sized j (other + z)) (block-sized program loop other else_block)
+        (branch-flows program procedure m p whole stated e false position other [] first.0)
+        (block-settles loop in_loop true (position + b) then_block first.1 none.0) (block-settles loop in_loop true other else_block parts.1 none.1)
+    statement-settles loop in_loop position (While mark number e body) fits stands faults =
         let n = block_size program body in
         let b = branch_size true e in
-        let inner : Loop = record { behind = place + 1 + n + b; test = place + 1 + n } in
+        let inner : Loop = record { beyond = position + 1 + n + b; test = position + 1 + n } in
         let parts = and_parts (has_base program procedure base.Boolean e) (block_fits program procedure body) fits in
-        while-settles m p whole place n b (block_code program inner (place + 1) body) (branch_code true (place + 1 + n) (place + 1) e)
-        (block_table program (place + 1) body) (LoopFlows m p whole in_loop loop)
-        (block-sized program inner (place + 1) body) (branch-sized e true (place + 1 + n) (place + 1))
-        (block-settles inner true true (place + 1) body parts.1 faults)
-        (branch-flows program procedure m p whole stated e true (place + 1 + n) (place + 1) [] parts.0)
-    statement-settles loop in_loop place (Leave mark exit) fits stands faults = settles-plain m p whole (leave-flows in_loop loop exit place fits stands)
-    statement-settles loop in_loop place (ReturnWith mark e) fits stands faults = free (return-flows place e mark fits)
-    statement-settles loop in_loop place (Try mark block handlers) fits stands faults =
+        while-settles m p whole position n b (block_code program inner (position + 1) body) (branch_code true (position + 1 + n) (position + 1) e)
+        (block_table program (position + 1) body) (LoopFlows m p whole in_loop loop)
+        (block-sized program inner (position + 1) body) (branch-sized e true (position + 1 + n) (position + 1))
+        (block-settles inner true true (position + 1) body parts.1 faults)
+        (branch-flows program procedure m p whole stated e true (position + 1 + n) (position + 1) [] parts.0)
+    statement-settles loop in_loop position (Leave mark exit) fits stands faults = settles-plain m p whole (leave-flows in_loop loop exit position fits stands)
+    statement-settles loop in_loop position (ReturnWith mark e) fits stands faults = free (return-flows position e mark fits)
+    statement-settles loop in_loop position (Try mark block handlers) fits stands faults =
         let n = block_size program block in
-        let j = jumps_behind block handlers in
+        let j = jumps_after block handlers in
         let k = jump_size j in
         let z = handlers_size program handlers in
-        let behind = place + n + k + z in
+        let beyond = position + n + k + z in
         let parts = and_parts (block_fits program procedure block) (handlers_fit program procedure handlers) fits in
         let none = append_empty (block_faults program in_loop true block) (handlers_faults program in_loop (block_ends program block) handlers) faults in
-        try-settles m p whole place n k z j (block_code program loop place block) (handlers_code program loop behind (place + n + k) handlers)
-        (block_table program place block) (handlers_table program place (place + n) (place + n + k) handlers) (LoopFlows m p whole in_loop loop)
-        (block-sized program loop place block) (jump-sized j behind) (handlers-sized program loop behind (place + n + k) handlers)
-        (block-settles loop in_loop true place block parts.0 none.0)
-        (handlers-settle loop in_loop place (place + n) behind (place + n + k) (block_ends program block) handlers parts.1 none.1)
-    statement-settles loop in_loop place (Nested mark block) fits stands faults = block-settles loop in_loop true place block fits faults
+        try-settles m p whole position n k z j (block_code program loop position block) (handlers_code program loop beyond (position + n + k) handlers)
+        (block_table program position block) (handlers_table program position (position + n) (position + n + k) handlers) (LoopFlows m p whole in_loop loop)
+        (block-sized program loop position block) (jump-sized j beyond) (handlers-sized program loop beyond (position + n + k) handlers)
+        (block-settles loop in_loop true position block parts.0 none.0)
+        (handlers-settle loop in_loop position (position + n) beyond (position + n + k) (block_ends program block) handlers parts.1 none.1)
+    statement-settles loop in_loop position (Nested mark block) fits stands faults = block-settles loop in_loop true position block fits faults
 
-    pub block-settles : (loop : Loop) (in_loop reached : Bool) (place : ℕ) (block : Block) → block_fits program procedure block ≡ true
+    pub block-settles : (loop : Loop) (in_loop reached : Bool) (position : ℕ) (block : Block) → block_fits program procedure block ≡ true
         → block_faults program in_loop reached block ≡ []
-        → Settles m p whole place (block_code program loop place block) (block_table program place block) (LoopFlows m p whole in_loop loop)
-    block-settles loop in_loop reached place Empty fits faults = settles-plain m p whole (flows-none m p whole)
-    block-settles loop in_loop reached place (Then statement rest) fits faults =
+        → Settles m p whole position (block_code program loop position block) (block_table program position block) (LoopFlows m p whole in_loop loop)
+    block-settles loop in_loop reached position Empty fits faults = settles-plain m p whole (flows-none m p whole)
+    block-settles loop in_loop reached position (Then statement rest) fits faults =
         let first = fault_unless (may_stand in_loop statement) OutsideLoop (place_of statement) in
         let second = fault_unless reached Unreachable (place_of statement) in
         let goes_on = has_end (statement_ends program statement) Normal in
@@ -350,18 +350,18 @@ module _ (program : Program) (procedure : ProcedureEntry) (m : ModuleContents) (
         let here = append_empty (first ++ second) (inner_faults program in_loop statement) later.0 in
         let stands = no_fault-test (may_stand in_loop statement) OutsideLoop (place_of statement) (append_empty first second here.0).0 in
         let parts = and_parts (statement_fits program procedure statement) (block_fits program procedure rest) fits in
-        settles-both m p whole (statement_size program statement) (statement-sized program loop place statement)
-        (statement-settles loop in_loop place statement parts.0 stands here.1)
-        (block-settles loop in_loop goes_on (place + statement_size program statement) rest parts.1 later.1)
+        settles-both m p whole (statement_size program statement) (statement-sized program loop position statement)
+        (statement-settles loop in_loop position statement parts.0 stands here.1)
+        (block-settles loop in_loop goes_on (position + statement_size program statement) rest parts.1 later.1)
 
-    pub handlers-settle : (loop : Loop) (in_loop : Bool) (start end behind place : ℕ) (ends : List Exit) (handlers : Handlers)
+    pub handlers-settle : (loop : Loop) (in_loop : Bool) (start end beyond position : ℕ) (ends : List Exit) (handlers : Handlers)
         → handlers_fit program procedure handlers ≡ true → handlers_faults program in_loop ends handlers ≡ []
-        → Settles m p whole place (handlers_code program loop behind place handlers) (handlers_table program start end place handlers)
-        ((LoopFlows m p whole in_loop loop) × (kinds_at m p whole behind ≡ []))
-    handlers-settle loop in_loop start end behind place ends NoMore fits faults = settles-plain m p whole (flows-none m p whole)
-    handlers-settle loop in_loop start end behind place ends (Catch mark exception body rest) fits faults =
+        → Settles m p whole position (handlers_code program loop beyond position handlers) (handlers_table program start end position handlers)
+        ((LoopFlows m p whole in_loop loop) × (kinds_at m p whole beyond ≡ []))
+    handlers-settle loop in_loop start end beyond position ends NoMore fits faults = settles-plain m p whole (flows-none m p whole)
+    handlers-settle loop in_loop start end beyond position ends (Catch mark exception body rest) fits faults =
         let n = block_size program body in
-        let j = jumps_behind body rest in
+        let j = jumps_after body rest in
         let k = jump_size j in
         let parts = and_parts (is_exception program exception && block_fits program procedure body) (handlers_fit program procedure rest) fits in
         let first = and_parts (is_exception program exception) (block_fits program procedure body) parts.0 in
@@ -369,8 +369,8 @@ module _ (program : Program) (procedure : ProcedureEntry) (m : ModuleContents) (
         let others = filter (λ exit. not (same_exit (Throw exception) exit)) ends in
         let later = append_empty (raised ++ block_faults program in_loop true body) (handlers_faults program in_loop others rest) faults in
         let here = append_empty raised (block_faults program in_loop true body) later.0 in
-        catch-settles m p whole place n k start end exception behind j (block_code program loop place body) (handlers_code program loop behind (place + n + k) rest)
-        (block_table program place body) (handlers_table program start end (place + n + k) rest) (LoopFlows m p whole in_loop loop)
-        (block-sized program loop place body) (jump-sized j behind) (exception-there exception first.0)
-        (block-settles loop in_loop true place body first.1 here.1)
-        (handlers-settle loop in_loop start end behind (place + n + k) others rest parts.1 later.1)
+        catch-settles m p whole position n k start end exception beyond j (block_code program loop position body) (handlers_code program loop beyond (position + n + k) rest)
+        (block_table program position body) (handlers_table program start end (position + n + k) rest) (LoopFlows m p whole in_loop loop)
+        (block-sized program loop position body) (jump-sized j beyond) (exception-there exception first.0)
+        (block-settles loop in_loop true position body first.1 here.1)
+        (handlers-settle loop in_loop start end beyond (position + n + k) others rest parts.1 later.1)

@@ -27,14 +27,14 @@ use Rattle.modules.specs.declared.declaration.Slot.TheVariants as slot
 use Rattle.modules.specs.declared.instruction.Instruction.{Instruction}
 use Rattle.modules.specs.declared.instruction.Instruction.TheVariants as instruction
 use Rattle.modules.specs.Values.{zero_of, has_kind}
-use Rattle.modules.specs.Machine.{State, returns_nothing, leaves_without, returns_value, gives_back, leaves_value, raised, no_row}
+use Rattle.modules.specs.Machine.{State, returns_nothing, leaves_without, returns_value, gives_back, leaves_value, raised, stuck}
 use Rattle.lowering.specs.Interface.{kind_of_base, returned_kind}
 use Rattle.lowering.specs.Expressions.{store_of}
 use Rattle.lowering.specs.Code.{Loop, kept_code, leave_code}
 use Rattle.lowering.proofs.CodePieces.{Stands}
 use Rattle.lowering.proofs.Steps.{Leads}
-use Rattle.lowering.proofs.States.{Setting, state_at, place, cell_of, cells_of, thrown_to, returned_to, raised-is, leaves-is, leaves_value-is, kind-same, left_of, left_by, direction_in}
-use Rattle.lowering.proofs.Rows.{does, onward, slot_for, stores-is}
+use Rattle.lowering.proofs.States.{Setting, state_at, position, cell_of, cells_of, thrown_to, returned_to, raised-is, leaves-is, leaves_value-is, kind-same, left_of, left_by, direction_in}
+use Rattle.lowering.proofs.SingleSteps.{does, onward, slot_for, stores-is}
 use Rattle.lowering.proofs.Values.{scalar-there}
 use Rattle.lowering.proofs.Expressions.{jump-runs}
 use Rattle.lowering.proofs.Outcomes.{Runs}
@@ -62,7 +62,7 @@ module _ (g : Setting) (loop : Loop) (h : ℕ → Option ℕ) (k : ℕ) (s : sou
   -- a value goes into a scalar of its base type
   pub stores-scalar : (x : Variable) (v : Value) (at : ℕ) (operands : List Cell) (more : List Instruction) (test : Base → Bool)
       → scalar_by (variable_type g.program g.procedure x) test ≡ true → ((b : Base) → test b ≡ true → base_of v ≡ b)
-      → Stands g.code (store_of x ∷ more) at → Leads g.p (place g at (cell_of v ∷ operands) s) (place g (at + 1) operands (assigned s x v))
+      → Stands g.code (store_of x ∷ more) at → Leads g.p (position g at (cell_of v ∷ operands) s) (position g (at + 1) operands (assigned s x v))
   stores-scalar x v at operands more test typed same stands =
       let there = scalar-there (variable_type g.program g.procedure x) test typed in
       let type : VariableType = there.0 in
@@ -74,19 +74,19 @@ module _ (g : Setting) (loop : Loop) (h : ℕ → Option ℕ) (k : ℕ) (s : sou
 
   -- ---- leaving
   pub leaves-runs : (way : Exit) (at : ℕ) (more : List Instruction) → may_leave_by g.program way ≡ true → Stands g.code (leave_code loop way ∷ more) at
-      → ((exception : ℕ) → g.p.find g.number at exception ≡ h exception) → Runs g loop h k (place g at [] s) (at + 1) (Ended way None s)
+      → ((exception : ℕ) → g.p.find g.number at exception ≡ h exception) → Runs g loop h k (position g at [] s) (at + 1) (Ended way None s)
   leaves-runs exit.Normal at more may stands finds = absurd (let no : false ≡ true = may in cc)
   leaves-runs exit.Return at more may stands finds = absurd (let no : false ≡ true = may in cc)
-  leaves-runs exit.Break at more may stands finds = jump-runs g h s loop.behind at [] more stands
+  leaves-runs exit.Break at more may stands finds = jump-runs g h s loop.beyond at [] more stands
   leaves-runs exit.Continue at more may stands finds = jump-runs g h s loop.test at [] more stands
   leaves-runs (exit.Throw exception) at more may stands finds =
       does g more (instruction.Throw exception) at [] s _ stands
-      (ap (λ (n : ℕ). if nat_lt exception n then raised g.p (state_at g at [] s) exception else no_row (state_at g at [] s)) g.exceptions_there
-      ∙ ap (λ (b : Bool). if b then raised g.p (state_at g at [] s) exception else no_row (state_at g at [] s)) may
+      (ap (λ (n : ℕ). if nat_lt exception n then raised g.p (state_at g at [] s) exception else stuck (state_at g at [] s)) g.exceptions_there
+      ∙ ap (λ (b : Bool). if b then raised g.p (state_at g at [] s) exception else stuck (state_at g at [] s)) may
       ∙ raised-is g at [] s exception ∙ ap (λ (o : Option ℕ). thrown_to g o exception s) (finds exception))
 
   pub returns-nothing : (at : ℕ) (more : List Instruction) → is_none g.procedure.result ≡ true → Stands g.code (instruction.Return ∷ more) at
-      → Leads g.p (place g at [] s) (returned_to g None s)
+      → Leads g.p (position g at [] s) (returned_to g None s)
   returns-nothing at more none stands =
       does g more instruction.Return at [] s _ stands
       (ap (returns_nothing (state_at g at [] s)) g.header_is ∙ ap (leaves_without (state_at g at [] s)) (g.returned_is ∙ ap returned_kind (none_there g.procedure.result none))
@@ -97,7 +97,7 @@ module _ (g : Setting) (loop : Loop) (h : ℕ → Option ℕ) (k : ℕ) (s : sou
   gives_kind at v kind e = rw e refl
 
   pub returns-value : (at : ℕ) (more : List Instruction) (v : Value) (entry : resolved.ResultEntry) → g.procedure.result ≡ Some entry → base_of v ≡ entry.base
-      → Stands g.code (instruction.ReturnValue ∷ more) at → Leads g.p (place g at (cell_of v ∷ []) s) (returned_to g (Some v) s)
+      → Stands g.code (instruction.ReturnValue ∷ more) at → Leads g.p (position g at (cell_of v ∷ []) s) (returned_to g (Some v) s)
   returns-value at more v entry result same stands =
       let S = state_at g at (cell_of v ∷ []) s in
       does g more instruction.ReturnValue at (cell_of v ∷ []) s _ stands
@@ -143,6 +143,6 @@ module _ (g : Setting) (loop : Loop) (h : ℕ → Option ℕ) (k : ℕ) (s : sou
       go (Some entry) e = by entry.direction e
 
   pub kept-runs : (target : Option Variable) (z : ℤ) (at : ℕ) (more : List Instruction) → target_by g.program g.procedure target (same_base base.Int) ≡ true
-      → Stands g.code (kept_code target ∷ more) at → Leads g.p (place g at (cell.Int z ∷ []) s) (place g (at + 1) [] (kept_in target (Number z) s))
+      → Stands g.code (kept_code target ∷ more) at → Leads g.p (position g at (cell.Int z ∷ []) s) (position g (at + 1) [] (kept_in target (Number z) s))
   kept-runs None z at more typed stands = does g more instruction.Pop at (cell.Int z ∷ []) s _ stands (onward g at (cell.Int z ∷ []) [] s)
   kept-runs (Some x) z at more typed stands = stores-scalar x (Number z) at [] more (same_base base.Int) typed (λ b e. same_base_is base.Int b e) stands

@@ -11,7 +11,7 @@ use Rattle.resolved.specs.Program.{Program, ResultEntry, procedure_at}
 use Rattle.modules.specs.declared.instruction.Instruction.{Instruction}
 use Rattle.modules.specs.declared.instruction.Instruction.TheVariants as instruction
 use Rattle.lowering.specs.Expressions.{store_of, store_element_of, load_element_of, prefix_instruction, operator_instruction, value_size, value_code, rest_of_short, arguments_size, arguments_code, tested, deciding, branch_size, branch_code, test_code}
-use Rattle.lowering.specs.Code.{Loop, jump_size, jump_code, jumps_over, jumps_behind, result_size, result_code, return_size, return_code, no_place, test_place, handlers_place, statement_size, block_size, handlers_size, statement_code, block_code, handlers_code}
+use Rattle.lowering.specs.Code.{Loop, jump_size, jump_code, jumps_over, jumps_after, result_size, result_code, return_size, return_code, no_position, test_position, handlers_position, statement_size, block_size, handlers_size, statement_code, block_code, handlers_code}
 
 -- two pieces of code
 pub both_sized : (xs ys : List Instruction) (m n : ℕ) → length xs ≡ m → length ys ≡ n → length (xs ++ ys) ≡ m + n
@@ -20,7 +20,7 @@ both_sized xs ys m n h k = length-append xs ys ∙ omega (arith, h, k)
 one_more : (x : Instruction) (xs : List Instruction) (n : ℕ) → length xs ≡ n → length (x ∷ xs) ≡ 1 + n
 one_more x xs n h = omega (arith, h)
 
-short_sized : (connective : Connective) (at n : ℕ) (right : ℕ → List Instruction) → ((place : ℕ) → length (right place) ≡ n)
+short_sized : (connective : Connective) (at n : ℕ) (right : ℕ → List Instruction) → ((position : ℕ) → length (right position) ≡ n)
     → length (rest_of_short connective at n right) ≡ 1 + (n + 2)
 short_sized And at n right h =
     one_more (instruction.JumpIfFalse (at + 1 + n + 1)) _ (n + 2) (both_sized (right (at + 1)) (instruction.Jump (at + 1 + n + 1 + 1) ∷ instruction.PushBoolean false ∷ []) n 2 (h (at + 1)) refl)
@@ -36,8 +36,8 @@ value-sized (Binary operator d e) at =
     both_sized (value_code at d) (value_code (at + value_size d) e ++ operator_instruction operator ∷ []) (value_size d) (value_size e + 1) (value-sized d at)
     (both_sized (value_code (at + value_size d) e) (operator_instruction operator ∷ []) (value_size e) 1 (value-sized e (at + value_size d)) refl)
 value-sized (Short connective d e) at =
-    both_sized (value_code at d) (rest_of_short connective (at + value_size d) (value_size e) (λ place. value_code place e)) (value_size d) (1 + (value_size e + 2))
-    (value-sized d at) (short_sized connective (at + value_size d) (value_size e) (λ place. value_code place e) (λ place. value-sized e place))
+    both_sized (value_code at d) (rest_of_short connective (at + value_size d) (value_size e) (λ position. value_code position e)) (value_size d) (1 + (value_size e + 2))
+    (value-sized d at) (short_sized connective (at + value_size d) (value_size e) (λ position. value_code position e) (λ position. value-sized e position))
 
 pub arguments-sized : (es : List Expression) (at : ℕ) → length (arguments_code at es) ≡ arguments_size es
 arguments-sized [] at = refl
@@ -75,61 +75,61 @@ return_sized at None = refl
 return_sized at (Some e) = both_sized (value_code at e) (instruction.ReturnValue ∷ []) (value_size e) 1 (value-sized e at) refl
 
 mutual
-  pub statement-sized : (program : Program) (loop : Loop) (place : ℕ) (statement : Statement) → length (statement_code program loop place statement) ≡ statement_size program statement
-  statement-sized program loop place (Assign at x e) = both_sized (value_code place e) (store_of x ∷ []) (value_size e) 1 (value-sized e place) refl
-  statement-sized program loop place (Clear at slot) = refl
-  statement-sized program loop place (Store at array n index e) =
-      both_sized (value_code place index) (value_code (place + value_size index) e ++ store_element_of array ∷ []) (value_size index) (value_size e + 1) (value-sized index place)
-      (both_sized (value_code (place + value_size index) e) (store_element_of array ∷ []) (value_size e) 1 (value-sized e (place + value_size index)) refl)
-  statement-sized program loop place (Receive at channel target) = refl
-  statement-sized program loop place (Send at channel e) = both_sized (value_code place e) (instruction.Send channel ∷ []) (value_size e) 1 (value-sized e place) refl
-  statement-sized program loop place (Call at f arguments target) =
-      both_sized (arguments_code place arguments) (instruction.Call f ∷ result_code (procedure_at program f).result target)
-      (arguments_size arguments) (1 + result_size (procedure_at program f).result) (arguments-sized arguments place)
+  pub statement-sized : (program : Program) (loop : Loop) (position : ℕ) (statement : Statement) → length (statement_code program loop position statement) ≡ statement_size program statement
+  statement-sized program loop position (Assign at x e) = both_sized (value_code position e) (store_of x ∷ []) (value_size e) 1 (value-sized e position) refl
+  statement-sized program loop position (Clear at slot) = refl
+  statement-sized program loop position (Store at array n index e) =
+      both_sized (value_code position index) (value_code (position + value_size index) e ++ store_element_of array ∷ []) (value_size index) (value_size e + 1) (value-sized index position)
+      (both_sized (value_code (position + value_size index) e) (store_element_of array ∷ []) (value_size e) 1 (value-sized e (position + value_size index)) refl)
+  statement-sized program loop position (Receive at channel target) = refl
+  statement-sized program loop position (Send at channel e) = both_sized (value_code position e) (instruction.Send channel ∷ []) (value_size e) 1 (value-sized e position) refl
+  statement-sized program loop position (Call at f arguments target) =
+      both_sized (arguments_code position arguments) (instruction.Call f ∷ result_code (procedure_at program f).result target)
+      (arguments_size arguments) (1 + result_size (procedure_at program f).result) (arguments-sized arguments position)
       (one_more (instruction.Call f) _ (result_size (procedure_at program f).result) (result_sized (procedure_at program f).result target))
-  statement-sized program loop place (If at e yes_block no_block) =
-      let no = no_place program place e yes_block no_block in
-      let jump = jump_code (jumps_over yes_block no_block) (no + block_size program no_block) in
-      let first = block_code program loop (place + branch_size false e) yes_block in
-      let second = block_code program loop no no_block in
-      let rest : length (first ++ (jump ++ second)) ≡ block_size program yes_block + (jump_size (jumps_over yes_block no_block) + block_size program no_block) =
-      both_sized first (jump ++ second) (block_size program yes_block) (jump_size (jumps_over yes_block no_block) + block_size program no_block)
-      (block-sized program loop (place + branch_size false e) yes_block)
-      (both_sized jump second (jump_size (jumps_over yes_block no_block)) (block_size program no_block)
-      (jump-sized (jumps_over yes_block no_block) (no + block_size program no_block)) (block-sized program loop no no_block)) in
-      both_sized (branch_code false place no e) (first ++ (jump ++ second)) (branch_size false e)
-      (block_size program yes_block + (jump_size (jumps_over yes_block no_block) + block_size program no_block)) (branch-sized e false place no) rest
-  statement-sized program loop place (While at number e body) =
-      let test = test_place program place body in
-      let inner : Loop = record { behind = test + branch_size true e; test = test } in
+  statement-sized program loop position (If at e then_block else_block) =
+      let no = no_position program position e then_block else_block in
+      let jump = jump_code (jumps_over then_block else_block) (no + block_size program else_block) in
+      let first = block_code program loop (position + branch_size false e) then_block in
+      let second = block_code program loop no else_block in
+      let rest : length (first ++ (jump ++ second)) ≡ block_size program then_block + (jump_size (jumps_over then_block else_block) + block_size program else_block) =
+      both_sized first (jump ++ second) (block_size program then_block) (jump_size (jumps_over then_block else_block) + block_size program else_block)
+      (block-sized program loop (position + branch_size false e) then_block)
+      (both_sized jump second (jump_size (jumps_over then_block else_block)) (block_size program else_block)
+      (jump-sized (jumps_over then_block else_block) (no + block_size program else_block)) (block-sized program loop no else_block)) in
+      both_sized (branch_code false position no e) (first ++ (jump ++ second)) (branch_size false e)
+      (block_size program then_block + (jump_size (jumps_over then_block else_block) + block_size program else_block)) (branch-sized e false position no) rest
+  statement-sized program loop position (While at number e body) =
+      let test = test_position program position body in
+      let inner : Loop = record { beyond = test + branch_size true e; test = test } in
       one_more (instruction.Jump test) _ (block_size program body + branch_size true e)
-      (both_sized (block_code program inner (place + 1) body) (branch_code true test (place + 1) e) (block_size program body) (branch_size true e)
-      (block-sized program inner (place + 1) body) (branch-sized e true test (place + 1)))
-  statement-sized program loop place (Leave at exit) = refl
-  statement-sized program loop place (ReturnWith at e) = return_sized place e
-  statement-sized program loop place (Try at block handlers) =
-      let start = handlers_place program place block handlers in
+      (both_sized (block_code program inner (position + 1) body) (branch_code true test (position + 1) e) (block_size program body) (branch_size true e)
+      (block-sized program inner (position + 1) body) (branch-sized e true test (position + 1)))
+  statement-sized program loop position (Leave at exit) = refl
+  statement-sized program loop position (ReturnWith at e) = return_sized position e
+  statement-sized program loop position (Try at block handlers) =
+      let start = handlers_position program position block handlers in
       let end = start + handlers_size program handlers in
-      both_sized (block_code program loop place block) (jump_code (jumps_behind block handlers) end ++ handlers_code program loop end start handlers)
-      (block_size program block) (jump_size (jumps_behind block handlers) + handlers_size program handlers) (block-sized program loop place block)
-      (both_sized (jump_code (jumps_behind block handlers) end) (handlers_code program loop end start handlers)
-      (jump_size (jumps_behind block handlers)) (handlers_size program handlers)
-      (jump-sized (jumps_behind block handlers) end) (handlers-sized program loop end start handlers))
-  statement-sized program loop place (Nested at block) = block-sized program loop place block
+      both_sized (block_code program loop position block) (jump_code (jumps_after block handlers) end ++ handlers_code program loop end start handlers)
+      (block_size program block) (jump_size (jumps_after block handlers) + handlers_size program handlers) (block-sized program loop position block)
+      (both_sized (jump_code (jumps_after block handlers) end) (handlers_code program loop end start handlers)
+      (jump_size (jumps_after block handlers)) (handlers_size program handlers)
+      (jump-sized (jumps_after block handlers) end) (handlers-sized program loop end start handlers))
+  statement-sized program loop position (Nested at block) = block-sized program loop position block
 
-  pub block-sized : (program : Program) (loop : Loop) (place : ℕ) (block : Block) → length (block_code program loop place block) ≡ block_size program block
-  block-sized program loop place Empty = refl
-  block-sized program loop place (Then statement rest) =
-      both_sized (statement_code program loop place statement) (block_code program loop (place + statement_size program statement) rest)
-      (statement_size program statement) (block_size program rest) (statement-sized program loop place statement)
-      (block-sized program loop (place + statement_size program statement) rest)
+  pub block-sized : (program : Program) (loop : Loop) (position : ℕ) (block : Block) → length (block_code program loop position block) ≡ block_size program block
+  block-sized program loop position Empty = refl
+  block-sized program loop position (Then statement rest) =
+      both_sized (statement_code program loop position statement) (block_code program loop (position + statement_size program statement) rest)
+      (statement_size program statement) (block_size program rest) (statement-sized program loop position statement)
+      (block-sized program loop (position + statement_size program statement) rest)
 
-  pub handlers-sized : (program : Program) (loop : Loop) (end place : ℕ) (handlers : Handlers) → length (handlers_code program loop end place handlers) ≡ handlers_size program handlers
-  handlers-sized program loop end place NoMore = refl
-  handlers-sized program loop end place (Catch at exception body rest) =
-      let next = handlers_place program place body rest in
-      both_sized (block_code program loop place body) (jump_code (jumps_behind body rest) end ++ handlers_code program loop end next rest)
-      (block_size program body) (jump_size (jumps_behind body rest) + handlers_size program rest) (block-sized program loop place body)
-      (both_sized (jump_code (jumps_behind body rest) end) (handlers_code program loop end next rest)
-      (jump_size (jumps_behind body rest)) (handlers_size program rest)
-      (jump-sized (jumps_behind body rest) end) (handlers-sized program loop end next rest))
+  pub handlers-sized : (program : Program) (loop : Loop) (end position : ℕ) (handlers : Handlers) → length (handlers_code program loop end position handlers) ≡ handlers_size program handlers
+  handlers-sized program loop end position NoMore = refl
+  handlers-sized program loop end position (Catch at exception body rest) =
+      let next = handlers_position program position body rest in
+      both_sized (block_code program loop position body) (jump_code (jumps_after body rest) end ++ handlers_code program loop end next rest)
+      (block_size program body) (jump_size (jumps_after body rest) + handlers_size program rest) (block-sized program loop position body)
+      (both_sized (jump_code (jumps_after body rest) end) (handlers_code program loop end next rest)
+      (jump_size (jumps_after body rest)) (handlers_size program rest)
+      (jump-sized (jumps_after body rest) end) (handlers-sized program loop end next rest))

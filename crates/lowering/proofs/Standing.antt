@@ -21,9 +21,9 @@ use Rattle.layout.proofs.Fitting.{length-renamed}
 use Rattle.layout.proofs.Offsets.{width-renamed, offset-start, offset-less, fetched, next_at}
 use Rattle.layout.proofs.Starts.{start-at}
 use Rattle.layout.proofs.Tables.{offset-end}
-use Rattle.verifier.specs.declared.fault.CodeDefect.{CodeDefect}
-use Rattle.verifier.specs.declared.fault.CodeDefect.TheVariants as defect
-use Rattle.verifier.specs.Fixed.{unless, is_start, is_end, instruction_defect, handler_defect, refusals_at, instruction_refusals, handler_refusals}
+use Rattle.verifier.specs.declared.fault.CodeRefusalKind.{CodeRefusalKind}
+use Rattle.verifier.specs.declared.fault.CodeRefusalKind.TheVariants as kind
+use Rattle.verifier.specs.Fixed.{unless, is_start, is_end, instruction_refusal, handler_refusal, refusals_at, instruction_refusals, handler_refusals}
 use Rattle.verifier.specs.Flow.{Edge, next, jumps, caught, Leaves, Misses, effect, FlowsWell}
 use Rattle.verifier.proofs.Laws.{flows_well}
 use Rattle.lowering.proofs.Flowing.{IsSound, EachSound, sound-at, kinds_at, along, onward, following}
@@ -182,11 +182,11 @@ module _ (m : ModuleContents) (g : ProcedureContents) (s : Sound m g) where
       let x_goes : goes_on x ≡ true = sym (same-goes (offset g.code) x) ∙ (ap goes_on renamed ∙ goes) in
       let width : width_of i ≡ width_of x = ap width_of (sym renamed) ∙ width-renamed (offset g.code) x in
       let room : suc h.position < length g.code = omega (arith, s.stays h.position x h.there x_goes) in
-      let place : at + width_of i ≡ offset g.code (suc h.position) = ap (λ (n : ℕ). n + width_of i) h.is ∙ (ap (λ (n : ℕ). offset g.code h.position + n) width ∙ next_at g.code h.position x h.there) in
+      let position : at + width_of i ≡ offset g.code (suc h.position) = ap (λ (n : ℕ). n + width_of i) h.is ∙ (ap (λ (n : ℕ). offset g.code h.position + n) width ∙ next_at g.code h.position x h.there) in
       let p = laid_out_procedure g in
-      let behind : kinds (suc h.position) ≡ h.fine.after =
+      let beyond : kinds (suc h.position) ≡ h.fine.after =
       along-next m p g.code [] h.position x h.there ∙ (ap (onward m p x) h.same ∙ (ap (λ (b : Bool). following b (effect m p x list)) x_goes ∙ ap (following true) h.fine.leaves)) in
-      ap (listed g.code kinds) place ∙ (listed-at g.code kinds (suc h.position) room ∙ ap (λ l. Some l) behind)
+      ap (listed g.code kinds) position ∙ (listed-at g.code kinds (suc h.position) room ∙ ap (λ l. Some l) beyond)
 
   goes-there : (at : ℕ) (list : List ValueKind) (h : AtInstruction at list) (i : Instruction) (to : ℕ) → instruction_at (laid_out_procedure g).code at ≡ Some i → target_of i ≡ Some to
       → done to ≡ Some h.fine.after
@@ -232,21 +232,21 @@ module _ (m : ModuleContents) (g : ProcedureContents) (s : Sound m g) where
   })
 
   -- ---- instructions and handlers by themselves
-  jump-right : (t : ℕ) → t < length g.code → unless (is_start (laid_out_procedure g) (offset g.code t)) defect.Jump ≡ None
-  jump-right t below = ap (λ (b : Bool). unless b defect.Jump) (start-at g.code t below)
+  jump-right : (t : ℕ) → t < length g.code → unless (is_start (laid_out_procedure g) (offset g.code t)) kind.Jump ≡ None
+  jump-right t below = ap (λ (b : Bool). unless b kind.Jump) (start-at g.code t below)
 
   instruction-right : (x : Instruction) (list : List ValueKind) → IsSound m (laid_out_procedure g) g.code x list → IfSome (target_of x) (λ target. target < length g.code)
-      → instruction_defect m (laid_out_procedure g) (renamed_instruction (offset g.code) x) ≡ None
+      → instruction_refusal m (laid_out_procedure g) (renamed_instruction (offset g.code) x) ≡ None
   instruction-right (Jump target) list f below = jump-right target below
   instruction-right (JumpIfFalse target) list f below = jump-right target below
   instruction-right x list f below = f.fixed refl
 
   instructions-right : (number at : ℕ) (code : List Instruction)
-      → ((k : ℕ) (x : Instruction) → slice_get code k ≡ Some x → instruction_defect m (laid_out_procedure g) (renamed_instruction (offset g.code) x) ≡ None)
+      → ((k : ℕ) (x : Instruction) → slice_get code k ≡ Some x → instruction_refusal m (laid_out_procedure g) (renamed_instruction (offset g.code) x) ≡ None)
       → instruction_refusals m number (laid_out_procedure g) at (map (renamed_instruction (offset g.code)) code) ≡ []
   instructions-right number at [] right = refl
   instructions-right number at (x ∷ code) right =
-      ap (λ (o : Option CodeDefect). refusals_at number at o ++ instruction_refusals m number (laid_out_procedure g) (at + width_of (renamed_instruction (offset g.code) x)) (map (renamed_instruction (offset g.code)) code))
+      ap (λ (o : Option CodeRefusalKind). refusals_at number at o ++ instruction_refusals m number (laid_out_procedure g) (at + width_of (renamed_instruction (offset g.code) x)) (map (renamed_instruction (offset g.code)) code))
       (right 0 x refl)
       ∙ instructions-right number (at + width_of (renamed_instruction (offset g.code) x)) code (λ k y e. right (suc k) y e)
 
@@ -261,7 +261,7 @@ module _ (m : ModuleContents) (g : ProcedureContents) (s : Sound m g) where
       equal a b h = grind (arith, nat_tests)
 
   handler-right : (x : Handler) → IsHandlerIn (length g.code) x → Catches m (laid_out_procedure g) g.code x
-      → handler_defect m (laid_out_procedure g) (renamed_handler (offset g.code) x) ≡ None
+      → handler_refusal m (laid_out_procedure g) (renamed_handler (offset g.code) x) ≡ None
   handler-right x h c =
       let starts : is_start (laid_out_procedure g) (offset g.code x.start) ≡ true = start-at g.code x.start (omega (arith, h.not_empty, h.within)) in
       let goes : is_start (laid_out_procedure g) (offset g.code x.target) ≡ true = start-at g.code x.target h.target in
@@ -272,15 +272,15 @@ module _ (m : ModuleContents) (g : ProcedureContents) (s : Sound m g) where
       starts goes ends less c.there
     where
       all : (a b c d e : Bool) → a ≡ true → b ≡ true → c ≡ true → d ≡ true → e ≡ true
-          → (if a && (b && (c && d)) then unless e defect.SlotOrIndex else Some defect.Jump) ≡ None
+          → (if a && (b && (c && d)) then unless e kind.SlotOrIndex else Some kind.Jump) ≡ None
       all a b c d e h1 h2 h3 h4 h5 = rw (h1, h2, h3, h4, h5) refl
 
-  handlers-right : (number : ℕ) (table : List Handler) → All (λ (x : Handler). handler_defect m (laid_out_procedure g) (renamed_handler (offset g.code) x) ≡ None) table
+  handlers-right : (number : ℕ) (table : List Handler) → All (λ (x : Handler). handler_refusal m (laid_out_procedure g) (renamed_handler (offset g.code) x) ≡ None) table
       → handler_refusals m number (laid_out_procedure g) (map (renamed_handler (offset g.code)) table) ≡ []
   handlers-right number [] right = refl
   handlers-right number (x ∷ table) right =
-      let Right : Handler → Type 0 = λ (x : Handler). handler_defect m (laid_out_procedure g) (renamed_handler (offset g.code) x) ≡ None in
-      ap (λ (o : Option CodeDefect). refusals_at number (offset g.code x.start) o ++ handler_refusals m number (laid_out_procedure g) (map (renamed_handler (offset g.code)) table))
+      let Right : Handler → Type 0 = λ (x : Handler). handler_refusal m (laid_out_procedure g) (renamed_handler (offset g.code) x) ≡ None in
+      ap (λ (o : Option CodeRefusalKind). refusals_at number (offset g.code x.start) o ++ handler_refusals m number (laid_out_procedure g) (map (renamed_handler (offset g.code)) table))
       (All-head Right x table right)
       ∙ handlers-right number table (All-tail Right x table right)
 

@@ -74,16 +74,16 @@ state_at g at operands s = record {
   sent = s.sent;
 }
 
--- the machine at a place
-abbrev pub place : Setting → (at : ℕ) → List Cell → source.SourceState → Machine
-place g at operands s = Running (state_at g at operands s)
+-- the machine at a position
+abbrev pub position : Setting → (at : ℕ) → List Cell → source.SourceState → Machine
+position g at operands s = Running (state_at g at operands s)
 
 -- ---- exceptions
 
 -- where an exception goes that the procedure's table sends to a handler, or out of it
 abbrev pub thrown_to : Setting → Option ℕ → (exception : ℕ) → source.SourceState → Machine
 thrown_to g None exception s = unwound g.p (state_at g 0 [] s) exception g.callers
-thrown_to g (Some target) exception s = place g target [] s
+thrown_to g (Some target) exception s = position g target [] s
 
 handled_same : (S T : State) (frame : Frame) (callers : List Caller) (o : Option ℕ) (m n : Machine) → m ≡ n
     → ((target : ℕ) → handled S frame callers (Some target) m ≡ handled T frame callers (Some target) n)

@@ -8,7 +8,7 @@ use Rattle.resolved.specs.Program.{Program}
 use Rattle.modules.specs.declared.declaration.Handler.{Handler}
 use Rattle.modules.specs.Machine.{handler_for}
 use Rattle.lowering.specs.Expressions.{branch_size}
-use Rattle.lowering.specs.Code.{no_place, handlers_place, statement_size, block_size, handlers_size, entry_of, statement_table, block_table, handlers_table}
+use Rattle.lowering.specs.Code.{no_position, handlers_position, statement_size, block_size, handlers_size, entry_of, statement_table, block_table, handlers_table}
 use Rattle.lowering.proofs.States.{Setting}
 use Rattle.lowering.proofs.Values.{Finds}
 
@@ -17,9 +17,9 @@ abbrev pub first_found : Option ℕ → Option ℕ → Option ℕ
 first_found None other = other
 first_found (Some target) other = Some target
 
-pub nothing_behind : (o : Option ℕ) → first_found o None ≡ o
-nothing_behind None = refl
-nothing_behind (Some target) = refl
+pub nothing_after : (o : Option ℕ) → first_found o None ≡ o
+nothing_after None = refl
+nothing_after (Some target) = refl
 
 found_or : (b : Bool) (target : ℕ) (left right other : Option ℕ) → left ≡ first_found right other
     → (if b then Some target else left) ≡ first_found (if b then Some target else right) other
@@ -34,7 +34,7 @@ found-in (x ∷ xs) ys i e =
 none_in_both : (xs ys : List Handler) (i e : ℕ) → handler_for xs i e ≡ None → handler_for ys i e ≡ None → handler_for (xs ++ ys) i e ≡ None
 none_in_both xs ys i e h k = found-in xs ys i e ∙ ap (λ (o : Option ℕ). first_found o (handler_for ys i e)) h ∙ k
 
--- a place that is not among the n from another on
+-- a position that is not among the n from another on
 abbrev pub Outside : (at n i : ℕ) → Type 0
 Outside at n i = at ≤ i → at + n ≤ i
 
@@ -71,82 +71,82 @@ entry-inside start end exception target i e low high =
 
 -- ---- outside a statement
 mutual
-  pub statement-outside : (program : Program) (place : ℕ) (statement : Statement) (i e : ℕ) → Outside place (statement_size program statement) i
-      → handler_for (statement_table program place statement) i e ≡ None
-  statement-outside program place (Assign at x v) i e out = refl
-  statement-outside program place (Clear at slot) i e out = refl
-  statement-outside program place (Store at array n index v) i e out = refl
-  statement-outside program place (Receive at channel target) i e out = refl
-  statement-outside program place (Send at channel v) i e out = refl
-  statement-outside program place (Call at f arguments target) i e out = refl
-  statement-outside program place (If at v yes_block no_block) i e out =
-      none_in_both (block_table program (place + branch_size false v) yes_block) (block_table program (no_place program place v yes_block no_block) no_block) i e
-      (block-outside program (place + branch_size false v) yes_block i e (λ low. omega (arith, low, out)))
-      (block-outside program (no_place program place v yes_block no_block) no_block i e (λ low. omega (arith, low, out)))
-  statement-outside program place (While at number v body) i e out = block-outside program (place + 1) body i e (λ low. omega (arith, low, out))
-  statement-outside program place (Leave at exit) i e out = refl
-  statement-outside program place (ReturnWith at v) i e out = refl
-  statement-outside program place (Try at block handlers) i e out =
-      none_in_both (block_table program place block)
-      (handlers_table program place (place + block_size program block) (handlers_place program place block handlers) handlers) i e
-      (block-outside program place block i e (λ low. omega (arith, low, out)))
-      (handlers-outside program place (place + block_size program block) (handlers_place program place block handlers) handlers i e
+  pub statement-outside : (program : Program) (position : ℕ) (statement : Statement) (i e : ℕ) → Outside position (statement_size program statement) i
+      → handler_for (statement_table program position statement) i e ≡ None
+  statement-outside program position (Assign at x v) i e out = refl
+  statement-outside program position (Clear at slot) i e out = refl
+  statement-outside program position (Store at array n index v) i e out = refl
+  statement-outside program position (Receive at channel target) i e out = refl
+  statement-outside program position (Send at channel v) i e out = refl
+  statement-outside program position (Call at f arguments target) i e out = refl
+  statement-outside program position (If at v then_block else_block) i e out =
+      none_in_both (block_table program (position + branch_size false v) then_block) (block_table program (no_position program position v then_block else_block) else_block) i e
+      (block-outside program (position + branch_size false v) then_block i e (λ low. omega (arith, low, out)))
+      (block-outside program (no_position program position v then_block else_block) else_block i e (λ low. omega (arith, low, out)))
+  statement-outside program position (While at number v body) i e out = block-outside program (position + 1) body i e (λ low. omega (arith, low, out))
+  statement-outside program position (Leave at exit) i e out = refl
+  statement-outside program position (ReturnWith at v) i e out = refl
+  statement-outside program position (Try at block handlers) i e out =
+      none_in_both (block_table program position block)
+      (handlers_table program position (position + block_size program block) (handlers_position program position block handlers) handlers) i e
+      (block-outside program position block i e (λ low. omega (arith, low, out)))
+      (handlers-outside program position (position + block_size program block) (handlers_position program position block handlers) handlers i e
       (λ low. omega (arith, low, out)) (λ low. omega (arith, low, out)))
-  statement-outside program place (Nested at block) i e out = block-outside program place block i e out
+  statement-outside program position (Nested at block) i e out = block-outside program position block i e out
 
-  pub block-outside : (program : Program) (place : ℕ) (block : Block) (i e : ℕ) → Outside place (block_size program block) i
-      → handler_for (block_table program place block) i e ≡ None
-  block-outside program place Empty i e out = refl
-  block-outside program place (Then statement rest) i e out =
-      none_in_both (statement_table program place statement) (block_table program (place + statement_size program statement) rest) i e
-      (statement-outside program place statement i e (λ low. omega (arith, low, out)))
-      (block-outside program (place + statement_size program statement) rest i e (λ low. omega (arith, low, out)))
+  pub block-outside : (program : Program) (position : ℕ) (block : Block) (i e : ℕ) → Outside position (block_size program block) i
+      → handler_for (block_table program position block) i e ≡ None
+  block-outside program position Empty i e out = refl
+  block-outside program position (Then statement rest) i e out =
+      none_in_both (statement_table program position statement) (block_table program (position + statement_size program statement) rest) i e
+      (statement-outside program position statement i e (λ low. omega (arith, low, out)))
+      (block-outside program (position + statement_size program statement) rest i e (λ low. omega (arith, low, out)))
 
-  pub handlers-outside : (program : Program) (start end place : ℕ) (handlers : Handlers) (i e : ℕ) → (start ≤ i → end ≤ i)
-      → Outside place (handlers_size program handlers) i → handler_for (handlers_table program start end place handlers) i e ≡ None
-  handlers-outside program start end place NoMore i e out away = refl
-  handlers-outside program start end place (Catch at exception body rest) i e out away =
-      none_in_both (entry_of start end exception place)
-      (block_table program place body ++ handlers_table program start end (handlers_place program place body rest) rest) i e
-      (entry-outside start end exception place i e out)
-      (none_in_both (block_table program place body) (handlers_table program start end (handlers_place program place body rest) rest) i e
-      (block-outside program place body i e (λ low. omega (arith, low, away)))
-      (handlers-outside program start end (handlers_place program place body rest) rest i e out (λ low. omega (arith, low, away))))
+  pub handlers-outside : (program : Program) (start end position : ℕ) (handlers : Handlers) (i e : ℕ) → (start ≤ i → end ≤ i)
+      → Outside position (handlers_size program handlers) i → handler_for (handlers_table program start end position handlers) i e ≡ None
+  handlers-outside program start end position NoMore i e out away = refl
+  handlers-outside program start end position (Catch at exception body rest) i e out away =
+      none_in_both (entry_of start end exception position)
+      (block_table program position body ++ handlers_table program start end (handlers_position program position body rest) rest) i e
+      (entry-outside start end exception position i e out)
+      (none_in_both (block_table program position body) (handlers_table program start end (handlers_position program position body rest) rest) i e
+      (block-outside program position body i e (λ low. omega (arith, low, away)))
+      (handlers-outside program start end (handlers_position program position body rest) rest i e out (λ low. omega (arith, low, away))))
 
 -- ---- in the block of a `try`
 
 -- where the first handler of an exception begins
-abbrev pub catch_place : Program → (place : ℕ) → Handlers → (exception : ℕ) → Option ℕ
-catch_place program place NoMore exception = None
-catch_place program place (Catch at handled body rest) exception =
-    if exception == handled then Some place else catch_place program (handlers_place program place body rest) rest exception
+abbrev pub catch_position : Program → (position : ℕ) → Handlers → (exception : ℕ) → Option ℕ
+catch_position program position NoMore exception = None
+catch_position program position (Catch at handled body rest) exception =
+    if exception == handled then Some position else catch_position program (handlers_position program position body rest) rest exception
 
-pub handlers-inside : (program : Program) (start end place : ℕ) (handlers : Handlers) (i e : ℕ) → start ≤ i → i < end → end ≤ place
-    → handler_for (handlers_table program start end place handlers) i e ≡ catch_place program place handlers e
-handlers-inside program start end place NoMore i e low high behind = refl
-handlers-inside program start end place (Catch at handled body rest) i e low high behind =
-    let next = handlers_place program place body rest in
-    let more : handler_for (block_table program place body ++ handlers_table program start end next rest) i e ≡ catch_place program next rest e =
-    found-in (block_table program place body) (handlers_table program start end next rest) i e
-    ∙ ap (λ (o : Option ℕ). first_found o (handler_for (handlers_table program start end next rest) i e)) (block-outside program place body i e (λ least. omega (arith, least, high, behind)))
-    ∙ handlers-inside program start end next rest i e low high (omega (arith, behind)) in
-    found-in (entry_of start end handled place) (block_table program place body ++ handlers_table program start end next rest) i e
-    ∙ ap (λ (o : Option ℕ). first_found o (handler_for (block_table program place body ++ handlers_table program start end next rest) i e)) (entry-inside start end handled place i e low high)
-    ∙ ap (first_found (if e == handled then Some place else None)) more
+pub handlers-inside : (program : Program) (start end position : ℕ) (handlers : Handlers) (i e : ℕ) → start ≤ i → i < end → end ≤ position
+    → handler_for (handlers_table program start end position handlers) i e ≡ catch_position program position handlers e
+handlers-inside program start end position NoMore i e low high beyond = refl
+handlers-inside program start end position (Catch at handled body rest) i e low high beyond =
+    let next = handlers_position program position body rest in
+    let more : handler_for (block_table program position body ++ handlers_table program start end next rest) i e ≡ catch_position program next rest e =
+    found-in (block_table program position body) (handlers_table program start end next rest) i e
+    ∙ ap (λ (o : Option ℕ). first_found o (handler_for (handlers_table program start end next rest) i e)) (block-outside program position body i e (λ least. omega (arith, least, high, beyond)))
+    ∙ handlers-inside program start end next rest i e low high (omega (arith, beyond)) in
+    found-in (entry_of start end handled position) (block_table program position body ++ handlers_table program start end next rest) i e
+    ∙ ap (λ (o : Option ℕ). first_found o (handler_for (block_table program position body ++ handlers_table program start end next rest) i e)) (entry-inside start end handled position i e low high)
+    ∙ ap (first_found (if e == handled then Some position else None)) more
     ∙ either (e == handled)
   where
-    either : (b : Bool) → first_found (if b then Some place else None) (catch_place program (handlers_place program place body rest) rest e)
-        ≡ (if b then Some place else catch_place program (handlers_place program place body rest) rest e)
+    either : (b : Bool) → first_found (if b then Some position else None) (catch_position program (handlers_position program position body rest) rest e)
+        ≡ (if b then Some position else catch_position program (handlers_position program position body rest) rest e)
     either true = refl
     either false = refl
 
--- ---- the search in the places of a statement
+-- ---- the search in the positions of a statement
 
--- in these places the search for a handler comes to a table's, and else to what a function says
+-- in these positions the search for a handler comes to a table's, and else to what a function says
 pub record Under (g : Setting) (table : List Handler) (at n : ℕ) (h : ℕ → Option ℕ) : Type 0 where
   pub finds : (i : ℕ) → at ≤ i → i < at + n → (e : ℕ) → g.p.find g.number i e ≡ first_found (handler_for table i e) (h e)
 
--- places in which a table finds nothing
+-- positions in which a table finds nothing
 pub under-none : (g : Setting) (table : List Handler) (at n : ℕ) (h : ℕ → Option ℕ) (from m : ℕ) → Under g table at n h → at ≤ from → from + m ≤ at + n
     → ((i e : ℕ) → from ≤ i → i < from + m → handler_for table i e ≡ None) → Finds g from m h
 under-none g table at n h from m under low high none = record {
@@ -154,7 +154,7 @@ under-none g table at n h from m under low high none = record {
       under.finds i (omega (arith, low, least)) (omega (arith, high, most)) e ∙ ap (λ (o : Option ℕ). first_found o (h e)) (none i e least most);
 }
 
--- places in which a table finds what another one finds
+-- positions in which a table finds what another one finds
 pub under-part : (g : Setting) (table part : List Handler) (at n : ℕ) (h : ℕ → Option ℕ) (from m : ℕ) → Under g table at n h → at ≤ from → from + m ≤ at + n
     → ((i e : ℕ) → from ≤ i → i < from + m → handler_for table i e ≡ handler_for part i e) → Under g part from m h
 under-part g table part at n h from m under low high same = record {
@@ -164,7 +164,7 @@ under-part g table part at n h from m under low high same = record {
 
 -- the first and the second of two tables, where the other finds nothing
 pub only-first : (xs ys : List Handler) (i e : ℕ) → handler_for ys i e ≡ None → handler_for (xs ++ ys) i e ≡ handler_for xs i e
-only-first xs ys i e h = found-in xs ys i e ∙ ap (first_found (handler_for xs i e)) h ∙ nothing_behind (handler_for xs i e)
+only-first xs ys i e h = found-in xs ys i e ∙ ap (first_found (handler_for xs i e)) h ∙ nothing_after (handler_for xs i e)
 
 pub only-second : (xs ys : List Handler) (i e : ℕ) → handler_for xs i e ≡ None → handler_for (xs ++ ys) i e ≡ handler_for ys i e
 only-second xs ys i e h = found-in xs ys i e ∙ ap (λ (o : Option ℕ). first_found o (handler_for ys i e)) h

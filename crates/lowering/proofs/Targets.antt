@@ -1,4 +1,4 @@
--- Where the code of expressions and conditions jumps: behind itself at most.
+-- Where the code of expressions and conditions jumps: after itself at most.
 use Rattle.common.specs.Functions.{same_truth}
 use Rattle.std.proofs.Common.{ℕ, ◌+◌, ◌<◌, ◌≤◌, List, [], ◌∷◌, ◌++◌, All, Bool, true, false, arith}
 use Rattle.common.proofs.Cases.{by_test}
@@ -20,11 +20,11 @@ use Rattle.modules.specs.Targets.{target_of}
 use Rattle.lowering.specs.Expressions.{load_of, store_of, load_element_of, store_element_of, prefix_instruction, operator_instruction, value_size, value_code, rest_of_short, arguments_size, arguments_code, tested, deciding, branch_size, branch_code, test_code}
 use Rattle.lowering.specs.Code.{kept_code}
 
--- an instruction that goes nowhere else, or to a place before n
+-- an instruction that goes nowhere else, or to a position before n
 abbrev pub Below : ℕ → Instruction → Type 0
 Below n i = IfSome (target_of i) (λ target. target < n)
 
--- code that goes nowhere else, or to places before n
+-- code that goes nowhere else, or to positions before n
 pub record Stays (n : ℕ) (code : List Instruction) : Type 0 where
   pub each : All (Below n) code
 
@@ -73,7 +73,7 @@ operator-below n (operator.Match sameness.Same) = tt
 operator-below n (operator.Match sameness.Different) = tt
 
 short-below : (connective : Connective) (at size n : ℕ) (right : ℕ → List Instruction) → at + (1 + (size + 2)) < n
-    → ((place : ℕ) → place + size < n → Stays n (right place)) → Stays n (rest_of_short connective at size right)
+    → ((position : ℕ) → position + size < n → Stays n (right position)) → Stays n (rest_of_short connective at size right)
 short-below And at size n right room h =
     more-below n (instruction.JumpIfFalse (at + 1 + size + 1)) _ (omega (arith, room))
     (both-below n (right (at + 1)) _ (h (at + 1) (omega (arith, room)))
@@ -96,7 +96,7 @@ value-below (Binary o d e) at n room =
     (both-below n (value_code (at + value_size d) e) _ (value-below e (at + value_size d) n (omega (arith, room))) (one-below n _ (operator-below n o)))
 value-below (Short connective d e) at n room =
     both-below n (value_code at d) _ (value-below d at n (omega (arith, room)))
-    (short-below connective (at + value_size d) (value_size e) n (λ place. value_code place e) (omega (arith, room)) (λ place h. value-below e place n h))
+    (short-below connective (at + value_size d) (value_size e) n (λ position. value_code position e) (omega (arith, room)) (λ position h. value-below e position n h))
 
 pub arguments-below : (es : List Expression) (at n : ℕ) → at + arguments_size es < n → Stays n (arguments_code at es)
 arguments-below [] at n room = none-below n

@@ -12,10 +12,10 @@ use Rattle.modules.specs.declared.value.ValueKind.{ValueKind}
 use Rattle.modules.specs.Targets.{goes_on, target_of, renamed_instruction}
 use Rattle.layout.specs.Graph.{HasPositions}
 use Rattle.layout.specs.Offsets.{laid_out_procedure}
-use Rattle.verifier.specs.Fixed.{instruction_defect}
+use Rattle.verifier.specs.Fixed.{instruction_refusal}
 use Rattle.verifier.specs.Flow.{Leaves, effect}
 use Rattle.lowering.specs.Direct.{jump_of}
-use Rattle.lowering.specs.Threaded.{onward as onward_place, followed, final_place, threaded}
+use Rattle.lowering.specs.Threaded.{onward as onward_position, followed, final_position, threaded}
 use Rattle.lowering.proofs.Unthreaded.{threaded_procedure}
 use Rattle.lowering.proofs.Finals.{length-threaded, target-renamed}
 use Rattle.lowering.proofs.Flowing.{IsSound, EachSound, sound-at, kinds_at, along, onward, following}
@@ -31,7 +31,7 @@ same_without f i none = refl
 
 module _ (m : ModuleContents) (p : ProcedureContents) (code : List Instruction) where
   abbrev f : ℕ → ℕ
-  f place = final_place code place
+  f position = final_position code position
 
   onward-renamed : (i : Instruction) (kinds : List ValueKind) → onward m p (renamed_instruction f i) kinds ≡ onward m p i kinds
   onward-renamed i kinds =
@@ -45,26 +45,26 @@ module _ (m : ModuleContents) (p : ProcedureContents) (code : List Instruction) 
   kinds-same k = ap (λ (xs : List Instruction). along m p xs []) (take-map (renamed_instruction f) k code) ∙ along-renamed (take k code) []
 
   -- the kinds at an unconditional jump are those at its target
-  kinds-jumped : EachSound m p code code [] → (place target : ℕ) → jump_of (slice_get code place) ≡ Some target → kinds_at m p code target ≡ kinds_at m p code place
-  kinds-jumped fine place target e =
-      let here = sound-at m p code code [] place (Jump target) fine (jump-is (slice_get code place) target e) in
-      let left : Leaves (kinds_at m p code place) ≡ Leaves here.after = here.leaves in
-      let after : here.after ≡ kinds_at m p code place = cc in
+  kinds-jumped : EachSound m p code code [] → (position target : ℕ) → jump_of (slice_get code position) ≡ Some target → kinds_at m p code target ≡ kinds_at m p code position
+  kinds-jumped fine position target e =
+      let here = sound-at m p code code [] position (Jump target) fine (jump-is (slice_get code position) target e) in
+      let left : Leaves (kinds_at m p code position) ≡ Leaves here.after = here.leaves in
+      let after : here.after ≡ kinds_at m p code position = cc in
       here.jumps target refl ∙ after
 
-  kinds-onward : (place : ℕ) (on : ℕ → ℕ) (jump : Option ℕ) → ((target : ℕ) → kinds_at m p code (on target) ≡ kinds_at m p code target)
-      → ((target : ℕ) → jump ≡ Some target → kinds_at m p code target ≡ kinds_at m p code place) → kinds_at m p code (onward_place place on jump) ≡ kinds_at m p code place
-  kinds-onward place on None later jumped = refl
-  kinds-onward place on (Some target) later jumped = by (ltb place target)
+  kinds-onward : (position : ℕ) (on : ℕ → ℕ) (jump : Option ℕ) → ((target : ℕ) → kinds_at m p code (on target) ≡ kinds_at m p code target)
+      → ((target : ℕ) → jump ≡ Some target → kinds_at m p code target ≡ kinds_at m p code position) → kinds_at m p code (onward_position position on jump) ≡ kinds_at m p code position
+  kinds-onward position on None later jumped = refl
+  kinds-onward position on (Some target) later jumped = by (ltb position target)
     where
-      by : (b : Bool) → kinds_at m p code (cond b (on target) place) ≡ kinds_at m p code place
+      by : (b : Bool) → kinds_at m p code (cond b (on target) position) ≡ kinds_at m p code position
       by true = later target ∙ jumped target refl
       by false = refl
 
-  kinds-followed : EachSound m p code code [] → (jumps place : ℕ) → kinds_at m p code (followed jumps code place) ≡ kinds_at m p code place
-  kinds-followed fine zero place = refl
-  kinds-followed fine (suc jumps) place =
-      kinds-onward place (followed jumps code) (jump_of (slice_get code place)) (kinds-followed fine jumps) (λ target e. kinds-jumped fine place target e)
+  kinds-followed : EachSound m p code code [] → (jumps position : ℕ) → kinds_at m p code (followed jumps code position) ≡ kinds_at m p code position
+  kinds-followed fine zero position = refl
+  kinds-followed fine (suc jumps) position =
+      kinds-onward position (followed jumps code) (jump_of (slice_get code position)) (kinds-followed fine jumps) (λ target e. kinds-jumped fine position target e)
 
   sound-renamed : EachSound m p code code [] → (i : Instruction) (kinds : List ValueKind) → IsSound m p code i kinds → IsSound m p (threaded code) (renamed_instruction f i) kinds
   sound-renamed fine i kinds h = record {
@@ -75,7 +75,7 @@ module _ (m : ModuleContents) (p : ProcedureContents) (code : List Instruction) 
         kinds-same to ∙ ap (kinds_at m p code) (sym from.2) ∙ kinds-followed fine (length code) from.0 ∙ h.jumps from.0 from.1;
     fixed = λ none.
         let same : renamed_instruction f i ≡ i = same_without f i none in
-        ap (instruction_defect m p) same ∙ h.fixed (ap target_of (sym same) ∙ none);
+        ap (instruction_refusal m p) same ∙ h.fixed (ap target_of (sym same) ∙ none);
   }
 
   each-renamed : EachSound m p code code [] → (xs : List Instruction) (kinds : List ValueKind) → EachSound m p code xs kinds
@@ -89,19 +89,19 @@ module _ (m : ModuleContents) (p : ProcedureContents) (code : List Instruction) 
       let h = each k d below in
       record { empty = kinds-same (get_or handlers k d).target ∙ h.empty; there = h.there }
 
--- where control goes on, an instruction stands behind
+-- where control goes on, an instruction stands after
 abbrev pub StaysIn : List Instruction → Type 0
 StaysIn code = (k : ℕ) (i : Instruction) → slice_get code k ≡ Some i → goes_on i ≡ true → k + 1 < length code
 
 stays-threaded : (code : List Instruction) → StaysIn code → StaysIn (threaded code)
 stays-threaded code stays k i there goes =
-    by (slice_get code k) refl (sym (slice_get-map (renamed_instruction (final_place code)) code k) ∙ there)
+    by (slice_get code k) refl (sym (slice_get-map (renamed_instruction (final_position code)) code k) ∙ there)
   where
-    by : (o : Option Instruction) → slice_get code k ≡ o → option_map (renamed_instruction (final_place code)) o ≡ Some i → k + 1 < length (threaded code)
+    by : (o : Option Instruction) → slice_get code k ≡ o → option_map (renamed_instruction (final_position code)) o ≡ Some i → k + 1 < length (threaded code)
     by None e h = absurd (let no : None ≡ Some i = h in cc)
     by (Some x) e h =
-        let same : renamed_instruction (final_place code) x ≡ i = cc in
-        let x_goes : goes_on x ≡ true = sym (same-goes (final_place code) x) ∙ ap goes_on same ∙ goes in
+        let same : renamed_instruction (final_position code) x ≡ i = cc in
+        let x_goes : goes_on x ≡ true = sym (same-goes (final_position code) x) ∙ ap goes_on same ∙ goes in
         omega (arith, stays k x e x_goes, length-threaded code)
 
 pub threaded-sound : (m : ModuleContents) (g : ProcedureContents) → EachSound m (laid_out_procedure (threaded_procedure g)) g.code g.code []

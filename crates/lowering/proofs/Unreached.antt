@@ -1,4 +1,4 @@
--- A statement that does not end normally by its form has no normal end, so nothing stands behind it.
+-- A statement that does not end normally by its form has no normal end, so nothing stands after it.
 use Rattle.std.proofs.Common.{◌≡◌, refl, sym, ap, subst, ◌∙◌, ◌⊎◌, inl, inr, Bool, true, false, ◌&&◌, ◌||◌, List, [], ◌∷◌, ◌++◌, not}
 use Rattle.std.specs.Prelude.{Some, None, filter, if◌then◌else◌}
 use Rattle.std.proofs.lemmas.List.Folds.{list_any-append}
@@ -48,13 +48,13 @@ module _ (program : Program) (procedure : ProcedureEntry) where
   mutual
     pub statement-none : (statement : Statement) → statement_fits program procedure statement ≡ true → statement_falls statement ≡ false
         → has_end (statement_ends program statement) Normal ≡ false
-    statement-none (If at e yes_block no_block) fits falls =
-        let parts = and_parts (has_base program procedure Boolean e && block_fits program procedure yes_block) (block_fits program procedure no_block) fits in
-        let yes_fits : block_fits program procedure yes_block ≡ true = (and_parts (has_base program procedure Boolean e) (block_fits program procedure yes_block) parts.0).1 in
-        let ends = or_parts (block_falls yes_block) (block_falls no_block) falls in
-        none-of (thrown_ends (raises e) ++ block_ends program yes_block) (block_ends program no_block)
-        (none-of (thrown_ends (raises e)) (block_ends program yes_block) (thrown-normal (raises e)) (block-none yes_block yes_fits ends.0))
-        (block-none no_block parts.1 ends.1)
+    statement-none (If at e then_block else_block) fits falls =
+        let parts = and_parts (has_base program procedure Boolean e && block_fits program procedure then_block) (block_fits program procedure else_block) fits in
+        let yes_fits : block_fits program procedure then_block ≡ true = (and_parts (has_base program procedure Boolean e) (block_fits program procedure then_block) parts.0).1 in
+        let ends = or_parts (block_falls then_block) (block_falls else_block) falls in
+        none-of (thrown_ends (raises e) ++ block_ends program then_block) (block_ends program else_block)
+        (none-of (thrown_ends (raises e)) (block_ends program then_block) (thrown-normal (raises e)) (block-none then_block yes_fits ends.0))
+        (block-none else_block parts.1 ends.1)
     statement-none (Leave at exit) fits falls = not-normal program exit fits
     statement-none (ReturnWith at None) fits falls = refl
     statement-none (ReturnWith at (Some e)) fits falls = thrown-normal (raises e)

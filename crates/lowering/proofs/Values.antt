@@ -28,10 +28,10 @@ use Rattle.lowering.specs.Interface.{kind_of_base}
 use Rattle.lowering.specs.Expressions.{load_of, load_element_of}
 use Rattle.lowering.proofs.CodePieces.{Stands}
 use Rattle.lowering.proofs.Steps.{Leads, leads-through}
-use Rattle.lowering.proofs.States.{Setting, state_at, place, cell_of, cells_of, thrown_to, raised-is}
-use Rattle.lowering.proofs.Rows.{does, onward, slot_for, loads-is, loads_element-is}
+use Rattle.lowering.proofs.States.{Setting, state_at, position, cell_of, cells_of, thrown_to, raised-is}
+use Rattle.lowering.proofs.SingleSteps.{does, onward, slot_for, loads-is, loads_element-is}
 
--- in these places the search for a handler comes to what a function says
+-- in these positions the search for a handler comes to what a function says
 pub record Finds (g : Setting) (at n : ℕ) (h : ℕ → Option ℕ) : Type 0 where
   pub finds : (i : ℕ) → at ≤ i → i < at + n → (exception : ℕ) → g.p.find g.number i exception ≡ h exception
 
@@ -40,7 +40,7 @@ finds-part g at n h from m low high f = record { finds = λ i least most excepti
 
 -- the machine comes from one machine to the end of code with the value on the operands, or to where the exception goes
 abbrev pub ValueRuns : Setting → (ℕ → Option ℕ) → List Cell → Machine → (end : ℕ) → source.SourceState → Evaluated Value → Type 0
-ValueRuns g h operands from end s (Yields v) = Leads g.p from (place g end (cell_of v ∷ operands) s)
+ValueRuns g h operands from end s (Yields v) = Leads g.p from (position g end (cell_of v ∷ operands) s)
 ValueRuns g h operands from end s (Raises exception) = Leads g.p from (thrown_to g (h exception) exception s)
 
 -- ---- putting pieces together
@@ -51,7 +51,7 @@ value-from g h operands from mid end s (Yields v) first second = leads-through g
 value-from g h operands from mid end s (Raises exception) first second = leads-through g.p from mid _ first second
 
 pub value-to : (g : Setting) (h : ℕ → Option ℕ) (operands : List Cell) (from : Machine) (mid end : ℕ) (s : source.SourceState) (o : Evaluated Value)
-    → ValueRuns g h operands from mid s o → ((v : Value) → Leads g.p (place g mid (cell_of v ∷ operands) s) (place g end (cell_of v ∷ operands) s))
+    → ValueRuns g h operands from mid s o → ((v : Value) → Leads g.p (position g mid (cell_of v ∷ operands) s) (position g end (cell_of v ∷ operands) s))
     → ValueRuns g h operands from end s o
 value-to g h operands from mid end s (Yields v) first each = leads-through g.p from _ _ first (each v)
 value-to g h operands from mid end s (Raises exception) first each = first
@@ -60,13 +60,13 @@ pub value-at : (g : Setting) (h : ℕ → Option ℕ) (operands : List Cell) (fr
     → mid ≡ end → ValueRuns g h operands from mid s o → ValueRuns g h operands from end s o
 value-at g h operands from mid end s o e first = subst (λ (q : ℕ). ValueRuns g h operands from q s o) e first
 
-pub then-runs : (g : Setting) (h : ℕ → Option ℕ) (before behind : List Cell) (from : Machine) (mid end : ℕ) (s : source.SourceState) (first : Evaluated Value) (next : Value → Evaluated Value)
+pub then-runs : (g : Setting) (h : ℕ → Option ℕ) (before beyond : List Cell) (from : Machine) (mid end : ℕ) (s : source.SourceState) (first : Evaluated Value) (next : Value → Evaluated Value)
     → ValueRuns g h before from mid s first
-    → ((v : Value) → first ≡ Yields v → ValueRuns g h behind (place g mid (cell_of v ∷ before) s) end s (next v))
-    → ValueRuns g h behind from end s (then_with first next)
-then-runs g h before behind from mid end s (Yields v) next run each =
-    value-from g h behind from (place g mid (cell_of v ∷ before) s) end s (next v) run (each v refl)
-then-runs g h before behind from mid end s (Raises exception) next run each = run
+    → ((v : Value) → first ≡ Yields v → ValueRuns g h beyond (position g mid (cell_of v ∷ before) s) end s (next v))
+    → ValueRuns g h beyond from end s (then_with first next)
+then-runs g h before beyond from mid end s (Yields v) next run each =
+    value-from g h beyond from (position g mid (cell_of v ∷ before) s) end s (next v) run (each v refl)
+then-runs g h before beyond from mid end s (Raises exception) next run each = run
 
 -- ---- variables
 
@@ -102,7 +102,7 @@ element-missing values i most = slice_get_past (cells_of values) i (omega (arith
 module _ (g : Setting) (h : ℕ → Option ℕ) (s : source.SourceState) (fit : StateFits g.program g.procedure s) where
   pub read-runs : (x : Variable) (b : Base) (at : ℕ) (operands : List Cell) (more : List Instruction)
       → scalar_by (variable_type g.program g.procedure x) (same_base b) ≡ true → Stands g.code (load_of x ∷ more) at
-      → Leads g.p (place g at operands s) (place g (at + 1) (cell_of (cell_at (cells s x) 0) ∷ operands) s)
+      → Leads g.p (position g at operands s) (position g (at + 1) (cell_of (cell_at (cells s x) 0) ∷ operands) s)
   read-runs x b at operands more typed stands =
       let there = scalar-there (variable_type g.program g.procedure x) (same_base b) typed in
       let type : VariableType = there.0 in
@@ -124,7 +124,7 @@ module _ (g : Setting) (h : ℕ → Option ℕ) (s : source.SourceState) (fit : 
   pub element-runs : (x : Variable) (count : ℕ) (b : Base) (v : Value) (at : ℕ) (operands : List Cell) (more : List Instruction)
       → array_by (variable_type g.program g.procedure x) count (same_base b) ≡ true → base_of v ≡ base.Int → Stands g.code (load_element_of x ∷ more) at
       → ((exception : ℕ) → g.p.find g.number at exception ≡ h exception)
-      → ValueRuns g h operands (place g at (cell_of v ∷ operands) s) (at + 1) s (then_with (checked_index v count) (λ i. Yields (cell_at (cells s x) i)))
+      → ValueRuns g h operands (position g at (cell_of v ∷ operands) s) (at + 1) s (then_with (checked_index v count) (λ i. Yields (cell_at (cells s x) i)))
   element-runs x count b (Truth t) at operands more typed is_int stands finds = cc
   element-runs x count b (Number z) at operands more typed is_int stands finds =
       let there = array-there (variable_type g.program g.procedure x) count (same_base b) typed in
@@ -140,7 +140,7 @@ module _ (g : Setting) (h : ℕ → Option ℕ) (s : source.SourceState) (fit : 
       slot_is type e f = rw (e, f) refl
 
       missing : (z : ℤ) → element_at (cells_of (cells s x)) z ≡ None → act g.p (load_element_of x) (state_at g at (cell.Int z ∷ operands) s) ≡ found g.p (state_at g at (cell.Int z ∷ operands) s) operands (element_at (cells_of (cells s x)) z)
-          → Leads g.p (place g at (cell.Int z ∷ operands) s) (thrown_to g (h BOUNDS) BOUNDS s)
+          → Leads g.p (position g at (cell.Int z ∷ operands) s) (thrown_to g (h BOUNDS) BOUNDS s)
       missing z none acts =
           does g more (load_element_of x) at (cell.Int z ∷ operands) s _ stands
           (acts ∙ ap (found g.p (state_at g at (cell.Int z ∷ operands) s) operands) none ∙ raised-is g at (cell.Int z ∷ operands) s BOUNDS
@@ -148,7 +148,7 @@ module _ (g : Setting) (h : ℕ → Option ℕ) (s : source.SourceState) (fit : 
 
       inside : (i : ℕ) (test : Bool) → nat_lt i count ≡ test → length (cells s x) ≡ count
           → act g.p (load_element_of x) (state_at g at (cell.Int (pos i) ∷ operands) s) ≡ found g.p (state_at g at (cell.Int (pos i) ∷ operands) s) operands (element_at (cells_of (cells s x)) (pos i))
-          → ValueRuns g h operands (place g at (cell.Int (pos i) ∷ operands) s) (at + 1) s (then_with (if test then Yields i else Raises 1) (λ i. Yields (cell_at (cells s x) i)))
+          → ValueRuns g h operands (position g at (cell.Int (pos i) ∷ operands) s) (at + 1) s (then_with (if test then Yields i else Raises 1) (λ i. Yields (cell_at (cells s x) i)))
       inside i true e many acts =
           does g more (load_element_of x) at (cell.Int (pos i) ∷ operands) s _ stands
           (acts ∙ ap (found g.p (state_at g at (cell.Int (pos i) ∷ operands) s) operands) (element-there (cells s x) i (omega (arith, many, ltb-true i count e)))
@@ -157,6 +157,6 @@ module _ (g : Setting) (h : ℕ → Option ℕ) (s : source.SourceState) (fit : 
 
       go : (z : ℤ) → length (cells s x) ≡ count
           → act g.p (load_element_of x) (state_at g at (cell.Int z ∷ operands) s) ≡ found g.p (state_at g at (cell.Int z ∷ operands) s) operands (element_at (cells_of (cells s x)) z)
-          → ValueRuns g h operands (place g at (cell.Int z ∷ operands) s) (at + 1) s (then_with (checked_index (Number z) count) (λ i. Yields (cell_at (cells s x) i)))
+          → ValueRuns g h operands (position g at (cell.Int z ∷ operands) s) (at + 1) s (then_with (checked_index (Number z) count) (λ i. Yields (cell_at (cells s x) i)))
       go (pos i) many acts = inside i (nat_lt i count) refl many acts
       go (negsuc i) many acts = missing (negsuc i) refl acts

@@ -15,7 +15,7 @@ use Rattle.lowering.specs.Expressions.{store_of, store_element_of, value_size, v
 
 -- where `break` and `continue` go: after the loop, and to its test
 pub record Loop : Type 0 where
-  pub behind : ℕ
+  pub beyond : ℕ
   pub test : ℕ
 
 -- ---- normal ends
@@ -28,7 +28,7 @@ abbrev mutual
   statement_falls (Receive at channel target) = true
   statement_falls (Send at channel e) = true
   statement_falls (Call at procedure arguments target) = true
-  statement_falls (If at e yes_block no_block) = block_falls yes_block || block_falls no_block
+  statement_falls (If at e then_block else_block) = block_falls then_block || block_falls else_block
   statement_falls (While at loop e body) = true
   statement_falls (Leave at exit) = false
   statement_falls (ReturnWith at e) = false
@@ -79,7 +79,7 @@ result_code (Some entry) target = kept_code target ∷ []
 abbrev pub leave_code : Loop → Exit → Instruction
 leave_code loop exit.Normal = instruction.Return
 leave_code loop exit.Return = instruction.Return
-leave_code loop exit.Break = instruction.Jump loop.behind
+leave_code loop exit.Break = instruction.Jump loop.beyond
 leave_code loop exit.Continue = instruction.Jump loop.test
 leave_code loop (exit.Throw exception) = instruction.Throw exception
 
@@ -93,10 +93,10 @@ return_code at (Some e) = value_code at e ++ instruction.ReturnValue ∷ []
 
 -- whether the first block of an `if` jumps over the second one, and that of a `try` or a handler over the handlers after it
 abbrev pub jumps_over : Block → Block → Bool
-jumps_over yes_block no_block = block_falls yes_block && not (is_empty no_block)
+jumps_over then_block else_block = block_falls then_block && not (is_empty else_block)
 
-abbrev pub jumps_behind : Block → Handlers → Bool
-jumps_behind block handlers = block_falls block && not (is_none_left handlers)
+abbrev pub jumps_after : Block → Handlers → Bool
+jumps_after block handlers = block_falls block && not (is_none_left handlers)
 
 -- how many instructions code has
 abbrev mutual
@@ -108,14 +108,14 @@ abbrev mutual
   statement_size program (Send at channel e) = value_size e + 1
   statement_size program (Call at procedure arguments target) =
       arguments_size arguments + (1 + result_size (procedure_at program procedure).result)
-  statement_size program (If at e yes_block no_block) =
+  statement_size program (If at e then_block else_block) =
       branch_size false e
-      + (block_size program yes_block + (jump_size (jumps_over yes_block no_block) + block_size program no_block))
+      + (block_size program then_block + (jump_size (jumps_over then_block else_block) + block_size program else_block))
   statement_size program (While at loop e body) = 1 + (block_size program body + branch_size true e)
   statement_size program (Leave at exit) = 1
   statement_size program (ReturnWith at e) = return_size e
   statement_size program (Try at block handlers) =
-      block_size program block + (jump_size (jumps_behind block handlers) + handlers_size program handlers)
+      block_size program block + (jump_size (jumps_after block handlers) + handlers_size program handlers)
   statement_size program (Nested at block) = block_size program block
 
   pub block_size : Program → Block → ℕ
@@ -125,69 +125,69 @@ abbrev mutual
   pub handlers_size : Program → Handlers → ℕ
   handlers_size program NoMore = 0
   handlers_size program (Catch at exception body rest) =
-      block_size program body + (jump_size (jumps_behind body rest) + handlers_size program rest)
+      block_size program body + (jump_size (jumps_after body rest) + handlers_size program rest)
 
--- ---- places
+-- ---- positions
 -- where the second block of an `if` begins
-abbrev pub no_place : Program → (place : ℕ) → Expression → Block → Block → ℕ
-no_place program place e yes_block no_block =
-    place + branch_size false e + block_size program yes_block + jump_size (jumps_over yes_block no_block)
+abbrev pub no_position : Program → (position : ℕ) → Expression → Block → Block → ℕ
+no_position program position e then_block else_block =
+    position + branch_size false e + block_size program then_block + jump_size (jumps_over then_block else_block)
 
 -- where the test of a loop begins
-abbrev pub test_place : Program → (place : ℕ) → Block → ℕ
-test_place program place body = place + 1 + block_size program body
+abbrev pub test_position : Program → (position : ℕ) → Block → ℕ
+test_position program position body = position + 1 + block_size program body
 
 -- where the handlers of a `try` begin, or those that follow a handler
-abbrev pub handlers_place : Program → (place : ℕ) → Block → Handlers → ℕ
-handlers_place program place block handlers = place + block_size program block + jump_size (jumps_behind block handlers)
+abbrev pub handlers_position : Program → (position : ℕ) → Block → Handlers → ℕ
+handlers_position program position block handlers = position + block_size program block + jump_size (jumps_after block handlers)
 
 -- ---- code
 -- `break` and `continue` go where the innermost loop says; code after a handler's body, where that ends normally, is at `end`
 abbrev mutual
-  pub statement_code : Program → Loop → (place : ℕ) → Statement → List Instruction
-  statement_code program loop place (Assign at x e) = value_code place e ++ store_of x ∷ []
-  statement_code program loop place (Clear at slot) = instruction.Clear slot ∷ []
-  statement_code program loop place (Store at array length index e) =
-      value_code place index ++ (value_code (place + value_size index) e ++ store_element_of array ∷ [])
-  statement_code program loop place (Receive at channel target) = instruction.Receive channel ∷ kept_code target ∷ []
-  statement_code program loop place (Send at channel e) = value_code place e ++ instruction.Send channel ∷ []
-  statement_code program loop place (Call at procedure arguments target) =
-      arguments_code place arguments
+  pub statement_code : Program → Loop → (position : ℕ) → Statement → List Instruction
+  statement_code program loop position (Assign at x e) = value_code position e ++ store_of x ∷ []
+  statement_code program loop position (Clear at slot) = instruction.Clear slot ∷ []
+  statement_code program loop position (Store at array length index e) =
+      value_code position index ++ (value_code (position + value_size index) e ++ store_element_of array ∷ [])
+  statement_code program loop position (Receive at channel target) = instruction.Receive channel ∷ kept_code target ∷ []
+  statement_code program loop position (Send at channel e) = value_code position e ++ instruction.Send channel ∷ []
+  statement_code program loop position (Call at procedure arguments target) =
+      arguments_code position arguments
       ++ instruction.Call procedure ∷ result_code (procedure_at program procedure).result target
-  statement_code program loop place (If at e yes_block no_block) =
-      branch_code false place (no_place program place e yes_block no_block) e
-      ++ (block_code program loop (place + branch_size false e) yes_block
-      ++ (jump_code (jumps_over yes_block no_block)
-      (no_place program place e yes_block no_block + block_size program no_block)
-      ++ block_code program loop (no_place program place e yes_block no_block) no_block))
-  statement_code program loop place (While at number e body) =
-      instruction.Jump (test_place program place body)
+  statement_code program loop position (If at e then_block else_block) =
+      branch_code false position (no_position program position e then_block else_block) e
+      ++ (block_code program loop (position + branch_size false e) then_block
+      ++ (jump_code (jumps_over then_block else_block)
+      (no_position program position e then_block else_block + block_size program else_block)
+      ++ block_code program loop (no_position program position e then_block else_block) else_block))
+  statement_code program loop position (While at number e body) =
+      instruction.Jump (test_position program position body)
       ∷ (block_code program
-      (record { behind = test_place program place body + branch_size true e; test = test_place program place body })
-      (place + 1) body
-      ++ branch_code true (test_place program place body) (place + 1) e)
-  statement_code program loop place (Leave at exit) = leave_code loop exit ∷ []
-  statement_code program loop place (ReturnWith at e) = return_code place e
-  statement_code program loop place (Try at block handlers) =
-      block_code program loop place block
-      ++ (jump_code (jumps_behind block handlers)
-      (handlers_place program place block handlers + handlers_size program handlers)
-      ++ handlers_code program loop (handlers_place program place block handlers + handlers_size program handlers)
-      (handlers_place program place block handlers) handlers)
-  statement_code program loop place (Nested at block) = block_code program loop place block
+      (record { beyond = test_position program position body + branch_size true e; test = test_position program position body })
+      (position + 1) body
+      ++ branch_code true (test_position program position body) (position + 1) e)
+  statement_code program loop position (Leave at exit) = leave_code loop exit ∷ []
+  statement_code program loop position (ReturnWith at e) = return_code position e
+  statement_code program loop position (Try at block handlers) =
+      block_code program loop position block
+      ++ (jump_code (jumps_after block handlers)
+      (handlers_position program position block handlers + handlers_size program handlers)
+      ++ handlers_code program loop (handlers_position program position block handlers + handlers_size program handlers)
+      (handlers_position program position block handlers) handlers)
+  statement_code program loop position (Nested at block) = block_code program loop position block
 
-  pub block_code : Program → Loop → (place : ℕ) → Block → List Instruction
-  block_code program loop place Empty = []
-  block_code program loop place (Then statement rest) =
-      statement_code program loop place statement
-      ++ block_code program loop (place + statement_size program statement) rest
+  pub block_code : Program → Loop → (position : ℕ) → Block → List Instruction
+  block_code program loop position Empty = []
+  block_code program loop position (Then statement rest) =
+      statement_code program loop position statement
+      ++ block_code program loop (position + statement_size program statement) rest
 
-  pub handlers_code : Program → Loop → (end place : ℕ) → Handlers → List Instruction
-  handlers_code program loop end place NoMore = []
-  handlers_code program loop end place (Catch at exception body rest) =
-      block_code program loop place body
-      ++ (jump_code (jumps_behind body rest) end
-      ++ handlers_code program loop end (handlers_place program place body rest) rest)
+  pub handlers_code : Program → Loop → (end position : ℕ) → Handlers → List Instruction
+  handlers_code program loop end position NoMore = []
+  handlers_code program loop end position (Catch at exception body rest) =
+      block_code program loop position body
+      ++ (jump_code (jumps_after body rest) end
+      ++ handlers_code program loop end (handlers_position program position body rest) rest)
 
 -- ---- handlers
 -- the entry of a catch: none where no instruction stands in the block
@@ -197,34 +197,34 @@ entry_of start end exception target =
 
 -- the entries of a block stand before those of the `try` that it belongs to
 abbrev mutual
-  pub statement_table : Program → (place : ℕ) → Statement → List Handler
-  statement_table program place (Assign at x e) = []
-  statement_table program place (Clear at slot) = []
-  statement_table program place (Store at array length index e) = []
-  statement_table program place (Receive at channel target) = []
-  statement_table program place (Send at channel e) = []
-  statement_table program place (Call at procedure arguments target) = []
-  statement_table program place (If at e yes_block no_block) =
-      block_table program (place + branch_size false e) yes_block
-      ++ block_table program (no_place program place e yes_block no_block) no_block
-  statement_table program place (While at number e body) = block_table program (place + 1) body
-  statement_table program place (Leave at exit) = []
-  statement_table program place (ReturnWith at e) = []
-  statement_table program place (Try at block handlers) =
-      block_table program place block
-      ++ handlers_table program place (place + block_size program block)
-      (handlers_place program place block handlers) handlers
-  statement_table program place (Nested at block) = block_table program place block
+  pub statement_table : Program → (position : ℕ) → Statement → List Handler
+  statement_table program position (Assign at x e) = []
+  statement_table program position (Clear at slot) = []
+  statement_table program position (Store at array length index e) = []
+  statement_table program position (Receive at channel target) = []
+  statement_table program position (Send at channel e) = []
+  statement_table program position (Call at procedure arguments target) = []
+  statement_table program position (If at e then_block else_block) =
+      block_table program (position + branch_size false e) then_block
+      ++ block_table program (no_position program position e then_block else_block) else_block
+  statement_table program position (While at number e body) = block_table program (position + 1) body
+  statement_table program position (Leave at exit) = []
+  statement_table program position (ReturnWith at e) = []
+  statement_table program position (Try at block handlers) =
+      block_table program position block
+      ++ handlers_table program position (position + block_size program block)
+      (handlers_position program position block handlers) handlers
+  statement_table program position (Nested at block) = block_table program position block
 
-  pub block_table : Program → (place : ℕ) → Block → List Handler
-  block_table program place Empty = []
-  block_table program place (Then statement rest) =
-      statement_table program place statement
-      ++ block_table program (place + statement_size program statement) rest
+  pub block_table : Program → (position : ℕ) → Block → List Handler
+  block_table program position Empty = []
+  block_table program position (Then statement rest) =
+      statement_table program position statement
+      ++ block_table program (position + statement_size program statement) rest
 
-  pub handlers_table : Program → (start end place : ℕ) → Handlers → List Handler
-  handlers_table program start end place NoMore = []
-  handlers_table program start end place (Catch at exception body rest) =
-      entry_of start end exception place
-      ++ (block_table program place body
-      ++ handlers_table program start end (handlers_place program place body rest) rest)
+  pub handlers_table : Program → (start end position : ℕ) → Handlers → List Handler
+  handlers_table program start end position NoMore = []
+  handlers_table program start end position (Catch at exception body rest) =
+      entry_of start end exception position
+      ++ (block_table program position body
+      ++ handlers_table program start end (handlers_position program position body rest) rest)

@@ -1,6 +1,6 @@
 -- Private: the code of expressions for a stack machine: code that leaves the value of an expression on the operands, and code of a condition
--- that goes to a place where the condition has the truth that is asked for, and else goes on after it.
--- Places are numbers of instructions in the code of a procedure, from 0 on; code is made for the place at which it is to stand.
+-- that goes to a position where the condition has the truth that is asked for, and else goes on after it.
+-- Positions are numbers of instructions in the code of a procedure, from 0 on; code is made for the position at which it is to stand.
 -- Source: our own; jumping code for conditions as textbooks give it.
 use Rattle.common.specs.Functions.{same_truth}
 use Rattle.std.specs.Prelude.{ℕ, ◌+◌, Bool, true, false, not, List, [], ◌∷◌, ◌++◌, if◌then◌else◌}
@@ -116,7 +116,7 @@ value_code at (Unary prefix e) = value_code at e ++ prefix_instruction prefix �
 value_code at (Binary operator d e) =
     value_code at d ++ (value_code (at + value_size d) e ++ operator_instruction operator ∷ [])
 value_code at (Short connective d e) =
-    value_code at d ++ rest_of_short connective (at + value_size d) (value_size e) (λ place. value_code place e)
+    value_code at d ++ rest_of_short connective (at + value_size d) (value_size e) (λ position. value_code position e)
 
 -- the values of arguments, from the left
 abbrev pub arguments_size : List Expression → ℕ
@@ -160,7 +160,7 @@ negated (Unary sign e) = Unary prefix.Not (Unary sign e)
 negated (Binary operator d e) = Binary (negated_operator operator) d e
 negated (Short connective d e) = Unary prefix.Not (Short connective d e)
 
--- a condition as it is tested: code goes to a place where what is tested is false
+-- a condition as it is tested: code goes to a position where what is tested is false
 abbrev pub tested : (wanted : Bool) → Expression → Expression
 tested false e = e
 tested true e = negated e
@@ -183,7 +183,7 @@ branch_size wanted (Short connective d e) = branch_size (deciding connective) d 
 abbrev pub test_code : (wanted : Bool) → (at target : ℕ) → Expression → List Instruction
 test_code wanted at target e = value_code at (tested wanted e) ++ JumpIfFalse target ∷ []
 
--- code that goes to a place where the condition has the wanted truth, and else goes on after it. Where the left operand of a connective
+-- code that goes to a position where the condition has the wanted truth, and else goes on after it. Where the left operand of a connective
 -- decides, the whole condition has that truth
 abbrev pub branch_code : (wanted : Bool) → (at target : ℕ) → Expression → List Instruction
 branch_code wanted at target (Integer n) = test_code wanted at target (Integer n)

@@ -17,7 +17,7 @@ end_code false = []
 
 -- outside a loop, where no `break` and no `continue` stands
 abbrev pub no_loop : Loop
-no_loop = record { behind = 0; test = 0 }
+no_loop = record { beyond = 0; test = 0 }
 
 abbrev pub body_code : Program → Block → List Instruction
 body_code program body = block_code program no_loop 0 body ++ end_code (block_falls body)

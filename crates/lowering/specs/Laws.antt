@@ -10,7 +10,7 @@ use Rattle.resolved.specs.EndFaults.{end_faults}
 use Rattle.resolved.specs.Names.{HasNames}
 use Rattle.resolved.specs.Program.{Program}
 use Rattle.resolved.specs.WellFormed.{well_formed}
-use Rattle.verifier.specs.Refusals.{HasNoDefect}
+use Rattle.verifier.specs.Refusals.{IsNotRefused}
 use Rattle.verifier.specs.Safety.{IsNeverStuck}
 use Rattle.lowering.specs.Direct.{HasDirectJumps}
 use Rattle.lowering.specs.Fitting.{HasShortValues}
@@ -37,10 +37,10 @@ abbrev pub GraphsFitTheFile : Type 0
 GraphsFitTheFile = (program : Program) → IsTrue (well_formed program) → end_faults program ≡ [] → HasNames program
     → HasShortValues program → Fits module_file (graph_of program)
 
--- the module has no defect
-abbrev pub ModulesHaveNoDefect : Type 0
-ModulesHaveNoDefect = (program : Program) → IsTrue (well_formed program) → end_faults program ≡ []
-    → HasNoDefect (laid_out (graph_of program))
+-- the module is not refused
+abbrev pub ModulesAreNotRefused : Type 0
+ModulesAreNotRefused = (program : Program) → IsTrue (well_formed program) → end_faults program ≡ []
+    → IsNotRefused (laid_out (graph_of program))
 
 -- so no run of it is stuck, where the graph fits the module file
 abbrev pub ModulesAreNeverStuck : Type 0

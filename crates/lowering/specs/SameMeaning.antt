@@ -6,10 +6,10 @@ use Rattle.labels.specs.Sent.{IsPrefix}
 use Rattle.resolved.specs.declared.statement.Exit.TheVariants.{Normal, Return, Break, Continue, Throw}
 use Rattle.resolved.specs.Program.{Program}
 use Rattle.resolved.specs.SourceState.{World}
-use Rattle.resolved.specs.Meaning.{Outcome, Ended, Stopped, Deep, OutOfTurns, run_within, frame_limit, sent_by}
+use Rattle.resolved.specs.Meaning.{Outcome, Ended, Stopped, Deep, OutOfFuel, run_within, frame_limit, sent_by}
 use Rattle.modules.specs.Machine as machine
 
--- how a machine ends where a program does so; none for a run that is out of turns, which has not ended, and for a `break` or a
+-- how a machine ends where a program does so; none for a run that is out of fuel, which has not ended, and for a `break` or a
 -- `continue` out of a procedure, which no program has that is free of faults of its ends
 abbrev pub ending_of : Outcome → Option machine.Ending
 ending_of (Ended Normal returned s) = Some machine.Finished
@@ -18,11 +18,11 @@ ending_of (Ended Break returned s) = None
 ending_of (Ended Continue returned s) = None
 ending_of (Ended (Throw exception) returned s) = Some (machine.Threw exception)
 ending_of (Stopped Deep s) = Some machine.Deep
-ending_of (Stopped OutOfTurns s) = None
+ending_of (Stopped OutOfFuel s) = None
 
--- a machine by its world and how many steps it has made. What n steps send is a prefix of what the program sends with n turns,
--- and what it sends with k turns is a prefix of what some steps send; a machine that has ended within n steps has sent what the
--- program sends with n turns, which ends so; and where the program ends with k turns, so does the machine after some steps, and has sent the same
+-- a machine by its world and how many steps it has made. What n steps send is a prefix of what the program sends with fuel n,
+-- and what it sends with fuel k is a prefix of what some steps send; a machine that has ended within n steps has sent what the
+-- program sends with fuel n, which ends so; and where the program ends with fuel k, so does the machine after some steps, and has sent the same
 pub record SameMeaning (program : Program) (after : World → ℕ → machine.Machine) : Type 0 where
   pub no_more : (world : World) (n : ℕ) → IsPrefix (machine.sent_of (after world n)) (sent_by program world n)
   pub no_less : (world : World) (k : ℕ) → (n : ℕ) × IsPrefix (sent_by program world k) (machine.sent_of (after world n))

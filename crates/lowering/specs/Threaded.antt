@@ -6,19 +6,19 @@ use Rattle.modules.specs.declared.instruction.Instruction.{Instruction}
 use Rattle.modules.specs.Targets.{renamed_instruction}
 use Rattle.lowering.specs.Direct.{jump_of}
 
--- from a place where an unconditional jump goes forward on from its target, and else no further
-abbrev pub onward : (place : ℕ) → (on : ℕ → ℕ) → (jump : Option ℕ) → ℕ
-onward place on None = place
-onward place on (Some target) = if nat_lt place target then on target else place
+-- from a position where an unconditional jump goes forward on from its target, and else no further
+abbrev pub onward : (position : ℕ) → (on : ℕ → ℕ) → (jump : Option ℕ) → ℕ
+onward position on None = position
+onward position on (Some target) = if nat_lt position target then on target else position
 
--- the place to which unconditional jumps that go forward lead from a place, with the number of those that are followed at most
-abbrev pub followed : (jumps : ℕ) → List Instruction → (place : ℕ) → ℕ
-followed zero code place = place
-followed (suc jumps) code place = onward place (followed jumps code) (jump_of (slice_get code place))
+-- the position to which unconditional jumps that go forward lead from a position, with the number of those that are followed at most
+abbrev pub followed : (jumps : ℕ) → List Instruction → (position : ℕ) → ℕ
+followed zero code position = position
+followed (suc jumps) code position = onward position (followed jumps code) (jump_of (slice_get code position))
 
 -- all of them are followed: there are no more than instructions
-abbrev pub final_place : List Instruction → ℕ → ℕ
-final_place code place = followed (length code) code place
+abbrev pub final_position : List Instruction → ℕ → ℕ
+final_position code position = followed (length code) code position
 
 abbrev pub threaded : List Instruction → List Instruction
-threaded code = map (renamed_instruction (final_place code)) code
+threaded code = map (renamed_instruction (final_position code)) code

@@ -1,4 +1,4 @@
-//! Code of conditions, which goes to a place where the condition has a wanted truth.
+//! Code of conditions, which goes to a position where the condition has a wanted truth.
 ghost use Rattle.common.specs.Functions.{same_truth};
 ghost use Rattle.resolved.specs.TreeOf.{expression_of};
 ghost use Rattle.lowering.specs.Expressions.{branch_code, branch_size, deciding, test_code, tested, negated, negated_operator, opposite_relation, opposite_sameness, value_code, value_size};
@@ -139,13 +139,13 @@ fn push_test(
 }
 
 /// Where the left operand of a connective goes where it decides: the whole condition then has that truth.
-fn inner_target(wanted: bool, decides: bool, target: u32, behind: u32) -> u32
-    ensures { result ≡ (if same_truth wanted decides then target else behind) }
+fn inner_target(wanted: bool, decides: bool, target: u32, beyond: u32) -> u32
+    ensures { result ≡ (if same_truth wanted decides then target else beyond) }
 {
     match (wanted, decides) {
         (true, true) => target,
-        (true, false) => behind,
-        (false, true) => behind,
+        (true, false) => beyond,
+        (false, true) => beyond,
         (false, false) => target,
     }
 }
@@ -157,10 +157,10 @@ pub(crate) fn push_branch(
     code: &mut Vec<Instruction>,
     wanted: bool,
     target: u32,
-    behind: u32,
+    beyond: u32,
     condition: &Expression,
 ) -> Result<(), AllocError>
-    requires { behind ≡ length code.now.items + branch_size wanted (expression_of condition.now) }
+    requires { beyond ≡ length code.now.items + branch_size wanted (expression_of condition.now) }
     ensures { OnOk result (code.new.items ≡ code.old.items ++
         branch_code wanted (length code.old.items) target (expression_of condition.now)) }
 {
@@ -171,15 +171,15 @@ pub(crate) fn push_branch(
         Expression::Element(_, _, _) => push_test(code, wanted, target, condition),
         Expression::Unary(Prefix::Negate, _) => push_test(code, wanted, target, condition),
         Expression::Unary(Prefix::Not, operand) => {
-            push_branch(code, !wanted, target, behind, operand)
+            push_branch(code, !wanted, target, beyond, operand)
         }
         Expression::Binary(_, _, _) => push_test(code, wanted, target, condition),
         Expression::Short(connective, left, right) => {
             let decides = decides_at(*connective);
-            let between = behind - branch_size(wanted, right);
-            let inner = inner_target(wanted, decides, target, behind);
+            let between = beyond - branch_size(wanted, right);
+            let inner = inner_target(wanted, decides, target, beyond);
             push_branch(code, decides, inner, between, left)?;
-            push_branch(code, wanted, target, behind, right)
+            push_branch(code, wanted, target, beyond, right)
         }
     }
 }

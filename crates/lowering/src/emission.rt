@@ -8,8 +8,8 @@ ghost use Rattle.std.specs.Prelude.{OnOk, length, ◌++◌, ◌+◌, ◌<◌, �
 
 use crate::actions::{push_assign, push_call, push_receive, push_return, push_send, push_store};
 use crate::conditions::{branch_size, push_branch};
-use crate::emitter::{next_place, push};
-use crate::endings::{jumps_behind, jumps_over};
+use crate::emitter::{next_position, push};
+use crate::endings::{jumps_after, jumps_over};
 use crate::lengths::{block_size, handlers_size, jump_size};
 use modules::{Handler, Instruction};
 use resolved::expression::Expression;
@@ -19,35 +19,35 @@ use std::alloc::AllocError;
 
 /// Where `break` and `continue` go: after the innermost loop, and to its test.
 #[derive(Clone, Copy)]
-pub(crate) struct LoopPlaces {
-    pub behind: u32,
+pub(crate) struct LoopPositions {
+    pub beyond: u32,
     pub test: u32,
 }
 
-/// The block of a `try`, from its first instruction to the place after its last one, and where code goes after its handlers.
+/// The block of a `try`, from its first instruction to the position after its last one, and where code goes after its handlers.
 #[derive(Clone, Copy)]
-struct TryPlaces {
+struct TryPositions {
     start: u32,
     end: u32,
-    behind: u32,
+    beyond: u32,
 }
 
 /// The condition of an `if`, and its blocks: for where it holds, and for where it does not.
 #[derive(Clone, Copy)]
 struct Branches<'a> {
     condition: &'a Expression,
-    yes_block: &'a [Statement],
-    no_block: &'a [Statement],
+    then_block: &'a [Statement],
+    else_block: &'a [Statement],
 }
 
 /// The instruction of `break`, `continue` and `throw`.
-fn leave_code(around: LoopPlaces, exit: Exit) -> Instruction
-    ensures { result ≡ leave_code (record { behind = around.behind; test = around.test }) exit }
+fn leave_code(around: LoopPositions, exit: Exit) -> Instruction
+    ensures { result ≡ leave_code (record { beyond = around.beyond; test = around.test }) exit }
 {
     match exit {
         Exit::Normal => Instruction::Return,
         Exit::Return => Instruction::Return,
-        Exit::Break => Instruction::Jump(around.behind),
+        Exit::Break => Instruction::Jump(around.beyond),
         Exit::Continue => Instruction::Jump(around.test),
         Exit::Throw(exception) => Instruction::Throw(exception),
     }
@@ -66,7 +66,7 @@ fn push_jump(code: &mut Vec<Instruction>, wanted: bool, target: u32) -> Result<(
 /// Adds the entry of a catch, unless no instruction stands in the block.
 fn push_entry(
     table: &mut Vec<Handler>,
-    tried: TryPlaces,
+    tried: TryPositions,
     exception: u32,
     target: u32,
 ) -> Result<(), AllocError>
@@ -89,7 +89,7 @@ fn push_entry(
 #[tactic(auto, using(crate::proofs::Forms::size_forms, crate::proofs::Adding::grown, crate::proofs::Appending::growing))]
 fn push_statement(
     core: &Core,
-    around: LoopPlaces,
+    around: LoopPositions,
     code: &mut Vec<Instruction>,
     table: &mut Vec<Handler>,
     statement: &Statement,
@@ -97,7 +97,7 @@ fn push_statement(
     requires { length code.now.items
         + statement_size (program_of core.now) (statement_of statement.now) < 2 ^ 32 }
     ensures { OnOk result (IsStatementAdded (program_of core.now)
-        (record { behind = around.behind; test = around.test }) (statement_of statement.now)
+        (record { beyond = around.beyond; test = around.test }) (statement_of statement.now)
         code.old.items code.new.items table.old.items table.new.items) }
 {
     match statement {
@@ -109,11 +109,11 @@ fn push_statement(
         Statement::Call(_, procedure, arguments, target) => {
             push_call(core, code, *procedure, arguments, *target)
         }
-        Statement::If(_, condition, yes_block, no_block) => {
+        Statement::If(_, condition, then_block, else_block) => {
             let branches = Branches {
                 condition,
-                yes_block,
-                no_block,
+                then_block,
+                else_block,
             };
             push_if(core, around, code, table, &branches)
         }
@@ -132,7 +132,7 @@ fn push_statement(
 #[tactic(auto, using(crate::proofs::Forms::size_forms, crate::proofs::Adding::grown, crate::proofs::Appending::growing))]
 pub(crate) fn push_block(
     core: &Core,
-    around: LoopPlaces,
+    around: LoopPositions,
     code: &mut Vec<Instruction>,
     table: &mut Vec<Handler>,
     block: &[Statement],
@@ -140,7 +140,7 @@ pub(crate) fn push_block(
     requires { length code.now.items
         + block_size (program_of core.now) (block_of block.now) < 2 ^ 32 }
     ensures { OnOk result (IsBlockAdded (program_of core.now)
-        (record { behind = around.behind; test = around.test }) (block_of block.now)
+        (record { beyond = around.beyond; test = around.test }) (block_of block.now)
         code.old.items code.new.items table.old.items table.new.items) }
 {
     for statement in block {
@@ -154,32 +154,32 @@ pub(crate) fn push_block(
 #[tactic(auto, using(crate::proofs::Forms::size_forms, crate::proofs::Adding::grown, crate::proofs::Appending::growing))]
 fn push_if(
     core: &Core,
-    around: LoopPlaces,
+    around: LoopPositions,
     code: &mut Vec<Instruction>,
     table: &mut Vec<Handler>,
     branches: &Branches,
 ) -> Result<(), AllocError>
     requires { length code.now.items + statement_size (program_of core.now)
-        (If 0 (expression_of branches.now.condition.now) (block_of branches.now.yes_block.now)
-        (block_of branches.now.no_block.now)) < 2 ^ 32 }
+        (If 0 (expression_of branches.now.condition.now) (block_of branches.now.then_block.now)
+        (block_of branches.now.else_block.now)) < 2 ^ 32 }
     ensures { OnOk result (IsStatementAdded (program_of core.now)
-        (record { behind = around.behind; test = around.test })
-        (If 0 (expression_of branches.now.condition.now) (block_of branches.now.yes_block.now)
-        (block_of branches.now.no_block.now))
+        (record { beyond = around.beyond; test = around.test })
+        (If 0 (expression_of branches.now.condition.now) (block_of branches.now.then_block.now)
+        (block_of branches.now.else_block.now))
         code.old.items code.new.items table.old.items table.new.items) }
 {
     let Branches {
         condition,
-        yes_block,
-        no_block,
+        then_block,
+        else_block,
     } = *branches;
-    let jumps = jumps_over(yes_block, no_block);
-    let test_end = next_place(code) + branch_size(false, condition);
-    let second = test_end + block_size(core, yes_block) + jump_size(jumps);
+    let jumps = jumps_over(then_block, else_block);
+    let test_end = next_position(code) + branch_size(false, condition);
+    let second = test_end + block_size(core, then_block) + jump_size(jumps);
     push_branch(code, false, second, test_end, condition)?;
-    push_block(core, around, code, table, yes_block)?;
-    push_jump(code, jumps, second + block_size(core, no_block))?;
-    push_block(core, around, code, table, no_block)
+    push_block(core, around, code, table, then_block)?;
+    push_jump(code, jumps, second + block_size(core, else_block))?;
+    push_block(core, around, code, table, else_block)
 }
 
 /// Adds the code of a loop: a jump to the test, the body, and the test, which goes back to the body.
@@ -198,13 +198,13 @@ fn push_while(
         (While 0 0 (expression_of condition.now) (block_of body.now))
         code.old.items code.new.items table.old.items table.new.items) }
 {
-    let start = next_place(code) + 1;
+    let start = next_position(code) + 1;
     let test = start + block_size(core, body);
-    let behind = test + branch_size(true, condition);
-    let inner = LoopPlaces { behind, test };
+    let beyond = test + branch_size(true, condition);
+    let inner = LoopPositions { beyond, test };
     push(code, Instruction::Jump(test))?;
     push_block(core, inner, code, table, body)?;
-    push_branch(code, true, start, behind, condition)
+    push_branch(code, true, start, beyond, condition)
 }
 
 /// Adds the code of a `try` with its handlers.
@@ -212,7 +212,7 @@ fn push_while(
 #[tactic(auto, using(crate::proofs::Forms::size_forms, crate::proofs::Adding::grown, crate::proofs::Appending::growing))]
 fn push_try(
     core: &Core,
-    around: LoopPlaces,
+    around: LoopPositions,
     code: &mut Vec<Instruction>,
     table: &mut Vec<Handler>,
     block: &[Statement],
@@ -221,20 +221,20 @@ fn push_try(
     requires { length code.now.items + statement_size (program_of core.now)
         (Try 0 (block_of block.now) (handlers_of handlers.now)) < 2 ^ 32 }
     ensures { OnOk result (IsStatementAdded (program_of core.now)
-        (record { behind = around.behind; test = around.test })
+        (record { beyond = around.beyond; test = around.test })
         (Try 0 (block_of block.now) (handlers_of handlers.now))
         code.old.items code.new.items table.old.items table.new.items) }
 {
-    let start = next_place(code);
+    let start = next_position(code);
     push_block(core, around, code, table, block)?;
-    let end = next_place(code);
-    let jumps = jumps_behind(block, handlers);
-    let behind = end + jump_size(jumps) + handlers_size(core, handlers);
-    push_jump(code, jumps, behind)?;
+    let end = next_position(code);
+    let jumps = jumps_after(block, handlers);
+    let beyond = end + jump_size(jumps) + handlers_size(core, handlers);
+    push_jump(code, jumps, beyond)?;
     push_handlers(
         core,
         around,
-        TryPlaces { start, end, behind },
+        TryPositions { start, end, beyond },
         code,
         table,
         handlers,
@@ -246,8 +246,8 @@ fn push_try(
 #[tactic(auto, using(crate::proofs::Forms::size_forms, crate::proofs::Adding::grown, crate::proofs::Appending::growing))]
 fn push_handlers(
     core: &Core,
-    around: LoopPlaces,
-    tried: TryPlaces,
+    around: LoopPositions,
+    tried: TryPositions,
     code: &mut Vec<Instruction>,
     table: &mut Vec<Handler>,
     handlers: &[statement::Handler],
@@ -255,19 +255,19 @@ fn push_handlers(
     requires { length code.now.items
         + handlers_size (program_of core.now) (handlers_of handlers.now) < 2 ^ 32 }
     ensures { OnOk result (AreHandlersAdded (program_of core.now)
-        (record { behind = around.behind; test = around.test }) tried.behind tried.start tried.end
+        (record { beyond = around.beyond; test = around.test }) tried.beyond tried.start tried.end
         (handlers_of handlers.now)
         code.old.items code.new.items table.old.items table.new.items) }
 {
     let mut next = 0;
     for handler in handlers {
         next += 1;
-        push_entry(table, tried, handler.exception, next_place(code))?;
+        push_entry(table, tried, handler.exception, next_position(code))?;
         push_block(core, around, code, table, &handler.body)?;
         push_jump(
             code,
-            jumps_behind(&handler.body, &handlers[next..]),
-            tried.behind,
+            jumps_after(&handler.body, &handlers[next..]),
+            tried.beyond,
         )?;
     }
     Ok(())

@@ -12,8 +12,8 @@ pub(crate) fn push(code: &mut Vec<Instruction>, instruction: Instruction) -> Res
     Ok(())
 }
 
-/// The place of the next instruction.
-pub(crate) fn next_place(code: &[Instruction]) -> u32
+/// The position of the next instruction.
+pub(crate) fn next_position(code: &[Instruction]) -> u32
     requires { length code.now < 2 ^ 32 }
     ensures { result ≡ length code.now }
 {

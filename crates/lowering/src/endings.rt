@@ -1,6 +1,6 @@
 //! Whether code may end normally, by the form of what it is made of.
 ghost use Rattle.resolved.specs.TreeOf.{block_of, handlers_of, statement_of};
-ghost use Rattle.lowering.specs.Code.{block_falls, handlers_fall, jumps_behind, jumps_over, statement_falls};
+ghost use Rattle.lowering.specs.Code.{block_falls, handlers_fall, jumps_after, jumps_over, statement_falls};
 ghost use Rattle.std.specs.Prelude.{◌≡◌};
 
 use resolved::statement::{Handler, Statement};
@@ -17,7 +17,8 @@ fn statement_falls(statement: &Statement) -> bool
         Statement::Receive(_, _, _) => true,
         Statement::Send(_, _, _) => true,
         Statement::Call(_, _, _, _) => true,
-        Statement::If(_, _, yes_block, no_block) => block_falls(yes_block) || block_falls(no_block),
+        Statement::If(_, _, then_block, else_block) => block_falls(then_block)
+            || block_falls(else_block),
         Statement::While(_, _, _, _) => true,
         Statement::Leave(_, _) => false,
         Statement::Return(_, _) => false,
@@ -53,15 +54,15 @@ fn handlers_fall(handlers: &[Handler]) -> bool
 }
 
 /// Whether the first block of an `if` jumps over the second one.
-pub(crate) fn jumps_over(yes_block: &[Statement], no_block: &[Statement]) -> bool
-    ensures { result ≡ jumps_over (block_of yes_block.now) (block_of no_block.now) }
+pub(crate) fn jumps_over(then_block: &[Statement], else_block: &[Statement]) -> bool
+    ensures { result ≡ jumps_over (block_of then_block.now) (block_of else_block.now) }
 {
-    !no_block.is_empty() && block_falls(yes_block)
+    !else_block.is_empty() && block_falls(then_block)
 }
 
 /// Whether the block of a `try` or a handler jumps over the handlers after it.
-pub(crate) fn jumps_behind(block: &[Statement], behind: &[Handler]) -> bool
-    ensures { result ≡ jumps_behind (block_of block.now) (handlers_of behind.now) }
+pub(crate) fn jumps_after(block: &[Statement], beyond: &[Handler]) -> bool
+    ensures { result ≡ jumps_after (block_of block.now) (handlers_of beyond.now) }
 {
-    !behind.is_empty() && block_falls(block)
+    !beyond.is_empty() && block_falls(block)
 }

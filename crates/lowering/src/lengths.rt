@@ -7,7 +7,7 @@ ghost use Rattle.std.specs.Prelude.{◌<◌, ◌^◌, ◌≡◌};
 
 use crate::actions::gives_value;
 use crate::conditions::branch_size;
-use crate::endings::{jumps_behind, jumps_over};
+use crate::endings::{jumps_after, jumps_over};
 use crate::operands::{arguments_size, value_size};
 use resolved::expression::Expression;
 use resolved::program::Core;
@@ -54,11 +54,11 @@ fn statement_size(core: &Core, statement: &Statement) -> u32
         Statement::Call(_, procedure, arguments, _) => {
             arguments_size(arguments) + (1 + result_size(core, *procedure))
         }
-        Statement::If(_, condition, yes_block, no_block) => {
-            let jump = jump_size(jumps_over(yes_block, no_block));
+        Statement::If(_, condition, then_block, else_block) => {
+            let jump = jump_size(jumps_over(then_block, else_block));
             let test = branch_size(false, condition);
-            let yes_size = block_size(core, yes_block);
-            let no_size = block_size(core, no_block);
+            let yes_size = block_size(core, then_block);
+            let no_size = block_size(core, else_block);
             test + (yes_size + (jump + no_size))
         }
         Statement::While(_, _, condition, body) => {
@@ -69,7 +69,7 @@ fn statement_size(core: &Core, statement: &Statement) -> u32
         Statement::Leave(_, _) => 1,
         Statement::Return(_, value) => return_size(value),
         Statement::Try(_, block, handlers) => {
-            let jump = jump_size(jumps_behind(block, handlers));
+            let jump = jump_size(jumps_after(block, handlers));
             let tried_size = block_size(core, block);
             let caught_size = handlers_size(core, handlers);
             tried_size + (jump + caught_size)
@@ -103,7 +103,7 @@ pub(crate) fn handlers_size(core: &Core, handlers: &[Handler]) -> u32
     let mut next = 0;
     for handler in handlers {
         next += 1;
-        let jump = jump_size(jumps_behind(&handler.body, &handlers[next..]));
+        let jump = jump_size(jumps_after(&handler.body, &handlers[next..]));
         size += block_size(core, &handler.body) + jump;
     }
     size

@@ -1,10 +1,10 @@
-//! Code of expressions: of their values, and of conditions that go to a place.
+//! Code of expressions: of their values, and of conditions that go to a position.
 ghost use Rattle.resolved.specs.TreeOf.{expression_of};
 ghost use Rattle.lowering.specs.Expressions.{arguments_code, arguments_size, rest_of_short, value_code, value_size};
 ghost use Rattle.resolved.specs.declared.expression.Connective.TheVariants.{And, Or};
 ghost use Rattle.std.specs.Prelude.{OnOk, length, map, ◌++◌, ◌+◌, ◌<◌, ◌^◌, ◌≡◌};
 
-use crate::emitter::{next_place, push};
+use crate::emitter::{next_position, push};
 use crate::instructions::{load_element_of, load_of, operator_instruction, prefix_instruction};
 use modules::Instruction;
 use resolved::expression::{Connective, Expression};
@@ -72,7 +72,7 @@ fn push_rest_of_and(code: &mut Vec<Instruction>, right: &Expression) -> Result<(
         rest_of_short And (length code.old.items) (value_size (expression_of right.now))
         (λ at. value_code at (expression_of right.now))) }
 {
-    let decided = next_place(code) + 1 + value_size(right) + 1;
+    let decided = next_position(code) + 1 + value_size(right) + 1;
     push(code, Instruction::JumpIfFalse(decided))?;
     push_value(code, right)?;
     push(code, Instruction::Jump(decided + 1))?;
@@ -87,7 +87,7 @@ fn push_rest_of_or(code: &mut Vec<Instruction>, right: &Expression) -> Result<()
         rest_of_short Or (length code.old.items) (value_size (expression_of right.now))
         (λ at. value_code at (expression_of right.now))) }
 {
-    let undecided = next_place(code) + 1 + 1 + 1;
+    let undecided = next_position(code) + 1 + 1 + 1;
     push(code, Instruction::JumpIfFalse(undecided))?;
     push(code, Instruction::PushBoolean(true))?;
     push(code, Instruction::Jump(undecided + value_size(right)))?;

@@ -8,7 +8,7 @@ ghost use Rattle.lowering.specs.Graphs.{end_code, procedure_contents};
 ghost use Rattle.lowering.specs.Interface.{declared_slot, returned_kind, slot_contents};
 ghost use Rattle.std.specs.Prelude.{IfOk, List, OnOk, map, ◌++◌, ◌+◌, ◌<◌, ◌^◌, ◌≡◌};
 
-use crate::emission::{LoopPlaces, push_block};
+use crate::emission::{LoopPositions, push_block};
 use crate::emitter::push;
 use crate::endings::block_falls;
 use crate::interface::kind_of_base;
@@ -68,7 +68,7 @@ fn procedure_of(
     ensures { IfOk result (λ made. made ≡ procedure_contents (program_of core.now)
         (procedure_entry core.now.labels procedure.now)) }
 {
-    let outside = LoopPlaces { behind: 0, test: 0 };
+    let outside = LoopPositions { beyond: 0, test: 0 };
     let mut code = Vec::new(alloc);
     let mut handlers = Vec::new(alloc);
     push_block(core, outside, &mut code, &mut handlers, &procedure.body)?;

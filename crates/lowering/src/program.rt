@@ -9,7 +9,7 @@ ghost use Rattle.resolved.specs.CoreOf.{program_of};
 ghost use Rattle.resolved.specs.EndFaults.{end_faults};
 ghost use Rattle.resolved.specs.Names.{HasNames};
 ghost use Rattle.std.specs.Prelude.{All, IfOk, [], ◌≡◌};
-ghost use Rattle.verifier.specs.Refusals.{HasNoDefect};
+ghost use Rattle.verifier.specs.Refusals.{IsNotRefused};
 ghost use Rattle.verifier.specs.Safety.{IsNeverStuck};
 
 use crate::interface::{channels_of, globals_of, hierarchy_of};
@@ -33,7 +33,7 @@ pub fn lower(alloc: Global, checked: &Checked) -> Result<Graph, AllocError>
     ensures interface { IfOk result (HasInterfaceOf (program_of checked.now.core)) }
 
     // No verifier refuses the module that it is laid out as, and no run of that is ever stuck; no jump leads to another one.
-    ensures no_defect { IfOk result (λ graph. HasNoDefect (laid_out graph)) }
+    ensures not_refused { IfOk result (λ graph. IsNotRefused (laid_out graph)) }
     ensures never_stuck { IfOk result (λ graph. IsNeverStuck (laid_out graph)) }
     ensures direct { IfOk result (λ graph. All HasDirectJumps graph.procedures) }
 {

@@ -76,11 +76,11 @@ fn statement_uses_bits(statement: &Statement) -> bool
             expression_uses_bits(index) || expression_uses_bits(value)
         }
         Statement::Call(_, _, arguments, _) => arguments_use_bits(arguments),
-        Statement::If(_, condition, yes_block, no_block) => {
+        Statement::If(_, condition, then_block, else_block) => {
             if expression_uses_bits(condition) {
                 return true;
             }
-            block_uses_bits(yes_block) || block_uses_bits(no_block)
+            block_uses_bits(then_block) || block_uses_bits(else_block)
         }
         Statement::While(_, _, condition, body) => {
             expression_uses_bits(condition) || block_uses_bits(body)

@@ -1,10 +1,10 @@
 pub mod Lists
 pub mod Operands
 pub mod Raising
-pub mod FrameRows
+pub mod FrameTransitions
 pub mod Storing
 pub mod Stores
-pub mod Behind
+pub mod After
 pub mod Calling
 pub mod Reporting
 pub mod First
@@ -15,4 +15,4 @@ pub mod Switching
 pub mod OpenCells
 pub mod Entering
 pub mod Looping
-pub mod Turning
+pub mod Dispatching

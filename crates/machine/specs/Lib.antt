@@ -4,4 +4,4 @@ pub mod Run
 pub mod Steps
 pub mod OpenCells
 pub mod Inner
-pub mod Defects
+pub mod RefusalKinds

@@ -1,7 +1,7 @@
-ghost use Rattle.machine.specs.Defects.{new_refusal_number, new_refusal_words};
+ghost use Rattle.machine.specs.RefusalKinds.{new_refusal_number, new_refusal_words};
 ghost use Rattle.std.specs.Prelude.{◌≡◌, Some};
 
-use channels::WorldDefect;
+use channels::WorldRefusalKind;
 use common::OrNoMemory;
 use std::error::Error;
 use std::fmt;
@@ -22,7 +22,7 @@ impl NewRefusal {
         ensures { result ≡ new_refusal_number self }
     {
         match self {
-            NewRefusal::UnknownChannel => WorldDefect::UnknownChannel.number(),
+            NewRefusal::UnknownChannel => WorldRefusalKind::UnknownChannel.number(),
         }
     }
 
@@ -31,7 +31,7 @@ impl NewRefusal {
         ensures { result.now ≡ new_refusal_words self }
     {
         match self {
-            NewRefusal::UnknownChannel => WorldDefect::UnknownChannel.words(),
+            NewRefusal::UnknownChannel => WorldRefusalKind::UnknownChannel.words(),
         }
     }
 }

@@ -4,7 +4,7 @@ use Rattle.std.specs.List.{AllByRecursion}
 use Rattle.modules.specs.Contents.{ProcedureContents, ModuleContents}
 use Rattle.modules.specs.Form.{Fits, FitEach, IsCoded, spelled_code}
 use Rattle.modules.specs.Format.{procedure, procedures, program, contents, version, module_file}
-use Rattle.modules.specs.Opcodes.{examples, has_instruction, instructions, opcode_of, operand_width, row_of, width_in, with_opcode}
+use Rattle.modules.specs.Opcodes.{examples, has_instruction, instructions, opcode_of, operand_width, entry_of, width_in, with_opcode}
 use Rattle.modules.specs.declared.instruction.Instruction.{Instruction}
 use Rattle.modules.specs.declared.version.Version.{Version}
 use Rattle.modules.specs.declared.version.Version.TheVariants.{Two}
@@ -17,8 +17,8 @@ some_if false w n e = absurd cc
 later_width : (v : Version) (example : Option Instruction) (n : ℕ) → width_in v example ≡ Some n → width_in Two example ≡ Some n
 later_width v None n e = e
 later_width v (Some x) n e =
-    let w = operand_width (row_of x).operand in
-    ap (λ has. cond has (Some w) None) (in_latest (row_of x).since) ∙ some_if (has_instruction v x) w n e
+    let w = operand_width (entry_of x).operand in
+    ap (λ has. cond has (Some w) None) (in_latest (entry_of x).since) ∙ some_if (has_instruction v x) w n e
 
 later_coded : (v : Version) (x : Instruction) → IsCoded (instructions v) x → IsCoded (instructions Two) x
 unfolding instructions

@@ -13,7 +13,7 @@ use Rattle.modules.specs.declared.instruction.Instruction.{Instruction}
 use Rattle.modules.specs.declared.instruction.Instruction.TheVariants.{Push, PushBoolean, Load, Store, LoadGlobal, StoreGlobal, LoadElement, StoreElement, LoadGlobalElement, StoreGlobalElement, Clear, Compute, Compare, Jump, JumpIfFalse, Call, Receive, Send, Throw}
 use Rattle.modules.specs.Code.{width_of, code_length}
 use Rattle.modules.specs.Form.{IsCoded, spelled_instruction, spelled_code}
-use Rattle.modules.specs.Opcodes.{HasCodeOf, OperandFits, exists_in, has_instruction, instructions, operand_bytes, operand_width, row_of}
+use Rattle.modules.specs.Opcodes.{HasCodeOf, OperandFits, exists_in, has_instruction, instructions, operand_bytes, operand_width, entry_of}
 use Rattle.modules.specs.declared.opcode.Operand.{Operand}
 use Rattle.modules.specs.declared.opcode.Operand.TheVariants.{Absent, Boolean, Int, Number}
 use Rattle.modules.specs.declared.version.Version.{Version}
@@ -29,7 +29,7 @@ operand-width (Number n) = refl
 
 pub spelled-width : (version : Version) (x : Instruction) → length (spelled_instruction (instructions version) x) ≡ width_of x
 unfolding instructions
-spelled-width version x = omega (arith, operand-width (row_of x).operand)
+spelled-width version x = omega (arith, operand-width (entry_of x).operand)
 
 pub spelled-length : (version : Version) (code : List Instruction) → length (spelled_code (instructions version) code) ≡ code_length code
 spelled-length version [] = refl
@@ -47,7 +47,7 @@ int-back n fits =
     let small : cast_unsigned w32 n < 2 ^ 32 = Fits-lt-pow (Fits-of_z fits) in
     ap (cast_signed w32) (number-back (cast_unsigned w32 n) small) ∙ to_z-of_z w32 n fits
 
-pub is_spelled : (version : Version) (x : Instruction) → IsTrue (has_instruction version x) → OperandFits (row_of x).operand → IsCoded (instructions version) x
+pub is_spelled : (version : Version) (x : Instruction) → IsTrue (has_instruction version x) → OperandFits (entry_of x).operand → IsCoded (instructions version) x
 unfolding instructions
 is_spelled version (Push n) has fits = record { byte = lit< tt; width = refl; itself = ap (λ k. Some (Push k)) (int-back n fits) }
 is_spelled version (PushBoolean false) has fits = record { byte = lit< tt; width = refl; itself = refl }
@@ -96,7 +96,7 @@ has_spelled One (Compute ShiftLeft) coded = absurd (no_width _ 0 refl coded.widt
 has_spelled One (Compute ShiftRight) coded = absurd (no_width _ 0 refl coded.width)
 has_spelled One (Compute ShiftRightUnsigned) coded = absurd (no_width _ 0 refl coded.width)
 has_spelled One _ coded = refl
-has_spelled Two x coded = in_latest (row_of x).since
+has_spelled Two x coded = in_latest (entry_of x).since
 
 pub all_have : (version : Version) (code : List Instruction) → AllByRecursion (IsCoded (instructions version)) code → HasCodeOf version code
 all_have version [] coded = All-nil _

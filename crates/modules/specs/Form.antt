@@ -4,9 +4,9 @@
 use Rattle.std.specs.Prelude.{◌≡◌, ℕ, zero, suc, ◌-◌, ◌^◌, ◌<◌, Bool, true, List, [], ◌∷◌, ◌++◌, length, take, drop, Option, Some, None, Result, Ok, Err, nat_lt, ◌==◌, if◌then◌else◌}
 use Rattle.std.specs.Int.{w32, to_be_bytes, from_be_bytes}
 use Rattle.std.specs.List.{flat_map, AllByRecursion}
-use Rattle.modules.specs.declared.fault.FormatDefect.{FormatDefect}
+use Rattle.modules.specs.declared.fault.FormatRefusalKind.{FormatRefusalKind}
 use Rattle.modules.specs.declared.fault.ReadRefusal.{ReadRefusal}
-use Rattle.modules.specs.declared.fault.FormatDefect.TheVariants.{Short, BadValue, Trailing}
+use Rattle.modules.specs.declared.fault.FormatRefusalKind.TheVariants.{Short, BadValue, Trailing}
 
 -- how instructions are spelled: an opcode, which says how many bytes of operand follow (none where there is no such opcode),
 -- and the instruction that an opcode and an operand spell, if any
@@ -26,10 +26,10 @@ pub data Form : Type 0 → Type 1 where
   Text : Form (List ℕ)
   -- no byte at all, for one value
   Nothing : {A : Type 0} → A → Form A
-  -- a given number in four bytes, whose absence is the given defect, and then a value
-  Marked : {A : Type 0} → FormatDefect → ℕ → Form A → Form A
-  -- a value that passes a test, whose failure is the given defect at the value's first byte
-  Checked : {A : Type 0} → FormatDefect → (A → Bool) → Form A → Form A
+  -- a given number in four bytes, whose absence is the given refusal, and then a value
+  Marked : {A : Type 0} → FormatRefusalKind → ℕ → Form A → Form A
+  -- a value that passes a test, whose failure is the given refusal at the value's first byte
+  Checked : {A : Type 0} → FormatRefusalKind → (A → Bool) → Form A → Form A
   -- a value, and then another one of a format that may depend on the first
   Then : {A B : Type 0} → Form A → (A → Form B) → Form (A × B)
   -- a count that passes a test, and then that many values, each of a format that may depend on those before it
@@ -59,8 +59,8 @@ spelled Byte b = b ∷ []
 spelled Number n = to_be_bytes w32 n
 spelled Text text = to_be_bytes w32 (length text) ++ text
 spelled (Nothing a) x = []
-spelled (Marked defect n form) x = to_be_bytes w32 n ++ spelled form x
-spelled (Checked defect test form) x = spelled form x
+spelled (Marked kind n form) x = to_be_bytes w32 n ++ spelled form x
+spelled (Checked kind test form) x = spelled form x
 spelled (Then first second) x = spelled first x.0 ++ spelled (second x.0) x.1
 spelled (Counted test one) xs = to_be_bytes w32 (length xs) ++ spelled_each (λ before x. spelled (one before) x) [] xs
 spelled (Code coding) xs = to_be_bytes w32 (length (spelled_code coding xs)) ++ spelled_code coding xs
@@ -84,8 +84,8 @@ Fits Byte b = b < 256
 Fits Number n = n < 2 ^ 32
 Fits Text text = length text < 2 ^ 32
 Fits (Nothing a) x = x ≡ a
-Fits (Marked defect n form) x = Fits form x
-Fits (Checked defect test form) x = Fits form x × (test x ≡ true)
+Fits (Marked kind n form) x = Fits form x
+Fits (Checked kind test form) x = Fits form x × (test x ≡ true)
 Fits (Then first second) x = Fits first x.0 × Fits (second x.0) x.1
 Fits (Counted test one) xs = (length xs < 2 ^ 32) × (test (length xs) ≡ true) × FitEach (λ before x. Fits (one before) x) [] xs
 Fits (Code coding) xs = (length (spelled_code coding xs) < 2 ^ 32) × AllByRecursion (IsCoded coding) xs
@@ -97,13 +97,13 @@ Spells form x bytes = Fits form x × (bytes ≡ spelled form x)
 
 -- ---- reading, and the first refusal
 
--- a defect at the offset where these bytes are left
-abbrev pub stop_at : FormatDefect → List ℕ → ReadRefusal
-stop_at defect bytes = record { defect = defect; left = length bytes }
+-- a refusal at the offset where these bytes are left
+abbrev pub stop_at : FormatRefusalKind → List ℕ → ReadRefusal
+stop_at kind bytes = record { kind = kind; left = length bytes }
 
 -- the bytes end inside a field or before it: nothing is left at the end
 abbrev pub short : ReadRefusal
-short = record { defect = Short; left = 0 }
+short = record { kind = Short; left = 0 }
 
 infixl 10 ◌>>=◌
 abbrev pub ◌>>=◌ : {A B : Type 0} → Result A ReadRefusal → (A → Result B ReadRefusal) → Result B ReadRefusal
@@ -121,18 +121,18 @@ byte_at (b ∷ rest) = Ok (b, rest)
 abbrev pub number_at : List ℕ → Read ℕ
 number_at bytes = if nat_lt (length bytes) 4 then Err short else Ok (from_be_bytes w32 (take 4 bytes), drop 4 bytes)
 
--- so many bytes
+-- this many bytes
 abbrev pub bytes_at : ℕ → List ℕ → Read (List ℕ)
 bytes_at n bytes = if nat_lt (length bytes) n then Err short else Ok (take n bytes, drop n bytes)
 
--- so many values, after those before
+-- this many values, after those before
 abbrev pub each_at : {A : Type 0} → (List A → List ℕ → Read A) → ℕ → List A → List ℕ → Read (List A)
 each_at one zero before bytes = Ok (before, bytes)
 each_at one (suc count) before bytes = do
   x ← one before bytes
   each_at one count (before ++ x.0 ∷ []) x.1
 
--- what an operand was found to spell; where it has no meaning, a defect at the operand
+-- what an operand was found to spell; where it has no meaning, a refusal at the operand
 abbrev pub meant : {A : Type 0} → Option A → List ℕ → List ℕ → Read A
 meant None bytes rest = Err (stop_at BadValue bytes)
 meant (Some x) bytes rest = Ok (x, rest)
@@ -166,12 +166,12 @@ read Text bytes = do
   size ← number_at bytes
   bytes_at size.0 size.1
 read (Nothing a) bytes = Ok (a, bytes)
-read (Marked defect n form) bytes = do
+read (Marked kind n form) bytes = do
   found ← number_at bytes
-  if found.0 == n then read form found.1 else Err (stop_at defect bytes)
-read (Checked defect test form) bytes = do
+  if found.0 == n then read form found.1 else Err (stop_at kind bytes)
+read (Checked kind test form) bytes = do
   found ← read form bytes
-  if test found.0 then Ok found else Err (stop_at defect bytes)
+  if test found.0 then Ok found else Err (stop_at kind bytes)
 read (Then first second) bytes = do
   a ← read first bytes
   b ← read (second a.0) a.1

@@ -13,8 +13,8 @@ use Rattle.lexer.specs.Words.{is_name_text}
 use Rattle.principals.specs.ActsFor.{PrincipalHierarchy}
 use Rattle.labels.specs.Label.{ReaderPolicy, Label}
 use Rattle.labels.specs.Canonical.{policy_cmp}
-use Rattle.modules.specs.declared.fault.FormatDefect.TheVariants.{Magic, BadValue, NotCanonical}
-use Rattle.modules.specs.declared.fault.FormatDefect.TheVariants as defect
+use Rattle.modules.specs.declared.fault.FormatRefusalKind.TheVariants.{Magic, BadValue, NotCanonical}
+use Rattle.modules.specs.declared.fault.FormatRefusalKind.TheVariants as refused
 use Rattle.modules.specs.declared.version.Version.{Version}
 use Rattle.modules.specs.declared.version.Version.TheVariants.{One, Two}
 use Rattle.modules.specs.declared.value.ValueKind.{ValueKind}
@@ -69,7 +69,7 @@ is_size cells size = nat_le size MAX_ELEMENTS && nat_le (cells + cells_of_size s
 unfoldable pub name_after : (List ℕ → Bool) → List (List ℕ) → Form (List ℕ)
 name_after taken before = Checked BadValue (is_new_name taken before) Text
 
--- the number of one of so many things
+-- the number of one of this many things
 unfoldable pub number_below : ℕ → Form ℕ
 number_below count = Checked BadValue (λ n. nat_lt n count) Number
 
@@ -268,13 +268,13 @@ version_number One = 1
 version_number Two = 2
 
 unfoldable pub version : Form Version
-version = Named version_of version_number (Checked defect.Version (λ number. number == 1 || number == 2) Number)
+version = Named version_of version_number (Checked refused.Version (λ number. number == 1 || number == 2) Number)
 
 -- the globals, the procedures, and the number of the one where a run starts
 unfoldable pub program : Version → Form (List Global × (List ProcedureContents × ℕ))
 program version = Then globals (λ _. Then (procedures version) main)
 
--- what stands behind the version: the hierarchy, the names of the declared exceptions and the channels, and the program
+-- what stands after the version: the hierarchy, the names of the declared exceptions and the channels, and the program
 abbrev pub FieldsOfVersion : Type 0
 FieldsOfVersion = PrincipalHierarchy × ((List (List ℕ) × List ChannelContents) × (List Global × (List ProcedureContents × ℕ)))
 

@@ -4,7 +4,7 @@ pub use Rattle.labels.specs.Label
 pub use Rattle.lexer.specs.Words
 pub mod Contents
 pub mod ContentsOf
-pub mod Defects
+pub mod RefusalKinds
 pub mod Form
 pub mod Values
 pub mod Opcodes

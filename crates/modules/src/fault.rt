@@ -1,11 +1,11 @@
 //! What is wrong with bytes that spell no module.
 
-ghost use Rattle.modules.specs.Defects.{module_defect_number, module_defect_words};
+ghost use Rattle.modules.specs.RefusalKinds.{format_refusal_number, format_refusal_words};
 ghost use Rattle.std.specs.Prelude.{◌≡◌};
 
 /// What is wrong with bytes that spell no module.
 #[derive(Clone, Copy, Debug, PartialEq, Eq)]
-pub enum FormatDefect {
+pub enum FormatRefusalKind {
     /// They do not begin with `FLOB`.
     Magic,
     /// They are of another version of the format.
@@ -20,39 +20,39 @@ pub enum FormatDefect {
     Trailing,
 }
 
-impl FormatDefect {
-    /// The number that the defect is reported by, 801 to 806.
+impl FormatRefusalKind {
+    /// The number that the refusal is reported by, 801 to 806.
     pub fn number(self) -> u32
-        ensures { result ≡ module_defect_number self }
+        ensures { result ≡ format_refusal_number self }
     {
         match self {
-            FormatDefect::Magic => 801,
-            FormatDefect::Version => 802,
-            FormatDefect::Short => 803,
-            FormatDefect::BadValue => 804,
-            FormatDefect::NotCanonical => 805,
-            FormatDefect::Trailing => 806,
+            FormatRefusalKind::Magic => 801,
+            FormatRefusalKind::Version => 802,
+            FormatRefusalKind::Short => 803,
+            FormatRefusalKind::BadValue => 804,
+            FormatRefusalKind::NotCanonical => 805,
+            FormatRefusalKind::Trailing => 806,
         }
     }
 
-    /// The words that the defect is reported by.
+    /// The words that the refusal is reported by.
     pub fn words(self) -> &'static str
-        ensures { result.now ≡ module_defect_words self }
+        ensures { result.now ≡ format_refusal_words self }
     {
         match self {
-            FormatDefect::Magic => "magic",
-            FormatDefect::Version => "version",
-            FormatDefect::Short => "short",
-            FormatDefect::BadValue => "bad value",
-            FormatDefect::NotCanonical => "not canonical",
-            FormatDefect::Trailing => "trailing bytes",
+            FormatRefusalKind::Magic => "magic",
+            FormatRefusalKind::Version => "version",
+            FormatRefusalKind::Short => "short",
+            FormatRefusalKind::BadValue => "bad value",
+            FormatRefusalKind::NotCanonical => "not canonical",
+            FormatRefusalKind::Trailing => "trailing bytes",
         }
     }
 }
 
-/// A defect, and where it stands, as how many bytes are left from there to the end.
+/// A refusal, and where it stands, as how many bytes are left from there to the end.
 #[derive(Clone, Copy, Debug)]
 pub struct ReadRefusal {
-    pub defect: FormatDefect,
+    pub kind: FormatRefusalKind,
     pub left: usize,
 }

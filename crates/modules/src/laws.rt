@@ -7,7 +7,7 @@ ghost use Rattle.modules.specs.Form.{Fits, IsCoded};
 ghost use Rattle.modules.specs.Format.{module_file};
 ghost use Rattle.modules.specs.Isolated.{IsIsolated, StaysIsolated, channel_label, channel_label_under, module_view};
 ghost use Rattle.modules.specs.Machine.{after_steps};
-ghost use Rattle.modules.specs.Opcodes.{has_instruction, HasCodeOf, instructions, OperandFits, row_of};
+ghost use Rattle.modules.specs.Opcodes.{has_instruction, HasCodeOf, instructions, OperandFits, entry_of};
 ghost use Rattle.modules.specs.declared.instruction.Instruction.{Instruction};
 ghost use Rattle.modules.specs.declared.version.Version.TheVariants.{Two};
 ghost use Rattle.modules.specs.declared.version.Version.{Version};
@@ -18,7 +18,7 @@ ghost use Rattle.std.specs.Prelude.{All, IsTrue, List, ℕ, ℤ, ◌≡◌};
 /// many bytes as its operand has, and the two spell that instruction again. An instruction that a version does not have has none.
 pub fn instructions_are_spelled()
     ensures spelled { (version : Version) (instruction : Instruction)
-        → IsTrue (has_instruction version instruction) → OperandFits (row_of instruction).operand
+        → IsTrue (has_instruction version instruction) → OperandFits (entry_of instruction).operand
         → IsCoded (instructions version) instruction }
     ensures none { (version : Version) (instruction : Instruction)
         → IsCoded (instructions version) instruction

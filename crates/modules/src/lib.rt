@@ -19,7 +19,7 @@ pub use channel::Channel;
 pub use code::code_length;
 pub use contents::Contents;
 pub use declaration::{Global, Handler, Slot};
-pub use fault::FormatDefect;
+pub use fault::FormatRefusalKind;
 pub use instruction::{Arithmetic, Comparison, Instruction};
 pub use module::Module;
 pub use procedure::Procedure;

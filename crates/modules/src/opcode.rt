@@ -1,11 +1,11 @@
-ghost use Rattle.modules.specs.Opcodes.{arithmetic_opcode, comparison_opcode, examples, flagged, instruction_of, numbered, operand_width, plain, row_of, width_after, with_opcode};
+ghost use Rattle.modules.specs.Opcodes.{arithmetic_opcode, comparison_opcode, examples, flagged, instruction_of, numbered, operand_width, plain, entry_of, width_after, with_opcode};
 ghost use Rattle.std.specs.Prelude.{IfSome, length, ◌<◌, ◌≡◌, ◌≤◌};
 
 use crate::instruction::{Arithmetic, Comparison, Instruction};
 use crate::version::Version;
 use byteorder::{BigEndian, ByteOrder};
 
-/// What stands behind an opcode: nothing, an int, a boolean, or the number of what the instruction names.
+/// What stands after an opcode: nothing, an int, a boolean, or the number of what the instruction names.
 #[derive(Clone, Copy, Debug, PartialEq, Eq)]
 pub enum Operand {
     Absent,
@@ -29,23 +29,23 @@ impl Operand {
     }
 }
 
-/// A row of the table of opcodes: the version of the file since which an instruction exists, the byte that spells it, the name that
+/// An entry of the table of opcodes: the version of the file since which an instruction exists, the byte that spells it, the name that
 /// it is listed by, and its operand.
 #[derive(Clone, Copy, Debug)]
-pub struct OpcodeRow {
+pub struct OpcodeEntry {
     pub since: Version,
     pub byte: u8,
     pub name: &'static str,
     pub operand: Operand,
 }
 
-fn plain_row(since: Version, byte: u8, name: &'static str) -> OpcodeRow
+fn plain_entry(since: Version, byte: u8, name: &'static str) -> OpcodeEntry
     ensures since { result.since ≡ since }
     ensures byte { result.byte ≡ byte }
     ensures name { result.name.now ≡ name.now }
     ensures operand { result.operand ≡ Operand.Absent }
 {
-    OpcodeRow {
+    OpcodeEntry {
         since,
         byte,
         name,
@@ -53,13 +53,13 @@ fn plain_row(since: Version, byte: u8, name: &'static str) -> OpcodeRow
     }
 }
 
-fn numbered_row(byte: u8, name: &'static str, number: u32) -> OpcodeRow
+fn numbered_entry(byte: u8, name: &'static str, number: u32) -> OpcodeEntry
     ensures since { result.since ≡ Version.One }
     ensures byte { result.byte ≡ byte }
     ensures name { result.name.now ≡ name.now }
     ensures operand { result.operand ≡ Operand.Number number }
 {
-    OpcodeRow {
+    OpcodeEntry {
         since: Version::One,
         byte,
         name,
@@ -67,89 +67,89 @@ fn numbered_row(byte: u8, name: &'static str, number: u32) -> OpcodeRow
     }
 }
 
-/// The row of an instruction. It is inlined, so that who asks for one part of it, as each walk along code for the width, gets that
+/// The entry of an instruction. It is inlined, so that who asks for one part of it, as each walk along code for the width, gets that
 /// alone.
 #[inline(always)]
-pub fn row_of(instruction: Instruction) -> OpcodeRow
-    ensures since { result.since ≡ (row_of instruction).since }
-    ensures byte { result.byte ≡ (row_of instruction).byte }
-    ensures name { result.name.now ≡ (row_of instruction).name }
-    ensures operand { result.operand ≡ (row_of instruction).operand }
+pub fn entry_of(instruction: Instruction) -> OpcodeEntry
+    ensures since { result.since ≡ (entry_of instruction).since }
+    ensures byte { result.byte ≡ (entry_of instruction).byte }
+    ensures name { result.name.now ≡ (entry_of instruction).name }
+    ensures operand { result.operand ≡ (entry_of instruction).operand }
 {
     match instruction {
-        Instruction::Push(number) => OpcodeRow {
+        Instruction::Push(number) => OpcodeEntry {
             since: Version::One,
             byte: 0x01,
             name: "PUSH",
             operand: Operand::Int(number),
         },
-        Instruction::PushBoolean(flag) => OpcodeRow {
+        Instruction::PushBoolean(flag) => OpcodeEntry {
             since: Version::One,
             byte: 0x02,
             name: "PUSHB",
             operand: Operand::Boolean(flag),
         },
-        Instruction::Pop => plain_row(Version::One, 0x03, "POP"),
-        Instruction::Load(slot) => numbered_row(0x04, "LOAD", slot),
-        Instruction::Store(slot) => numbered_row(0x05, "STORE", slot),
-        Instruction::LoadGlobal(slot) => numbered_row(0x06, "GLOAD", slot),
-        Instruction::StoreGlobal(slot) => numbered_row(0x07, "GSTORE", slot),
-        Instruction::LoadElement(slot) => numbered_row(0x08, "ALOAD", slot),
-        Instruction::StoreElement(slot) => numbered_row(0x09, "ASTORE", slot),
-        Instruction::LoadGlobalElement(slot) => numbered_row(0x0a, "GALOAD", slot),
-        Instruction::StoreGlobalElement(slot) => numbered_row(0x0b, "GASTORE", slot),
-        Instruction::Clear(slot) => numbered_row(0x0c, "CLEAR", slot),
+        Instruction::Pop => plain_entry(Version::One, 0x03, "POP"),
+        Instruction::Load(slot) => numbered_entry(0x04, "LOAD", slot),
+        Instruction::Store(slot) => numbered_entry(0x05, "STORE", slot),
+        Instruction::LoadGlobal(slot) => numbered_entry(0x06, "GLOAD", slot),
+        Instruction::StoreGlobal(slot) => numbered_entry(0x07, "GSTORE", slot),
+        Instruction::LoadElement(slot) => numbered_entry(0x08, "ALOAD", slot),
+        Instruction::StoreElement(slot) => numbered_entry(0x09, "ASTORE", slot),
+        Instruction::LoadGlobalElement(slot) => numbered_entry(0x0a, "GALOAD", slot),
+        Instruction::StoreGlobalElement(slot) => numbered_entry(0x0b, "GASTORE", slot),
+        Instruction::Clear(slot) => numbered_entry(0x0c, "CLEAR", slot),
         Instruction::Compute(operator) => arithmetic_row(operator),
-        Instruction::Negate => plain_row(Version::One, 0x15, "NEG"),
-        Instruction::Not => plain_row(Version::One, 0x16, "NOT"),
+        Instruction::Negate => plain_entry(Version::One, 0x15, "NEG"),
+        Instruction::Not => plain_entry(Version::One, 0x16, "NOT"),
         Instruction::Compare(comparison) => comparison_row(comparison),
-        Instruction::SameBoolean => plain_row(Version::One, 0x1d, "BEQ"),
-        Instruction::OtherBoolean => plain_row(Version::One, 0x1e, "BNE"),
-        Instruction::Jump(target) => numbered_row(0x20, "JUMP", target),
-        Instruction::JumpIfFalse(target) => numbered_row(0x21, "JFALSE", target),
-        Instruction::Call(procedure) => numbered_row(0x22, "CALL", procedure),
-        Instruction::Return => plain_row(Version::One, 0x23, "RET"),
-        Instruction::ReturnValue => plain_row(Version::One, 0x24, "RETV"),
-        Instruction::Receive(channel) => numbered_row(0x25, "RECV", channel),
-        Instruction::Send(channel) => numbered_row(0x26, "SEND", channel),
-        Instruction::Throw(exception) => numbered_row(0x27, "THROW", exception),
+        Instruction::SameBoolean => plain_entry(Version::One, 0x1d, "BEQ"),
+        Instruction::OtherBoolean => plain_entry(Version::One, 0x1e, "BNE"),
+        Instruction::Jump(target) => numbered_entry(0x20, "JUMP", target),
+        Instruction::JumpIfFalse(target) => numbered_entry(0x21, "JFALSE", target),
+        Instruction::Call(procedure) => numbered_entry(0x22, "CALL", procedure),
+        Instruction::Return => plain_entry(Version::One, 0x23, "RET"),
+        Instruction::ReturnValue => plain_entry(Version::One, 0x24, "RETV"),
+        Instruction::Receive(channel) => numbered_entry(0x25, "RECV", channel),
+        Instruction::Send(channel) => numbered_entry(0x26, "SEND", channel),
+        Instruction::Throw(exception) => numbered_entry(0x27, "THROW", exception),
     }
 }
 
-fn arithmetic_row(operator: Arithmetic) -> OpcodeRow
+fn arithmetic_row(operator: Arithmetic) -> OpcodeEntry
     ensures since { result.since ≡ (arithmetic_opcode operator).0 }
     ensures byte { result.byte ≡ (arithmetic_opcode operator).1 }
     ensures name { result.name.now ≡ (arithmetic_opcode operator).2 }
     ensures operand { result.operand ≡ Operand.Absent }
 {
     match operator {
-        Arithmetic::Add => plain_row(Version::One, 0x10, "ADD"),
-        Arithmetic::Subtract => plain_row(Version::One, 0x11, "SUB"),
-        Arithmetic::Multiply => plain_row(Version::One, 0x12, "MUL"),
-        Arithmetic::Divide => plain_row(Version::One, 0x13, "DIV"),
-        Arithmetic::Remainder => plain_row(Version::One, 0x14, "REM"),
-        Arithmetic::BitAnd => plain_row(Version::Two, 0x28, "AND"),
-        Arithmetic::BitOr => plain_row(Version::Two, 0x29, "OR"),
-        Arithmetic::BitXor => plain_row(Version::Two, 0x2a, "XOR"),
-        Arithmetic::ShiftLeft => plain_row(Version::Two, 0x2b, "SHL"),
-        Arithmetic::ShiftRight => plain_row(Version::Two, 0x2c, "SHR"),
-        Arithmetic::ShiftRightUnsigned => plain_row(Version::Two, 0x2d, "USHR"),
+        Arithmetic::Add => plain_entry(Version::One, 0x10, "ADD"),
+        Arithmetic::Subtract => plain_entry(Version::One, 0x11, "SUB"),
+        Arithmetic::Multiply => plain_entry(Version::One, 0x12, "MUL"),
+        Arithmetic::Divide => plain_entry(Version::One, 0x13, "DIV"),
+        Arithmetic::Remainder => plain_entry(Version::One, 0x14, "REM"),
+        Arithmetic::BitAnd => plain_entry(Version::Two, 0x28, "AND"),
+        Arithmetic::BitOr => plain_entry(Version::Two, 0x29, "OR"),
+        Arithmetic::BitXor => plain_entry(Version::Two, 0x2a, "XOR"),
+        Arithmetic::ShiftLeft => plain_entry(Version::Two, 0x2b, "SHL"),
+        Arithmetic::ShiftRight => plain_entry(Version::Two, 0x2c, "SHR"),
+        Arithmetic::ShiftRightUnsigned => plain_entry(Version::Two, 0x2d, "USHR"),
     }
 }
 
-fn comparison_row(comparison: Comparison) -> OpcodeRow
+fn comparison_row(comparison: Comparison) -> OpcodeEntry
     ensures since { result.since ≡ Version.One }
     ensures byte { result.byte ≡ (comparison_opcode comparison).0 }
     ensures name { result.name.now ≡ (comparison_opcode comparison).1 }
     ensures operand { result.operand ≡ Operand.Absent }
 {
     match comparison {
-        Comparison::Less => plain_row(Version::One, 0x17, "LT"),
-        Comparison::AtMost => plain_row(Version::One, 0x18, "LE"),
-        Comparison::Greater => plain_row(Version::One, 0x19, "GT"),
-        Comparison::AtLeast => plain_row(Version::One, 0x1a, "GE"),
-        Comparison::Equal => plain_row(Version::One, 0x1b, "EQ"),
-        Comparison::NotEqual => plain_row(Version::One, 0x1c, "NE"),
+        Comparison::Less => plain_entry(Version::One, 0x17, "LT"),
+        Comparison::AtMost => plain_entry(Version::One, 0x18, "LE"),
+        Comparison::Greater => plain_entry(Version::One, 0x19, "GT"),
+        Comparison::AtLeast => plain_entry(Version::One, 0x1a, "GE"),
+        Comparison::Equal => plain_entry(Version::One, 0x1b, "EQ"),
+        Comparison::NotEqual => plain_entry(Version::One, 0x1c, "NE"),
     }
 }
 
@@ -252,9 +252,9 @@ pub fn width_after(version: Version, opcode: u8) -> Option<usize>
     ensures width { result ≡ width_after version opcode }
     ensures wide { IfSome result (λ width. 1 < width → 4 ≤ width) }
 {
-    let row = row_of(example_of(opcode)?);
-    if !version.has(row.since) {
+    let entry = entry_of(example_of(opcode)?);
+    if !version.has(entry.since) {
         return None;
     }
-    Some(row.operand.width())
+    Some(entry.operand.width())
 }

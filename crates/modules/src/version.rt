@@ -23,6 +23,7 @@ impl Version {
             Version::Two => 2,
         }
     }
+
     /// Whether a file of the version has what exists since a version.
     pub fn has(self, since: Version) -> bool
         ensures { result ≡ exists_in since self }

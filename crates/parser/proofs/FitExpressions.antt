@@ -6,7 +6,7 @@ use Rattle.lexer.specs.declared.token.Kind.TheVariants as kinds
 use Rattle.syntax.specs.declared.tree.BinaryOperator.{BinaryOperator}
 use Rattle.syntax.specs.declared.line.Line.{Line}
 use Rattle.syntax.specs.Form.{Form, level, only}
-use Rattle.syntax.specs.Grammar.{optional, chain, chains, lines, behind_line, others_of, grouped, name, index, integer, variable, parenthesised, primary, signed, unary, expression, variable_tree, operand_of, expressions, arguments}
+use Rattle.syntax.specs.Grammar.{optional, chain, chains, lines, after_line, others_of, grouped, name, index, integer, variable, parenthesised, primary, signed, unary, expression, variable_tree, operand_of, expressions, arguments}
 use Rattle.syntax.specs.Nesting.{IsNestedExpression}
 use Rattle.syntax.specs.Nodes.{expression_nodes}
 use Rattle.syntax.specs.Symbol.{Expression, Arguments}
@@ -115,7 +115,7 @@ module _ (fits : ℕ → Type 0) (word : List ℕ → Type 0) (number : ℕ → 
           nested = roomier (pred room) room (pred_less room) h.0.2 inner.nested;
         })
 
-    -- a name, and an index behind it or none
+    -- a name, and an index after it or none
     with_index : (named : NameTree) (found : Option ExpressionTree) (i j : ℕ) → Fit (IsWrittenName fits word number named) 1 (Unit {0}) i → Having (optional index) found j → Fitted (variable_tree named found) (i + j)
     with_index named found i j front (inl h) =
         let one = index_fits h.0 j h.1 in
@@ -170,7 +170,7 @@ module _ (fits : ℕ → Type 0) (word : List ℕ → Type 0) (number : ℕ → 
 
     pub operand_fits : (line : Line) (tree : ExpressionTree) (k : ℕ) → Having (operand_of line) tree k → Fitted tree k
     unfolding operand_of
-    operand_fits line tree k h = chains_fit (behind_line line lines) tree k h
+    operand_fits line tree k h = chains_fit (after_line line lines) tree k h
 
     pub unary_symbol_fits : (tree : ExpressionTree) (k : ℕ) → Having unary tree k → Fitted tree k
     unary_symbol_fits tree k h = unary_fits tree k h

@@ -107,7 +107,7 @@ module _ (fits : ℕ → Type 0) (word : List ℕ → Type 0) (number : ℕ → 
         nested = tt;
       })
 
-  -- what a procedure answers, behind the place that it begins at
+  -- what a procedure answers, after the place that it begins at
   abbrev FitResult : ℕ × WrittenResultTree → ℕ → Type 0
   FitResult pair k = fits pair.0 × IsWrittenResult fits word number pair.1 × (1 + written_result_nodes pair.1 ≤ k)
 

@@ -52,7 +52,7 @@ module _ (fits : ℕ → Type 0) (word : List ℕ → Type 0) (number : ℕ → 
   abbrev FitComponent : ComponentTree → ℕ → Type 0
   FitComponent tree k = Fit (IsWrittenComponent fits word number tree) (component_nodes tree) (Nothing tree) k
 
-  -- a name, and readers behind it or none
+  -- a name, and readers after it or none
   with_readers : (owner : NameTree) (found : Option (List NameTree)) (i j : ℕ) → Fit (IsWrittenName fits word number owner) 1 (Nothing owner) i → Having optional_readers found j → FitComponent (component_of owner found) (i + j)
   unfolding optional_readers
   with_readers owner found i j front (inl h) =

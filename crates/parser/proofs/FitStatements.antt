@@ -6,11 +6,11 @@ use Rattle.lexer.specs.declared.token.Kind.{Kind}
 use Rattle.lexer.specs.declared.token.Kind.TheVariants as kinds
 use Rattle.syntax.specs.declared.tree.BaseType.{BaseType}
 use Rattle.syntax.specs.Form.{Form, level, ◌·◌, only}
-use Rattle.syntax.specs.Grammar.{at, ◌▸◌, ◌◂◌, base, optional_label, name, index, expression, call, right, block, condition, otherwise, catch, catches, first_with, declare_with, behind_with, named_with, receive, send, conditional, while_statement, break_statement, continue_statement, throw_statement, returned, return_statement, attempt, nested, statement, production}
+use Rattle.syntax.specs.Grammar.{at, ◌▸◌, ◌◂◌, base, optional_label, name, index, expression, call, right, block, condition, otherwise, catch, catches, first_with, declare_with, after_with, named_with, receive, send, conditional, while_statement, break_statement, continue_statement, throw_statement, returned, return_statement, attempt, nested, statement, production}
 use Rattle.syntax.specs.Nesting.{IsNestedExpression, IsNestedOptionalExpression, IsNestedCall, IsNestedRight, IsNestedStatement, IsNestedBlock, AreNestedCatches}
 use Rattle.syntax.specs.Nodes.{optional_label_nodes, expression_nodes, optional_expression_nodes, call_nodes, right_nodes, statement_nodes, block_nodes, catches_nodes}
 use Rattle.syntax.specs.Symbol.{Symbol, Expression, Unary, Operands, Arguments, Statements, tree_of}
-use Rattle.syntax.specs.Tree.{NameTree, LabelTree, ExpressionTree, CallTree, RightTree, FirstTree, FirstValue, FirstSize, BehindTree, AssignedTree, AtIndexTree, ArgumentsTree, local_tree, named_tree, StatementTree, BlockTree, CatchTree, if_tree, catches_of}
+use Rattle.syntax.specs.Tree.{NameTree, LabelTree, ExpressionTree, CallTree, RightTree, FirstTree, FirstValue, FirstSize, AfterTree, AssignedTree, AtIndexTree, ArgumentsTree, local_tree, named_tree, StatementTree, BlockTree, CatchTree, if_tree, catches_of}
 use Rattle.syntax.specs.Written.{IsWrittenName, IsWrittenOptionalLabel, IsWrittenExpression, IsWrittenOptionalExpression, IsWrittenCall, IsWrittenRight, IsWrittenSize, IsWrittenStatement, IsWrittenBlock, AreWrittenCatches}
 use Rattle.parser.proofs.Holds.{Each}
 use Rattle.parser.proofs.Fits.{Fit, Fits, Has, FitStatements, from_at, from_after, from_before}
@@ -22,10 +22,10 @@ abbrev first_nodes : FirstTree → ℕ
 first_nodes (FirstValue value) = right_nodes value
 first_nodes (FirstSize size) = 1
 
-abbrev behind_nodes : BehindTree → ℕ
-behind_nodes (AssignedTree value) = right_nodes value
-behind_nodes (AtIndexTree index value) = expression_nodes index + expression_nodes value
-behind_nodes (ArgumentsTree arguments) = 1 + sum_by expression_nodes arguments
+abbrev after_nodes : AfterTree → ℕ
+after_nodes (AssignedTree value) = right_nodes value
+after_nodes (AtIndexTree index value) = expression_nodes index + expression_nodes value
+after_nodes (ArgumentsTree arguments) = 1 + sum_by expression_nodes arguments
 
 abbrev otherwise_nodes : Option BlockTree → ℕ
 otherwise_nodes None = 0
@@ -101,7 +101,7 @@ module _ (fits : ℕ → Type 0) (word : List ℕ → Type 0) (number : ℕ → 
       let one = expression_fits fits word number room tree inner.0 inner.1 in
       record { written = one.written; few = omega (arith, one.few, inner.2, front.2); nested = one.nested }
 
-  -- what stands behind the name of a local
+  -- what stands after the name of a local
   abbrev FirstWritten : FirstTree → Type 0
   FirstWritten (FirstValue value) = IsWrittenRight fits word number value
   FirstWritten (FirstSize size) = IsWrittenSize fits word number size
@@ -141,44 +141,44 @@ module _ (fits : ℕ → Type 0) (word : List ℕ → Type 0) (number : ℕ → 
         nested = first.nested;
       }))
 
-  -- what stands behind the name that a statement begins with
-  abbrev BehindWritten : BehindTree → Type 0
-  BehindWritten (AssignedTree value) = IsWrittenRight fits word number value
-  BehindWritten (AtIndexTree index value) = IsWrittenExpression fits word number index × IsWrittenExpression fits word number value
-  BehindWritten (ArgumentsTree arguments) = All (IsWrittenExpression fits word number) arguments
+  -- what stands after the name that a statement begins with
+  abbrev AfterWritten : AfterTree → Type 0
+  AfterWritten (AssignedTree value) = IsWrittenRight fits word number value
+  AfterWritten (AtIndexTree index value) = IsWrittenExpression fits word number index × IsWrittenExpression fits word number value
+  AfterWritten (ArgumentsTree arguments) = All (IsWrittenExpression fits word number) arguments
 
-  abbrev BehindNested : BehindTree → Type 0
-  BehindNested (AssignedTree value) = IsNestedRight room value
-  BehindNested (AtIndexTree index value) = (0 < room) × IsNestedExpression (pred room) index × IsNestedExpression room value
-  BehindNested (ArgumentsTree arguments) = (0 < room) × All (IsNestedExpression (pred room)) arguments
+  abbrev AfterNested : AfterTree → Type 0
+  AfterNested (AssignedTree value) = IsNestedRight room value
+  AfterNested (AtIndexTree index value) = (0 < room) × IsNestedExpression (pred room) index × IsNestedExpression room value
+  AfterNested (ArgumentsTree arguments) = (0 < room) × All (IsNestedExpression (pred room)) arguments
 
-  abbrev FitBehind : BehindTree → ℕ → Type 0
-  FitBehind tree k = Fit (BehindWritten tree) (1 + behind_nodes tree) (BehindNested tree) k
+  abbrev FitAfter : AfterTree → ℕ → Type 0
+  FitAfter tree k = Fit (AfterWritten tree) (1 + after_nodes tree) (AfterNested tree) k
 
-  behind_fits : (tree : BehindTree) (k : ℕ) → Having (behind_with right) tree k → FitBehind tree k
-  behind_fits tree k h = elim h [
+  after_fits : (tree : AfterTree) (k : ℕ) → Having (after_with right) tree k → FitAfter tree k
+  after_fits tree k h = elim h [
     | inl one ↦
         let inner = from_after fits word number room kinds.Assign right one.0 k one.1 in
         let value = right_fits one.0 inner.0 inner.1 in
-        subst (λ t. FitBehind t k) (sym one.2) (record { written = value.written; few = omega (arith, value.few, inner.2); nested = value.nested })
+        subst (λ t. FitAfter t k) (sym one.2) (record { written = value.written; few = omega (arith, value.few, inner.2); nested = value.nested })
     | inr h ↦ elim h [
       | inl one ↦
           let both = one.1 in
           let front = from_before fits word number room index kinds.Assign one.0.0 both.0 both.2 in
           let index = index_fits fits word number room one.0.0 front.0 front.1 in
           let value = expression_fits fits word number room one.0.1 both.1 both.3 in
-          subst (λ t. FitBehind t k) (sym one.2) (record {
+          subst (λ t. FitAfter t k) (sym one.2) (record {
             written = (index.written, value.written);
             few = omega (arith, index.few, value.few, front.2, both.4);
             nested = (index.nested.0, index.nested.1, value.nested);
           })
       | inr one ↦
           let list = arguments_fit fits word number room one.0 k one.1 in
-          subst (λ t. FitBehind t k) (sym one.2) (record { written = list.written; few = omega (arith, list.few); nested = list.nested })
+          subst (λ t. FitAfter t k) (sym one.2) (record { written = list.written; few = omega (arith, list.few); nested = list.nested })
     ]
   ]
 
-  with_name : (named : NameTree) (behind : BehindTree) (k : ℕ) → IsWrittenName fits word number named → Fit (BehindWritten behind) (2 + behind_nodes behind) (BehindNested behind) k → FitStatement (named_tree named behind) k
+  with_name : (named : NameTree) (after : AfterTree) (k : ℕ) → IsWrittenName fits word number named → Fit (AfterWritten after) (2 + after_nodes after) (AfterNested after) k → FitStatement (named_tree named after) k
   with_name named (AssignedTree value) k written one =
       record { written = (written, one.written); few = omega (arith, one.few); nested = one.nested }
   with_name named (AtIndexTree index value) k written one =
@@ -188,14 +188,14 @@ module _ (fits : ℕ → Type 0) (word : List ℕ → Type 0) (number : ℕ → 
 
   named_fits : (tree : StatementTree) (k : ℕ) → Having (named_with right) tree k → FitStatement tree k
   named_fits tree k h =
-      let line = from_before fits word number room (name · behind_with right) kinds.Semicolon h.0 k h.1 in
+      let line = from_before fits word number room (name · after_with right) kinds.Semicolon h.0 k h.1 in
       let both = line.1 in
       let named = name_fits fits word number room h.0.0 both.0 both.2 in
-      let behind = behind_fits h.0.1 both.1 both.3 in
+      let after = after_fits h.0.1 both.1 both.3 in
       subst (λ t. FitStatement t k) (sym h.2) (with_name h.0.0 h.0.1 k named.written (record {
-        written = behind.written;
-        few = omega (arith, named.few, behind.few, line.2, both.4);
-        nested = behind.nested;
+        written = after.written;
+        few = omega (arith, named.few, after.few, line.2, both.4);
+        nested = after.nested;
       }))
 
   receive_fits : (tree : StatementTree) (k : ℕ) → Having receive tree k → FitStatement tree k

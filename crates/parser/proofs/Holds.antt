@@ -14,7 +14,7 @@ abbrev pub Each : {A : Type 0} → (A → ℕ → Type 0) → List A → ℕ →
 Each P [] k = k ≡ 0
 Each P (tree ∷ trees) k = (i : ℕ) × (j : ℕ) × P tree i × Each P trees j × (k ≡ i + j)
 
--- what holds of each symbol's trees, where so many levels may be opened and there are so many tokens
+-- what holds of each symbol's trees, where this many levels may be opened and there are this many tokens
 abbrev pub Held : Type 1
 Held = (symbol : Symbol) → ℕ → tree_of symbol → ℕ → Type 0
 
@@ -29,7 +29,7 @@ Holds T inside room (F or G) tree k = Holds T inside room F tree k ⊎ Holds T i
 Holds T inside room (many F) trees k = Each (Holds T inside room F) trees k
 Holds T inside room (F gives f) tree k = (value : _) × Holds T inside room F value k × (tree ≡ f value)
 
--- what a spelling takes: so many tokens, and what is left is still all of T
+-- what a spelling takes: this many tokens, and what is left is still all of T
 pub record Taken (T : Terminal → Type 0) (P : ℕ → Type 0) (tokens rest : List Terminal) : Type 0 where
   pub count : ℕ
   pub holds : P count

@@ -3,7 +3,7 @@ pub use Rattle.syntax.specs.Grammar
 pub use Rattle.syntax.specs.Form
 pub use Rattle.syntax.specs.Symbol
 pub use Rattle.syntax.specs.Tree
-pub mod Defects
+pub mod RefusalKinds
 pub mod Laws
 pub mod Reading
 pub mod Refusal

@@ -235,7 +235,7 @@ impl<'t, 'a> Parser<'t, 'a> {
     }
 
     #[tactic(auto, unfolding(crate::specs::Reading::read))]
-    fn parse_label_behind_colon(&mut self) -> Result<WrittenLabel<'a>, ParseFault>
+    fn parse_label_after_colon(&mut self) -> Result<WrittenLabel<'a>, ParseFault>
         ensures { (room : ℕ) → IsRead label_tree result self.new.rest.now (read room (Colon ▸ label)
             (terminals_of self.old.rest.now)) }
     {
@@ -249,7 +249,7 @@ impl<'t, 'a> Parser<'t, 'a> {
             (read room end_label (terminals_of self.old.rest.now)) }
     {
         if self.is_at(Kind::Colon) {
-            let label = self.parse_label_behind_colon()?;
+            let label = self.parse_label_after_colon()?;
             return Ok(Some(label));
         }
         Ok(None)

@@ -9,5 +9,5 @@ mod label;
 pub mod program;
 mod statement;
 
-pub use fault::{ParseDefect, ParseFault, ParseRefusal};
+pub use fault::{ParseFault, ParseRefusal, ParseRefusalKind};
 pub use program::{one_reading, parse, spelling_laws};

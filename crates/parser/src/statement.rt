@@ -4,7 +4,7 @@ ghost use Rattle.lexer.specs.declared.token.Kind.TheVariants.{Comma, Else, Assig
 ghost use Rattle.syntax.specs.Form.{many, ◌·◌, ◌gives◌};
 ghost use Rattle.syntax.specs.Grammar.{expression, expressions, arguments, integer, condition, size, receive, send, conditional, while_statement, break_statement, continue_statement, throw_statement, return_statement, returned, attempt, nested, block, otherwise, catch, catches, index, separated, ◌▸◌, ◌◂◌};
 ghost use Rattle.syntax.specs.Tree.{name_tree, optional_label_tree, expression_tree, optional_expression_tree, right_tree, size_tree, statement_tree, block_tree, optional_block_tree, catch_tree, AtIndexTree};
-ghost use Rattle.parser.specs.Reading.{IsRead, read, maps, right_read, right_behind, is_at, first_read, first_tree, behind_read, behind_tree, declare_read, named_read, statement_read, begins_statement, begins_expression, kind_at};
+ghost use Rattle.parser.specs.Reading.{IsRead, read, maps, right_read, right_after, is_at, first_read, first_tree, after_read, after_tree, declare_read, named_read, statement_read, begins_statement, begins_expression, kind_at};
 
 use crate::cursor::Parser;
 use crate::fault::ParseFault;
@@ -12,16 +12,16 @@ use lexer::Kind;
 use std::alloc::AllocError;
 use syntax::{Block, Call, Catch, Expression, Name, RightSide, Size, Statement};
 
-/// What stands behind the name of a local.
+/// What stands after the name of a local.
 #[derive(Drop)]
 pub enum First<'a> {
     Value(RightSide<'a>),
     Array(Size),
 }
 
-/// What stands behind the name that a statement begins with.
+/// What stands after the name that a statement begins with.
 #[derive(Drop)]
-pub enum Behind<'a> {
+pub enum After<'a> {
     Assigned(RightSide<'a>),
     Element {
         index: Expression<'a>,
@@ -30,7 +30,7 @@ pub enum Behind<'a> {
     Arguments(Vec<Expression<'a>>),
 }
 
-/// Puts a statement behind the others of its block. Behind the last one no room is kept for more.
+/// Puts a statement after the others of its block. After the last one no room is kept for more.
 fn push_statement<'a>(
     statements: &mut Vec<Statement<'a>>,
     statement: Statement<'a>,
@@ -412,14 +412,14 @@ impl<'t, 'a> Parser<'t, 'a> {
         Ok(arguments)
     }
 
-    /// A right side behind the name that it begins with: a call, or an expression.
+    /// A right side after the name that it begins with: a call, or an expression.
     #[tactic(auto)]
     fn parse_right_by_name(
         &mut self,
         name: Name<'a>,
         room: u32,
     ) -> Result<RightSide<'a>, ParseFault>
-        ensures { IsRead right_tree result self.new.rest.now (right_behind room
+        ensures { IsRead right_tree result self.new.rest.now (right_after room
             (name_tree name.entry) (is_at OpenParenthesis (terminals_of self.old.rest.now))
             (terminals_of self.old.rest.now)) }
     {
@@ -469,7 +469,7 @@ impl<'t, 'a> Parser<'t, 'a> {
         self.parse_right(room)
     }
 
-    /// What stands behind the name of a local.
+    /// What stands after the name of a local.
     #[tactic(auto, using(crate::proofs::Rights::first_reads))]
     fn parse_first_value(&mut self, room: u32) -> Result<First<'a>, ParseFault>
         ensures { IsRead first_tree result self.new.rest.now
@@ -527,47 +527,47 @@ impl<'t, 'a> Parser<'t, 'a> {
         Ok((index, value))
     }
 
-    /// What stands behind the name that a statement begins with.
-    #[tactic(auto, using(crate::proofs::Rights::behind_reads))]
-    fn parse_behind_name(&mut self, room: u32) -> Result<Behind<'a>, ParseFault>
-        ensures { IsRead behind_tree result self.new.rest.now (read room behind_read
+    /// What stands after the name that a statement begins with.
+    #[tactic(auto, using(crate::proofs::Rights::after_reads))]
+    fn parse_after_name(&mut self, room: u32) -> Result<After<'a>, ParseFault>
+        ensures { IsRead after_tree result self.new.rest.now (read room after_read
             (terminals_of self.old.rest.now)) }
     {
         match self.kind() {
             Kind::Assign => {
                 let value = self.parse_assigned(room)?;
-                Ok(Behind::Assigned(value))
+                Ok(After::Assigned(value))
             }
             Kind::OpenBracket => {
                 let (index, value) = self.parse_element(room)?;
-                Ok(Behind::Element { index, value })
+                Ok(After::Element { index, value })
             }
             _ => {
                 let arguments = self.parse_arguments(room)?;
-                Ok(Behind::Arguments(arguments))
+                Ok(After::Arguments(arguments))
             }
         }
     }
 
-    #[tactic(auto, unfolding(crate::specs::Reading::read, crate::specs::Reading::named_read, crate::specs::Reading::behind_read))]
+    #[tactic(auto, unfolding(crate::specs::Reading::read, crate::specs::Reading::named_read, crate::specs::Reading::after_read))]
     fn parse_named(&mut self, room: u32) -> Result<Statement<'a>, ParseFault>
         ensures { IsRead statement_tree result self.new.rest.now
             (read room named_read (terminals_of self.old.rest.now)) }
     {
         let name = self.parse_name()?;
-        let behind = self.parse_behind_name(room)?;
+        let after = self.parse_after_name(room)?;
         self.expect(Kind::Semicolon)?;
-        Ok(match behind {
-            Behind::Assigned(value) => Statement::Assign {
+        Ok(match after {
+            After::Assigned(value) => Statement::Assign {
                 target: name,
                 value,
             },
-            Behind::Element { index, value } => Statement::AssignElement {
+            After::Element { index, value } => Statement::AssignElement {
                 array: name,
                 index,
                 value,
             },
-            Behind::Arguments(arguments) => Statement::Call(Call {
+            After::Arguments(arguments) => Statement::Call(Call {
                 procedure: name,
                 arguments,
             }),

@@ -38,7 +38,7 @@ alike-length [] (y ∷ ys) a = absurd a
 alike-length (x ∷ xs) [] a = absurd a
 alike-length (x ∷ xs) (y ∷ ys) a = ap suc (alike-length xs ys a.1)
 
--- one list behind another
+-- one list after another
 pub alike-both : (e0 e1 e2 ps qs : List (List Exit)) → AreAlike e1 (e0 ++ ps) → AreAlike e2 (e1 ++ qs) → AreAlike e2 (e0 ++ (ps ++ qs))
 alike-both e0 e1 e2 ps qs first second =
     alike-then e2 (e1 ++ qs) (e0 ++ (ps ++ qs)) second

@@ -34,7 +34,7 @@ pub declared-there : (core : Core) (i : ℕ) (procedure : Procedure) → i < len
 declared-there core i procedure inside is =
     ap (λ p. declared_by p.throws) (procedure-there core i procedure inside is) ∙ declared-same core.labels procedure.throws.items
 
--- a row behind those of the procedures before it
+-- a row after those of the procedures before it
 pub rows-grow : (core : Core) (rows : List (Option ExceptionSet)) (row : Option ExceptionSet) (i : ℕ) (procedure : Procedure)
     (thrown : List ℕ) → length rows ≡ i → i < length core.procedures.items
     → procedure ≡ get_or core.procedures.items i procedure → exceptions_of procedure.throws.items ≡ thrown
@@ -53,16 +53,16 @@ rows-grow core rows row i procedure thrown count inside is throws has old f exce
         let same : thrown ≡ declared i = sym throws ∙ sym (declared-there core i procedure inside is) in
         subst (λ (t : List ℕ). says row t exception ≡ is_one_of t exception) same (has exception)
 
-    behind : (length rows ≡ f) ⊎ (length rows < f) → Says (get_or (rows ++ row ∷ []) f no_row) f
-    behind (inl last) =
+    after : (length rows ≡ f) ⊎ (length rows < f) → Says (get_or (rows ++ row ∷ []) f no_row) f
+    after (inl last) =
         subst (λ g. Says (get_or (rows ++ row ∷ []) g no_row) g) last
         (subst (λ r. Says r (length rows)) (sym (get_or-append_seam rows row [] no_row)) (subst (λ g. Says row g) (sym count) here))
-    behind (inr past) =
+    after (inr past) =
         subst (λ r. Says r f) (sym (get_or_past (rows ++ row ∷ []) f no_row (omega (arith, length-append rows (row ∷ []))))) refl
 
     go : (f < length rows) ⊎ (length rows ≤ f) → Says (get_or (rows ++ row ∷ []) f no_row) f
     go (inl before) = subst (λ r. Says r f) (sym (get_or_append_left rows (row ∷ []) no_row f before)) (old f exception)
-    go (inr from) = behind (eq-or-lt_of_le from)
+    go (inr from) = after (eq-or-lt_of_le from)
 
 -- its bound is that of the others
 pub bounds-grow : (bound : ℕ) (rows : List (Option ExceptionSet)) (row : Option ExceptionSet) → HaveBound bound rows → HasBound bound row
@@ -72,13 +72,13 @@ bounds-grow bound rows row old new f = go (cases_lt f (length rows))
     none : HasBound bound None
     none set is = absurd (cc)
 
-    behind : (length rows ≡ f) ⊎ (length rows < f) → HasBound bound (get_or (rows ++ row ∷ []) f no_row)
-    behind (inl last) =
+    after : (length rows ≡ f) ⊎ (length rows < f) → HasBound bound (get_or (rows ++ row ∷ []) f no_row)
+    after (inl last) =
         subst (λ g. HasBound bound (get_or (rows ++ row ∷ []) g no_row)) last
         (subst (λ r. HasBound bound r) (sym (get_or-append_seam rows row [] no_row)) new)
-    behind (inr past) =
+    after (inr past) =
         subst (λ r. HasBound bound r) (sym (get_or_past (rows ++ row ∷ []) f no_row (omega (arith, length-append rows (row ∷ []))))) none
 
     go : (f < length rows) ⊎ (length rows ≤ f) → HasBound bound (get_or (rows ++ row ∷ []) f no_row)
     go (inl before) = subst (λ r. HasBound bound r) (sym (get_or_append_left rows (row ∷ []) no_row f before)) (old f)
-    go (inr from) = behind (eq-or-lt_of_le from)
+    go (inr from) = after (eq-or-lt_of_le from)

@@ -32,20 +32,20 @@ module _ (program : Program) where
     fits-at : IsTrue (statement_fits program some.procedure tree)
     fits-at = subst (λ t. IsTrue (statement_fits program some.procedure t)) is some.fits
 
-  module _ (s : S.Statement) (at : ℕ) (e : Expression) (yes_block no_block : Block) (is : statement_of s ≡ If at e yes_block no_block)
+  module _ (s : S.Statement) (at : ℕ) (e : Expression) (then_block else_block : Block) (is : statement_of s ≡ If at e then_block else_block)
       (some : FitsSome (λ procedure. statement_fits program procedure (statement_of s))) where
-    parts : IsTrue (has_base program some.procedure Boolean e && block_fits program some.procedure yes_block)
-        × IsTrue (block_fits program some.procedure no_block)
-    parts = and_parts (has_base program some.procedure Boolean e && block_fits program some.procedure yes_block)
-        (block_fits program some.procedure no_block) (fits-at s (If at e yes_block no_block) is some)
+    parts : IsTrue (has_base program some.procedure Boolean e && block_fits program some.procedure then_block)
+        × IsTrue (block_fits program some.procedure else_block)
+    parts = and_parts (has_base program some.procedure Boolean e && block_fits program some.procedure then_block)
+        (block_fits program some.procedure else_block) (fits-at s (If at e then_block else_block) is some)
 
-    pub yes-fits : FitsSome (λ procedure. block_fits program procedure yes_block)
+    pub yes-fits : FitsSome (λ procedure. block_fits program procedure then_block)
     yes-fits = record {
       procedure = some.procedure;
-      fits = (and_parts (has_base program some.procedure Boolean e) (block_fits program some.procedure yes_block) parts.0).1;
+      fits = (and_parts (has_base program some.procedure Boolean e) (block_fits program some.procedure then_block) parts.0).1;
     }
 
-    pub no-fits : FitsSome (λ procedure. block_fits program procedure no_block)
+    pub no-fits : FitsSome (λ procedure. block_fits program procedure else_block)
     no-fits = record { procedure = some.procedure; fits = parts.1 }
 
   pub body-fits : (s : S.Statement) (at loop : ℕ) (e : Expression) (body : Block) → statement_of s ≡ While at loop e body

@@ -63,17 +63,17 @@ store-same index value length can first second both_first all is p q r t e =
     ∙ sym (list_any-append (λ other. e == other) (raises index ++ raises value) (index_raises index length))
 
 -- the forms with blocks
-pub if-found : (program : Program) (at : ℕ) (e : Expression) (yes_block no_block : Block) (e0 e1 e2 : List (List Exit)) (r0 r1 r2 r3 : ℕ → Bool) (x y z j k : Exits)
+pub if-found : (program : Program) (at : ℕ) (e : Expression) (then_block else_block : Block) (e0 e1 e2 : List (List Exit)) (r0 r1 r2 r3 : ℕ → Bool) (x y z j k : Exits)
     → IsFound (thrown_ends (raises e)) [] e0 e0 r0 r1 x
-    → IsFound (block_ends program yes_block) (block_paths program yes_block) e0 e1 r1 r2 y
-    → IsFound (block_ends program no_block) (block_paths program no_block) e1 e2 r2 r3 z
+    → IsFound (block_ends program then_block) (block_paths program then_block) e0 e1 r1 r2 y
+    → IsFound (block_ends program else_block) (block_paths program else_block) e1 e2 r2 r3 z
     → j ≡ join x y → k ≡ join j z
-    → IsFound (statement_ends program (If at e yes_block no_block)) (inner_paths program (If at e yes_block no_block)) e0 e2 r0 r3 k
-if-found program at e yes_block no_block e0 e1 e2 r0 r1 r2 r3 x y z j k tested taken other first second =
-    found-same (statement_ends program (If at e yes_block no_block)) (inner_paths program (If at e yes_block no_block)) e0 e2 r0 r3 (join (join x y) z) k
+    → IsFound (statement_ends program (If at e then_block else_block)) (inner_paths program (If at e then_block else_block)) e0 e2 r0 r3 k
+if-found program at e then_block else_block e0 e1 e2 r0 r1 r2 r3 x y z j k tested taken other first second =
+    found-same (statement_ends program (If at e then_block else_block)) (inner_paths program (If at e then_block else_block)) e0 e2 r0 r3 (join (join x y) z) k
     (second ∙ ap (λ w. join w z) first)
-    (both (thrown_ends (raises e) ++ block_ends program yes_block) (block_ends program no_block) (block_paths program yes_block) (block_paths program no_block) e0 e1 e2 r0 r2 r3 (join x y) z
-    (both (thrown_ends (raises e)) (block_ends program yes_block) [] (block_paths program yes_block) e0 e0 e1 r0 r1 r2 x y tested taken) other)
+    (both (thrown_ends (raises e) ++ block_ends program then_block) (block_ends program else_block) (block_paths program then_block) (block_paths program else_block) e0 e1 e2 r0 r2 r3 (join x y) z
+    (both (thrown_ends (raises e)) (block_ends program then_block) [] (block_paths program then_block) e0 e0 e1 r0 r1 r2 x y tested taken) other)
 
 pub while-found : (program : Program) (at loop : ℕ) (e : Expression) (body : Block) (e0 e1 : List (List Exit)) (r0 r1 r2 : ℕ → Bool) (x y j k : Exits)
     → IsFound (thrown_ends (raises e)) [] e0 e0 r0 r1 x

@@ -28,11 +28,11 @@ module _ (program : Program) where
     in-statement (Receive at channel target) = refl
     in-statement (Send at channel e) = refl
     in-statement (Call at procedure arguments target) = refl
-    in-statement (If at e yes_block no_block) =
-        both-parts (OfBlock yes_block ∷ pieces_in_block yes_block) (OfBlock no_block ∷ pieces_in_block no_block)
-        (block_paths program yes_block) (block_paths program no_block)
-        (one-more (OfBlock yes_block) (pieces_in_block yes_block) (rest_paths program yes_block) (in-block yes_block))
-        (one-more (OfBlock no_block) (pieces_in_block no_block) (rest_paths program no_block) (in-block no_block))
+    in-statement (If at e then_block else_block) =
+        both-parts (OfBlock then_block ∷ pieces_in_block then_block) (OfBlock else_block ∷ pieces_in_block else_block)
+        (block_paths program then_block) (block_paths program else_block)
+        (one-more (OfBlock then_block) (pieces_in_block then_block) (rest_paths program then_block) (in-block then_block))
+        (one-more (OfBlock else_block) (pieces_in_block else_block) (rest_paths program else_block) (in-block else_block))
     in-statement (While at loop e body) = one-more (OfBlock body) (pieces_in_block body) (rest_paths program body) (in-block body)
     in-statement (Leave at exit) = refl
     in-statement (ReturnWith at value) = refl

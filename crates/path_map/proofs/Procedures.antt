@@ -20,7 +20,7 @@ use Rattle.resolved.specs.Program.{Program, ProcedureEntry}
 use Rattle.resolved.specs.ProgramOf.{result_entry, procedure_entry}
 use Rattle.resolved.specs.Ends.{has_end, declared_by, block_ends}
 use Rattle.resolved.specs.EndFaults.{fault_unless, may_end, block_faults, procedure_faults}
-use Rattle.resolved.specs.declared.fault.EndDefect.TheVariants.{NoValueReturned, Undeclared}
+use Rattle.resolved.specs.declared.fault.EndRefusalKind.TheVariants.{NoValueReturned, Undeclared}
 use Rattle.path_map.specs.declared.exits.Raised.TheVariants.{Several}
 use Rattle.path_map.specs.Exits.{Exits}
 use Rattle.common.specs.declared.fault.OrNoMemory.{OrNoMemory}
@@ -95,13 +95,13 @@ module _ (program : Program) (procedure : ProcedureEntry) where
 
   pub no-value-first : block_faults program false true procedure.body ≡ []
       → (is_some procedure.result && has_end (block_ends program procedure.body) Normal) ≡ true
-      → IfRefused (IsFirstEndFault (procedure_faults program procedure)) (Refused (record { defect = NoValueReturned; at = procedure.at }))
+      → IfRefused (IsFirstEndFault (procedure_faults program procedure)) (Refused (record { kind = NoValueReturned; at = procedure.at }))
   no-value-first clean value = rw (clean, value) refl
 
   pub undeclared-first : block_faults program false true procedure.body ≡ []
       → (is_some procedure.result && has_end (block_ends program procedure.body) Normal) ≡ false
       → list_all (may_end procedure) (block_ends program procedure.body) ≡ false
-      → IfRefused (IsFirstEndFault (procedure_faults program procedure)) (Refused (record { defect = Undeclared; at = procedure.at }))
+      → IfRefused (IsFirstEndFault (procedure_faults program procedure)) (Refused (record { kind = Undeclared; at = procedure.at }))
   undeclared-first clean value ends = rw (clean, value, ends) refl
 
   pub no-faults : block_faults program false true procedure.body ≡ []
@@ -144,13 +144,13 @@ all-may-end labels program procedure list raised exits declared lent ended are =
     ∙ ap (λ (x : Exits). not (x.breaks || (x.continues || not declared))) (sym ended.summary)
 
 -- along the procedures of a program
-pub record Beside (program : Program) (all tail : List ProcedureEntry) (now : List (List Exit)) : Type 0 where
+pub record WithEnds (program : Program) (all tail : List ProcedureEntry) (now : List (List Exit)) : Type 0 where
   pub entries : AreAlike (now ++ flat_map (λ (procedure : ProcedureEntry). block_paths program procedure.body) tail)
       (flat_map (λ (procedure : ProcedureEntry). block_paths program procedure.body) all)
   pub faults : flat_map (procedure_faults program) tail ≡ flat_map (procedure_faults program) all
 
 module _ (program : Program) (all : List ProcedureEntry) where
-  pub beside-begin : (now : List (List Exit)) → now ≡ [] → Beside program all all now
+  pub beside-begin : (now : List (List Exit)) → now ≡ [] → WithEnds program all all now
   beside-begin now none = record {
     entries =
         let paths = flat_map (λ (procedure : ProcedureEntry). block_paths program procedure.body) all in
@@ -158,15 +158,15 @@ module _ (program : Program) (all : List ProcedureEntry) where
     faults = refl;
   }
 
-  pub beside-first : (procedure : ProcedureEntry) (tail : List ProcedureEntry) (now : List (List Exit)) (fault : OrNoMemory EndRefusal) → Beside program all (procedure ∷ tail) now
+  pub beside-first : (procedure : ProcedureEntry) (tail : List ProcedureEntry) (now : List (List Exit)) (fault : OrNoMemory EndRefusal) → WithEnds program all (procedure ∷ tail) now
       → IfRefused (IsFirstEndFault (procedure_faults program procedure)) fault → IfRefused (IsFirstEndFault (flat_map (procedure_faults program) all)) fault
   beside-first procedure tail now fault along first =
       subst (λ faults. IfRefused (IsFirstEndFault faults) fault) along.faults
       (first-left (procedure_faults program procedure) (flat_map (procedure_faults program) tail) fault first)
 
-  pub beside-step : (procedure : ProcedureEntry) (tail : List ProcedureEntry) (now next : List (List Exit)) → Beside program all (procedure ∷ tail) now
+  pub beside-step : (procedure : ProcedureEntry) (tail : List ProcedureEntry) (now next : List (List Exit)) → WithEnds program all (procedure ∷ tail) now
       → AreAlike next (now ++ block_paths program procedure.body) → procedure_faults program procedure ≡ []
-      → Beside program all tail next
+      → WithEnds program all tail next
   beside-step procedure tail now next along grown clean =
       let rest = flat_map (λ (other : ProcedureEntry). block_paths program other.body) tail in
       record {
@@ -176,12 +176,12 @@ module _ (program : Program) (all : List ProcedureEntry) where
         faults = sym (ap (λ xs. xs ++ flat_map (procedure_faults program) tail) clean) ∙ along.faults;
       }
 
-  pub beside-end : (now : List (List Exit)) → Beside program all [] now
+  pub beside-end : (now : List (List Exit)) → WithEnds program all [] now
       → AreAlike now (flat_map (λ (procedure : ProcedureEntry). block_paths program procedure.body) all)
   beside-end now along =
       alike-end now (flat_map (λ (procedure : ProcedureEntry). block_paths program procedure.body) all) along.entries
 
-  pub beside-clean : (now : List (List Exit)) → Beside program all [] now → flat_map (procedure_faults program) all ≡ []
+  pub beside-clean : (now : List (List Exit)) → WithEnds program all [] now → flat_map (procedure_faults program) all ≡ []
   beside-clean now along = sym along.faults
 
 -- along declared exceptions

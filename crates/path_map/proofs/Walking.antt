@@ -15,7 +15,7 @@ use Rattle.resolved.specs.declared.fault.EndRefusal.{EndRefusal}
 use Rattle.path_map.specs.declared.exits.Raised.{Raised}
 use Rattle.path_map.specs.declared.exits.Raised.TheVariants.{Nothing}
 use Rattle.path_map.specs.Exits.{Exits}
-use Rattle.resolved.specs.declared.fault.EndDefect.TheVariants as defect
+use Rattle.resolved.specs.declared.fault.EndRefusalKind.TheVariants as kind
 use Rattle.common.specs.declared.fault.OrNoMemory.{OrNoMemory}
 use Rattle.common.specs.declared.fault.OrNoMemory.TheVariants.{NoMemory, Refused}
 use Rattle.common.specs.Answers.{IfRefused}
@@ -176,15 +176,15 @@ module _ (program : Program) (in_loop : Bool) (block : Block) (old : List (List 
   module _ (statement : Statement) (tail : Block) (now : List (List Exit)) (has : ℕ → Bool) (so_far : Exits)
       (along : Along program in_loop block (Then statement tail) old now had has so_far) where
     pub outside : may_stand in_loop statement ≡ false
-        → IfRefused (IsFirstEndFault (block_faults program in_loop true block)) (Refused (record { defect = defect.OutsideLoop; at = place_of statement }))
+        → IfRefused (IsFirstEndFault (block_faults program in_loop true block)) (Refused (record { kind = kind.OutsideLoop; at = place_of statement }))
     outside stands =
-        subst (λ faults. IfRefused (IsFirstEndFault faults) (Refused (record { defect = defect.OutsideLoop; at = place_of statement }))) along.faults
+        subst (λ faults. IfRefused (IsFirstEndFault faults) (Refused (record { kind = kind.OutsideLoop; at = place_of statement }))) along.faults
         (rw stands refl)
 
     pub unreachable : may_stand in_loop statement ≡ true → so_far.normal ≡ false
-        → IfRefused (IsFirstEndFault (block_faults program in_loop true block)) (Refused (record { defect = defect.Unreachable; at = place_of statement }))
+        → IfRefused (IsFirstEndFault (block_faults program in_loop true block)) (Refused (record { kind = kind.Unreachable; at = place_of statement }))
     unreachable stands reached =
-        subst (λ faults. IfRefused (IsFirstEndFault faults) (Refused (record { defect = defect.Unreachable; at = place_of statement }))) along.faults
+        subst (λ faults. IfRefused (IsFirstEndFault faults) (Refused (record { kind = kind.Unreachable; at = place_of statement }))) along.faults
         (rw (stands, reached) refl)
 
     pub inside : may_stand in_loop statement ≡ true → so_far.normal ≡ true → (fault : OrNoMemory EndRefusal) → IfRefused (IsFirstEndFault (inner_faults program in_loop statement)) fault
@@ -279,11 +279,11 @@ module _ (program : Program) (in_loop : Bool) (handlers : Handlers) (old : List 
       (along : Handling program in_loop handlers (Catch at handled body tail) old now had has was row so_far)
       (without : (e : ℕ) → taken e ≡ (row e && not (e == handled))) where
     pub never-raised : row handled ≡ false → (ends : List Exit) → AreThrown was ends
-        → IfRefused (IsFirstEndFault (handlers_faults program in_loop ends handlers)) (Refused (record { defect = defect.NeverRaised; at = at }))
+        → IfRefused (IsFirstEndFault (handlers_faults program in_loop ends handlers)) (Refused (record { kind = kind.NeverRaised; at = at }))
     never-raised absent ends are =
         let there = along.remaining ends are in
         let none : throws there.ends handled ≡ false = sym (there.are.has handled) ∙ absent in
-        subst (λ faults. IfRefused (IsFirstEndFault faults) (Refused (record { defect = defect.NeverRaised; at = at }))) there.same (rw none refl)
+        subst (λ faults. IfRefused (IsFirstEndFault faults) (Refused (record { kind = kind.NeverRaised; at = at }))) there.same (rw none refl)
 
     pub in-handler : row handled ≡ true → (fault : OrNoMemory EndRefusal) → IfRefused (IsFirstEndFault (block_faults program in_loop true body)) fault
         → (ends : List Exit) → AreThrown was ends → IfRefused (IsFirstEndFault (handlers_faults program in_loop ends handlers)) fault

@@ -52,7 +52,7 @@ abbrev pub AreKept : List ExceptionSet → List EndsEntry → Type 0
 AreKept rows [] = ⊤
 AreKept rows (entry ∷ rest) = IsKept rows entry × AreKept rows rest
 
--- rows behind which others may have come
+-- rows after which others may have come
 pub record RowsGrow (old new : List ExceptionSet) : Type 0 where
   pub more : length old ≤ length new
   pub same : (row : ℕ) → row < length old → row_at new row ≡ row_at old row

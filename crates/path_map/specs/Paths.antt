@@ -17,8 +17,8 @@ abbrev mutual
   inner_paths program (Receive at channel target) = []
   inner_paths program (Send at channel e) = []
   inner_paths program (Call at procedure arguments target) = []
-  inner_paths program (If at e yes_block no_block) =
-      (block_ends program yes_block ∷ rest_paths program yes_block) ++ (block_ends program no_block ∷ rest_paths program no_block)
+  inner_paths program (If at e then_block else_block) =
+      (block_ends program then_block ∷ rest_paths program then_block) ++ (block_ends program else_block ∷ rest_paths program else_block)
   inner_paths program (While at loop e body) = block_ends program body ∷ rest_paths program body
   inner_paths program (Leave at exit) = []
   inner_paths program (ReturnWith at value) = []

@@ -19,8 +19,8 @@ abbrev mutual
   pieces_in_statement (Receive at channel target) = []
   pieces_in_statement (Send at channel e) = []
   pieces_in_statement (Call at procedure arguments target) = []
-  pieces_in_statement (If at e yes_block no_block) =
-      (OfBlock yes_block ∷ pieces_in_block yes_block) ++ (OfBlock no_block ∷ pieces_in_block no_block)
+  pieces_in_statement (If at e then_block else_block) =
+      (OfBlock then_block ∷ pieces_in_block then_block) ++ (OfBlock else_block ∷ pieces_in_block else_block)
   pieces_in_statement (While at loop e body) = OfBlock body ∷ pieces_in_block body
   pieces_in_statement (Leave at exit) = []
   pieces_in_statement (ReturnWith at value) = []

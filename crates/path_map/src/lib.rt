@@ -15,5 +15,5 @@ pub use exits::{ExceptionMap, Exits, PathMap, Raised};
 pub use fault::EndFault;
 pub use map::ends;
 pub use raises::Raises;
-pub use resolved::{EndDefect, EndRefusal};
+pub use resolved::{EndRefusal, EndRefusalKind};
 pub use table::{Ends, Exceptions};

@@ -17,7 +17,7 @@ use crate::fault::EndFault;
 use crate::members::ExceptionSet;
 use crate::table::Ends;
 use crate::walk::{refuse, walk_block};
-use resolved::EndDefect;
+use resolved::EndRefusalKind;
 use resolved::program::Core;
 use resolved::tables::{Procedure, Thrown};
 use std::alloc::Global;
@@ -59,11 +59,11 @@ fn walk_procedure(walk: &EndsWalk, procedure: &Procedure, table: &mut Ends) -> R
     let mut raised = ExceptionSet::new(walk.alloc, walk.bound);
     let exits = walk_block(walk, false, &procedure.body, table, &mut raised)?;
     if lacks_value(procedure, exits) {
-        return Err(refuse(EndDefect::NoValueReturned, procedure.at));
+        return Err(refuse(EndRefusalKind::NoValueReturned, procedure.at));
     }
     let declared = are_declared(&procedure.throws, &mut raised);
     if lets_out(exits, declared) {
-        return Err(refuse(EndDefect::Undeclared, procedure.at));
+        return Err(refuse(EndRefusalKind::Undeclared, procedure.at));
     }
     Ok(())
 }

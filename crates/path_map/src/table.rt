@@ -224,13 +224,13 @@ fn likely(calls: &[usize], call: Option<(u32, Raises)>, rows: usize) -> usize {
 // Remembers the row of a call.
 fn remember(calls: &mut [usize], call: Option<(u32, Raises)>, row: usize) {
     if let Some((callee, raised)) = call {
-        if let Some(place) = calls.get_mut(place_of(callee, raised)) {
-            *place = row;
+        if let Some(index) = calls.get_mut(place_of(callee, raised)) {
+            *index = row;
         }
     }
 }
 
-// The place of the last row of a call of a procedure, with arguments that can raise these exceptions.
+// The index of the last row of a call of a procedure, with arguments that can raise these exceptions.
 fn place_of(callee: u32, raised: Raises) -> usize {
     let arith = if raised.arith { 2 } else { 0 };
     let bounds = if raised.bounds { 1 } else { 0 };

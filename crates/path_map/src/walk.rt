@@ -25,7 +25,7 @@ use common::OrNoMemory;
 use common::exceptions::END;
 use resolved::expression::Expression;
 use resolved::statement::{Exit, Handler, Statement};
-use resolved::{EndDefect, EndRefusal};
+use resolved::{EndRefusal, EndRefusalKind};
 use std::alloc::AllocError;
 
 // Finds the ends of a block and of what is in it. The block's own entry is the first of the new ones. Its exceptions are added to
@@ -76,10 +76,10 @@ fn walk_statements(
     let mut exits = Exits::go_on_or_raise(Raised::Nothing);
     for statement in block {
         if !may_stand(in_loop, statement) {
-            return Err(refuse(EndDefect::OutsideLoop, statement.at()));
+            return Err(refuse(EndRefusalKind::OutsideLoop, statement.at()));
         }
         if !exits.normal {
-            return Err(refuse(EndDefect::Unreachable, statement.at()));
+            return Err(refuse(EndRefusalKind::Unreachable, statement.at()));
         }
         let found = walk_statement(walk, in_loop, statement, table, raised)?;
         exits = exits.then(found);
@@ -146,10 +146,10 @@ fn walk_form(
         Statement::Call(_, callee, arguments, _) => {
             Ok(call(walk, *callee, raises_of_all(arguments), raised)?)
         }
-        Statement::If(_, condition, yes_block, no_block) => {
+        Statement::If(_, condition, then_block, else_block) => {
             let tested = test(condition, raised)?;
-            let yes = walk_block(walk, in_loop, yes_block, table, raised)?;
-            let no = walk_block(walk, in_loop, no_block, table, raised)?;
+            let yes = walk_block(walk, in_loop, then_block, table, raised)?;
+            let no = walk_block(walk, in_loop, else_block, table, raised)?;
             Ok(tested.join(yes).join(no))
         }
         Statement::While(_, _, condition, body) => {
@@ -198,7 +198,7 @@ fn walk_handlers(
     let mut exits = Exits::raise_only(Raised::Nothing);
     for handler in handlers {
         if !inner.remove(handler.exception) {
-            return Err(refuse(EndDefect::NeverRaised, handler.at));
+            return Err(refuse(EndRefusalKind::NeverRaised, handler.at));
         }
         let found = walk_block(walk, in_loop, &handler.body, table, raised)?;
         exits = exits.join(found);
@@ -309,9 +309,9 @@ fn may_stand(in_loop: bool, statement: &Statement) -> bool
     in_loop || !matches!(statement, Statement::Leave(_, Exit::Break | Exit::Continue))
 }
 
-// Refuses the ends of a program for this defect at this byte.
-pub(crate) fn refuse(defect: EndDefect, at: usize) -> EndFault
-    ensures { result ≡ Refused (record { defect = defect; at = at }) }
+// Refuses the ends of a program for this reason at this byte.
+pub(crate) fn refuse(kind: EndRefusalKind, at: usize) -> EndFault
+    ensures { result ≡ Refused (record { kind = kind; at = at }) }
 {
-    OrNoMemory::Refused(EndRefusal { defect, at })
+    OrNoMemory::Refused(EndRefusal { kind, at })
 }

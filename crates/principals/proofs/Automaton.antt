@@ -142,7 +142,7 @@ run-push s front t end after es h k =
     ∙ ap (λ o. onto es (option_and_then (λ x. onto (finished_entries end t) (run x [])) o)) k
     ∙ ap (λ x. Some (after, es ++ x)) (append-nil (finished_entries end t))
 
--- no token more, whatever comes behind it
+-- no token more, whatever comes after it
 pub run-stop : (s : ReadingState) (front : List Terminal) (t : Terminal) (rest : List Terminal) (end : ReadingState) (es : List Entry) → run s front ≡ Some (end, es) →
     next end t ≡ None → run s (front ++ t ∷ rest) ≡ None
 run-stop s front t rest end es h k =
@@ -284,7 +284,7 @@ ends_by (Verb left) t after h = none after h
 ends_by Complete t after h = none after h
 ends_by Ended t after h = none after h
 
--- a run over tokens with the end marker behind them has ended
+-- a run over tokens with the end marker after them has ended
 pub run_ends : (tokens : List Terminal) (s end : ReadingState) (es : List Entry) → IsTerminated tokens → run s tokens ≡ Some (end, es) → end ≡ Ended
 run_ends [] s end es t h = absurd t
 run_ends (t ∷ rest) s end es terminated h =

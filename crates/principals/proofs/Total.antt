@@ -14,7 +14,7 @@ use Rattle.principals.specs.HierarchyText.{Entry, Declares, Relates, IsHierarchy
 use Rattle.principals.specs.Laws.{HasOneHierarchy, IsReadOrRefused}
 use Rattle.principals.specs.Reading.{IsHierarchyOfEntries, HaveNames, ReadingState, Fresh, Ended, next, run, finished_entries}
 use Rattle.principals.specs.declared.fault.HierarchyRefusal.{HierarchyRefusal}
-use Rattle.principals.specs.declared.fault.HierarchyDefect.TheVariants as defect
+use Rattle.principals.specs.declared.fault.HierarchyRefusalKind.TheVariants as kind
 use Rattle.principals.proofs.Automaton.{run-push, read_is_open, is_prefix, stops, run_ends}
 use Rattle.principals.proofs.Building.{built_nothing, built_name, built_pair, built_refused, built_described}
 use Rattle.common.proofs.Elements.{none_in_nil, Contains-cons_cases, Contains-first, Contains-later}
@@ -56,15 +56,15 @@ one_entry es names pairs (Declares name) built = by (among names name.text) (cas
   where
     by : Contains names name.text ⊎ (Contains names name.text → ⊥) → (length names < 256) ⊎ (256 ≤ length names)
         → ((more : List (List ℕ)) × (others : List (ℕ × ℕ)) × IsHierarchyOfEntries (es ++ Declares name ∷ []) more others) ⊎ Refused names (Declares name)
-    by (inl there) room = inr (record { why = refusal_for defect.DeclaredTwice name.start; refused = Twice name there })
+    by (inl there) room = inr (record { why = refusal_for kind.DeclaredTwice name.start; refused = Twice name there })
     by (inr new) (inl room) = inl (names ++ name.text ∷ [], pairs, built_name es names pairs name built new room)
-    by (inr new) (inr full) = inr (record { why = refusal_for defect.TooManyPrincipals name.start; refused = Crowded name new full })
+    by (inr new) (inr full) = inr (record { why = refusal_for kind.TooManyPrincipals name.start; refused = Crowded name new full })
 one_entry es names pairs (Relates left right) built = by (among names left.text) (among names right.text)
   where
     by : Contains names left.text ⊎ (Contains names left.text → ⊥) → Contains names right.text ⊎ (Contains names right.text → ⊥)
         → ((more : List (List ℕ)) × (others : List (ℕ × ℕ)) × IsHierarchyOfEntries (es ++ Relates left right ∷ []) more others) ⊎ Refused names (Relates left right)
-    by (inr none) there = inr (record { why = refusal_for defect.UnknownPrincipal left.start; refused = UnknownLeft left right none })
-    by (inl first) (inr none) = inr (record { why = refusal_for defect.UnknownPrincipal right.start; refused = UnknownRight left right first none })
+    by (inr none) there = inr (record { why = refusal_for kind.UnknownPrincipal left.start; refused = UnknownLeft left right none })
+    by (inl first) (inr none) = inr (record { why = refusal_for kind.UnknownPrincipal right.start; refused = UnknownRight left right first none })
     by (inl first) (inl second) =
         let a = contained_place names left.text first in
         let b = contained_place names right.text second in
@@ -158,13 +158,13 @@ lexed text tokens utf8 fits cut =
     ))
     (λ refused. inr (refused.0, Wrong form.0 refused.0 has_entries refused.1))
     (entries_outcome form.0))
-    (λ at. inr (refusal_for defect.Syntax at.0, Formless at.0 fits (inr (tokens, cut, at.1))))
+    (λ at. inr (refusal_for kind.Syntax at.0, Formless at.0 fits (inr (tokens, cut, at.1))))
     (form_outcome tokens (listed text tokens utf8 cut).terminated)
 
 pub is_read_or_refused : IsReadOrRefused
 is_read_or_refused text utf8 =
     ⊎_elim
-    (λ long. inr (refusal_for defect.TooLong 0, Long long))
+    (λ long. inr (refusal_for kind.TooLong 0, Long long))
     (λ fits. ⊎_elim
     (λ cut. lexed text cut.0 utf8 fits cut.1)
     (λ refused. inr (refusal_of_lex refused.0, Formless refused.0.at fits (inl (refused.0, refused.1, refl))))

@@ -14,7 +14,7 @@ use Rattle.principals.specs.ActsFor.{PrincipalHierarchy, HasName, IsHierarchy}
 use Rattle.principals.specs.HierarchyText.{Entry, IsHierarchyForm, IsPrefixOfForm, IsUnexpectedInHierarchyAt, IsEntryRefusal, Twice, Crowded, UnknownLeft, UnknownRight, IsFirstRefusal, IsDescribedBy, declared, written, HasEntries, IsHierarchyOf, IsSyntaxRefusal, IsRefusedText, Long, Formless, Wrong, refusal_for, refusal_of_lex}
 use Rattle.principals.specs.Reading.{Ended, IsFormRefusal}
 use Rattle.principals.specs.declared.fault.HierarchyRefusal.{HierarchyRefusal}
-use Rattle.principals.specs.declared.fault.HierarchyDefect.TheVariants as defect
+use Rattle.principals.specs.declared.fault.HierarchyRefusalKind.TheVariants as kind
 use Rattle.principals.proofs.Automaton.{derived_is_read}
 use Rattle.principals.proofs.Names.{one_number}
 use Rattle.common.specs.declared.limits.TheConstants.{MAX_TEXT}
@@ -151,7 +151,7 @@ refused_text_once text _ _ (Long long) (Formless at fits syntax) = too_long text
 refused_text_once text _ g (Long long) (Wrong es _ has_entries first) = too_long text long has_entries.fits
 refused_text_once text _ _ (Formless at fits syntax) (Long long) = too_long text long fits
 refused_text_once text _ _ (Formless at fits syntax) (Formless other again syntax_too) =
-    ap (λ x. refusal_for defect.Syntax x) (syntax_once text at other syntax syntax_too)
+    ap (λ x. refusal_for kind.Syntax x) (syntax_once text at other syntax syntax_too)
 refused_text_once text _ g (Formless at fits syntax) (Wrong es _ has_entries first) = absurd (entries_not_syntax text es at has_entries syntax)
 refused_text_once text f _ (Wrong es _ has_entries first) (Long long) = too_long text long has_entries.fits
 refused_text_once text f _ (Wrong es _ has_entries first) (Formless at fits syntax) = absurd (entries_not_syntax text es at has_entries syntax)

@@ -8,8 +8,8 @@ use Rattle.lexer.specs.declared.fault.LexRefusal.{LexRefusal}
 use Rattle.lexer.specs.declared.token.Kind.TheVariants.{Name, Comma, Semicolon, End}
 use Rattle.principals.specs.ActsFor.{PrincipalHierarchy, HasName}
 use Rattle.principals.specs.declared.fault.HierarchyRefusal.{HierarchyRefusal}
-use Rattle.principals.specs.declared.fault.HierarchyDefect.{HierarchyDefect}
-use Rattle.principals.specs.declared.fault.HierarchyDefect.TheVariants.{TooLong, Syntax, DeclaredTwice, TooManyPrincipals, UnknownPrincipal}
+use Rattle.principals.specs.declared.fault.HierarchyRefusalKind.{HierarchyRefusalKind}
+use Rattle.principals.specs.declared.fault.HierarchyRefusalKind.TheVariants.{TooLong, Syntax, DeclaredTwice, TooManyPrincipals, UnknownPrincipal}
 
 -- ---- the form of the text
 
@@ -83,9 +83,9 @@ written [] = []
 written (Declares name ∷ entries) = written entries
 written (Relates left right ∷ entries) = (left.text, right.text) ∷ written entries
 
--- the refusal for a defect at a byte
-abbrev pub refusal_for : HierarchyDefect → (at : ℕ) → HierarchyRefusal
-refusal_for defect at = record { defect = defect; at = at }
+-- the refusal of a kind at a byte
+abbrev pub refusal_for : HierarchyRefusalKind → (at : ℕ) → HierarchyRefusal
+refusal_for kind at = record { kind = kind; at = at }
 
 -- an entry is refused, where these names are declared before it; of two refusals of one entry the first is reported
 pub data IsEntryRefusal (names : List (List ℕ)) : Entry → HierarchyRefusal → Type 0 where

@@ -3,7 +3,7 @@
 use Rattle.std.specs.Prelude.{ℕ, ◌≤◌, List, length, IsTrue, IsUtf8}
 use Rattle.lexer.specs.Words.{is_name_text}
 
--- a name in UTF-8, of at most so many bytes
+-- a name in UTF-8, of at most this many bytes
 pub record IsNameWithin (longest : ℕ) (name : List ℕ) : Type 0 where
   pub named : IsTrue (is_name_text name)
   pub characters : IsUtf8 name

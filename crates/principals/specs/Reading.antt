@@ -9,7 +9,7 @@ use Rattle.lexer.specs.declared.token.Kind.{Kind}
 use Rattle.lexer.specs.declared.token.Kind.TheVariants.{Name as NameKind, Comma as CommaKind, Semicolon as SemicolonKind, End as EndKind}
 use Rattle.principals.specs.HierarchyText.{Entry, Declares, Relates, IsUnexpectedInHierarchyAt, AllAccepted, declared, written, refusal_for}
 use Rattle.principals.specs.declared.fault.HierarchyRefusal.{HierarchyRefusal}
-use Rattle.principals.specs.declared.fault.HierarchyDefect.TheVariants.{Syntax}
+use Rattle.principals.specs.declared.fault.HierarchyRefusalKind.TheVariants.{Syntax}
 use Rattle.principals.specs.declared.reading.TokenRole.{TokenRole}
 use Rattle.principals.specs.declared.reading.TokenRole.TheVariants.{Principal, ActsFor, Name, Comma, Semicolon, End, Other}
 use Rattle.principals.specs.declared.reading.ItemState.{ItemState}

@@ -7,11 +7,11 @@ ghost use Rattle.principals.specs.HierarchyText.{Declares, IsDescribedBy, IsEntr
 ghost use Rattle.principals.specs.Named.{IsKeptName};
 ghost use Rattle.principals.specs.Reading.{entries_of};
 ghost use Rattle.principals.specs.Table.{names_of};
-ghost use Rattle.principals.specs.declared.fault.HierarchyDefect.TheVariants.{UnknownPrincipal};
+ghost use Rattle.principals.specs.declared.fault.HierarchyRefusalKind.TheVariants.{UnknownPrincipal};
 ghost use Rattle.std.specs.Prelude.{All, Contains, IfErr, IfOk, OnOk, Some, [], ◌∷◌, ◌++◌, length, slice_get, ◌<◌, ◌≡◌, ◌≤◌};
 
 use crate::Hierarchy;
-use crate::fault::{HierFault, HierarchyDefect, HierarchyRefusal};
+use crate::fault::{HierFault, HierarchyRefusal, HierarchyRefusalKind};
 use crate::principal_set::PrincipalSet;
 use crate::reading::HierarchyStatement;
 use common::OrNoMemory;
@@ -32,12 +32,12 @@ fn declare(alloc: Global, names: &mut IndexSet<String>, name: &Token<'_>) -> Res
     let full = names.len() >= PrincipalSet::LIMIT;
     let at = name.start;
     if names.contains(name.text) {
-        let defect = HierarchyDefect::DeclaredTwice;
-        return Err(OrNoMemory::Refused(HierarchyRefusal { defect, at }));
+        let kind = HierarchyRefusalKind::DeclaredTwice;
+        return Err(OrNoMemory::Refused(HierarchyRefusal { kind, at }));
     }
     if full {
-        let defect = HierarchyDefect::TooManyPrincipals;
-        return Err(OrNoMemory::Refused(HierarchyRefusal { defect, at }));
+        let kind = HierarchyRefusalKind::TooManyPrincipals;
+        return Err(OrNoMemory::Refused(HierarchyRefusal { kind, at }));
     }
     names.insert(String::from_str(alloc, name.text)?)?;
     Ok(())
@@ -54,7 +54,7 @@ fn find_number(names: &IndexSet<String>, name: &Token<'_>) -> Result<u32, Hierar
     match names.get_index_of(name.text) {
         Some(number) => Ok(number as u32),
         None => Err(HierarchyRefusal {
-            defect: HierarchyDefect::UnknownPrincipal,
+            kind: HierarchyRefusalKind::UnknownPrincipal,
             at: name.start,
         }),
     }

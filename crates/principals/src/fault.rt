@@ -1,4 +1,4 @@
-ghost use Rattle.principals.specs.Defects.{hierarchy_defect_number, hierarchy_defect_words};
+ghost use Rattle.principals.specs.RefusalKinds.{hierarchy_refusal_number, hierarchy_refusal_words};
 ghost use Rattle.principals.specs.HierarchyText.{refusal_of_lex};
 ghost use Rattle.std.specs.Prelude.{◌≡◌, Some};
 
@@ -15,7 +15,7 @@ pub const UNKNOWN_PRINCIPAL_WORDS: &str = "unknown principal";
 
 /// What is wrong with a text that has no hierarchy.
 #[derive(Clone, Copy, Debug, Drop, PartialEq, Eq)]
-pub enum HierarchyDefect {
+pub enum HierarchyRefusalKind {
     /// 701: the text is longer than 1,048,576 bytes.
     TooLong,
     /// 151: here no token begins, or a token with which no text of a hierarchy goes on.
@@ -28,30 +28,30 @@ pub enum HierarchyDefect {
     TooManyPrincipals,
 }
 
-impl HierarchyDefect {
-    /// The number that the defect is reported by, 151 to 154 or 701.
+impl HierarchyRefusalKind {
+    /// The number that the refusal is reported by, 151 to 154 or 701.
     pub fn number(self) -> u32
-        ensures { result ≡ hierarchy_defect_number self }
+        ensures { result ≡ hierarchy_refusal_number self }
     {
         match self {
-            HierarchyDefect::TooLong => 701,
-            HierarchyDefect::Syntax => 151,
-            HierarchyDefect::DeclaredTwice => 152,
-            HierarchyDefect::UnknownPrincipal => UNKNOWN_PRINCIPAL,
-            HierarchyDefect::TooManyPrincipals => 154,
+            HierarchyRefusalKind::TooLong => 701,
+            HierarchyRefusalKind::Syntax => 151,
+            HierarchyRefusalKind::DeclaredTwice => 152,
+            HierarchyRefusalKind::UnknownPrincipal => UNKNOWN_PRINCIPAL,
+            HierarchyRefusalKind::TooManyPrincipals => 154,
         }
     }
 
-    /// The words that the defect is reported by.
+    /// The words that the refusal is reported by.
     pub fn words(self) -> &'static str
-        ensures { result.now ≡ hierarchy_defect_words self }
+        ensures { result.now ≡ hierarchy_refusal_words self }
     {
         match self {
-            HierarchyDefect::TooLong => "text too long",
-            HierarchyDefect::Syntax => "syntax",
-            HierarchyDefect::DeclaredTwice => "declared twice",
-            HierarchyDefect::UnknownPrincipal => UNKNOWN_PRINCIPAL_WORDS,
-            HierarchyDefect::TooManyPrincipals => "too many principals",
+            HierarchyRefusalKind::TooLong => "text too long",
+            HierarchyRefusalKind::Syntax => "syntax",
+            HierarchyRefusalKind::DeclaredTwice => "declared twice",
+            HierarchyRefusalKind::UnknownPrincipal => UNKNOWN_PRINCIPAL_WORDS,
+            HierarchyRefusalKind::TooManyPrincipals => "too many principals",
         }
     }
 }
@@ -60,15 +60,15 @@ impl HierarchyDefect {
 /// byte.
 #[derive(Clone, Copy, Debug, Drop, PartialEq, Eq)]
 pub struct HierarchyRefusal {
-    pub defect: HierarchyDefect,
+    pub kind: HierarchyRefusalKind,
     pub at: usize,
 }
 
 impl fmt::Display for HierarchyRefusal {
-    ghost output = { λ refusal. Some (hierarchy_defect_words refusal.defect) };
+    ghost output = { λ refusal. Some (hierarchy_refusal_words refusal.kind) };
 
     fn fmt<W: fmt::Write>(&self, f: &mut fmt::Formatter<W>) -> fmt::Result {
-        write!(f, "{}", self.defect.words())
+        write!(f, "{}", self.kind.words())
     }
 }
 
@@ -82,7 +82,7 @@ impl From<LexRefusal> for HierarchyRefusal {
 
     fn from(refused: LexRefusal) -> HierarchyRefusal {
         HierarchyRefusal {
-            defect: HierarchyDefect::Syntax,
+            kind: HierarchyRefusalKind::Syntax,
             at: refused.at,
         }
     }

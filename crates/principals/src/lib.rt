@@ -17,7 +17,7 @@ mod table;
 
 use common::limits::MAX_PRINCIPALS;
 pub use fault::{
-    HierFault, HierarchyDefect, HierarchyRefusal, UNKNOWN_PRINCIPAL, UNKNOWN_PRINCIPAL_WORDS,
+    HierFault, HierarchyRefusal, HierarchyRefusalKind, UNKNOWN_PRINCIPAL, UNKNOWN_PRINCIPAL_WORDS,
 };
 use indexmap::IndexSet;
 pub use principal_set::PrincipalSet;

@@ -8,7 +8,7 @@ ghost use Rattle.std.specs.Prelude.{IfErr, IfOk, ◌≡◌};
 
 use crate::Hierarchy;
 use crate::declaring::hierarchy_of;
-use crate::fault::{HierFault, HierarchyDefect, HierarchyRefusal};
+use crate::fault::{HierFault, HierarchyRefusal, HierarchyRefusalKind};
 use crate::reading::read_statements;
 use common::OrNoMemory;
 use common::limits::MAX_TEXT;
@@ -46,8 +46,8 @@ fn read_text(alloc: Global, text: &str) -> Result<Hierarchy, HierFault>
     ensures first_fault { IfErr result (IfRefused (IsRefusedText text.now)) }
 {
     if text.len() > MAX_TEXT {
-        let defect = HierarchyDefect::TooLong;
-        return Err(OrNoMemory::Refused(HierarchyRefusal { defect, at: 0 }));
+        let kind = HierarchyRefusalKind::TooLong;
+        return Err(OrNoMemory::Refused(HierarchyRefusal { kind, at: 0 }));
     }
     let tokens = lex(alloc, text).map_err(OrNoMemory::cast)?;
     let statements = read_statements(alloc, tokens.as_slice())?;

@@ -6,7 +6,7 @@ ghost use Rattle.principals.specs.HierarchyText.{IsHierarchyForm};
 ghost use Rattle.principals.specs.Reading.{entries_of, IsFormRefusal, role_of};
 ghost use Rattle.std.specs.Prelude.{IfErr, IfOk, ◌≡◌};
 
-use crate::fault::{HierFault, HierarchyDefect, HierarchyRefusal};
+use crate::fault::{HierFault, HierarchyRefusal, HierarchyRefusalKind};
 use common::OrNoMemory;
 use lexer::{Kind, Token};
 use std::alloc::Global;
@@ -139,8 +139,8 @@ pub(crate) fn read_statements<'a>(
     for token in tokens {
         let Some(after) = progress.next(*token) else {
             let at = token.start;
-            let defect = HierarchyDefect::Syntax;
-            return Err(OrNoMemory::Refused(HierarchyRefusal { defect, at }));
+            let kind = HierarchyRefusalKind::Syntax;
+            return Err(OrNoMemory::Refused(HierarchyRefusal { kind, at }));
         };
         if let Some(statement) = progress.finish(*token) {
             statements.push(statement)?;

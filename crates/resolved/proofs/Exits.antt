@@ -7,7 +7,7 @@ use Rattle.std.proofs.lemmas.Map.Views.{any-filter_same}
 use Rattle.resolved.specs.declared.statement.Exit.{Exit}
 use Rattle.resolved.specs.declared.statement.Exit.TheVariants.{Normal, Return, Break, Continue, Throw}
 use Rattle.resolved.specs.EndFaults.{fault_unless}
-use Rattle.resolved.specs.declared.fault.EndDefect.{EndDefect}
+use Rattle.resolved.specs.declared.fault.EndRefusalKind.{EndRefusalKind}
 use Rattle.resolved.specs.Ends.{has_end, same_exit, then_ends, thrown_ends}
 
 -- ends that the test takes for the same are the same
@@ -43,9 +43,9 @@ pub thrown-append : (xs ys : List ℕ) → thrown_ends (xs ++ ys) ≡ thrown_end
 thrown-append [] ys = refl
 thrown-append (x ∷ xs) ys = ap (λ ends. Throw x ∷ ends) (thrown-append xs ys)
 
-pub no_fault-test : (test : Bool) (defect : EndDefect) (at : ℕ) → fault_unless test defect at ≡ [] → test ≡ true
-no_fault-test true defect at e = refl
-no_fault-test false defect at e = absurd (cc)
+pub no_fault-test : (test : Bool) (kind : EndRefusalKind) (at : ℕ) → fault_unless test kind at ≡ [] → test ≡ true
+no_fault-test true kind at e = refl
+no_fault-test false kind at e = absurd (cc)
 
 -- what all ends are, one of them is
 pub all-has : (p : Exit → Bool) (ends : List Exit) (exit : Exit) → list_all p ends ≡ true → has_end ends exit ≡ true → p exit ≡ true

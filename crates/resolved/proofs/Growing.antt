@@ -161,16 +161,16 @@ module _ (program : Program) (procedure : ProcedureEntry) (more : Program) (whol
         and_from (channel_is (slice_get more.channels channel) Output) (has_base more whole Int e)
         (as_much.channels channel Output parts.0) (has_base_kept Int e parts.1)
     statement_fits_kept (Call at f arguments target) h = call_kept f (slice_get program.procedures f) arguments target refl h
-    statement_fits_kept (If at e yes_block no_block) h =
-        let outer : (has_base program procedure Boolean e && block_fits program procedure yes_block ≡ true)
-        × (block_fits program procedure no_block ≡ true) =
-        and_parts (has_base program procedure Boolean e && block_fits program procedure yes_block) _ h in
-        let inner : (has_base program procedure Boolean e ≡ true) × (block_fits program procedure yes_block ≡ true) =
+    statement_fits_kept (If at e then_block else_block) h =
+        let outer : (has_base program procedure Boolean e && block_fits program procedure then_block ≡ true)
+        × (block_fits program procedure else_block ≡ true) =
+        and_parts (has_base program procedure Boolean e && block_fits program procedure then_block) _ h in
+        let inner : (has_base program procedure Boolean e ≡ true) × (block_fits program procedure then_block ≡ true) =
         and_parts (has_base program procedure Boolean e) _ outer.0 in
-        and_from (has_base more whole Boolean e && block_fits more whole yes_block) (block_fits more whole no_block)
-        (and_from (has_base more whole Boolean e) (block_fits more whole yes_block)
-        (has_base_kept Boolean e inner.0) (block_fits_kept yes_block inner.1))
-        (block_fits_kept no_block outer.1)
+        and_from (has_base more whole Boolean e && block_fits more whole then_block) (block_fits more whole else_block)
+        (and_from (has_base more whole Boolean e) (block_fits more whole then_block)
+        (has_base_kept Boolean e inner.0) (block_fits_kept then_block inner.1))
+        (block_fits_kept else_block outer.1)
     statement_fits_kept (While at loop e body) h =
         let parts : (has_base program procedure Boolean e ≡ true) × (block_fits program procedure body ≡ true) =
         and_parts (has_base program procedure Boolean e) _ h in

@@ -30,11 +30,11 @@ handlers_hidden : (handlers : Vec Handler Global) → handlers_row (hidden-the_r
 handlers_hidden handlers =
     handlers_row_is (hidden-the_row-Handler-1 handlers) ∙ ap handlers_of (S.items_hidden-the_row-Handler-1 handlers)
 
-pub statement_of_if : (at : ℕ) (e : Expression) (yes_block no_block : Vec S.Statement Global)
-    → statement_of (S.If at e yes_block no_block) ≡ If at (expression_of e) (block_of yes_block.items) (block_of no_block.items)
-statement_of_if at e yes_block no_block =
-    ap (λ block. If at (expression_of e) block (block_row (hidden-the_row-Statement-0 no_block))) (block_hidden yes_block)
-    ∙ ap (If at (expression_of e) (block_of yes_block.items)) (block_hidden no_block)
+pub statement_of_if : (at : ℕ) (e : Expression) (then_block else_block : Vec S.Statement Global)
+    → statement_of (S.If at e then_block else_block) ≡ If at (expression_of e) (block_of then_block.items) (block_of else_block.items)
+statement_of_if at e then_block else_block =
+    ap (λ block. If at (expression_of e) block (block_row (hidden-the_row-Statement-0 else_block))) (block_hidden then_block)
+    ∙ ap (If at (expression_of e) (block_of then_block.items)) (block_hidden else_block)
 
 pub statement_of_while : (at loop : ℕ) (e : Expression) (body : Vec S.Statement Global)
     → statement_of (S.While at loop e body) ≡ While at loop (expression_of e) (block_of body.items)
@@ -53,10 +53,10 @@ statement_of_nested at block = ap (Nested at) (block_hidden block)
 pub ruleset statement_views = (statement_of_if, statement_of_while, statement_of_try, statement_of_nested)
 
 -- what a function of the tree is at a statement that was found to be of a form
-pub at_if : {A : Type 0} (f : Statement → A) {s : S.Statement} {at : ℕ} {e : Expression} (yes_block no_block : Vec S.Statement Global)
-    → s ≡ S.If at e yes_block no_block
-    → f (statement_of s) ≡ f (If at (expression_of e) (block_of yes_block.items) (block_of no_block.items))
-at_if f yes_block no_block is = ap (λ t. f (statement_of t)) is ∙ ap f (statement_of_if _ _ yes_block no_block)
+pub at_if : {A : Type 0} (f : Statement → A) {s : S.Statement} {at : ℕ} {e : Expression} (then_block else_block : Vec S.Statement Global)
+    → s ≡ S.If at e then_block else_block
+    → f (statement_of s) ≡ f (If at (expression_of e) (block_of then_block.items) (block_of else_block.items))
+at_if f then_block else_block is = ap (λ t. f (statement_of t)) is ∙ ap f (statement_of_if _ _ then_block else_block)
 
 pub at_while : {A : Type 0} (f : Statement → A) {s : S.Statement} {at loop : ℕ} {e : Expression} (body : Vec S.Statement Global)
     → s ≡ S.While at loop e body → f (statement_of s) ≡ f (While at loop (expression_of e) (block_of body.items))
@@ -71,12 +71,12 @@ pub at_nested : {A : Type 0} (f : Statement → A) {s : S.Statement} {at : ℕ} 
 at_nested f block is = ap (λ t. f (statement_of t)) is ∙ ap f (statement_of_nested _ block)
 
 -- the trees of statements, by lists of what stands in them
-pub tree-if : (s : S.Statement) (at : ℕ) (e : Expression) (yes_block no_block : Vec S.Statement Global) (ys ns : List S.Statement)
-    → s ≡ S.If at e yes_block no_block → ys ≡ yes_block.items → ns ≡ no_block.items
+pub tree-if : (s : S.Statement) (at : ℕ) (e : Expression) (then_block else_block : Vec S.Statement Global) (ys ns : List S.Statement)
+    → s ≡ S.If at e then_block else_block → ys ≡ then_block.items → ns ≡ else_block.items
     → statement_of s ≡ If at (expression_of e) (block_of ys) (block_of ns)
-tree-if s at e yes_block no_block ys ns is first second =
-    at_if (λ t. t) yes_block no_block is
-    ∙ (ap (λ list. If at (expression_of e) (block_of list) (block_of no_block.items)) (sym first)
+tree-if s at e then_block else_block ys ns is first second =
+    at_if (λ t. t) then_block else_block is
+    ∙ (ap (λ list. If at (expression_of e) (block_of list) (block_of else_block.items)) (sym first)
     ∙ ap (λ list. If at (expression_of e) (block_of ys) (block_of list)) (sym second))
 
 pub tree-while : (s : S.Statement) (at loop : ℕ) (e : Expression) (body : Vec S.Statement Global) (list : List S.Statement)

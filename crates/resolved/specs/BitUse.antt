@@ -33,8 +33,8 @@ abbrev mutual
   statement_uses_bits (Receive at channel target) = false
   statement_uses_bits (Send at channel e) = expression_uses_bits e
   statement_uses_bits (Call at procedure arguments target) = list_any expression_uses_bits arguments
-  statement_uses_bits (If at e yes_block no_block) =
-      expression_uses_bits e || block_uses_bits yes_block || block_uses_bits no_block
+  statement_uses_bits (If at e then_block else_block) =
+      expression_uses_bits e || block_uses_bits then_block || block_uses_bits else_block
   statement_uses_bits (While at loop e body) = expression_uses_bits e || block_uses_bits body
   statement_uses_bits (Leave at exit) = false
   statement_uses_bits (ReturnWith at None) = false

@@ -2,8 +2,8 @@
 -- Source: our own.
 use Rattle.std.specs.Prelude.{ℕ, List, [], ◌∷◌, ◌++◌, Bool, true, false, not, ◌&&◌, filter, flat_map, if◌then◌else◌, is_some}
 use Rattle.std.specs.List.{list_all}
-use Rattle.resolved.specs.declared.fault.EndDefect.{EndDefect}
-use Rattle.resolved.specs.declared.fault.EndDefect.TheVariants.{OutsideLoop, Unreachable, NeverRaised, NoValueReturned, Undeclared}
+use Rattle.resolved.specs.declared.fault.EndRefusalKind.{EndRefusalKind}
+use Rattle.resolved.specs.declared.fault.EndRefusalKind.TheVariants.{OutsideLoop, Unreachable, NeverRaised, NoValueReturned, Undeclared}
 use Rattle.resolved.specs.declared.fault.EndRefusal.{EndRefusal}
 use Rattle.resolved.specs.declared.statement.Exit.{Exit}
 use Rattle.resolved.specs.declared.statement.Exit.TheVariants.{Normal, Return, Break, Continue, Throw}
@@ -12,8 +12,8 @@ use Rattle.resolved.specs.Program.{Program, ProcedureEntry}
 use Rattle.resolved.specs.Ends.{same_exit, has_end, thrown_ends, declared_by, statement_ends, block_ends}
 
 -- a fault, unless a test holds
-abbrev pub fault_unless : Bool → EndDefect → (at : ℕ) → List EndRefusal
-fault_unless test defect at = if test then [] else (record { defect = defect; at = at } ∷ [])
+abbrev pub fault_unless : Bool → EndRefusalKind → (at : ℕ) → List EndRefusal
+fault_unless test kind at = if test then [] else (record { kind = kind; at = at } ∷ [])
 
 -- whether a statement may stand here, in a loop or not
 abbrev pub may_leave : (in_loop : Bool) → Exit → Bool
@@ -30,7 +30,7 @@ may_stand in_loop (Store at array length index e) = true
 may_stand in_loop (Receive at channel target) = true
 may_stand in_loop (Send at channel e) = true
 may_stand in_loop (Call at procedure arguments target) = true
-may_stand in_loop (If at e yes_block no_block) = true
+may_stand in_loop (If at e then_block else_block) = true
 may_stand in_loop (While at loop e body) = true
 may_stand in_loop (Leave at exit) = may_leave in_loop exit
 may_stand in_loop (ReturnWith at value) = true
@@ -47,8 +47,8 @@ abbrev mutual
   inner_faults program in_loop (Receive at channel target) = []
   inner_faults program in_loop (Send at channel e) = []
   inner_faults program in_loop (Call at procedure arguments target) = []
-  inner_faults program in_loop (If at e yes_block no_block) =
-      block_faults program in_loop true yes_block ++ block_faults program in_loop true no_block
+  inner_faults program in_loop (If at e then_block else_block) =
+      block_faults program in_loop true then_block ++ block_faults program in_loop true else_block
   inner_faults program in_loop (While at loop e body) = block_faults program true true body
   inner_faults program in_loop (Leave at exit) = []
   inner_faults program in_loop (ReturnWith at value) = []

@@ -144,8 +144,8 @@ abbrev mutual
   statement_ends program (Send at channel e) = Normal ∷ thrown_ends (raises e)
   statement_ends program (Call at procedure arguments target) =
       Normal ∷ thrown_ends (raises_all arguments ++ declared_by (procedure_at program procedure).throws)
-  statement_ends program (If at e yes_block no_block) =
-      thrown_ends (raises e) ++ block_ends program yes_block ++ block_ends program no_block
+  statement_ends program (If at e then_block else_block) =
+      thrown_ends (raises e) ++ block_ends program then_block ++ block_ends program else_block
   statement_ends program (While at loop e body) =
       Normal ∷ (thrown_ends (raises e) ++ filter leaves_loop (block_ends program body))
   statement_ends program (Leave at exit) = exit ∷ []

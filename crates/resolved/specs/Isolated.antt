@@ -18,7 +18,7 @@ Agree h label_of program p first second =
     → IsTrue (may_read h p (label_of channel)) → first channel ≡ second channel
 
 -- a program is isolated under a hierarchy and labels of its channels: for every principal and all worlds that agree for it,
--- what it sees of two runs, each with any bound on the turns of loops, is such that one list is a prefix of the
+-- what it sees of two runs, each with any bound on the rounds of loops, is such that one list is a prefix of the
 -- other
 abbrev pub IsolatedUnder : PrincipalHierarchy → (ℕ → Label) → Program → Type 0
 IsolatedUnder h label_of program =

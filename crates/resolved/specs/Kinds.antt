@@ -37,15 +37,15 @@ GivesBase base (Raises exception) = Unit {0}
 
 -- a returned value stands at this end alone, and has the base type of a procedure's value
 abbrev pub ReturnedFits : Exit → Option ResultEntry → Outcome → Type 0
-ReturnedFits place result (Ended exit (Some v) s) = IsTrue (same_exit place exit && has_result result (same_base (base_of v)))
-ReturnedFits place result (Ended exit None s) = Unit {0}
-ReturnedFits place result (Stopped stop s) = Unit {0}
+ReturnedFits result_exit result (Ended exit (Some v) s) = IsTrue (same_exit result_exit exit && has_result result (same_base (base_of v)))
+ReturnedFits result_exit result (Ended exit None s) = Unit {0}
+ReturnedFits result_exit result (Stopped stop s) = Unit {0}
 
 -- what a statement of a procedure, or a call in it, comes to: a state that fits, and a value only where and as it may be returned
-pub record OutcomeFits (program : Program) (procedure : ProcedureEntry) (place : Exit) (result : Option ResultEntry) (outcome : Outcome)
+pub record OutcomeFits (program : Program) (procedure : ProcedureEntry) (result_exit : Exit) (result : Option ResultEntry) (outcome : Outcome)
     : Type 0 where
   pub state : StateFits program procedure (state_after outcome)
-  pub returned : ReturnedFits place result outcome
+  pub returned : ReturnedFits result_exit result outcome
 
 -- every statement of a well-formed program keeps the types: from a state that fits, a block that fits comes to a state that fits and
 -- returns a value of the procedure's base type only

@@ -139,7 +139,7 @@ own_label scope pc (Store at array length index e) =
 own_label scope pc (Receive at channel target) = pc ++ one (label_of scope.program (ToChannel channel))
 own_label scope pc (Send at channel e) = pc ++ raise_label scope e
 own_label scope pc (Call at procedure arguments target) = pc ++ raise_labels scope arguments
-own_label scope pc (If at e yes_block no_block) = pc ++ raise_label scope e
+own_label scope pc (If at e then_block else_block) = pc ++ raise_label scope e
 own_label scope pc (While at loop e body) =
     one (label_of scope.program (ToLoop scope.number loop)) ++ raise_label scope e
 own_label scope pc (Leave at exit) = pc
@@ -179,12 +179,12 @@ abbrev mutual
   statement_rule scope pc (Send at channel e) exit = own_label scope pc (Send at channel e)
   statement_rule scope pc (Call at procedure arguments target) exit =
       call_exits scope.program procedure (own_label scope pc (Call at procedure arguments target)) exit
-  statement_rule scope pc (If at e yes_block no_block) exit =
-      let q : Join = own_label scope pc (If at e yes_block no_block) in
+  statement_rule scope pc (If at e then_block else_block) exit =
+      let q : Join = own_label scope pc (If at e then_block else_block) in
       let branch : Join = q ++ value_label scope e in
       raised_exits e q exit
-      ++ at_ends (block_ends scope.program yes_block) branch (block_rule scope branch yes_block) exit
-      ++ at_ends (block_ends scope.program no_block) branch (block_rule scope branch no_block) exit
+      ++ at_ends (block_ends scope.program then_block) branch (block_rule scope branch then_block) exit
+      ++ at_ends (block_ends scope.program else_block) branch (block_rule scope branch else_block) exit
   statement_rule scope pc (While at loop e body) exit =
       let q : Join = own_label scope pc (While at loop e body) in
       let b : Join = q ++ value_label scope e in
@@ -259,9 +259,9 @@ abbrev mutual
       demand scope.program at 6 q (ToBegin procedure)
       ++ argument_demands scope at q procedure 0 arguments
       ++ target_demand scope at 6 (call_exits scope.program procedure q Normal ++ one (label_of scope.program (ToValue procedure))) target
-  statement_demands scope pc (If at e yes_block no_block) =
-      let branch : Join = own_label scope pc (If at e yes_block no_block) ++ value_label scope e in
-      block_demands scope branch yes_block ++ block_demands scope branch no_block
+  statement_demands scope pc (If at e then_block else_block) =
+      let branch : Join = own_label scope pc (If at e then_block else_block) ++ value_label scope e in
+      block_demands scope branch then_block ++ block_demands scope branch else_block
   statement_demands scope pc (While at loop e body) =
       let b : Join = own_label scope pc (While at loop e body) ++ value_label scope e in
       let x : ExitLabels = block_exits scope b body in

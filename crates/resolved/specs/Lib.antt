@@ -7,7 +7,7 @@ pub mod SourceState
 pub mod Meaning
 pub mod BitUse
 pub mod Ends
-pub mod Defects
+pub mod RefusalKinds
 pub mod EndFaults
 pub mod Labelled
 pub mod Isolated

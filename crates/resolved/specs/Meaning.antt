@@ -1,6 +1,6 @@
--- What a program does: the meaning of statements with a bound on the turns of each loop and on the frames, and what a program
+-- What a program does: the meaning of statements with a bound on the rounds of each loop and on the frames, and what a program
 -- has sent.
--- Source: our own; a big-step meaning with counted turns, as textbooks give it for programs that may not end.
+-- Source: our own; a big-step meaning with fuel, as textbooks give it for programs that may not end.
 use Rattle.common.specs.Functions.{updated}
 use Rattle.std.specs.Prelude.{ℕ, zero, suc, List, [], ◌∷◌, ◌++◌, ℤ, ◌==◌, if◌then◌else◌, Option, Some, None, replicate, slice_get}
 use Rattle.common.specs.declared.limits.TheConstants.{MAX_FRAMES}
@@ -18,11 +18,11 @@ use Rattle.resolved.specs.Value.{Evaluated, Yields, Raises, number_in, truth_in,
 use Rattle.resolved.specs.SourceState.{World, SourceState, assigned, stored, cleared, value_of, values_of}
 use Rattle.common.specs.declared.exceptions.TheConstants.{END}
 
--- why a run stops before its end: a call beyond the frames that there may be, or a loop that would make one turn more than the
+-- why a run stops before its end: a call beyond the frames that there may be, or a loop that would make one round more than the
 -- bound
 pub data Stop : Type 0 where
   Deep : Stop
-  OutOfTurns : Stop
+  OutOfFuel : Stop
 
 -- what a statement comes to: the end that it takes, with the value that it returns if it does, and the state then; or a
 -- stop, which nothing catches
@@ -59,13 +59,13 @@ looped (Ended Continue returned s) again = again s
 looped (Ended (Throw exception) returned s) again = Ended (Throw exception) returned s
 looped (Stopped stop s) again = Stopped stop s
 
--- a loop of at most k turns, by the value of its condition and by what its body does; where the condition is true once more,
--- the run is out of turns
-abbrev pub turns : (k : ℕ) → (SourceState → Evaluated Value) → (SourceState → Outcome) → SourceState → Outcome
-turns zero condition body s =
-    evaluated (condition s) s (λ v. if truth_in v then Stopped OutOfTurns s else normally s)
-turns (suc k) condition body s =
-    evaluated (condition s) s (λ v. if truth_in v then looped (body s) (turns k condition body) else normally s)
+-- a loop of at most k rounds, by the value of its condition and by what its body does; where the condition is true once more,
+-- the run is out of fuel
+abbrev pub fuel : (k : ℕ) → (SourceState → Evaluated Value) → (SourceState → Outcome) → SourceState → Outcome
+fuel zero condition body s =
+    evaluated (condition s) s (λ v. if truth_in v then Stopped OutOfFuel s else normally s)
+fuel (suc k) condition body s =
+    evaluated (condition s) s (λ v. if truth_in v then looped (body s) (fuel k condition body) else normally s)
 
 -- hands an exception to the handlers; every other end stays
 abbrev pub caught : Outcome → (ℕ → SourceState → Outcome) → Outcome
@@ -120,7 +120,7 @@ returned_to target (Stopped stop s) = Stopped stop s
 abbrev pub Calls : Type 0
 Calls = (procedure : ℕ) → List Value → SourceState → Outcome
 
--- the meaning of statements, blocks and handlers, by what calls do and with at most k turns of each loop, counted anew each
+-- the meaning of statements, blocks and handlers, by what calls do and with at most k rounds of each loop, counted anew each
 -- time the loop is reached
 abbrev mutual
   pub statement_meaning : Calls → (k : ℕ) → Statement → SourceState → Outcome
@@ -137,10 +137,10 @@ abbrev mutual
       evaluated (value_of s e) s (λ v. normally (sending channel v s))
   statement_meaning calls k (Call at procedure arguments target) s =
       evaluated (values_of s arguments) s (λ vs. returned_to target (calls procedure vs s))
-  statement_meaning calls k (If at e yes_block no_block) s =
+  statement_meaning calls k (If at e then_block else_block) s =
       evaluated (value_of s e) s (λ v.
-      if truth_in v then block_meaning calls k yes_block s else block_meaning calls k no_block s)
-  statement_meaning calls k (While at loop e body) s = turns k (λ t. value_of t e) (block_meaning calls k body) s
+      if truth_in v then block_meaning calls k then_block s else block_meaning calls k else_block s)
+  statement_meaning calls k (While at loop e body) s = fuel k (λ t. value_of t e) (block_meaning calls k body) s
   statement_meaning calls k (Leave at exit) s = Ended exit None s
   statement_meaning calls k (ReturnWith at None) s = Ended Return None s
   statement_meaning calls k (ReturnWith at (Some e)) s =
@@ -178,7 +178,7 @@ frame_of slots arguments n = first_cells_of_slots (slice_get slots n) (slice_get
 abbrev pub entering : ProcedureEntry → List Value → SourceState → SourceState
 entering callee arguments s = record s { locals = frame_of callee.slots arguments }
 
--- the calls of a program where so many more frames may be made; a call beyond them is deep
+-- the calls of a program where this many more frames may be made; a call beyond them is deep
 abbrev pub calls_with : Program → (k frames : ℕ) → Calls
 calls_with program k zero procedure arguments s = Stopped Deep s
 calls_with program k (suc frames) procedure arguments s =
@@ -209,8 +209,8 @@ first_state program world = record {
   sent = [];
 }
 
--- the run of a program on a world, where so many frames may be in use at once, `main` included, and each loop makes at most k
--- turns each time that it is reached
+-- the run of a program on a world, where this many frames may be in use at once, `main` included, and each loop makes at most k
+-- rounds each time that it is reached
 abbrev pub run_within : (frames : ℕ) → Program → World → (k : ℕ) → Outcome
 run_within frames program world k = calls_with program k frames program.main [] (first_state program world)
 

@@ -28,7 +28,7 @@ abbrev mutual
   statement_of (S.Receive at channel target) = Receive at channel target
   statement_of (S.Send at channel e) = Send at channel (expression_of e)
   statement_of (S.Call at procedure arguments target) = Call at procedure (map expression_of arguments.items) target
-  statement_of (S.If' at e shape yes_block shape' no_block) = If at (expression_of e) (block_row yes_block) (block_row no_block)
+  statement_of (S.If' at e shape then_block shape' else_block) = If at (expression_of e) (block_row then_block) (block_row else_block)
   statement_of (S.While' at loop e shape body) = While at loop (expression_of e) (block_row body)
   statement_of (S.Leave at exit) = Leave at exit
   statement_of (S.Return at e) = ReturnWith at (some_expression_of e)

@@ -170,8 +170,8 @@ abbrev mutual
       channel_is (slice_get program.channels channel) Output && has_base program procedure Int e
   statement_fits program procedure (Call at callee arguments target) =
       call_matches program procedure (slice_get program.procedures callee) arguments target
-  statement_fits program procedure (If at e yes_block no_block) =
-      has_base program procedure Boolean e && block_fits program procedure yes_block && block_fits program procedure no_block
+  statement_fits program procedure (If at e then_block else_block) =
+      has_base program procedure Boolean e && block_fits program procedure then_block && block_fits program procedure else_block
   statement_fits program procedure (While at loop e body) =
       has_base program procedure Boolean e && block_fits program procedure body
   statement_fits program procedure (Leave at exit) = may_leave_by program exit
@@ -202,7 +202,7 @@ abbrev mutual
   statement_loops (Receive at channel target) = []
   statement_loops (Send at channel e) = []
   statement_loops (Call at callee arguments target) = []
-  statement_loops (If at e yes_block no_block) = block_loops yes_block ++ block_loops no_block
+  statement_loops (If at e then_block else_block) = block_loops then_block ++ block_loops else_block
   statement_loops (While at loop e body) = loop ∷ block_loops body
   statement_loops (Leave at exit) = []
   statement_loops (ReturnWith at e) = []
@@ -302,7 +302,7 @@ abbrev mutual
   statement_nodes (Receive at channel target) = 1
   statement_nodes (Send at channel e) = 1 + expression_nodes e
   statement_nodes (Call at callee arguments target) = 1 + sum_by expression_nodes arguments
-  statement_nodes (If at e yes_block no_block) = 1 + expression_nodes e + block_nodes yes_block + block_nodes no_block
+  statement_nodes (If at e then_block else_block) = 1 + expression_nodes e + block_nodes then_block + block_nodes else_block
   statement_nodes (While at loop e body) = 1 + expression_nodes e + block_nodes body
   statement_nodes (Leave at exit) = 1
   statement_nodes (ReturnWith at e) = 1 + some_nodes e

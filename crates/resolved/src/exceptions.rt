@@ -1,4 +1,4 @@
-//! The exceptions of a program by their numbers: the three that are built in, and behind them the declared ones.
+//! The exceptions of a program by their numbers: the three that are built in, and after them the declared ones.
 
 ghost use Rattle.resolved.specs.Exceptions as spec;
 ghost use Rattle.std.specs.Prelude.{[], map, slice_get, unwrap_or, ◌≡◌};

@@ -1,5 +1,5 @@
 //! What can be wrong with the ends of a program's statements, and the numbers and the words by which it is reported.
-ghost use Rattle.resolved.specs.Defects.{end_defect_number, end_defect_words};
+ghost use Rattle.resolved.specs.RefusalKinds.{end_refusal_number, end_refusal_words};
 ghost use Rattle.std.specs.Prelude.{◌≡◌, Some};
 
 use std::error::Error;
@@ -7,7 +7,7 @@ use std::fmt;
 
 /// What is wrong with the ends of a program's statements.
 #[derive(Clone, Copy, Debug, PartialEq, Eq)]
-pub enum EndDefect {
+pub enum EndRefusalKind {
     /// 501: a statement that is never reached.
     Unreachable,
     /// 502: a procedure with a value that can end without one.
@@ -20,30 +20,30 @@ pub enum EndDefect {
     OutsideLoop,
 }
 
-impl EndDefect {
-    /// The number that the defect is reported by, 501 to 505.
+impl EndRefusalKind {
+    /// The number that the refusal is reported by, 501 to 505.
     pub fn number(self) -> u32
-        ensures { result ≡ end_defect_number self }
+        ensures { result ≡ end_refusal_number self }
     {
         match self {
-            EndDefect::Unreachable => 501,
-            EndDefect::NoValueReturned => 502,
-            EndDefect::Undeclared => 503,
-            EndDefect::NeverRaised => 504,
-            EndDefect::OutsideLoop => 505,
+            EndRefusalKind::Unreachable => 501,
+            EndRefusalKind::NoValueReturned => 502,
+            EndRefusalKind::Undeclared => 503,
+            EndRefusalKind::NeverRaised => 504,
+            EndRefusalKind::OutsideLoop => 505,
         }
     }
 
-    /// The words that the defect is reported by.
+    /// The words that the refusal is reported by.
     pub fn words(self) -> &'static str
-        ensures { result.now ≡ end_defect_words self }
+        ensures { result.now ≡ end_refusal_words self }
     {
         match self {
-            EndDefect::Unreachable => "unreachable",
-            EndDefect::NoValueReturned => "no value returned",
-            EndDefect::Undeclared => "exception not declared",
-            EndDefect::NeverRaised => "never raised",
-            EndDefect::OutsideLoop => "not in a loop",
+            EndRefusalKind::Unreachable => "unreachable",
+            EndRefusalKind::NoValueReturned => "no value returned",
+            EndRefusalKind::Undeclared => "exception not declared",
+            EndRefusalKind::NeverRaised => "never raised",
+            EndRefusalKind::OutsideLoop => "not in a loop",
         }
     }
 }
@@ -51,15 +51,15 @@ impl EndDefect {
 /// A program whose ends have a fault: what is wrong, and the byte of the token at which it stands.
 #[derive(Clone, Copy, Debug, PartialEq, Eq)]
 pub struct EndRefusal {
-    pub defect: EndDefect,
+    pub kind: EndRefusalKind,
     pub at: usize,
 }
 
 impl fmt::Display for EndRefusal {
-    ghost output = { λ refusal. Some (end_defect_words refusal.defect) };
+    ghost output = { λ refusal. Some (end_refusal_words refusal.kind) };
 
     fn fmt<W: fmt::Write>(&self, f: &mut fmt::Formatter<W>) -> fmt::Result {
-        write!(f, "{}", self.defect.words())
+        write!(f, "{}", self.kind.words())
     }
 }
 

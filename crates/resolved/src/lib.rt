@@ -11,4 +11,4 @@ pub mod statement;
 pub mod tables;
 pub mod target;
 
-pub use fault::{EndDefect, EndRefusal};
+pub use fault::{EndRefusal, EndRefusalKind};

@@ -43,7 +43,7 @@ union-grows (x ∷ xs) (y ∷ ys) e = go x y (union-grows xs ys (omega (arith, e
     go false false rest = ⊎_elim (λ same. inl (ap (λ (r : List Bool). false ∷ r) same)) (λ more. inr (omega (arith, more))) rest
     go false true rest = ⊎_elim (λ same. let e' : size (union xs ys) ≡ size xs = ap size same in inr (omega (arith, e'))) (λ more. inr (omega (arith, more))) rest
 
--- of written elements that stand in left sides there are at most so many
+-- of written elements that stand in left sides there are at most this many
 pub size-at_most : {T : Type 0} (cs : List (Constraint T)) (k : ℕ) (row : List Bool) → ((n : ℕ) → IsTrue (has row n) → IsTrue (stands_left cs (k + n))) → size row ≤ written_left cs k (length row)
 size-at_most cs k [] each = omega arith
 size-at_most {T} cs k (b ∷ row) each =

@@ -12,5 +12,6 @@ pub mod Refusing
 pub mod Rows
 pub mod Searching
 pub mod Solved
+pub mod Standing
 pub mod Values
 pub mod Working

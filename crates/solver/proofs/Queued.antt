@@ -192,7 +192,7 @@ module _ {T : Type 0} (cs : List (Constraint T)) where
   pub seeds-none : (waits : List Bool) (by : ℕ) → (RightIsUnknown cs by → ⊥) → Seeds cs by waits waits
   seeds-none waits by never = record { kept = λ i t. t; marked = λ r. absurd (never r) }
 
--- so many flags are set as constraints are looked at
+-- this many flags are set as constraints are looked at
 pub seeded-count : {T : Type 0} (cs : List (Constraint T)) (waits : List Bool) → length waits ≡ length cs → ((i : ℕ) → IsTrue (flag waits i) → RightIsUnknown cs i) →
     ((i : ℕ) → RightIsUnknown cs i → IsTrue (flag waits i)) → size waits ≡ looked_at cs
 seeded-count [] [] e to from = refl

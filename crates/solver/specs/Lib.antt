@@ -7,5 +7,6 @@ pub mod Queue
 pub mod Reach
 pub mod Rows
 pub mod Rule
+pub mod Sharing
 pub mod Walks
 pub mod Work

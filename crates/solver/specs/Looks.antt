@@ -29,7 +29,7 @@ is_element n (Unknown u) = false
 abbrev pub looked_at : {T : Type 0} → List (Constraint T) → ℕ
 looked_at {T} constraints = count_of (λ (c : Constraint T). is_unknown c.right) constraints
 
--- whether a written element stands in a left side, and how many do, of so many from one on
+-- whether a written element stands in a left side, and how many do, of this many from one on
 abbrev pub stands_left : {T : Type 0} → List (Constraint T) → ℕ → Bool
 stands_left {T} constraints n = list_any (λ (c : Constraint T). list_any (is_element n) c.left.items) constraints
 
@@ -42,7 +42,7 @@ abbrev pub unknowns_left : {T : Type 0} → List (Constraint T) → ℕ
 unknowns_left [] = 0
 unknowns_left (c ∷ constraints) = count_of is_unknown c.left.items + unknowns_left constraints
 
--- the bounds for so many written elements, and the greatest number at which a count of 64 bits stays
+-- the bounds for this many written elements, and the greatest number at which a count of 64 bits stays
 pub record AreLooks {T : Type 0} (elements : ℕ) (constraints : List (Constraint T)) (looks : ℕ) : Type 0 where
   pub at_least : looked_at constraints ≤ looks
   pub at_most : looks ≤ looked_at constraints + written_left constraints 0 elements * unknowns_left constraints

@@ -33,7 +33,7 @@ atom_has rows n (Unknown u) = has_at rows u n
 abbrev pub left_has : List (List Bool) → List Atom → ℕ → Bool
 left_has rows left n = list_any (atom_has rows n) left
 
--- the unknowns, from one on, in whose row a number stands; and those of each number, from one on, of so many
+-- the unknowns, from one on, in whose row a number stands; and those of each number, from one on, of this many
 abbrev pub unknowns_with : (n u : ℕ) → List (List Bool) → List ℕ
 unknowns_with n u [] = []
 unknowns_with n u (row ∷ rows) =

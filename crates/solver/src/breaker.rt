@@ -5,10 +5,11 @@ ghost use Rattle.solver.specs.Broken.{is_below};
 ghost use Rattle.solver.specs.Links.{AreBelow, InRange, IsBelow};
 ghost use Rattle.labels.specs.Row.{has};
 ghost use Rattle.solver.specs.Rows.{AreSized, atom_has, left_has};
-ghost use Rattle.std.specs.Prelude.{IfOk, length, ℕ, ◌||◌, ◌≡◌};
+ghost use Rattle.std.specs.Prelude.{IfOk, OnOk, length, ℕ, ◌||◌, ◌≡◌};
 
 use crate::constraints::{Atom, Constraint};
 use crate::elements::WrittenElements;
+use crate::sharing::SharedRows;
 use labels::Row;
 use std::alloc::{AllocError, Global};
 
@@ -17,7 +18,7 @@ pub fn first_breaker<W: WrittenElements, T>(
     alloc: Global,
     written: &W,
     constraints: &[Constraint<T>],
-    rows: &[Row],
+    rows: &SharedRows,
 ) -> Result<Option<usize>, AllocError>
     requires range { InRange (length (W.elements written.now)) (length rows.now)
         constraints.now }
@@ -42,7 +43,7 @@ fn breaker_of<W: WrittenElements, T>(
     written: &W,
     comparing: &mut W::Comparing,
     constraint: &Constraint<T>,
-    rows: &[Row],
+    rows: &SharedRows,
 ) -> Result<Option<usize>, AllocError>
     requires comparing { W.compares written.now comparing.old }
     requires left { AreBelow (length (W.elements written.now)) (length rows.now)
@@ -64,7 +65,12 @@ fn breaker_of<W: WrittenElements, T>(
 }
 
 /// The written elements that are a part of a left side or reach one.
-pub fn left_row(alloc: Global, left: &[Atom], rows: &[Row], count: usize) -> Result<Row, AllocError>
+pub fn left_row(
+    alloc: Global,
+    left: &[Atom],
+    rows: &SharedRows,
+    count: usize,
+) -> Result<Row, AllocError>
     requires range { AreBelow count (length rows.now) left.now }
     requires sized { AreSized count rows.now }
     ensures count { IfOk result (λ row. length row ≡ count) }
@@ -73,23 +79,27 @@ pub fn left_row(alloc: Global, left: &[Atom], rows: &[Row], count: usize) -> Res
 {
     let mut row = Row::new(alloc, count)?;
     for atom in left {
-        add_atom(&mut row, *atom, rows);
+        add_atom(alloc, &mut row, *atom, rows)?;
     }
     Ok(row)
 }
 
 // Adds the written elements of one atom.
-fn add_atom(row: &mut Row, atom: Atom, rows: &[Row])
+fn add_atom(alloc: Global, row: &mut Row, atom: Atom, rows: &SharedRows) -> Result<(), AllocError>
     requires range { IsBelow (length row.old) (length rows.now) atom }
     requires sized { AreSized (length row.old) rows.now }
-    ensures count { length row.new ≡ length row.old }
-    ensures members { (n : ℕ) → has row.new n
-        ≡ (has row.old n || atom_has rows.now n atom) }
+    ensures count { OnOk result (length row.new ≡ length row.old) }
+    ensures members { OnOk result ((n : ℕ) → has row.new n
+        ≡ (has row.old n || atom_has rows.now n atom)) }
 {
     match atom {
-        Atom::Written(n) => row.set(n as usize),
+        Atom::Written(n) => {
+            row.set(n as usize);
+            Ok(())
+        }
         Atom::Unknown(u) => {
-            row.include(&rows[u as usize]);
+            rows.include_in(alloc, u as usize, row)?;
+            Ok(())
         }
     }
 }

@@ -13,6 +13,7 @@ mod order;
 mod queue;
 pub mod rule;
 mod search;
+mod sharing;
 pub mod solution;
 pub mod solving;
 mod worklist;

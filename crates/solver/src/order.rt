@@ -128,7 +128,7 @@ impl Placed {
     }
 }
 
-/// So many constraints, by their indices, along the flow: a constraint without unknowns on the left comes first, and any other one
+/// This many constraints, by their indices, along the flow: a constraint without unknowns on the left comes first, and any other one
 /// after those whose right side is an unknown on its left, but where the flow comes back.
 pub fn order_of(alloc: Global, edges: &Edges, count: usize) -> Result<Vec<usize>, AllocError> {
     let done = walked(alloc, edges.unknown.as_slice())?;

@@ -1,9 +1,9 @@
 //! The least values of the unknowns.
-ghost use Rattle.solver.specs.Rows.{AreSized, has_at, reached_by};
+ghost use Rattle.solver.specs.Rows.{AreSized, reached_by};
 ghost use Rattle.solver.specs.Constraints.{AreAlike, row_join, rows_with, values_of};
 ghost use Rattle.std.specs.Prelude.{All, IfOk, length, ◌<◌, ◌≡◌, ◌≤◌};
 
-use labels::Row;
+use crate::sharing::SharedRows;
 use lattices::Lattice;
 use std::alloc::{AllocError, Global};
 use std::marker::Model;
@@ -15,9 +15,9 @@ use std::marker::Model;
 pub struct Solution {
     /// How many written elements there are.
     count: usize,
-    rows: Vec<Row>,
+    rows: SharedRows,
     looks: u64,
-    ghost sized: { AreSized count rows.items },
+    ghost sized: { AreSized count rows },
 }
 
 impl Model for Solution {
@@ -28,16 +28,16 @@ impl Model for Solution {
     ghost use Rattle.solver.specs.Rows.{reached_by};
 
     ghost view = { λ solution. record {
-      reached = reached_by 0 solution.count solution.rows.items;
+      reached = reached_by 0 solution.count solution.rows;
       looks = solution.looks;
     } };
 }
 
 impl Solution {
     // The solution with these rows of numbers below this, and this number of looks.
-    pub(crate) fn of(count: usize, rows: Vec<Row>, looks: u64) -> Solution
-        requires { AreSized count rows.items }
-        ensures { result ≡ record { reached = reached_by 0 count rows.items; looks = looks } }
+    pub(crate) fn of(count: usize, rows: SharedRows, looks: u64) -> Solution
+        requires { AreSized count rows }
+        ensures { result ≡ record { reached = reached_by 0 count rows; looks = looks } }
     {
         Solution { count, rows, looks }
     }
@@ -59,8 +59,7 @@ impl Solution {
     pub fn reaching(&self, alloc: Global, unknown: u32) -> Result<Vec<usize>, AllocError>
         ensures { IfOk result (λ numbers. numbers.items ≡ rows_with 0 self.now.reached unknown) }
     {
-        let rows = self.rows.as_slice();
-        numbers_of(alloc, self.count, rows, unknown as usize)
+        numbers_of(alloc, self.count, &self.rows, unknown as usize)
     }
 
     /// The value of an unknown, exact up to the order: the join of the written elements that reach it. The precondition holds of the
@@ -76,24 +75,16 @@ impl Solution {
         ensures { IfOk result (AreAlike (L.order lattice.now)
             (values_of (L.order lattice.now) written.now self.now.reached unknown)) }
     {
-        let rows = self.rows.as_slice();
-        let numbers = numbers_of(alloc, self.count, rows, unknown as usize)?;
+        let numbers = numbers_of(alloc, self.count, &self.rows, unknown as usize)?;
         join_all(alloc, lattice, written, &numbers)
     }
-}
-
-// Whether a number is in the row of an unknown.
-fn reaches(rows: &[Row], unknown: usize, number: usize) -> bool
-    ensures { result ≡ has_at rows.now unknown number }
-{
-    unknown < rows.len() && rows[unknown].contains(number)
 }
 
 // The numbers of the written elements that reach an unknown, in order.
 fn numbers_of(
     alloc: Global,
     count: usize,
-    rows: &[Row],
+    rows: &SharedRows,
     unknown: usize,
 ) -> Result<Vec<usize>, AllocError>
     requires { AreSized count rows.now }
@@ -101,9 +92,10 @@ fn numbers_of(
         ≡ rows_with 0 (reached_by 0 count rows.now) unknown) }
     ensures inside { IfOk result (λ numbers. All (λ number. number < count) numbers.items) }
 {
+    let row = rows.row(alloc, unknown)?;
     let mut numbers = Vec::new(alloc);
     for number in 0..count {
-        if reaches(rows, unknown, number) {
+        if row.contains(number) {
             numbers.push(number)?;
         }
     }

@@ -27,8 +27,9 @@ use std::alloc::{AllocError, Global};
 /// constraints are refused exactly where no values fit them all. The written elements are compared by their numbers alone. It is a
 /// precondition that the numbers of written elements and of unknowns are in range.
 ///
-/// It takes a bit for each pair of an unknown and a written element. A constraint whose right side is an unknown is looked at once,
-/// and again only when one more written element reaches its left side. The looks are counted up to the greatest number of 64 bits.
+/// An unknown with few written elements beyond those of one from which it comes takes memory for these alone, and any other one a bit
+/// for each written element, each time that more come to it. A constraint whose right side is an unknown is looked at once, and again
+/// only when one more written element reaches its left side. The looks are counted up to the greatest number of 64 bits.
 ///
 /// # Errors
 ///
@@ -51,7 +52,7 @@ pub fn solve_by_numbers<W: WrittenElements, T>(
     let count = written.len();
     let edges = edges_of(alloc, constraints, count, unknowns as usize)?;
     let reached = rows_of(alloc, &edges, constraints)?;
-    match first_breaker(alloc, written, constraints, reached.rows.as_slice())? {
+    match first_breaker(alloc, written, constraints, &reached.rows)? {
         None => Ok(Solution::of(count, reached.rows, reached.looks)),
         Some(value) => {
             let refusal = find_refusal(alloc, written, &edges, value)?;

@@ -12,13 +12,14 @@ use crate::breaker::left_row;
 use crate::constraints::{Atom, Constraint};
 use crate::edges::Edges;
 use crate::queue::{Queue, all_queued};
+use crate::sharing::SharedRows;
 use labels::Row;
 use std::alloc::{AllocError, Global};
 
 /// For each unknown the numbers of the written elements that reach it, and how often left sides were looked at.
 #[derive(Drop)]
 pub struct Reached {
-    pub rows: Vec<Row>,
+    pub rows: SharedRows,
     pub looks: u64,
 }
 
@@ -32,32 +33,19 @@ pub fn rows_of<T>(
     requires edges { AreEdges constraints.now edges.now }
     requires range { InRange (length edges.now.written.items) (length edges.now.unknown.items)
         constraints.now }
-    ensures rows { IfOk result (λ reached. AreRows edges.now reached.rows.items) }
+    ensures rows { IfOk result (λ reached. AreRows edges.now reached.rows) }
     ensures looks { IfOk result (λ reached. AreSoFar constraints.now edges.now
-        reached.rows.items [] reached.looks) }
+        reached.rows [] reached.looks) }
 {
     let mut queue = all_queued(alloc, edges, constraints)?;
     let mut reached = Reached {
-        rows: empty_rows(alloc, edges.unknown.len())?,
+        rows: SharedRows::new(alloc, edges.written.len(), edges.unknown.len())?,
         looks: 0,
     };
     while let Some(by) = queue.next() {
         reached.look(alloc, edges, constraints, by, &mut queue)?;
     }
     Ok(reached)
-}
-
-// So many empty rows, which take words of bits only once numbers come into them.
-fn empty_rows(alloc: Global, count: usize) -> Result<Vec<Row>, AllocError>
-    ensures all { IfOk result (λ rows. length rows.items ≡ count) }
-    ensures sized { IfOk result (λ rows. (written : ℕ) → AreSized written rows.items) }
-    ensures empty { IfOk result (λ rows. (u n : ℕ) → has_at rows.items u n ≡ false) }
-{
-    let mut rows = Vec::with_capacity(alloc, count)?;
-    for _u in 0..count {
-        rows.push(Row::new(alloc, 0)?)?;
-    }
-    Ok(rows)
 }
 
 // Adds the numbers of a left side to a row. The answer is whether there are more then.
@@ -95,20 +83,20 @@ impl Reached {
         requires range { InRange (length edges.now.written.items)
             (length edges.now.unknown.items) constraints.now }
         requires right { RightIsUnknown constraints.now by }
-        requires work { IsWork constraints.now edges.now self.old.rows.items
+        requires work { IsWork constraints.now edges.now self.old.rows
             queue.old.waits.items queue.old.order.items by }
-        requires so_far { AreSoFar constraints.now edges.now self.old.rows.items
+        requires so_far { AreSoFar constraints.now edges.now self.old.rows
             (by ∷ queue.old.order.items) self.old.looks }
-        ensures work { OnOk result (IsWork constraints.now edges.now self.new.rows.items
+        ensures work { OnOk result (IsWork constraints.now edges.now self.new.rows
             queue.new.waits.items queue.new.order.items (length constraints.now)) }
-        ensures so_far { OnOk result (AreSoFar constraints.now edges.now self.new.rows.items
+        ensures so_far { OnOk result (AreSoFar constraints.now edges.now self.new.rows
             queue.new.order.items self.new.looks) }
         ensures less { OnOk result (length queue.new.order.items
             + room (written_left constraints.now 0 (length edges.now.written.items))
-            edges.now.unknown.items self.new.rows.items
+            edges.now.unknown.items self.new.rows
             ≤ length queue.old.order.items
             + room (written_left constraints.now 0 (length edges.now.written.items))
-            edges.now.unknown.items self.old.rows.items) }
+            edges.now.unknown.items self.old.rows) }
     {
         let constraint = &constraints[by];
         let Atom::Unknown(unknown) = constraint.right else {
@@ -116,14 +104,12 @@ impl Reached {
         };
         let unknown = unknown as usize;
         let count = edges.written.len();
-        let left = left_row(
-            alloc,
-            constraint.left.as_slice(),
-            self.rows.as_slice(),
-            count,
-        )?;
+        let left = left_row(alloc, constraint.left.as_slice(), &self.rows, count)?;
         self.looks = self.looks.saturating_add(1);
-        if grow(&mut self.rows[unknown], left) {
+        let mut row = self.rows.row(alloc, unknown)?;
+        if grow(&mut row, left) {
+            self.rows
+                .put(alloc, unknown, row, constraint.left.as_slice())?;
             queue.add_all(edges.unknown[unknown].as_slice())?;
         }
         Ok(())

@@ -1,6 +1,6 @@
 pub mod Cuts
 pub mod Lifted
-pub mod CellsByPlace
+pub mod CellsByIndex
 pub mod OnSlab
 pub mod UpTo
 pub mod OfGlobals

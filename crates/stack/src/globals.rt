@@ -1,6 +1,6 @@
 ghost use Rattle.modules.specs.Machine.{first_global, slot_of};
 ghost use Rattle.stack.specs.Globals.{HasPut};
-ghost use Rattle.stack.specs.Slab.{cell_at, cell_in, place_in, total, with_cell_at};
+ghost use Rattle.stack.specs.Slab.{cell_at, cell_in, cell_index_in, total, with_cell_at};
 ghost use Rattle.std.specs.List.{flat_map};
 ghost use Rattle.std.specs.Prelude.{IfOk, OnOk, Some, is_some, length, map, ◌++◌, ◌<◌, ◌≡◌};
 
@@ -47,10 +47,10 @@ impl Globals {
     pub fn element(&self, global: u32, index: usize) -> Option<Cell>
         ensures { result ≡ cell_in self.now global index }
     {
-        let Some(place) = self.shape.place(global, index) else {
+        let Some(cell_index) = self.shape.cell_index(global, index) else {
             return None;
         };
-        Some(self.cells[place])
+        Some(self.cells[cell_index])
     }
 
     /// Changes an element of a global, and answers whether it is there.
@@ -58,18 +58,18 @@ impl Globals {
         ensures there { result ≡ is_some (cell_in self.old global index) }
         ensures after { HasPut result self.old global index cell self.new }
     {
-        let Some(place) = self.shape.place(global, index) else {
+        let Some(cell_index) = self.shape.cell_index(global, index) else {
             return false;
         };
-        self.cells[place] = cell;
+        self.cells[cell_index] = cell;
         true
     }
 
     /// Where an element of a global stands among the values of all globals, if it is there.
-    pub fn place(&self, global: u32, index: usize) -> Option<usize>
-        ensures { result ≡ place_in (map length self.now) global index }
+    pub fn cell_index(&self, global: u32, index: usize) -> Option<usize>
+        ensures { result ≡ cell_index_in (map length self.now) global index }
     {
-        self.shape.place(global, index)
+        self.shape.cell_index(global, index)
     }
 
     /// How many values all globals have.
@@ -79,22 +79,22 @@ impl Globals {
         self.shape.count()
     }
 
-    /// The value at a place among those of all globals. Precondition: there is one.
+    /// The value at an index among those of all globals. Precondition: there is one.
     #[inline(always)]
-    pub fn at(&self, place: usize) -> Cell
-        requires { place < total (map length self.now) }
-        ensures { cell_at self.now place ≡ Some result }
+    pub fn at(&self, cell_index: usize) -> Cell
+        requires { cell_index < total (map length self.now) }
+        ensures { cell_at self.now cell_index ≡ Some result }
     {
-        self.cells[place]
+        self.cells[cell_index]
     }
 
-    /// Changes the value at a place among those of all globals. Precondition: there is one.
+    /// Changes the value at an index among those of all globals. Precondition: there is one.
     #[inline(always)]
-    pub fn set_at(&mut self, place: usize, value: Cell)
-        requires { place < total (map length self.old) }
-        ensures { self.new ≡ with_cell_at self.old place value }
+    pub fn set_at(&mut self, cell_index: usize, value: Cell)
+        requires { cell_index < total (map length self.old) }
+        ensures { self.new ≡ with_cell_at self.old cell_index value }
     {
-        self.cells[place] = value;
+        self.cells[cell_index] = value;
     }
 }
 

@@ -1,6 +1,6 @@
-//! The cells of slots that lie one behind another.
+//! The cells of slots that lie one after another.
 
-ghost use Rattle.stack.specs.Slab.{cells_in, place_in, total};
+ghost use Rattle.stack.specs.Slab.{cells_in, cell_index_in, total};
 ghost use Rattle.std.specs.Prelude.{IfOk, OnErr, OnOk, map, replicate, slice_get, ◌++◌, ◌<◌, ◌^◌, ◌≡◌};
 
 use modules::{Cell, Slot, ValueKind};
@@ -58,8 +58,8 @@ impl Shape {
     }
 
     /// Where an element of a slot stands, if it is there.
-    pub fn place(&self, slot: u32, index: usize) -> Option<usize>
-        ensures { result ≡ place_in self.now slot index }
+    pub fn cell_index(&self, slot: u32, index: usize) -> Option<usize>
+        ensures { result ≡ cell_index_in self.now slot index }
     {
         let Some(span) = span_at(&self.spans, slot as usize) else {
             return None;
@@ -102,7 +102,7 @@ pub fn cells_of(slots: &[Slot]) -> usize
     size
 }
 
-/// Adds a cell so many times.
+/// Adds a cell this many times.
 pub fn repeat(cells: &mut Vec<Cell>, cell: Cell, count: usize) -> Result<(), AllocError>
     requires { count < 2 ^ 32 }
     ensures accepted { OnOk result (cells.new.items ≡ cells.old.items ++ replicate count cell) }

@@ -36,8 +36,8 @@ abbrev pub SpelledIsNested : Type 0
 SpelledIsNested =
     (tokens : List Terminal) (tree : ProgramTree) → SpellsProgram tokens tree → IsNested MAX_LEVELS tree
 
--- what tokens spell is written: where each token has the text of its kind, which has at most so many bytes, the tree's names are
--- names of at most so many bytes, its integers are small enough, and its nodes stand where tokens begin
+-- what tokens spell is written: where each token has the text of its kind, which has at most this many bytes, the tree's names are
+-- names of at most this many bytes, its integers are small enough, and its nodes stand where tokens begin
 abbrev pub SpelledIsWritten : Type 0
 SpelledIsWritten =
     (longest : ℕ) (tokens : List Terminal) (tree : ProgramTree) → SpellsProgram tokens tree → All IsSpelled tokens

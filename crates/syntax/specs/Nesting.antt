@@ -1,7 +1,7 @@
--- How deep a tree is nested: whether so many levels are enough to write it. A block opens a level, and so do the arguments of a
+-- How deep a tree is nested: whether this many levels are enough to write it. A block opens a level, and so do the arguments of a
 -- call, an index, the operand of a unary operator, and a binary operator, which keeps it open to the end of its chain: the right
 -- operand stands in it, and what the chain has before the operator does not. So a walk over a tree that loops along left
--- operands and along lists, and calls itself for the rest, is at most so many calls deep. Parentheses leave no trace in a tree.
+-- operands and along lists, and calls itself for the rest, is at most this many calls deep. Parentheses leave no trace in a tree.
 -- Source: our own.
 use Rattle.std.specs.Prelude.{ℕ, pred, ◌<◌, Option, None, Some, All}
 use Rattle.syntax.specs.Tree.{ExpressionTree, IntegerTree, TruthTree, VariableTree, ElementTree, UnaryTree, BinaryTree, CallTree, RightTree, ReceivedTree, CalledTree, ValueTree, StatementTree, DeclareTree, DeclareArrayTree, AssignTree, AssignElementTree, CallTree', ReceiveTree, SendTree, IfTree, IfElseTree, WhileTree, BreakTree, ContinueTree, ThrowTree, ReturnTree, TryTree, NestedTree, BlockTree, BlockOf, StatementTrees, NoStatement, StatementThen, CatchTrees, NoCatch, CatchThen, ItemTree, ChannelItem, ExceptionItem, GlobalItem, ProcedureItem, ProgramTree}

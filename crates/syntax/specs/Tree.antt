@@ -1,4 +1,4 @@
--- Syntax trees as contracts see them: texts are lists of bytes, repetitions are lists, and a node lies nowhere in memory. Behind
+-- Syntax trees as contracts see them: texts are lists of bytes, repetitions are lists, and a node lies nowhere in memory. After
 -- them the tree that each value of the code stands for.
 -- Source: the usual abstract syntax of a small imperative language with exceptions; that labels are written in it is of Myers 1999.
 use Rattle.std.specs.Prelude.{ℕ, Bool, List, [], ◌∷◌, map, Option, None, Some}
@@ -44,7 +44,7 @@ pub data ComponentTree : Type 0 where
   PolicyComponent : (owner : NameTree) (readers : List NameTree) → ComponentTree
   VariableComponent : NameTree → ComponentTree
 
--- a name with readers behind it owns a policy, and one without them is that of a variable
+-- a name with readers after it owns a policy, and one without them is that of a variable
 abbrev pub component_of : NameTree → Option (List NameTree) → ComponentTree
 component_of name None = VariableComponent name
 component_of name (Some readers) = PolicyComponent name readers
@@ -105,21 +105,21 @@ mutual
     NoCatch : CatchTrees
     CatchThen : (at : ℕ) → NameTree → BlockTree → CatchTrees → CatchTrees
 
--- what stands behind the name of a local, and behind the name that a statement begins with
+-- what stands after the name of a local, and after the name that a statement begins with
 pub data FirstTree : Type 0 where
   FirstValue : RightTree → FirstTree
   FirstSize : SizeTree → FirstTree
 
-pub data BehindTree : Type 0 where
-  AssignedTree : RightTree → BehindTree
-  AtIndexTree : (index value : ExpressionTree) → BehindTree
-  ArgumentsTree : List ExpressionTree → BehindTree
+pub data AfterTree : Type 0 where
+  AssignedTree : RightTree → AfterTree
+  AtIndexTree : (index value : ExpressionTree) → AfterTree
+  ArgumentsTree : List ExpressionTree → AfterTree
 
 abbrev pub local_tree : (at : ℕ) → BaseType → Option LabelTree → NameTree → FirstTree → StatementTree
 local_tree at base label name (FirstValue value) = DeclareTree at base label name value
 local_tree at base label name (FirstSize size) = DeclareArrayTree at base label name size
 
-abbrev pub named_tree : NameTree → BehindTree → StatementTree
+abbrev pub named_tree : NameTree → AfterTree → StatementTree
 named_tree name (AssignedTree value) = AssignTree name value
 named_tree name (AtIndexTree index value) = AssignElementTree name index value
 named_tree name (ArgumentsTree arguments) = CallTree' (record { procedure = name; arguments = arguments })

@@ -10,7 +10,7 @@ use Rattle.syntax.specs.Tree.{NameTree, ComponentTree, PolicyComponent, Variable
 abbrev pub Anywhere : ℕ → Type 0
 Anywhere at = Unit {0}
 
--- a text that is a name, of at most so many bytes
+-- a text that is a name, of at most this many bytes
 abbrev pub IsNameWithin : (longest : ℕ) → List ℕ → Type 0
 IsNameWithin longest text = IsTrue (is_name_text text) × (length text ≤ longest)
 

@@ -1,57 +1,61 @@
-//! The number and the words of each defect and refusal.
+//! The number and the words of each refusal.
 
 use bytecode::FormatRefusal;
-use channels::WorldDefect;
+use channels::WorldRefusalKind;
 use common::OrNoMemory;
 use host::{HostFault, HostRefusal};
 use machine::NewRefusal;
-use modules::FormatDefect;
+use modules::FormatRefusalKind;
 use std::test::Fail;
-use verifier::{CodeDefect, CodeRefusal, LoadRefusal};
+use verifier::{CodeRefusal, CodeRefusalKind, LoadRefusal};
 
 #[test]
-fn defects_of_bytes(rt: HostRuntime) {
-    for (defect, number, words) in [
-        (FormatDefect::Magic, 801, "magic"),
-        (FormatDefect::Version, 802, "version"),
-        (FormatDefect::Short, 803, "short"),
-        (FormatDefect::BadValue, 804, "bad value"),
-        (FormatDefect::NotCanonical, 805, "not canonical"),
-        (FormatDefect::Trailing, 806, "trailing bytes"),
+fn refusals_of_bytes(rt: HostRuntime) {
+    for (kind, number, words) in [
+        (FormatRefusalKind::Magic, 801, "magic"),
+        (FormatRefusalKind::Version, 802, "version"),
+        (FormatRefusalKind::Short, 803, "short"),
+        (FormatRefusalKind::BadValue, 804, "bad value"),
+        (FormatRefusalKind::NotCanonical, 805, "not canonical"),
+        (FormatRefusalKind::Trailing, 806, "trailing bytes"),
     ] {
         assert!(rt;
-            defect.number() == number && defect.words() == words,
+            kind.number() == number && kind.words() == words,
             "{number}"
         );
     }
 }
 
 #[test]
-fn defects_of_code(rt: HostRuntime) {
-    for (defect, number, words) in [
-        (CodeDefect::Jump, 811, "jump"),
-        (CodeDefect::OperandKind, 812, "operand kind"),
-        (CodeDefect::OperandDepth, 813, "operand depth"),
-        (CodeDefect::SlotOrIndex, 814, "slot or index"),
-        (CodeDefect::FallsOffEnd, 815, "falls off the end"),
+fn refusals_of_code(rt: HostRuntime) {
+    for (kind, number, words) in [
+        (CodeRefusalKind::Jump, 811, "jump"),
+        (CodeRefusalKind::OperandKind, 812, "operand kind"),
+        (CodeRefusalKind::OperandDepth, 813, "operand depth"),
+        (CodeRefusalKind::SlotOrIndex, 814, "slot or index"),
+        (CodeRefusalKind::FallsOffEnd, 815, "falls off the end"),
     ] {
         assert!(rt;
-            defect.number() == number && defect.words() == words,
+            kind.number() == number && kind.words() == words,
             "{number}"
         );
     }
 }
 
 #[test]
-fn defects_of_worlds(rt: HostRuntime) {
-    for (defect, number, words) in [
-        (WorldDefect::Syntax, 851, "syntax"),
-        (WorldDefect::UnknownChannel, 852, "unknown channel"),
-        (WorldDefect::RepeatedChannel, 853, "repeated channel"),
-        (WorldDefect::NumberOutOfRange, 854, "number out of range"),
+fn refusals_of_worlds(rt: HostRuntime) {
+    for (kind, number, words) in [
+        (WorldRefusalKind::Syntax, 851, "syntax"),
+        (WorldRefusalKind::UnknownChannel, 852, "unknown channel"),
+        (WorldRefusalKind::RepeatedChannel, 853, "repeated channel"),
+        (
+            WorldRefusalKind::NumberOutOfRange,
+            854,
+            "number out of range",
+        ),
     ] {
         assert!(rt;
-            defect.number() == number && defect.words() == words,
+            kind.number() == number && kind.words() == words,
             "{number}"
         );
     }
@@ -69,11 +73,11 @@ fn the_refusal_of_a_machine(rt: HostRuntime) -> Result<(), Fail> {
 #[test]
 fn refusals_of_a_host(rt: HostRuntime) -> Result<(), Fail> {
     let in_bytes = FormatRefusal {
-        defect: FormatDefect::Trailing,
+        kind: FormatRefusalKind::Trailing,
         offset: 9,
     };
     let in_code = CodeRefusal {
-        defect: CodeDefect::FallsOffEnd,
+        kind: CodeRefusalKind::FallsOffEnd,
         procedure: 0,
         offset: 9,
     };

@@ -61,8 +61,8 @@ fn the_laws_are_called(_rt: HostRuntime) {
     modules::laws::instructions_are_spelled();
     modules::laws::modules_have_instructions_of_their_version();
     modules::laws::versions_keep_modules();
-    verifier::safety::modules_without_a_defect_are_never_stuck();
-    verifier::safety::refused_modules_have_a_defect();
+    verifier::safety::modules_that_no_rule_refuses_are_never_stuck();
+    verifier::safety::refused_modules_break_a_rule();
     verifier::safety::frames_stay_within_their_depth();
     verifier::safety::positions_stand_for_their_offsets();
 }

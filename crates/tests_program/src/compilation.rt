@@ -1,93 +1,141 @@
-//! Causes by number and words, and a compilation whose growths are refused.
+//! Kinds of refusal by number and words, and a compilation whose growths are refused.
 
 use common::OrNoMemory;
 use flowc::{
-    Cause, EndDefect, Fault, HierarchyDefect, LexDefect, ParseDefect, TypeDefect, check_texts,
-    compile,
+    EndRefusalKind, Fault, HierarchyRefusalKind, LexRefusalKind, ParseRefusalKind, RefusalKind,
+    TypeRefusalKind, check_texts, compile,
 };
 use std::alloc::Global;
 use std::test::Fail;
 
-// Each cause with its number and its words, as the formats fix them.
-const CAUSES: [(Cause, u32, &str); 27] = [
-    (Cause::NotUtf8, 100, "not UTF-8"),
-    (Cause::Lex(LexDefect::NoToken), 101, "no token"),
+// Each kind of refusal with its number and its words, as the formats fix them.
+const KINDS: [(RefusalKind, u32, &str); 27] = [
+    (RefusalKind::NotUtf8, 100, "not UTF-8"),
+    (RefusalKind::Lex(LexRefusalKind::NoToken), 101, "no token"),
     (
-        Cause::Lex(LexDefect::LiteralTooLarge),
+        RefusalKind::Lex(LexRefusalKind::LiteralTooLarge),
         102,
         "literal too large",
     ),
-    (Cause::Lex(LexDefect::UnclosedComment), 103, "open comment"),
-    (Cause::Hierarchy(HierarchyDefect::Syntax), 151, "syntax"),
     (
-        Cause::Hierarchy(HierarchyDefect::DeclaredTwice),
+        RefusalKind::Lex(LexRefusalKind::UnclosedComment),
+        103,
+        "open comment",
+    ),
+    (
+        RefusalKind::Hierarchy(HierarchyRefusalKind::Syntax),
+        151,
+        "syntax",
+    ),
+    (
+        RefusalKind::Hierarchy(HierarchyRefusalKind::DeclaredTwice),
         152,
         "declared twice",
     ),
     (
-        Cause::Hierarchy(HierarchyDefect::UnknownPrincipal),
+        RefusalKind::Hierarchy(HierarchyRefusalKind::UnknownPrincipal),
         153,
         "unknown principal",
     ),
     (
-        Cause::Hierarchy(HierarchyDefect::TooManyPrincipals),
+        RefusalKind::Hierarchy(HierarchyRefusalKind::TooManyPrincipals),
         154,
         "too many principals",
     ),
     (
-        Cause::Parse(ParseDefect::UnexpectedToken),
+        RefusalKind::Parse(ParseRefusalKind::UnexpectedToken),
         201,
         "unexpected token",
     ),
-    (Cause::Parse(ParseDefect::TooDeep), 202, "nested too deep"),
-    (Cause::Name(TypeDefect::UnknownName), 301, "unknown name"),
     (
-        Cause::Name(TypeDefect::DeclaredTwice),
+        RefusalKind::Parse(ParseRefusalKind::TooDeep),
+        202,
+        "nested too deep",
+    ),
+    (
+        RefusalKind::Name(TypeRefusalKind::UnknownName),
+        301,
+        "unknown name",
+    ),
+    (
+        RefusalKind::Name(TypeRefusalKind::DeclaredTwice),
         302,
         "declared twice",
     ),
     (
-        Cause::Name(TypeDefect::UnknownPrincipal),
+        RefusalKind::Name(TypeRefusalKind::UnknownPrincipal),
         303,
         "unknown principal",
     ),
-    (Cause::Name(TypeDefect::NoProperMain), 304, "no proper main"),
     (
-        Cause::Name(TypeDefect::LabelNotWritten),
+        RefusalKind::Name(TypeRefusalKind::NoProperMain),
+        304,
+        "no proper main",
+    ),
+    (
+        RefusalKind::Name(TypeRefusalKind::LabelNotWritten),
         305,
         "label not written",
     ),
-    (Cause::Name(TypeDefect::WrongType), 401, "wrong type"),
     (
-        Cause::Name(TypeDefect::WrongArgumentCount),
+        RefusalKind::Name(TypeRefusalKind::WrongType),
+        401,
+        "wrong type",
+    ),
+    (
+        RefusalKind::Name(TypeRefusalKind::WrongArgumentCount),
         402,
         "wrong argument count",
     ),
-    (Cause::Name(TypeDefect::WrongUse), 403, "wrong use"),
-    (Cause::End(EndDefect::Unreachable), 501, "unreachable"),
     (
-        Cause::End(EndDefect::NoValueReturned),
+        RefusalKind::Name(TypeRefusalKind::WrongUse),
+        403,
+        "wrong use",
+    ),
+    (
+        RefusalKind::End(EndRefusalKind::Unreachable),
+        501,
+        "unreachable",
+    ),
+    (
+        RefusalKind::End(EndRefusalKind::NoValueReturned),
         502,
         "no value returned",
     ),
     (
-        Cause::End(EndDefect::Undeclared),
+        RefusalKind::End(EndRefusalKind::Undeclared),
         503,
         "exception not declared",
     ),
-    (Cause::End(EndDefect::NeverRaised), 504, "never raised"),
-    (Cause::End(EndDefect::OutsideLoop), 505, "not in a loop"),
-    (Cause::FlowNotAllowed, 601, "flow not allowed"),
-    (Cause::TextTooLong, 701, "text too long"),
-    (Cause::Name(TypeDefect::ArraySize), 703, "array size"),
-    (Cause::Name(TypeDefect::TooManyCells), 704, "too many cells"),
+    (
+        RefusalKind::End(EndRefusalKind::NeverRaised),
+        504,
+        "never raised",
+    ),
+    (
+        RefusalKind::End(EndRefusalKind::OutsideLoop),
+        505,
+        "not in a loop",
+    ),
+    (RefusalKind::FlowNotAllowed, 601, "flow not allowed"),
+    (RefusalKind::TextTooLong, 701, "text too long"),
+    (
+        RefusalKind::Name(TypeRefusalKind::ArraySize),
+        703,
+        "array size",
+    ),
+    (
+        RefusalKind::Name(TypeRefusalKind::TooManyCells),
+        704,
+        "too many cells",
+    ),
 ];
 
 #[test]
-fn has_a_number_and_words_for_each_cause(rt: HostRuntime) -> Result<(), Fail> {
-    for (cause, number, words) in CAUSES {
+fn has_a_number_and_words_for_each_refusal(rt: HostRuntime) -> Result<(), Fail> {
+    for (kind, number, words) in KINDS {
         assert!(rt;
-            cause.number() == number && cause.words() == words,
+            kind.number() == number && kind.words() == words,
             "{number}"
         );
     }

@@ -11,7 +11,7 @@ fn laws_of_sources(_rt: HostRuntime) {
     runs::ends_are_possible();
     runs::calls_give_their_value();
     runs::sent_stays_sent();
-    runs::more_turns_go_on();
+    runs::more_fuel_goes_on();
     confinement::statements_are_confined();
     confinement::possible_ends_are_unread();
 }

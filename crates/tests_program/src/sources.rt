@@ -1,7 +1,7 @@
 //! Texts that are read from sources which fail, from sources that have too much, and where growths are refused.
 
 use common::OrNoMemory;
-use flowc::{Cause, Fault, Feed, ReadFault, Source, SourceFault, Text, compile, read_text};
+use flowc::{Fault, Feed, ReadFault, RefusalKind, Source, SourceFault, Text, compile, read_text};
 use std::alloc::Global;
 use std::io::{Error, ErrorKind, Read, Result as ReadResult, repeat};
 use std::test::Fail;
@@ -79,7 +79,7 @@ fn is_refused_for_its_length(compiled: &Result<Vec<u8>, Fault>) -> bool {
     match compiled {
         Err(OrNoMemory::Refused(refusal)) => {
             refusal.text == Text::Source
-                && refusal.cause == Cause::TextTooLong
+                && refusal.kind == RefusalKind::TextTooLong
                 && refusal.at.line == 1
                 && refusal.at.column == 1
         }

@@ -22,7 +22,7 @@ use Rattle.types.proofs.Loops.{fails_later, fails_second, then_ok}
 
 -- ---- statements
 
--- what was made so far, and behind it the rest of the block
+-- what was made so far, and after it the rest of the block
 abbrev pub before_block : List S.Statement → Block → Block
 before_block [] rest = rest
 before_block (statement ∷ others) rest = Then (statement_of statement) (before_block others rest)

@@ -10,7 +10,7 @@ use Rattle.labels.specs.Label.{Label}
 use Rattle.resolved.specs.Program.{SlotEntry}
 use Rattle.resolved.specs.ProgramOf.{slot_entry, procedure_entry}
 use Rattle.resolved.specs.WellFormed.{cell_count}
-use Rattle.types.specs.declared.fault.TypeDefect.TheVariants as refusals
+use Rattle.types.specs.declared.fault.TypeRefusalKind.TheVariants as refusals
 use Rattle.types.specs.Finding.{require}
 use Rattle.types.specs.Resolution.{frame_cells, next_frame}
 use Rattle.types.specs.Views.{cells_of_slots}
@@ -19,7 +19,7 @@ use Rattle.common.specs.declared.limits.TheConstants.{MAX_CELLS}
 abbrev entry_cells : SlotEntry → ℕ
 entry_cells slot = cell_count slot.size
 
--- so many cells have the slots before the next one, and they are not too many
+-- this many cells have the slots before the next one, and they are not too many
 pub record Counts (slots : List Slot) (cells i : ℕ) : Type 0 where
   pub few : cells ≤ MAX_CELLS
   pub on : cells + cells_of_slots (drop i slots) ≡ cells_of_slots slots

@@ -58,7 +58,7 @@ same_written xs ys same =
 
 -- ---- component by component
 
--- so many components of a label are gathered
+-- this many components of a label are gathered
 pub record Gathers (scope : LabelScope) (labels : List Label) (written : List Component) (own : List ReaderPolicy) (named : List ℕ) (i : ℕ) : Type 0 where
   pub found : List ReaderPolicy
   pub made : GoesOn (next_component scope) component_tree written (components_finding scope (map component_tree written)) found i

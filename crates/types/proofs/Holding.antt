@@ -28,12 +28,12 @@ module _ (setting : Setting) (point : Point) (at : ℕ) (condition : ExpressionT
   if_done body inside block done = then_ok _ _ e typed ∙ then_ok _ _ (inside, block) done
 
   -- with two
-  pub if_else_done : (body otherwise : BlockTree) (inside behind : Point) (block other : Block) → block_finding setting point body ≡ Ok (inside, block)
-      → block_finding setting inside otherwise ≡ Ok (behind, other)
-      → statement_finding setting point (IfElseTree at condition body otherwise) ≡ Ok (behind, If at e block other)
+  pub if_else_done : (body otherwise : BlockTree) (inside after : Point) (block other : Block) → block_finding setting point body ≡ Ok (inside, block)
+      → block_finding setting inside otherwise ≡ Ok (after, other)
+      → statement_finding setting point (IfElseTree at condition body otherwise) ≡ Ok (after, If at e block other)
   unfolding statement_finding
-  if_else_done body otherwise inside behind block other first second =
-      then_ok _ _ e typed ∙ then_ok _ _ (inside, block) first ∙ then_ok _ _ (behind, other) second
+  if_else_done body otherwise inside after block other first second =
+      then_ok _ _ e typed ∙ then_ok _ _ (inside, block) first ∙ then_ok _ _ (after, other) second
 
   pub if_wrong : (body : BlockTree) (otherwise : Option BlockTree) (fault : OrNoMemory TypeRefusal) → IfRefused (IsRefusalOf (block_finding setting point body)) fault
       → IfRefused (IsRefusalOf (statement_finding setting point (if_tree at condition body otherwise))) fault
@@ -62,11 +62,11 @@ module _ (setting : Setting) (point : Point) (at : ℕ) (condition : ExpressionT
 -- ---- handlers, and blocks among statements
 
 module _ (setting : Setting) (point : Point) (at : ℕ) where
-  pub try_done : (body : BlockTree) (catches : CatchTrees) (inside behind : Point) (block : Block) (handlers : Handlers) → block_finding setting point body ≡ Ok (inside, block)
-      → catches_finding setting inside catches ≡ Ok (behind, handlers)
-      → statement_finding setting point (TryTree at body catches) ≡ Ok (behind, Try at block handlers)
+  pub try_done : (body : BlockTree) (catches : CatchTrees) (inside after : Point) (block : Block) (handlers : Handlers) → block_finding setting point body ≡ Ok (inside, block)
+      → catches_finding setting inside catches ≡ Ok (after, handlers)
+      → statement_finding setting point (TryTree at body catches) ≡ Ok (after, Try at block handlers)
   unfolding statement_finding
-  try_done body catches inside behind block handlers first second = then_ok _ _ (inside, block) first ∙ then_ok _ _ (behind, handlers) second
+  try_done body catches inside after block handlers first second = then_ok _ _ (inside, block) first ∙ then_ok _ _ (after, handlers) second
 
   pub try_wrong : (body : BlockTree) (catches : CatchTrees) (fault : OrNoMemory TypeRefusal) → IfRefused (IsRefusalOf (block_finding setting point body)) fault
       → IfRefused (IsRefusalOf (statement_finding setting point (TryTree at body catches))) fault

@@ -27,9 +27,9 @@ abbrev EachName : (List ℕ → Type 0) → List (List ℕ) → Type 0
 EachName P [] = Unit {0}
 EachName P (name ∷ names) = P name × EachName P names
 
-each_inserted : (P : List ℕ → Type 0) (before behind : List (List ℕ)) (name : List ℕ) → EachName P (before ++ behind) → P name → EachName P (before ++ name ∷ behind)
-each_inserted P [] behind name all one = (one, all)
-each_inserted P (other ∷ before) behind name all one = (all.0, each_inserted P before behind name all.1 one)
+each_inserted : (P : List ℕ → Type 0) (before after : List (List ℕ)) (name : List ℕ) → EachName P (before ++ after) → P name → EachName P (before ++ name ∷ after)
+each_inserted P [] after name all one = (one, all)
+each_inserted P (other ∷ before) after name all one = (all.0, each_inserted P before after name all.1 one)
 
 each_mapped : (P Q : List ℕ → Type 0) (names : List (List ℕ)) → ((name : List ℕ) → P name → Q name) → EachName P names → EachName Q names
 each_mapped P Q [] further all = tt
@@ -43,11 +43,11 @@ abbrev Different : List (List ℕ) → Type 0
 Different [] = Unit {0}
 Different (name ∷ names) = EachName (λ other. name ≢ other) names × Different names
 
-different_inserted : (before behind : List (List ℕ)) (name : List ℕ) → Different (before ++ behind) → EachName (λ other. name ≢ other) (before ++ behind)
-    → Different (before ++ name ∷ behind)
-different_inserted [] behind name all apart = (apart, all)
-different_inserted (other ∷ before) behind name all apart =
-    (each_inserted (λ one. other ≢ one) before behind name all.0 (λ same. apart.0 (sym same)), different_inserted before behind name all.1 apart.1)
+different_inserted : (before after : List (List ℕ)) (name : List ℕ) → Different (before ++ after) → EachName (λ other. name ≢ other) (before ++ after)
+    → Different (before ++ name ∷ after)
+different_inserted [] after name all apart = (apart, all)
+different_inserted (other ∷ before) after name all apart =
+    (each_inserted (λ one. other ≢ one) before after name all.0 (λ same. apart.0 (sym same)), different_inserted before after name all.1 apart.1)
 
 all_different : (names : List (List ℕ)) → Different names → AllDifferent names
 all_different [] all = λ i j d first second. absurd (omega (arith, second))
@@ -57,19 +57,19 @@ all_different (name ∷ names) all =
 -- a name that was put somewhere into a list
 record Inserted (names : List (List ℕ)) (name : List ℕ) (longer : List (List ℕ)) : Type 0 where
   pub before : List (List ℕ)
-  pub behind : List (List ℕ)
-  pub shorter_is : names ≡ before ++ behind
-  pub longer_is : longer ≡ before ++ name ∷ behind
+  pub after : List (List ℕ)
+  pub shorter_is : names ≡ before ++ after
+  pub longer_is : longer ≡ before ++ name ∷ after
 
 inserted_last : (names rest : List (List ℕ)) (name : List ℕ) → Inserted (names ++ rest) name ((names ++ name ∷ []) ++ rest)
-inserted_last names rest name = record { before = names; behind = rest; shorter_is = refl; longer_is = append_assoc names (name ∷ []) rest }
+inserted_last names rest name = record { before = names; after = rest; shorter_is = refl; longer_is = append_assoc names (name ∷ []) rest }
 
-inserted_behind : (first names : List (List ℕ)) (name : List ℕ) (longer : List (List ℕ)) → Inserted names name longer → Inserted (first ++ names) name (first ++ longer)
-inserted_behind first names name longer is = record {
+inserted_after : (first names : List (List ℕ)) (name : List ℕ) (longer : List (List ℕ)) → Inserted names name longer → Inserted (first ++ names) name (first ++ longer)
+inserted_after first names name longer is = record {
   before = first ++ is.before;
-  behind = is.behind;
-  shorter_is = ap (λ one. first ++ one) is.shorter_is ∙ sym (append_assoc first is.before is.behind);
-  longer_is = ap (λ one. first ++ one) is.longer_is ∙ sym (append_assoc first is.before (name ∷ is.behind));
+  after = is.after;
+  shorter_is = ap (λ one. first ++ one) is.shorter_is ∙ sym (append_assoc first is.before is.after);
+  longer_is = ap (λ one. first ++ one) is.longer_is ∙ sym (append_assoc first is.before (name ∷ is.after));
 }
 
 -- ---- names that are declared
@@ -98,17 +98,17 @@ names_inserted : (names : Environment) (all : List (List ℕ)) (name : List ℕ)
 names_inserted names all name longer meaning kept is fresh proper =
     let moved = subst (AreWellFormedNames names) is.shorter_is kept in
     let before = built_in_names ++ is.before in
-    let apart : EachName (λ other. name ≢ other) (before ++ is.behind) =
-    each_mapped (IsDeclared names) (λ other. name ≢ other) (before ++ is.behind)
+    let apart : EachName (λ other. name ≢ other) (before ++ is.after) =
+    each_mapped (IsDeclared names) (λ other. name ≢ other) (before ++ is.after)
     (λ other there same. let (found, e) = there in is_nothing found (sym fresh ∙ ap names same ∙ e)) moved.declared in
     subst (AreWellFormedNames (declaring name meaning names)) (sym is.longer_is) (record {
       declared =
-          each_inserted (IsDeclared (declaring name meaning names)) before is.behind name
-          (each_mapped (IsDeclared names) (IsDeclared (declaring name meaning names)) (before ++ is.behind)
+          each_inserted (IsDeclared (declaring name meaning names)) before is.after name
+          (each_mapped (IsDeclared names) (IsDeclared (declaring name meaning names)) (before ++ is.after)
           (λ other there. still_declared names name meaning other there) moved.declared)
           (now_declared names name meaning);
-      different = different_inserted before is.behind name moved.different apart;
-      proper = each_inserted IsProperName is.before is.behind name moved.proper proper;
+      different = different_inserted before is.after name moved.different apart;
+      proper = each_inserted IsProperName is.before is.after name moved.proper proper;
     })
   where
     is_nothing : (found : Meaning) → ◌≡◌ {A = Option Meaning} None (Some found) → ⊥
@@ -141,20 +141,20 @@ no_names = record { exceptions = []; channels = []; globals = []; procedures = [
 item_inserted : (named : ItemNames) (item : ItemTree) → Inserted (all_names named) (item_name item).text (all_names (names_with named item))
 item_inserted named (ExceptionItem at name) = inserted_last named.exceptions (named.channels ++ (named.globals ++ named.procedures)) name.text
 item_inserted named (ChannelItem channel) =
-    inserted_behind named.exceptions (named.channels ++ (named.globals ++ named.procedures)) channel.name.text
+    inserted_after named.exceptions (named.channels ++ (named.globals ++ named.procedures)) channel.name.text
     ((named.channels ++ channel.name.text ∷ []) ++ (named.globals ++ named.procedures))
     (inserted_last named.channels (named.globals ++ named.procedures) channel.name.text)
 item_inserted named (GlobalItem global) =
-    inserted_behind named.exceptions (named.channels ++ (named.globals ++ named.procedures)) global.name.text
+    inserted_after named.exceptions (named.channels ++ (named.globals ++ named.procedures)) global.name.text
     (named.channels ++ ((named.globals ++ global.name.text ∷ []) ++ named.procedures))
-    (inserted_behind named.channels (named.globals ++ named.procedures) global.name.text ((named.globals ++ global.name.text ∷ []) ++ named.procedures)
+    (inserted_after named.channels (named.globals ++ named.procedures) global.name.text ((named.globals ++ global.name.text ∷ []) ++ named.procedures)
     (inserted_last named.globals named.procedures global.name.text))
 item_inserted named (ProcedureItem procedure) =
-    inserted_behind named.exceptions (named.channels ++ (named.globals ++ named.procedures)) procedure.name.text
+    inserted_after named.exceptions (named.channels ++ (named.globals ++ named.procedures)) procedure.name.text
     (named.channels ++ (named.globals ++ (named.procedures ++ procedure.name.text ∷ [])))
-    (inserted_behind named.channels (named.globals ++ named.procedures) procedure.name.text (named.globals ++ (named.procedures ++ procedure.name.text ∷ []))
-    (inserted_behind named.globals named.procedures procedure.name.text (named.procedures ++ procedure.name.text ∷ [])
-    (record { before = named.procedures; behind = []; shorter_is = sym (append-nil named.procedures); longer_is = refl })))
+    (inserted_after named.channels (named.globals ++ named.procedures) procedure.name.text (named.globals ++ (named.procedures ++ procedure.name.text ∷ []))
+    (inserted_after named.globals named.procedures procedure.name.text (named.procedures ++ procedure.name.text ∷ [])
+    (record { before = named.procedures; after = []; shorter_is = sym (append-nil named.procedures); longer_is = refl })))
 
 item_proper : (item : ItemTree) → IsWrittenItem Anywhere (IsNameWithin MAX_TEXT) IsInteger item → IsProperName (item_name item).text
 item_proper (ChannelItem channel) is = is.2.1
@@ -278,7 +278,7 @@ each_item_name P named (item ∷ items) all each =
     let is = item_inserted named item in
     each_item_name P (names_with named item) items (All-tail (λ (item : ItemTree). P (item_name item).text) item items all)
     (subst (EachName P) (sym is.longer_is)
-    (each_inserted P is.before is.behind (item_name item).text (subst (EachName P) is.shorter_is each)
+    (each_inserted P is.before is.after (item_name item).text (subst (EachName P) is.shorter_is each)
     (All-head (λ (item : ItemTree). P (item_name item).text) item items all)))
 
 -- ---- the whole

@@ -28,7 +28,7 @@ module _ (h : PrincipalHierarchy) (top : TopLevel) (tables : ItemTables) where
       let all = ap (map string_bytes) is ∙ map_push string_bytes tables.exceptions.items text ∙ ap (λ one. map string_bytes tables.exceptions.items ++ one ∷ []) named in
       λ i. Ok (record (tables_view tables) { exceptions = sym all i })
 
-  -- the others, behind whose labels the tables stand for the same
+  -- the others, after whose labels the tables stand for the same
   module _ (inside : AreTablesInside tables) (variables : VariableEntries) (extended : Extends tables.variables.labels variables.labels) (globals : variables.globals ≡ tables.variables.globals) where
     pub channel_added : (written : ChannelTree) (one : Channel) (channels : Vec Channel Global) → channel_finding (heads h top tables.variables.globals) written ≡ Ok (channel_entry variables.labels one)
         → channels.items ≡ tables.channels.items ++ one ∷ []

@@ -83,7 +83,7 @@ pub both_find : {A : Type 0} (looked : Finding A) (P Q : A → Type 0) → IfOk 
 both_find (Ok a) P Q p q = (p, q)
 both_find (Err fault) P Q p q = tt
 
--- policies of which each is written, those behind the others with so many nodes
+-- policies of which each is written, those after the others with this many nodes
 record AreOf (written : List ReaderPolicy) (nodes : ℕ) (found : List ReaderPolicy) : Type 0 where
   pub more : List ReaderPolicy
   pub few : policies_weight more ≤ nodes

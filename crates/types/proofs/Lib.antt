@@ -13,7 +13,7 @@ mod JoinAll
 mod Later
 mod Loops
 mod Passing
-mod Places
+mod Buckets
 mod Procedures
 mod ShortNames
 mod ReadBodies

@@ -1,7 +1,7 @@
 -- What holds of whatever a finding holds.
 use Rattle.std.proofs.Common.{◌≡◌, refl, ℕ, Bool, true, false, Ok, Err}
 use Rattle.std.specs.Prelude.{IfOk}
-use Rattle.types.specs.declared.fault.TypeDefect.{TypeDefect}
+use Rattle.types.specs.declared.fault.TypeRefusalKind.{TypeRefusalKind}
 use Rattle.types.specs.Finding.{Finding, and_then, give_if, require}
 
 pub then_finds : {A B : Type 0} (looked : Finding A) (next : A → Finding B) (P : A → Type 0) (Q : B → Type 0)
@@ -9,12 +9,12 @@ pub then_finds : {A B : Type 0} (looked : Finding A) (next : A → Finding B) (P
 then_finds (Ok x) next P Q h further = further x h
 then_finds (Err fault) next P Q h further = tt
 
-pub if_finds : {A : Type 0} (test : Bool) (x : A) (refusal : TypeDefect) (at : ℕ) (Q : A → Type 0) → (test ≡ true → Q x)
+pub if_finds : {A : Type 0} (test : Bool) (x : A) (refusal : TypeRefusalKind) (at : ℕ) (Q : A → Type 0) → (test ≡ true → Q x)
     → IfOk (give_if test x refusal at) Q
 if_finds true x refusal at Q h = h refl
 if_finds false x refusal at Q h = tt
 
-pub require_finds : (test : Bool) (refusal : TypeDefect) (at : ℕ) → IfOk (require test refusal at) (λ one. test ≡ true)
+pub require_finds : (test : Bool) (refusal : TypeRefusalKind) (at : ℕ) → IfOk (require test refusal at) (λ one. test ≡ true)
 require_finds true refusal at = refl
 require_finds false refusal at = tt
 

@@ -19,12 +19,12 @@ use Rattle.common.specs.declared.fault.OrNoMemory.{OrNoMemory}
 use Rattle.types.specs.declared.fault.TypeRefusal.{TypeRefusal}
 use Rattle.types.specs.declared.scope.Meaning.{Meaning}
 use Rattle.types.specs.declared.scope.Meaning.TheVariants.{Scalar}
-use Rattle.types.specs.declared.fault.TypeDefect.TheVariants as refusals
+use Rattle.types.specs.declared.fault.TypeRefusalKind.TheVariants as refusals
 use Rattle.types.specs.Finding.{IsRefusalOf, give, along, require}
 use Rattle.types.specs.Environment.{exception_finding, fresh_finding}
 use Rattle.types.specs.Expressions.{base_of}
 use Rattle.types.specs.Labels.{LabelScope, label_finding, optional_label_finding}
-use Rattle.types.specs.declared.label.ItemPlace.{ItemPlace}
+use Rattle.types.specs.declared.label.ItemContext.{ItemContext}
 use Rattle.types.specs.Views.{item_scope, top_view}
 use Rattle.types.specs.Resolution.{heads, begin_label_of, end_label_of, is_thrown, next_parameter, next_thrown, parameters_finding, procedure_entry_finding, result_finding, setting_within, throws_finding}
 use Rattle.types.specs.Statements.{Signature, Point, with_local, scalar_slot, block_finding}
@@ -99,7 +99,7 @@ thrown_or_last throws one number =
 -- ---- a whole procedure
 
 -- what the labels of an item may name where only labels have come since
-pub same_scope : (place : ItemPlace) (before after : VariableEntries) → after.globals ≡ before.globals → item_scope place after ≡ item_scope place before
+pub same_scope : (place : ItemContext) (before after : VariableEntries) → after.globals ≡ before.globals → item_scope place after ≡ item_scope place before
 same_scope place before after same = λ i. heads place.hierarchy.now (top_view place.top.now) (same i)
 
 -- what is found or refused in the one scope is so in the other

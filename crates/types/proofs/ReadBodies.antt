@@ -18,7 +18,7 @@ use Rattle.types.specs.Environment.{Environment, ScalarUse, ArrayUse, declaring,
 use Rattle.types.specs.Labels.{LabelScope, label_finding, optional_label_finding}
 use Rattle.types.specs.Expressions.{Typed, base_of, expression_finding, typed_finding}
 use Rattle.types.specs.Laws.{channel_names, global_names, MeaningHasName}
-use Rattle.types.specs.Statements.{Signature, Setting, Point, label_scope, with_local, CallUse, call_finding, assigned_finding, scalar_slot, array_slot, declare_finding, size_finding, declare_array_finding, assign_finding, store_finding, call_statement_finding, receive_finding, send_finding, throw_finding, returned_finding, return_finding, staying, in_loop, behind_block, statement_finding, block_finding, statements_finding, catches_finding}
+use Rattle.types.specs.Statements.{Signature, Setting, Point, label_scope, with_local, CallUse, call_finding, assigned_finding, scalar_slot, array_slot, declare_finding, size_finding, declare_array_finding, assign_finding, store_finding, call_statement_finding, receive_finding, send_finding, throw_finding, returned_finding, return_finding, staying, in_loop, after_block, statement_finding, block_finding, statements_finding, catches_finding}
 use Rattle.types.specs.Resolution.{TopLevel, heads, setting_within, result_finding, next_parameter, parameters_finding, is_thrown, next_thrown, throws_finding, procedure_entry_finding, channel_finding, global_finding, Tables, next_item, no_tables, items_finding, top_finding, main_finding, global_cells_finding, frames_finding, program_with, resolution}
 use Rattle.types.specs.ReadBack.{NameScope, top_scope, with_declared, leaving_block, innermost, IsChannel, IsException, IsProcedure, IsVariable, ReadsExpression, ReadsArguments, ReadsRight, ReadsStatement, ReadDeclare, ReadDeclareArray, ReadAssign, ReadStore, ReadCall, ReadReceive, ReadSend, ReadIf, ReadIfElse, ReadWhile, ReadBreak, ReadContinue, ReadThrow, ReadReturn, ReadReturnValue, ReadTry, ReadNested, ReadsBlock, ReadBlock, ReadsStatements, ReadNoStatement, ReadStatement, ReadsCatches, ReadNoCatch, ReadCatch, ReadsThrows, ReadNoThrown, ReadThrown, with_parameters, slot_declaration, ReadsProcedure, ReadsItems, ReadNoItem, ReadChannel, ReadException, ReadGlobal, ReadProcedure}
 use Rattle.types.proofs.ItemNames.{channel_name, global_name, channel_named, global_named}
@@ -41,7 +41,7 @@ module _ (program : Program) where
     pub agrees : Agrees program scope point.names
     pub declared : map slot_declaration point.slots ≡ scope.declared
 
-  -- what was found together with the point behind it reads as what is written, from this scope on
+  -- what was found together with the point after it reads as what is written, from this scope on
   record Reading (A : Type 0) (Reads : A → NameScope → Type 0) (done : Point × A) : Type 0 where
     pub after : NameScope
     pub reads : Reads done.1 after
@@ -62,7 +62,7 @@ module _ (program : Program) where
   next_number : (scope : NameScope) (point : Point) → Matches scope point → length point.slots ≡ length scope.declared
   next_number scope point matches = sym (length-map point.slots slot_declaration) ∙ ap length matches.declared
 
-  -- behind the declaration of a local
+  -- after the declaration of a local
   local_matches : (scope : NameScope) (point : Point) (name : NameTree) (slot : SlotEntry) (meaning : Meaning) → Matches scope point
       → slot.name ≡ name.text
       → ((other : NameTree) → innermost (with_declared scope name slot.at).visible other.text ≡ Some (length point.slots)
@@ -79,7 +79,7 @@ module _ (program : Program) where
   }
 
   leaving_matches : (scope inside : NameScope) (point after : Point) → Matches scope point → Matches inside after
-      → Matches (leaving_block scope inside) (behind_block point after)
+      → Matches (leaving_block scope inside) (after_block point after)
   leaving_matches scope inside point after before matches = record {
     agrees = same_scope program scope (leaving_block scope inside) point.names refl before.agrees;
     declared = matches.declared;
@@ -317,7 +317,7 @@ module _ (program : Program) where
       (Scalar (Local (length point.slots)) (base_of parameter.base)) matches refl (λ other is. is))))
       (λ next matches_next. parameters_read labels (with_declared scope parameter.name parameter.at) next parameters matches_next)
 
-  -- behind those that were found before
+  -- after those that were found before
   record ThrowsRead (before : List ThrownEntry) (written : List ThrownTree) (found : List ThrownEntry) : Type 0 where
     pub more : List ThrownEntry
     pub found_is : found ≡ before ++ more
@@ -371,7 +371,7 @@ module _ (program : Program) where
 
   -- ---- items
 
-  -- behind the items that were found before
+  -- after the items that were found before
   record ItemsRead (before : Tables) (items : List ItemTree) (tables : Tables) : Type 0 where
     pub channels : List (List ℕ)
     pub exceptions : List (List ℕ)
@@ -384,7 +384,7 @@ module _ (program : Program) where
     pub reads : ReadsItems program items channels exceptions globals procedures
 
   module _ (h : PrincipalHierarchy) (top : TopLevel) (agrees : Agrees program top_scope top.names) where
-    -- what is found behind the next item is found behind those before it, with that item
+    -- what is found after the next item is found after those before it, with that item
     abbrev Step : Tables → ItemTree → List ItemTree → Tables → Type 0
     Step before item items next = (tables : Tables) → ItemsRead next items tables → ItemsRead before (item ∷ items) tables
 

@@ -69,7 +69,7 @@ module _ (program : Program) where
   same_scope before after names same agrees name meaning e =
       same_meaning before after name meaning (ap (λ visible. innermost visible name.text) same) (agrees name meaning e)
 
-  -- behind the declaration of a local
+  -- after the declaration of a local
   pub agrees_declaring : (scope : NameScope) (name : NameTree) (at : ℕ) (meaning : Meaning) (names : Environment)
       → ((other : NameTree) → innermost (with_declared scope name at).visible other.text ≡ Some (length scope.declared)
       → IsMeaning (with_declared scope name at) other meaning)
@@ -238,7 +238,7 @@ module _ (program : Program) where
 
     -- ---- calls and right sides
 
-    -- behind those that were found before
+    -- after those that were found before
     record ArgumentsRead (before : List Expression) (arguments : List ExpressionTree) (found : List Expression) : Type 0 where
       pub more : List Expression
       pub found_is : found ≡ before ++ more

@@ -1,13 +1,14 @@
 -- The numbers of short names: each stands for one name, and fits its type. What tables of names find after a change of one of them.
-use Rattle.std.proofs.Common.{◌≡◌, ℕ, zero, suc, ◌*◌, ◌^◌, ◌<◌, ◌≤◌, List, [], ◌∷◌, length, Bool, true, false, cond, Option, Some, None, refl, sym, ◌∙◌, ap, arith}
+use Rattle.std.proofs.Common.{◌≡◌, ℕ, zero, suc, ◌*◌, ◌^◌, ◌<◌, ◌≤◌, ◌==◌, List, [], ◌∷◌, length, Bool, true, false, cond, Option, Some, None, refl, sym, ◌∙◌, ap, arith}
 use Rattle.std.specs.Prelude.{bytes_eq, String, nat_lt, nat_le, ◌&&◌}
-use Rattle.std.specs.BTreeMap.{BTreeMap, UpdatesBy, get, get_by_text}
+use Rattle.std.specs.BTreeMap.{BTreeMap, UpdatesBy, get_by_text}
 use Rattle.std.specs.Bool.{Decides}
 use Rattle.std.specs.Option.{unwrap_or}
 use Rattle.std.specs.Cmp.Lexicographic.{slice_cmp}
 use Rattle.std.specs.Ordering.{nat_cmp, is_eq}
 use Rattle.std.specs.declared.alloc.Global.{Global}
 use Rattle.std.specs.String.{string_bytes, string_cmp}
+use Rattle.std.proofs.lemmas.Bool.{eqb-true, eq-eqb}
 use Rattle.std.proofs.lemmas.Bool.Decides.{nat_tests}
 use Rattle.std.proofs.lemmas.Map.Lookups.{exact_unsigned}
 use Rattle.std.specs.Cmp.{Equal-is, nat_cmp_is}
@@ -15,6 +16,7 @@ use Rattle.std.specs.declared.cmp.Ordering.TheVariants.{Equal}
 use Rattle.std.proofs.lemmas.Slice.Eq.{bytes_eq-Decides}
 use Rattle.std.proofs.lemmas.Map.Text.{btree_map_updates_text}
 use Rattle.types.specs.declared.scope.Meaning.{Meaning}
+use Rattle.types.specs.Buckets.{Updates}
 use Rattle.types.specs.ShortNames.{are_bytes, digits, number_of}
 use Rattle.types.specs.Views.{found_at}
 
@@ -79,6 +81,9 @@ digits_fit name all l = digits_below name 14 all l
 pub number_ties : (n m : ℕ) → Decides (is_eq (nat_cmp n m)) (n ≡ m)
 number_ties n m = (λ t. exact_unsigned n m ((Equal-is (nat_cmp n m)).0 t), λ e. ap is_eq (sym (nat_cmp_is n m Equal e)))
 
+eqb_decides : (n m : ℕ) → Decides (n == m) (n ≡ m)
+eqb_decides n m = (eqb-true n m, eq-eqb n m)
+
 -- names with one number are one name
 pub number_same : (one other : List ℕ) (n : ℕ) → number_of one ≡ Some n → number_of other ≡ Some n → one ≡ other
 number_same one other n p q = by (nat_le (length one) 15) (are_bytes one) (nat_le (length other) 15) (are_bytes other) refl refl p q
@@ -90,10 +95,10 @@ number_same one other n p q = by (nat_le (length one) 15) (are_bytes one) (nat_l
     by true false t b x y p q = cc
     by false a t b x y p q = cc
 
-pub updates_short : (name : List ℕ) (n : ℕ) (w : Option Meaning) (old new : BTreeMap ℕ Meaning) (long : BTreeMap (String Global) Meaning)
-    → number_of name ≡ Some n → UpdatesBy nat_cmp (nat_cmp n) old new w → (other : List ℕ) (number : Option ℕ) → number_of other ≡ number
+pub updates_short : (name : List ℕ) (n : ℕ) (w : Option Meaning) (old new : ℕ → Option Meaning) (long : BTreeMap (String Global) Meaning)
+    → number_of name ≡ Some n → Updates n w old new → (other : List ℕ) (number : Option ℕ) → number_of other ≡ number
     → found_at new long other number ≡ cond (bytes_eq name other) w (found_at old long other number)
-updates_short name n w old new long numbered updates other (Some m) e = updates.0 m ∙ ap (λ t. cond t w (get nat_cmp old m)) (same (is_eq (nat_cmp n m)) (bytes_eq name other) (number_ties n m) (bytes_eq-Decides name other))
+updates_short name n w old new long numbered updates other (Some m) e = updates m ∙ ap (λ t. cond t w (old m)) (same (n == m) (bytes_eq name other) (eqb_decides n m) (bytes_eq-Decides name other))
   where
     same : (a b : Bool) → Decides a (n ≡ m) → Decides b (name ≡ other) → a ≡ b
     same true true p q = refl
@@ -106,11 +111,11 @@ updates_short name n w old new long numbered updates other None e = ap (λ t. co
     apart false q = refl
     apart true q = cc (numbered, e, ap number_of (q refl))
 
-pub updates_long : (name : List ℕ) (w : Option Meaning) (short : BTreeMap ℕ Meaning) (old new : BTreeMap (String Global) Meaning)
+pub updates_long : (name : List ℕ) (w : Option Meaning) (short : ℕ → Option Meaning) (old new : BTreeMap (String Global) Meaning)
     → number_of name ≡ None → UpdatesBy string_cmp (λ k. slice_cmp nat_cmp name (string_bytes k)) old new w → (other : List ℕ) (number : Option ℕ) → number_of other ≡ number
     → found_at short new other number ≡ cond (bytes_eq name other) w (found_at short old other number)
 updates_long name w short old new numbered updates other None e = btree_map_updates_text name old new w updates other
-updates_long name w short old new numbered updates other (Some m) e = ap (λ t. cond t w (get nat_cmp short m)) (sym (apart (bytes_eq name other) ((bytes_eq-Decides name other).0)))
+updates_long name w short old new numbered updates other (Some m) e = ap (λ t. cond t w (short m)) (sym (apart (bytes_eq name other) ((bytes_eq-Decides name other).0)))
   where
     apart : (b : Bool) → (b ≡ true → name ≡ other) → b ≡ false
     apart false q = refl

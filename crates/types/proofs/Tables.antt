@@ -28,9 +28,9 @@ pub ok_inside : {A : Type 0} (x y : A) → give x ≡ give y → x ≡ y
 ok_inside x y e = ap (value_or x) e
 
 -- tables without entries find nothing
-pub empty_finds : (short : BTreeMap ℕ Meaning) (long : BTreeMap (String Global) Meaning) → short.entries ≡ [] → long.entries ≡ []
+pub empty_finds : (short : ℕ → Option Meaning) (long : BTreeMap (String Global) Meaning) → ((number : ℕ) → short number ≡ None) → long.entries ≡ []
     → (other : List ℕ) (number : Option ℕ) → found_at short long other number ≡ None
-empty_finds short long e f other (Some number) = ap (λ entries. lookup (is_at (nat_cmp number)) entries) e
+empty_finds short long e f other (Some number) = e number
 empty_finds short long e f other None = ap (λ entries. lookup (is_at (λ key. slice_cmp nat_cmp other (string_bytes key))) entries) f
 
 -- ---- names that are taken out
@@ -79,19 +79,19 @@ without_declared name meaning names fresh other = by (bytes_eq name other) ((byt
     by true same = ap names (sym (same refl)) ∙ fresh
     by false same = refl
 
--- the one that was put behind a list and into a table in which it was not
+-- the one that was put after a list and into a table in which it was not
 pub without_last : (gone : List (Bor (List ℕ))) (all : List (Bor (List ℕ))) (last : Bor (List ℕ)) (text : List ℕ) (meaning : Meaning) (names found : Environment)
     → all ≡ gone ++ last ∷ [] → last.now ≡ text → names text ≡ None → give (declaring text meaning names) ≡ give found → (other : List ℕ)
     → names other ≡ without (texts_of (drop (length gone) all)) found other
-without_last gone all last text meaning names found behind same fresh put other =
+without_last gone all last text meaning names found after same fresh put other =
     without_declared text meaning names fresh other
     ∙ ap (λ one. without (text ∷ []) one other) (ok_inside _ _ put)
     ∙ ap (λ one. without (one ∷ []) found other) (sym same)
-    ∙ ap (λ rest. without (texts_of rest) found other) (sym (ap (drop (length gone)) behind ∙ drop-append_seam gone (last ∷ [])))
+    ∙ ap (λ rest. without (texts_of rest) found other) (sym (ap (drop (length gone)) after ∙ drop-append_seam gone (last ∷ [])))
 
 -- ---- names that are put in
 
--- a name that stands for nothing by one table and behind it by another
+-- a name that stands for nothing by one table and after it by another
 pub inner_none : (inner outer : Option Meaning) → or_else inner outer ≡ None → inner ≡ None
 inner_none None outer e = refl
 inner_none (Some meaning) outer e = e

@@ -14,7 +14,7 @@ use Rattle.common.proofs.Cases.{filtered_length}
 use Rattle.principals.specs.ActsFor.{PrincipalHierarchy, number_of}
 use Rattle.labels.specs.Label.{ReaderPolicy, Label}
 use Rattle.labels.specs.Sets.{by_order, with_element, ascending_set}
-use Rattle.labels.specs.Canonical.{policy_cmp, readers_beside, joined}
+use Rattle.labels.specs.Canonical.{policy_cmp, readers_with, joined}
 use Rattle.syntax.specs.Tree.{NameTree, ComponentTree, PolicyComponent, VariableComponent, LabelTree}
 use Rattle.resolved.specs.declared.expression.Variable.{Variable}
 use Rattle.resolved.specs.declared.expression.Variable.TheVariants.{Global, Local}
@@ -132,7 +132,7 @@ module _ (h : PrincipalHierarchy) where
       then_finds (along (put_last (principal_finding h)) [] readers) _
       (λ numbers. (list_all is_there numbers ≡ true) × (sum_by one_of numbers ≤ 0 + sum_by one_of readers)) _
       (each_passes (principal_finding h) is_there one_of one_of principal_there [] readers refl) (λ numbers readers_there. (
-        and_from (is_there number) (list_all is_there (readers_beside number numbers)) owner_there.0
+        and_from (is_there number) (list_all is_there (readers_with number numbers)) owner_there.0
             (filter_all is_there (λ reader. not (reader == number)) (ascending_set nat_cmp numbers) (set_all is_there nat_cmp numbers readers_there.0)),
         omega (
           arith,

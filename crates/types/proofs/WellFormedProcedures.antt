@@ -73,7 +73,7 @@ throws_pushed program (entry ∷ rest) new fit absent there labelled =
 abbrev pub parameter_base : ParameterTree → Base
 parameter_base parameter = base_of parameter.base
 
--- the point behind parameters of these types, of which each has a label
+-- the point after parameters of these types, of which each has a label
 record Begun (program : Program) (procedure : ProcedureEntry) (setting : Setting) (names : Environment) (bases : List Base) (point : Point) : Type 0 where
   pub slots_fit : list_all (slot_fits setting) point.slots ≡ true
   pub parameters_fit : list_all parameter_fits point.slots ≡ true

@@ -28,7 +28,7 @@ use Rattle.types.specs.Finding.{Finding, require, along}
 use Rattle.types.specs.Environment.{Environment, ScalarUse, ArrayUse, fresh_finding, scalar_finding, array_finding, input_finding, output_finding, exception_finding, procedure_finding}
 use Rattle.types.specs.Labels.{optional_label_finding}
 use Rattle.types.specs.Expressions.{Typed, base_of, expression_finding, typed_finding}
-use Rattle.types.specs.Statements.{Setting, Point, label_scope, signature_at, next_argument, arguments_finding, CallUse, applied_finding, call_finding, gives_base, assigned_finding, scalar_slot, array_slot, declare_finding, size_finding, declare_array_finding, assign_finding, store_finding, call_statement_finding, receive_finding, send_finding, throw_finding, returned_finding, return_finding, staying, in_loop, behind_block, statement_finding, block_finding, statements_finding, catches_finding}
+use Rattle.types.specs.Statements.{Setting, Point, label_scope, signature_at, next_argument, arguments_finding, CallUse, applied_finding, call_finding, gives_base, assigned_finding, scalar_slot, array_slot, declare_finding, size_finding, declare_array_finding, assign_finding, store_finding, call_statement_finding, receive_finding, send_finding, throw_finding, returned_finding, return_finding, staying, in_loop, after_block, statement_finding, block_finding, statements_finding, catches_finding}
 use Rattle.types.proofs.Passing.{then_finds, if_finds, require_finds, any_finds, finds_for_all}
 use Rattle.types.proofs.WellFormedExpressions.{given_base, slot_base, scalar_type, array_type, Stands, Means, means_declaring, scalar_found, array_found, input_found, output_found, exception_found, procedure_found, IsWellFormedTyped, IsWellFormedExpression, expression_keeps, typed_keeps}
 use Rattle.types.proofs.WellFormedLabels.{GlobalsFit, SlotsFit, optional_label_there}
@@ -86,7 +86,7 @@ module _ (program : Program) (procedure : ProcedureEntry) (setting : Setting) wh
   FitBefore point = GlobalsFit setting.hierarchy setting.globals × (list_all (slot_fits setting) point.slots ≡ true)
 
   -- From one point to another: the slots that were taken fit where those before do, the loops count up, and there are few enough nodes; and if those slots
-  -- are the procedure's and what is in scope before stands for entries, then what was found fits, and what is in scope behind does.
+  -- are the procedure's and what is in scope before stands for entries, then what was found fits, and what is in scope after does.
   pub record Kept (point after : Point) (test : Bool) (loops : List ℕ) (nodes written : ℕ) : Type 0 where
     pub more : List SlotEntry
     pub slots : after.slots ≡ point.slots ++ more
@@ -598,9 +598,9 @@ module _ (program : Program) (procedure : ProcedureEntry) (setting : Setting) wh
           → IsWellFormedStatement point (1 + nodes) (done.0, Nested at done.1)
       nested_keeps point at nodes done kept = weigh (statement_nodes (Nested at done.1)) (1 + nodes) (omega arith) kept
 
-      behind_keeps : (point : Point) (nodes : ℕ) (done : Point × Block) → IsWellFormedBlock point nodes done
-          → IsWellFormedBlock point (1 + nodes) (behind_block point done.0, done.1)
-      behind_keeps point nodes done kept = record {
+      after_keeps : (point : Point) (nodes : ℕ) (done : Point × Block) → IsWellFormedBlock point nodes done
+          → IsWellFormedBlock point (1 + nodes) (after_block point done.0, done.1)
+      after_keeps point nodes done kept = record {
         more = kept.more;
         slots = kept.slots;
         slots_fit = kept.slots_fit;
@@ -675,7 +675,7 @@ module _ (program : Program) (procedure : ProcedureEntry) (setting : Setting) wh
             → IfOk (block_finding setting point written) (IsWellFormedBlock point (tree.block_nodes written))
         block_keeps point (BlockOf at statements) is =
             then_finds (statements_finding setting point statements) _ (IsWellFormedBlock point (tree.statements_nodes statements)) _
-            (statements_keep point statements is.1) (λ done kept. behind_keeps point (tree.statements_nodes statements) done kept)
+            (statements_keep point statements is.1) (λ done kept. after_keeps point (tree.statements_nodes statements) done kept)
 
         statements_keep : (point : Point) (written : StatementTrees) → AreWrittenStatements placed word IsInteger written
             → IfOk (statements_finding setting point written) (IsWellFormedBlock point (tree.statements_nodes written))

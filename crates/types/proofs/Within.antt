@@ -34,7 +34,7 @@ module _ (items : List Item) (i : ℕ) (item : Item) (is : item ≡ get_or items
       subst (IsWrittenItem fits word IsInteger) same
       (All-get_or (IsWrittenItem fits word IsInteger) (map item_tree items) i (item_tree item) inside all)
 
-  -- the nodes of the next item, and of those behind it
+  -- the nodes of the next item, and of those after it
   pub next_nodes : sum_by item_nodes (map item_tree (drop i items)) ≡ item_nodes (item_tree item) + sum_by item_nodes (map item_tree (drop (i + 1) items))
   next_nodes =
       ap (λ list. sum_by item_nodes (map item_tree list)) (drop_more items i item within ∙ ap (λ one. one ∷ drop (i + 1) items) (sym is))

@@ -22,7 +22,7 @@ use Rattle.resolved.specs.declared.expression.Sameness.TheVariants as samenesses
 use Rattle.resolved.specs.declared.expression.Connective.TheVariants as connectives
 use Rattle.resolved.specs.Tree.{Expression, Integer, Logical, Read, Element, Unary, Binary, Short}
 use Rattle.resolved.specs.WellFormed.{same_base, prefix_base, result_base}
-use Rattle.types.specs.declared.fault.TypeDefect.TheVariants as refusals
+use Rattle.types.specs.declared.fault.TypeRefusalKind.TheVariants as refusals
 use Rattle.types.specs.declared.operator.OperatorUse.{OperatorUse}
 use Rattle.types.specs.declared.operator.OperatorUse.TheVariants.{OfNumbers, OfEither, OfTruths}
 use Rattle.types.specs.Finding.{Finding, give, and_then, give_if, ◌>>=◌}

@@ -1,7 +1,7 @@
 -- What looking at a part of a program comes to: something that was found, or the first fault.
 -- Source: our own, the results of a computation that may fail, in the usual sense.
 use Rattle.std.specs.Prelude.{◌≡◌, ℕ, List, [], ◌∷◌, ◌++◌, Bool, true, false, Result, Ok, Err, if◌then◌else◌}
-use Rattle.types.specs.declared.fault.TypeDefect.{TypeDefect}
+use Rattle.types.specs.declared.fault.TypeRefusalKind.{TypeRefusalKind}
 use Rattle.types.specs.declared.fault.TypeRefusal.{TypeRefusal}
 
 abbrev pub Finding : Type 0 → Type 0
@@ -10,8 +10,8 @@ Finding A = Result A TypeRefusal
 abbrev pub give : {A : Type 0} → A → Finding A
 give x = Ok x
 
-abbrev pub refuse : {A : Type 0} → TypeDefect → (at : ℕ) → Finding A
-refuse defect at = Err (record { defect = defect; at = at })
+abbrev pub refuse : {A : Type 0} → TypeRefusalKind → (at : ℕ) → Finding A
+refuse kind at = Err (record { kind = kind; at = at })
 
 -- the refusal is what looking comes to
 abbrev pub IsRefusalOf : {A : Type 0} → Finding A → TypeRefusal → Type 0
@@ -27,13 +27,13 @@ abbrev pub ◌>>=◌ : {A B : Type 0} → Finding A → (A → Finding B) → Fi
 (first >>= next) = and_then first next
 
 -- a thing where a test holds, else a refusal
-abbrev pub give_if : {A : Type 0} → Bool → A → TypeDefect → (at : ℕ) → Finding A
-give_if test x defect at = if test then give x else refuse defect at
+abbrev pub give_if : {A : Type 0} → Bool → A → TypeRefusalKind → (at : ℕ) → Finding A
+give_if test x kind at = if test then give x else refuse kind at
 
 -- nothing but that a test holds
-abbrev pub require : Bool → TypeDefect → (at : ℕ) → Finding (Unit {0})
-require true defect at = give tt
-require false defect at = refuse defect at
+abbrev pub require : Bool → TypeRefusalKind → (at : ℕ) → Finding (Unit {0})
+require true kind at = give tt
+require false kind at = refuse kind at
 
 -- from state to state along a list
 abbrev pub along : {S X : Type 0} → (S → X → Finding S) → S → List X → Finding S

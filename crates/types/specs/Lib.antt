@@ -1,6 +1,6 @@
 pub use Rattle.syntax.specs.Tree
 pub use Rattle.resolved.specs.CoreOf
-pub mod Defects
+pub mod RefusalKinds
 pub mod Finding
 pub mod Environment
 pub mod Labels
@@ -8,7 +8,7 @@ pub mod Expressions
 pub mod Statements
 pub mod Resolution
 pub mod ShortNames
-pub mod Places
+pub mod Buckets
 pub mod VariableEntries
 pub mod Views
 pub mod Laws

@@ -54,14 +54,14 @@ pub record NameScope : Type 0 where
 abbrev pub top_scope : NameScope
 top_scope = record { declared = []; visible = [] }
 
--- behind a declaration, which has the next number and is the innermost one
+-- after a declaration, which has the next number and is the innermost one
 abbrev pub with_declared : NameScope → NameTree → (at : ℕ) → NameScope
 with_declared scope name at = record {
   declared = scope.declared ++ record { name = name.text; at = at } ∷ [];
   visible = record { name = name.text; number = length scope.declared } ∷ scope.visible;
 }
 
--- behind a block: what was in scope before it is in scope again, and the numbers go on
+-- after a block: what was in scope before it is in scope again, and the numbers go on
 abbrev pub leaving_block : (before inside : NameScope) → NameScope
 leaving_block before inside = record { declared = inside.declared; visible = before.visible }
 
@@ -160,7 +160,7 @@ pub data ReadsRight (program : Program) (scope : NameScope) (at : ℕ) (x : Vari
   ReadValue : {value : ExpressionTree} {e : Expression} → ReadsExpression program scope value e
       → ReadsRight program scope at x (ValueTree value) (Assign at x e)
 
--- from the scope before it to the one behind it: a written statement and the resolved one, and likewise blocks, what stands in
+-- from the scope before it to the one after it: a written statement and the resolved one, and likewise blocks, what stands in
 -- them, and handlers. The right side of a declaration is read in the scope before it
 mutual
   pub data ReadsStatement (program : Program) : NameScope → StatementTree → Statement → NameScope → Type 0 where

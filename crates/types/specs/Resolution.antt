@@ -18,7 +18,7 @@ use Rattle.resolved.specs.declared.expression.Variable.TheVariants.{Global, Loca
 use Rattle.resolved.specs.Program.{Program, ChannelEntry, GlobalEntry, SlotEntry, ResultEntry, ThrownEntry, ProcedureEntry}
 use Rattle.resolved.specs.Value.{zero_value}
 use Rattle.resolved.specs.WellFormed.{same_base, cell_count}
-use Rattle.types.specs.declared.fault.TypeDefect.TheVariants as refusals
+use Rattle.types.specs.declared.fault.TypeRefusalKind.TheVariants as refusals
 use Rattle.types.specs.declared.scope.Meaning.{Meaning}
 use Rattle.types.specs.declared.scope.Meaning.TheVariants as meanings
 use Rattle.types.specs.Finding.{Finding, give, refuse, give_if, require, along, ◌>>=◌}

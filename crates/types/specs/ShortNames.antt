@@ -4,7 +4,7 @@ use Rattle.std.specs.Prelude.{ℕ, ◌+◌, ◌*◌, ◌&&◌, Bool, List, [], �
 use Rattle.std.specs.List.{list_all}
 use Rattle.types.specs.declared.scope.TheConstants.{MOST_SHORT}
 
--- the bytes of a name as the digits of a number, the first one last, behind a 1
+-- the bytes of a name as the digits of a number, the first one last, after a 1
 abbrev pub digits : List ℕ → ℕ
 digits [] = 1
 digits (byte ∷ bytes) = digits bytes * 256 + byte

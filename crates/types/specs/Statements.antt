@@ -14,7 +14,7 @@ use Rattle.resolved.specs.declared.statement.Exit.TheVariants as exits
 use Rattle.resolved.specs.Tree.{Expression, Statement, Assign, Clear, Store, Receive, Send, Call, If, While, Leave, ReturnWith, Try, Nested, Block, Empty, Then, Handlers, NoMore, Catch}
 use Rattle.resolved.specs.Program.{GlobalEntry, SlotEntry}
 use Rattle.resolved.specs.WellFormed.{same_base}
-use Rattle.types.specs.declared.fault.TypeDefect.TheVariants as refusals
+use Rattle.types.specs.declared.fault.TypeRefusalKind.TheVariants as refusals
 use Rattle.types.specs.declared.scope.Meaning.{Meaning}
 use Rattle.types.specs.declared.scope.Meaning.TheVariants.{Scalar, Array}
 use Rattle.types.specs.Finding.{Finding, give, refuse, give_if, require, and_then, along, ◌>>=◌}
@@ -42,7 +42,7 @@ pub record Point : Type 0 where
   pub slots : List SlotEntry
   pub loops : ℕ
 
--- what the label of a local may name at a point: each variable in scope, but for the globals that are declared behind the procedure
+-- what the label of a local may name at a point: each variable in scope, but for the globals that are declared after the procedure
 abbrev pub label_scope : Setting → Point → LabelScope
 label_scope setting point = record {
   hierarchy = setting.hierarchy;
@@ -51,7 +51,7 @@ label_scope setting point = record {
   slots = point.slots;
 }
 
--- the point behind the declaration of a local, which takes the next slot
+-- the point after the declaration of a local, which takes the next slot
 abbrev pub with_local : Point → SlotEntry → Meaning → Point
 with_local point slot meaning = record {
   names = declaring slot.name meaning point.names;
@@ -100,7 +100,7 @@ gives_base base None = false
 gives_base base (Some given) = same_base given base
 
 -- what is assigned to a variable of a type, by a statement that begins at a byte. A number is received, so `receive` is refused where
--- the variable holds another type; the value of a call is tested behind its arguments, at the procedure's name
+-- the variable holds another type; the value of a call is tested after its arguments, at the procedure's name
 unfoldable pub assigned_finding : List Signature → Environment → (at : ℕ) → Variable → Base → RightTree → Finding Statement
 assigned_finding signatures names at target base (ReceivedTree receive_at channel) = do
   _ ← require (same_base Int base) refusals.WrongType receive_at
@@ -199,9 +199,9 @@ staying point looked = and_then looked (λ statement. Ok (point, statement))
 abbrev pub in_loop : Point → Point
 in_loop point = record point { loops = point.loops + 1 }
 
--- behind a block what was in scope before it is in scope again; its slots stay taken
-abbrev pub behind_block : Point → Point → Point
-behind_block before inside = record { names = before.names; slots = inside.slots; loops = inside.loops }
+-- after a block what was in scope before it is in scope again; its slots stay taken
+abbrev pub after_block : Point → Point → Point
+after_block before inside = record { names = before.names; slots = inside.slots; loops = inside.loops }
 
 unfoldable mutual
   pub statement_finding : Setting → Point → StatementTree → Finding (Point × Statement)
@@ -246,7 +246,7 @@ unfoldable mutual
   pub block_finding : Setting → Point → BlockTree → Finding (Point × Block)
   block_finding setting point (BlockOf at statements) = do
     inner ← statements_finding setting point statements
-    give (behind_block point inner.0, inner.1)
+    give (after_block point inner.0, inner.1)
 
   pub statements_finding : Setting → Point → StatementTrees → Finding (Point × Block)
   statements_finding setting point NoStatement = give (point, Empty)

@@ -65,7 +65,7 @@ pub record IsProcedureInside (labels : List Label) (procedure : Procedure) : Typ
 
 -- ---- more labels
 
--- the same variables with so many further labels at most
+-- the same variables with this many further labels at most
 pub record HasMoreLabels (most : ℕ) (before after : VariableEntries) : Type 0 where
   pub extended : Extends before.labels after.labels
   pub few : length after.labels ≤ length before.labels + most

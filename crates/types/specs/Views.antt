@@ -3,8 +3,7 @@
 -- Source: our own.
 use Rattle.std.specs.Prelude.{◌≡◌, ℕ, ◌+◌, List, [], length, map, sum_by, All, take, drop, bytes_eq, if◌then◌else◌, Option, Some, None, option_and_then, Result, Ok, String, Vec}
 use Rattle.std.specs.declared.alloc.Global.{Global}
-use Rattle.std.specs.BTreeMap.{BTreeMap, get, get_by_text}
-use Rattle.std.specs.Ordering.{nat_cmp}
+use Rattle.std.specs.BTreeMap.{BTreeMap, get_by_text}
 use Rattle.std.specs.List.{list_any}
 use Rattle.std.specs.Borrow.{Bor}
 use Rattle.std.specs.String.{string_bytes}
@@ -28,12 +27,13 @@ use Rattle.types.specs.declared.expression.TypedExpression.{TypedExpression}
 use Rattle.common.specs.Answers.{Answers}
 use Rattle.common.specs.declared.fault.OrNoMemory.{OrNoMemory}
 use Rattle.types.specs.declared.fault.TypeRefusal.{TypeRefusal}
-use Rattle.types.specs.declared.label.ItemPlace.{ItemPlace}
-use Rattle.types.specs.declared.label.LabelPlace.{LabelPlace}
+use Rattle.types.specs.declared.label.ItemContext.{ItemContext}
+use Rattle.types.specs.declared.label.LabelContext.{LabelContext}
 use Rattle.types.specs.declared.variables.NewSlot.{NewSlot}
 use Rattle.types.specs.declared.program.ItemTables.{ItemTables}
 use Rattle.types.specs.declared.scope.Meaning.{Meaning}
 use Rattle.types.specs.declared.scope.Names.{Names}
+use Rattle.types.specs.Buckets.{found_short}
 use Rattle.types.specs.ShortNames.{number_of}
 use Rattle.types.specs.declared.scope.FoundArray.{FoundArray}
 use Rattle.types.specs.declared.scope.FoundScalar.{FoundScalar}
@@ -57,14 +57,14 @@ itself x = x
 
 -- ---- names
 
--- what is found of a name, which has a number or not, in the table of short names or in that of the others
-abbrev pub found_at : BTreeMap ℕ Meaning → BTreeMap (String Global) Meaning → List ℕ → Option ℕ → Option Meaning
-found_at short long name (Some number) = get nat_cmp short number
+-- what is found of a name: of a short one by its number, of any other one by its text
+abbrev pub found_at : (short : ℕ → Option Meaning) → BTreeMap (String Global) Meaning → List ℕ → Option ℕ → Option Meaning
+found_at short long name (Some number) = short number
 found_at short long name None = get_by_text long name
 
 -- what a table of names says of a name
 abbrev pub found_in : Names → Environment
-found_in table name = found_at table.short.meanings table.long name (number_of name)
+found_in table name = found_at (found_short table.short.shift table.short.buckets.items table.short.others) table.long name (number_of name)
 
 abbrev pub texts_of : List (Bor (List ℕ)) → List (List ℕ)
 texts_of names = map (λ name. name.now) names
@@ -73,7 +73,7 @@ texts_of names = map (λ name. name.now) names
 abbrev pub without : List (List ℕ) → Environment → Environment
 without removed names other = if list_any (λ name. bytes_eq name other) removed then None else names other
 
--- the names of one table, and behind them those of another
+-- the names of one table, and after them those of another
 abbrev pub or_else : {A : Type 0} → Option A → Option A → Option A
 or_else (Some x) other = Some x
 or_else None other = other
@@ -97,17 +97,17 @@ top_view top = record {
 }
 
 -- the locals that a label may name, and else the items
-abbrev pub label_scope_of : LabelPlace → LabelScope
-label_scope_of place = record {
-  hierarchy = place.hierarchy.now;
-  names = λ name. or_else (option_and_then (λ locals. found_in locals.now name) place.locals) (found_in place.top.now name);
-  globals = place.variables.now.globals;
-  slots = map (slot_entry place.variables.now.labels) place.slots.now;
+abbrev pub label_scope_of : LabelContext → LabelScope
+label_scope_of context = record {
+  hierarchy = context.hierarchy.now;
+  names = λ name. or_else (option_and_then (λ locals. found_in locals.now name) context.locals) (found_in context.top.now name);
+  globals = context.variables.now.globals;
+  slots = map (slot_entry context.variables.now.labels) context.slots.now;
 }
 
 -- what the labels of an item may name, where these variables are declared before it
-abbrev pub item_scope : ItemPlace → VariableEntries → LabelScope
-item_scope place variables = heads place.hierarchy.now (top_view place.top.now) variables.globals
+abbrev pub item_scope : ItemContext → VariableEntries → LabelScope
+item_scope context variables = heads context.hierarchy.now (top_view context.top.now) variables.globals
 
 -- ---- bodies
 
@@ -153,7 +153,7 @@ pub record IsLater (before after : BodyScope) : Type 0 where
   pub declared : take (length before.declared.items) after.declared.items ≡ before.declared.items
   pub locals : (name : List ℕ) → found_in before.locals name ≡ without (texts_of (drop (length before.declared.items) after.declared.items)) (found_in after.locals) name
 
--- what is found together with the point behind it
+-- what is found together with the point after it
 abbrev pub at_point : {X A : Type 0} → BodyScope → (X → A) → X → Point × A
 at_point body view x = (point_of body, view x)
 

@@ -1,6 +1,6 @@
 //! Statements, and the blocks and handlers that they hold.
 
-ghost use Rattle.types.specs.Statements.{behind_block, block_finding, catches_finding, statement_finding, statements_finding};
+ghost use Rattle.types.specs.Statements.{after_block, block_finding, catches_finding, statement_finding, statements_finding};
 ghost use Rattle.types.specs.Views.{Resolves, IsLater, at_point, block_view, handlers_view, point_of, setting_of, taken};
 ghost use Rattle.resolved.specs.TreeOf.{statement_of};
 ghost use Rattle.std.specs.Prelude.{OnOk, map, ◌+◌, ◌<◌, ◌≡◌, ◌≤◌};
@@ -17,7 +17,7 @@ use resolved::statement::{Exit, Handler, Statement};
 use syntax::{Block, Catch};
 
 impl<'a, 'n> BodyScope<'a, 'n> {
-    /// Resolves a block. Its locals are in scope to its end and keep their slots; behind it the names from before it are in scope
+    /// Resolves a block. Its locals are in scope to its end and keep their slots; after it the names from before it are in scope
     /// again. Precondition: slots and loops stay within the most nodes of a program.
     ///
     /// # Errors
@@ -40,7 +40,7 @@ impl<'a, 'n> BodyScope<'a, 'n> {
         Ok(made)
     }
 
-    /// Resolves the body of a procedure, behind which no name is looked up: its locals need not be taken out.
+    /// Resolves the body of a procedure, after which no name is looked up: its locals need not be taken out.
     ///
     /// # Errors
     ///
@@ -49,7 +49,7 @@ impl<'a, 'n> BodyScope<'a, 'n> {
     pub fn resolve_body(&mut self, written: &Block<'n>) -> Result<Vec<Statement>, TypeFault>
         requires room { taken self.old + block_nodes (block_tree written.now) < most_nodes }
         ensures made { Resolves (λ body. (
-          behind_block (point_of self.old) (point_of self.new),
+          after_block (point_of self.old) (point_of self.new),
           block_view body,
         )) result
             (block_finding (setting_of self.old) (point_of self.old) (block_tree written.now)) }

@@ -8,7 +8,7 @@ ghost use Rattle.syntax.specs.Limits.{most_nodes};
 ghost use Rattle.syntax.specs.Tree.{name_tree};
 
 use crate::fault::TypeFault;
-use crate::label::{ItemPlace, LabelPlace};
+use crate::label::{ItemContext, LabelContext};
 use crate::scope::{Meaning, Names, find, insert};
 use crate::top::TopNames;
 use crate::variables::{DeclaredVariables, NewSlot};
@@ -35,31 +35,31 @@ pub struct BodyScope<'a, 'n> {
 impl<'a, 'n> BodyScope<'a, 'n> {
     /// The point before the first parameter.
     pub fn new(
-        place: &ItemPlace<'a>,
+        context: &ItemContext<'a>,
         variables: DeclaredVariables,
         value: Option<Base>,
     ) -> BodyScope<'a, 'n>
         ensures setting { setting_of result ≡
             record {
-              hierarchy = place.now.hierarchy.now;
+              hierarchy = context.now.hierarchy.now;
               globals = variables.globals;
-              signatures = map signature_view place.now.top.now.signatures.items;
+              signatures = map signature_view context.now.top.now.signatures.items;
               result = value;
             } }
         ensures point { point_of result ≡
-            record { names = found_in place.now.top.now.names; slots = variables.slots; loops = 0 } }
-        ensures scope { item_scope_of result ≡ item_scope place.now variables }
+            record { names = found_in context.now.top.now.names; slots = variables.slots; loops = 0 } }
+        ensures scope { item_scope_of result ≡ item_scope context.now variables }
         ensures variables { result.variables ≡ variables }
         ensures taken { taken result ≡ length variables.labels + length variables.slots }
     {
         BodyScope {
-            alloc: place.alloc,
-            hierarchy: place.hierarchy,
-            top: place.top,
+            alloc: context.alloc,
+            hierarchy: context.hierarchy,
+            top: context.top,
             variables,
             result: value,
-            locals: Names::new(place.alloc),
-            declared: Vec::new(place.alloc),
+            locals: Names::new(context.alloc),
+            declared: Vec::new(context.alloc),
             loops: 0,
         }
     }
@@ -73,12 +73,12 @@ impl<'a, 'n> BodyScope<'a, 'n> {
     }
 
     /// What the label of a local may name here.
-    pub fn label_place(&self) -> LabelPlace<'_>
+    pub fn label_context(&self) -> LabelContext<'_>
         ensures scope { label_scope_of result ≡
             label_scope (setting_of self.now) (point_of self.now) }
         ensures variables { result.variables.now ≡ self.now.variables }
     {
-        LabelPlace {
+        LabelContext {
             alloc: self.alloc,
             hierarchy: self.hierarchy,
             top: &self.top.names,
@@ -89,16 +89,16 @@ impl<'a, 'n> BodyScope<'a, 'n> {
     }
 
     /// What the label of a parameter may name.
-    pub fn item_label_place(&self) -> LabelPlace<'_>
+    pub fn item_label_context(&self) -> LabelContext<'_>
         ensures scope { label_scope_of result ≡ item_scope_of self.now }
         ensures variables { result.variables.now ≡ self.now.variables }
     {
-        let place = ItemPlace {
+        let context = ItemContext {
             alloc: self.alloc,
             hierarchy: self.hierarchy,
             top: self.top,
         };
-        place.label_place(&self.variables)
+        context.label_context(&self.variables)
     }
 
     /// Declares a parameter or local of this name, which takes the next slot. Precondition: it is the name of the slot, and there are

@@ -8,7 +8,7 @@ ghost use Rattle.resolved.specs.WellFormed.{cell_count};
 ghost use Rattle.std.specs.Prelude.{IfOk, map, nat_le, ◌≡◌, ◌≤◌};
 ghost use Rattle.syntax.specs.Tree.{global_value_tree, item_tree};
 
-use crate::fault::{TypeDefect, TypeFault, TypeRefusal};
+use crate::fault::{TypeFault, TypeRefusal, TypeRefusalKind};
 use crate::program::ItemTables;
 use common::OrNoMemory;
 use common::limits::MAX_CELLS;
@@ -38,7 +38,7 @@ fn add_global(cells: u32, item: &Item<'_>) -> Result<u32, TypeFault>
                 Ok(cells + more)
             } else {
                 Err(OrNoMemory::Refused(TypeRefusal {
-                    defect: TypeDefect::TooManyCells,
+                    kind: TypeRefusalKind::TooManyCells,
                     at: global.name.at,
                 }))
             }
@@ -90,7 +90,7 @@ pub fn limit_frames(tables: &ItemTables) -> Result<(), TypeFault>
     for procedure in tables.procedures.as_slice() {
         if !fits(procedure.slots.as_slice()) {
             return Err(OrNoMemory::Refused(TypeRefusal {
-                defect: TypeDefect::TooManyCells,
+                kind: TypeRefusalKind::TooManyCells,
                 at: procedure.at,
             }));
         }

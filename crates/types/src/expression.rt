@@ -7,7 +7,7 @@ ghost use Rattle.std.specs.Prelude.{ℕ, ◌≡◌};
 ghost use Rattle.syntax.specs.Tree.{BinaryTree, ElementTree, UnaryTree, expression_tree, name_tree};
 
 use crate::body::BodyScope;
-use crate::fault::{TypeDefect, TypeFault, TypeRefusal};
+use crate::fault::{TypeFault, TypeRefusal, TypeRefusalKind};
 use crate::operator::{
     base_of_prefix, combine, is_same, operands_base, prefix_of, use_of, value_base,
 };
@@ -45,7 +45,7 @@ impl TypedExpression {
             Ok(self.expression)
         } else {
             Err(OrNoMemory::Refused(TypeRefusal {
-                defect: TypeDefect::WrongType,
+                kind: TypeRefusalKind::WrongType,
                 at,
             }))
         }

@@ -1,4 +1,4 @@
-ghost use Rattle.types.specs.Defects.{name_defect_number, name_defect_words};
+ghost use Rattle.types.specs.RefusalKinds.{name_refusal_number, name_refusal_words};
 ghost use Rattle.std.specs.Prelude.{◌≡◌, Some};
 
 use common::OrNoMemory;
@@ -8,7 +8,7 @@ use std::fmt;
 
 /// What can be wrong with the names, types and sizes of a program.
 #[derive(Clone, Copy, Debug, PartialEq, Eq, Drop)]
-pub enum TypeDefect {
+pub enum TypeRefusalKind {
     /// 301: a name that is not declared, or not in scope.
     UnknownName,
     /// 302: a name that is declared already.
@@ -31,40 +31,40 @@ pub enum TypeDefect {
     TooManyCells,
 }
 
-impl TypeDefect {
-    /// The number that the defect is reported by: 301 to 305, 401 to 403, 703 or 704.
+impl TypeRefusalKind {
+    /// The number that the refusal is reported by: 301 to 305, 401 to 403, 703 or 704.
     pub fn number(self) -> u32
-        ensures { result ≡ name_defect_number self }
+        ensures { result ≡ name_refusal_number self }
     {
         match self {
-            TypeDefect::UnknownName => 301,
-            TypeDefect::DeclaredTwice => 302,
-            TypeDefect::UnknownPrincipal => 303,
-            TypeDefect::NoProperMain => 304,
-            TypeDefect::LabelNotWritten => 305,
-            TypeDefect::WrongType => 401,
-            TypeDefect::WrongArgumentCount => 402,
-            TypeDefect::WrongUse => 403,
-            TypeDefect::ArraySize => 703,
-            TypeDefect::TooManyCells => 704,
+            TypeRefusalKind::UnknownName => 301,
+            TypeRefusalKind::DeclaredTwice => 302,
+            TypeRefusalKind::UnknownPrincipal => 303,
+            TypeRefusalKind::NoProperMain => 304,
+            TypeRefusalKind::LabelNotWritten => 305,
+            TypeRefusalKind::WrongType => 401,
+            TypeRefusalKind::WrongArgumentCount => 402,
+            TypeRefusalKind::WrongUse => 403,
+            TypeRefusalKind::ArraySize => 703,
+            TypeRefusalKind::TooManyCells => 704,
         }
     }
 
-    /// The words that the defect is reported by.
+    /// The words that the refusal is reported by.
     pub fn words(self) -> &'static str
-        ensures { result.now ≡ name_defect_words self }
+        ensures { result.now ≡ name_refusal_words self }
     {
         match self {
-            TypeDefect::UnknownName => "unknown name",
-            TypeDefect::DeclaredTwice => "declared twice",
-            TypeDefect::UnknownPrincipal => UNKNOWN_PRINCIPAL_WORDS,
-            TypeDefect::NoProperMain => "no proper main",
-            TypeDefect::LabelNotWritten => "label not written",
-            TypeDefect::WrongType => "wrong type",
-            TypeDefect::WrongArgumentCount => "wrong argument count",
-            TypeDefect::WrongUse => "wrong use",
-            TypeDefect::ArraySize => "array size",
-            TypeDefect::TooManyCells => "too many cells",
+            TypeRefusalKind::UnknownName => "unknown name",
+            TypeRefusalKind::DeclaredTwice => "declared twice",
+            TypeRefusalKind::UnknownPrincipal => UNKNOWN_PRINCIPAL_WORDS,
+            TypeRefusalKind::NoProperMain => "no proper main",
+            TypeRefusalKind::LabelNotWritten => "label not written",
+            TypeRefusalKind::WrongType => "wrong type",
+            TypeRefusalKind::WrongArgumentCount => "wrong argument count",
+            TypeRefusalKind::WrongUse => "wrong use",
+            TypeRefusalKind::ArraySize => "array size",
+            TypeRefusalKind::TooManyCells => "too many cells",
         }
     }
 }
@@ -72,15 +72,15 @@ impl TypeDefect {
 /// Why a syntax tree has no resolved one: what is wrong, and the byte at which it stands.
 #[derive(Clone, Copy, Debug, PartialEq, Eq, Drop)]
 pub struct TypeRefusal {
-    pub defect: TypeDefect,
+    pub kind: TypeRefusalKind,
     pub at: usize,
 }
 
 impl fmt::Display for TypeRefusal {
-    ghost output = { λ refusal. Some (name_defect_words refusal.defect) };
+    ghost output = { λ refusal. Some (name_refusal_words refusal.kind) };
 
     fn fmt<W: fmt::Write>(&self, f: &mut fmt::Formatter<W>) -> fmt::Result {
-        write!(f, "{}", self.defect.words())
+        write!(f, "{}", self.kind.words())
     }
 }
 

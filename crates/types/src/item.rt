@@ -12,8 +12,8 @@ ghost use Rattle.syntax.specs.Tree.{channel_tree, constant_tree, global_tree, gl
 ghost use Rattle.syntax.specs.Written.{Anywhere, IsInteger, IsNameWithin, IsWrittenConstant, IsWrittenGlobalValue};
 ghost use Rattle.common.specs.declared.limits.TheConstants.{MAX_TEXT};
 
-use crate::fault::{TypeDefect, TypeFault, TypeRefusal};
-use crate::label::ItemPlace;
+use crate::fault::{TypeFault, TypeRefusal, TypeRefusalKind};
+use crate::label::ItemContext;
 use crate::operator::{base_of, is_same};
 use crate::statement::resolve_size;
 use crate::variables::DeclaredVariables;
@@ -29,20 +29,20 @@ use syntax::{Constant, GlobalValue};
 /// 301, 303, 305 and 403 in its label; or out of memory.
 #[tactic(auto, unfolding(crate::specs::Resolution::channel_finding))]
 pub fn resolve_channel(
-    place: &ItemPlace<'_>,
+    context: &ItemContext<'_>,
     variables: &mut DeclaredVariables,
     written: &syntax::Channel<'_>,
 ) -> Result<Channel, TypeFault>
     requires room { length variables.old.labels < most_nodes }
     ensures made { Resolves (λ channel. channel_entry variables.new.labels channel) result
-        (channel_finding (item_scope place.now variables.old) (channel_tree written.now)) }
+        (channel_finding (item_scope context.now variables.old) (channel_tree written.now)) }
     ensures inside { IfOk result (λ channel. IsInside variables.new.labels channel.label) }
     ensures more { OnOk result (HasMoreLabels 1 variables.old variables.new) }
 {
-    let label = place.add_label(variables, &written.label)?;
+    let label = context.add_label(variables, &written.label)?;
     Ok(Channel {
         direction: written.direction,
-        name: String::from_str(place.alloc, written.name.text)?,
+        name: String::from_str(context.alloc, written.name.text)?,
         label,
     })
 }
@@ -102,7 +102,7 @@ fn resolve_first_value(base: Base, value: &GlobalValue) -> Result<(Option<u32>, 
                 Ok((None, value))
             } else {
                 Err(OrNoMemory::Refused(TypeRefusal {
-                    defect: TypeDefect::WrongType,
+                    kind: TypeRefusalKind::WrongType,
                     at: at_of(*constant),
                 }))
             }
@@ -120,7 +120,7 @@ fn resolve_first_value(base: Base, value: &GlobalValue) -> Result<(Option<u32>, 
 /// 703 where it is an array of another length than 1 to 65,536; or out of memory.
 #[tactic(auto, unfolding(crate::specs::Resolution::global_finding))]
 pub fn resolve_global(
-    place: &ItemPlace<'_>,
+    context: &ItemContext<'_>,
     variables: &mut DeclaredVariables,
     written: &syntax::GlobalVariable<'_>,
 ) -> Result<GlobalVariable, TypeFault>
@@ -128,15 +128,15 @@ pub fn resolve_global(
         (global_value_tree written.now.value) }
     requires room { length variables.old.labels < most_nodes }
     ensures made { Resolves (λ global. global_entry variables.new.labels global) result
-        (global_finding (item_scope place.now variables.old) (global_tree written.now)) }
+        (global_finding (item_scope context.now variables.old) (global_tree written.now)) }
     ensures inside { IfOk result (λ global. IsInside variables.new.labels global.label) }
     ensures more { OnOk result (HasMoreLabels 1 variables.old variables.new) }
 {
-    let label = place.add_label(variables, &written.label)?;
+    let label = context.add_label(variables, &written.label)?;
     let base = base_of(written.base);
     let (size, first) = resolve_first_value(base, &written.value)?;
     Ok(GlobalVariable {
-        name: String::from_str(place.alloc, written.name.text)?,
+        name: String::from_str(context.alloc, written.name.text)?,
         base,
         size,
         label,

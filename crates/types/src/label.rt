@@ -11,7 +11,7 @@ ghost use Rattle.types.specs.Labels.{label_finding, named_label_finding, optiona
 ghost use Rattle.types.specs.VariableEntries.{HasMoreLabels, IsInside, IsOptionInside, label_with, optional_label_with};
 ghost use Rattle.types.specs.Views.{Resolves, item_scope, itself, label_scope_of};
 
-use crate::fault::{TypeDefect, TypeFault, TypeRefusal};
+use crate::fault::{TypeFault, TypeRefusal, TypeRefusalKind};
 use crate::scope::{Meaning, Names, find, require_variable};
 use crate::top::TopNames;
 use crate::variables::{DeclaredVariables, LabelParts};
@@ -26,7 +26,7 @@ use syntax::{Component, Name, WrittenLabel};
 /// Where a label stands: what it may name. `top` are the names of the items, `variables` have the globals that are declared before
 /// it, and `locals` and `slots` are the parameters and locals in scope, if the label is that of a local.
 #[derive(Clone, Copy, Drop)]
-pub struct LabelPlace<'a> {
+pub struct LabelContext<'a> {
     pub alloc: Global,
     pub hierarchy: &'a Hierarchy,
     pub top: &'a Names,
@@ -37,7 +37,7 @@ pub struct LabelPlace<'a> {
 
 /// Where the items stand: the principals, and the names of the items.
 #[derive(Clone, Copy, Drop)]
-pub struct ItemPlace<'a> {
+pub struct ItemContext<'a> {
     pub alloc: Global,
     pub hierarchy: &'a Hierarchy,
     pub top: &'a TopNames,
@@ -51,7 +51,7 @@ fn find_principal(hierarchy: &Hierarchy, name: &Name<'_>) -> Result<u32, TypeFau
     match hierarchy.find(name.text) {
         Some(number) => Ok(number),
         None => Err(OrNoMemory::Refused(TypeRefusal {
-            defect: TypeDefect::UnknownPrincipal,
+            kind: TypeRefusalKind::UnknownPrincipal,
             at: name.at,
         })),
     }
@@ -90,15 +90,15 @@ fn resolve_policy(
     Ok(Policy::written(owner, readers))
 }
 
-impl<'a> ItemPlace<'a> {
+impl<'a> ItemContext<'a> {
     /// Where the labels of an item stand, but for those within the body of a procedure. No local is in scope there.
-    pub fn label_place<'b>(&self, variables: &'b DeclaredVariables) -> LabelPlace<'b>
+    pub fn label_context<'b>(&self, variables: &'b DeclaredVariables) -> LabelContext<'b>
     where
         'a: 'b,
         ensures scope { label_scope_of result ≡ item_scope self.now variables.now }
         ensures variables { result.variables.now ≡ variables.now }
     {
-        LabelPlace {
+        LabelContext {
             alloc: self.alloc,
             hierarchy: self.hierarchy,
             top: &self.top.names,
@@ -112,7 +112,7 @@ impl<'a> ItemPlace<'a> {
     ///
     /// # Errors
     ///
-    /// Those of [`LabelPlace::resolve`].
+    /// Those of [`LabelContext::resolve`].
     pub fn add_label(
         &self,
         variables: &mut DeclaredVariables,
@@ -124,7 +124,7 @@ impl<'a> ItemPlace<'a> {
         ensures more { OnOk result (HasMoreLabels 1 variables.old variables.new) }
         ensures inside { IfOk result (λ number. IsInside variables.new.labels number) }
     {
-        let parts = self.label_place(variables).resolve(written)?;
+        let parts = self.label_context(variables).resolve(written)?;
         Ok(variables.add_label(parts)?)
     }
 
@@ -133,7 +133,7 @@ impl<'a> ItemPlace<'a> {
     ///
     /// # Errors
     ///
-    /// Those of [`LabelPlace::resolve`].
+    /// Those of [`LabelContext::resolve`].
     #[tactic(auto, unfolding(crate::specs::Labels::optional_label_finding), using(crate::proofs::LabelNumbers::no_more))]
     pub fn add_optional_label(
         &self,
@@ -155,7 +155,7 @@ impl<'a> ItemPlace<'a> {
     }
 }
 
-impl<'a> LabelPlace<'a> {
+impl<'a> LabelContext<'a> {
     /// What a name stands for.
     pub fn look_up(&self, name: &Name<'_>) -> Option<Meaning>
         ensures { result ≡ (label_scope_of self.now).names (name_tree name.now).text }
@@ -174,20 +174,20 @@ impl<'a> LabelPlace<'a> {
         ensures { Resolves (λ number. label_at self.now.variables.now.labels number) result
             (variable_label_finding (label_scope_of self.now) variable at) }
     {
-        let defect = match variable {
+        let kind = match variable {
             Variable::Global(number) => match self.variables.globals().get(number as usize) {
                 Some(global) => return Ok(global.label),
-                None => TypeDefect::UnknownName,
+                None => TypeRefusalKind::UnknownName,
             },
             Variable::Local(number) => match self.slots.get(number as usize) {
-                None => TypeDefect::UnknownName,
+                None => TypeRefusalKind::UnknownName,
                 Some(slot) => match slot.written {
                     Some(label) => return Ok(label),
-                    None => TypeDefect::LabelNotWritten,
+                    None => TypeRefusalKind::LabelNotWritten,
                 },
             },
         };
-        Err(OrNoMemory::Refused(TypeRefusal { defect, at }))
+        Err(OrNoMemory::Refused(TypeRefusal { kind, at }))
     }
 
     /// The number of the label of the variable of this name.
@@ -228,11 +228,11 @@ impl<'a> LabelPlace<'a> {
         Ok(LabelParts::of(own, named))
     }
 
-    /// Resolves a label that may be left out: gives none where it is, and else what [`LabelPlace::resolve`] gives.
+    /// Resolves a label that may be left out: gives none where it is, and else what [`LabelContext::resolve`] gives.
     ///
     /// # Errors
     ///
-    /// Those of [`LabelPlace::resolve`].
+    /// Those of [`LabelContext::resolve`].
     #[tactic(auto, unfolding(crate::specs::Labels::optional_label_finding))]
     pub fn resolve_optional(
         &self,

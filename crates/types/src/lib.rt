@@ -19,5 +19,5 @@ mod statement;
 mod top;
 mod variables;
 
-pub use fault::{TypeDefect, TypeFault, TypeRefusal};
+pub use fault::{TypeFault, TypeRefusal, TypeRefusalKind};
 pub use program::resolve;

@@ -13,8 +13,8 @@ ghost use Rattle.syntax.specs.Nodes.{optional_label_nodes, procedure_nodes, writ
 ghost use Rattle.syntax.specs.Tree.{written_result_tree, parameter_tree, procedure_tree, thrown_tree};
 
 use crate::body::BodyScope;
-use crate::fault::{TypeDefect, TypeFault, TypeRefusal};
-use crate::label::ItemPlace;
+use crate::fault::{TypeFault, TypeRefusal, TypeRefusalKind};
+use crate::label::ItemContext;
 use crate::operator::base_of;
 use crate::scope::{Meaning, find, require_exception, require_fresh};
 use crate::top::result_of;
@@ -29,13 +29,13 @@ use syntax::{Parameter, WrittenResult};
 /// The value of a procedure, if it gives one, with the number of its label.
 #[tactic(auto, unfolding(crate::specs::Resolution::result_finding))]
 fn resolve_result(
-    place: &ItemPlace<'_>,
+    context: &ItemContext<'_>,
     variables: &mut DeclaredVariables,
     written: &WrittenResult<'_>,
 ) -> Result<Option<ResultType>, TypeFault>
     requires room { length variables.old.labels < most_nodes }
     ensures made { Resolves (λ value. result_entry variables.new.labels value) result
-        (result_finding (item_scope place.now variables.old) (written_result_tree written.now)) }
+        (result_finding (item_scope context.now variables.old) (written_result_tree written.now)) }
     ensures more { OnOk result (HasMoreLabels
         (written_result_nodes (written_result_tree written.now)) variables.old variables.new) }
     ensures inside { IfOk result (λ value. IsResultInside variables.new.labels value) }
@@ -46,7 +46,7 @@ fn resolve_result(
             base,
             label: written,
         } => {
-            let label = place.add_label(variables, written)?;
+            let label = context.add_label(variables, written)?;
             Ok(Some(ResultType {
                 base: base_of(*base),
                 label,
@@ -65,7 +65,7 @@ impl<'a, 'n> BodyScope<'a, 'n> {
         ensures later { OnOk result (IsLater self.old self.new) }
         ensures grows { OnOk result (taken self.new ≤ taken self.old + 2) }
     {
-        let label = self.item_label_place().resolve(&written.label)?;
+        let label = self.item_label_context().resolve(&written.label)?;
         require_fresh(self.look_up(&written.name), written.name.at)?;
         let base = base_of(written.base);
         let variable = Variable::Local(self.variables.slots().len() as u32);
@@ -90,9 +90,9 @@ impl<'a, 'n> BodyScope<'a, 'n> {
     }
 }
 
-/// Puts an exception that a procedure declares behind those that are named before it, which are the ones of the set.
+/// Puts an exception that a procedure declares after those that are named before it, which are the ones of the set.
 fn add_thrown(
-    place: &ItemPlace<'_>,
+    context: &ItemContext<'_>,
     variables: &mut DeclaredVariables,
     seen: &mut IndexSet<u32>,
     throws: &mut Vec<Thrown>,
@@ -103,7 +103,7 @@ fn add_thrown(
         is_thrown (throws_view variables.old.labels throws.old) number }
     requires inside { AreThrownInside variables.old.labels throws.old.items }
     ensures made { Resolves (λ _. throws_view variables.new.labels throws.new) result
-        (next_thrown (item_scope place.now variables.old)
+        (next_thrown (item_scope context.now variables.old)
         (throws_view variables.old.labels throws.old) (thrown_tree written.now)) }
     ensures same { OnOk result ((number : ℕ) → contains nat_eq seen.new number ≡
         is_thrown (throws_view variables.new.labels throws.new) number) }
@@ -111,15 +111,15 @@ fn add_thrown(
     ensures more { OnOk result (HasMoreLabels 1 variables.old variables.new) }
 {
     let name = &written.name;
-    let found = find(&place.top.names, name.text);
+    let found = find(&context.top.names, name.text);
     let number = require_exception(found, name.at)?;
     if !seen.insert(number)? {
         return Err(OrNoMemory::Refused(TypeRefusal {
-            defect: TypeDefect::DeclaredTwice,
+            kind: TypeRefusalKind::DeclaredTwice,
             at: name.at,
         }));
     }
-    let label = place.add_label(variables, &written.label)?;
+    let label = context.add_label(variables, &written.label)?;
     throws.push(Thrown {
         exception: number,
         label,
@@ -130,21 +130,21 @@ fn add_thrown(
 /// The exceptions that a procedure declares in `throws`.
 #[tactic(auto, unfolding(crate::specs::Resolution::throws_finding))]
 fn resolve_throws(
-    place: &ItemPlace<'_>,
+    context: &ItemContext<'_>,
     variables: &mut DeclaredVariables,
     written: &[syntax::Thrown<'_>],
 ) -> Result<Vec<Thrown>, TypeFault>
     requires room { length variables.old.labels + length written.now < most_nodes }
     ensures made { Resolves (λ throws. throws_view variables.new.labels throws) result
-        (throws_finding (item_scope place.now variables.old) (map thrown_tree written.now)) }
+        (throws_finding (item_scope context.now variables.old) (map thrown_tree written.now)) }
     ensures inside { IfOk result (λ throws.
         AreThrownInside variables.new.labels throws.items) }
     ensures more { OnOk result (HasMoreLabels (length written.now) variables.old variables.new) }
 {
-    let mut seen = IndexSet::new(place.alloc);
-    let mut throws = Vec::new(place.alloc);
+    let mut seen = IndexSet::new(context.alloc);
+    let mut throws = Vec::new(context.alloc);
     for one in written {
-        add_thrown(place, variables, &mut seen, &mut throws, one)?;
+        add_thrown(context, variables, &mut seen, &mut throws, one)?;
     }
     Ok(throws)
 }
@@ -213,7 +213,7 @@ fn make_end_label(
     }
 }
 
-/// Resolves a procedure with its body, behind the variables that are declared before it. A begin label that is left out is the least
+/// Resolves a procedure with its body, after the variables that are declared before it. A begin label that is left out is the least
 /// one; an end label that is left out is the join of the begin label and of the labels of the declared exceptions. Precondition: it
 /// has fewer nodes than a program may have beside the labels that there are.
 ///
@@ -224,7 +224,7 @@ fn make_end_label(
 /// counted here.
 #[tactic(auto, unfolding(crate::specs::Resolution::procedure_entry_finding))]
 pub fn resolve_procedure(
-    place: &ItemPlace<'_>,
+    context: &ItemContext<'_>,
     variables: DeclaredVariables,
     written: &syntax::Procedure<'_>,
 ) -> Result<(DeclaredVariables, Procedure), TypeFault>
@@ -232,31 +232,37 @@ pub fn resolve_procedure(
     requires room { length variables.labels + procedure_nodes (procedure_tree written.now) ≤
         most_nodes }
     ensures made { Resolves (λ found. procedure_entry found.0.labels found.1) result
-        (procedure_entry_finding (item_scope place.now variables)
-        (top_view place.now.top.now).signatures (procedure_tree written.now)) }
+        (procedure_entry_finding (item_scope context.now variables)
+        (top_view context.now.top.now).signatures (procedure_tree written.now)) }
     ensures inside { IfOk result (λ found. IsProcedureInside found.0.labels found.1) }
     ensures more { IfOk result (λ found.
         HasMoreLabels (procedure_nodes (procedure_tree written.now)) variables found.0) }
 {
     let mut variables = variables;
-    let value = resolve_result(place, &mut variables, &written.result)?;
-    let begin = place.add_optional_label(&mut variables, &written.begin)?;
+    let value = resolve_result(context, &mut variables, &written.result)?;
+    let begin = context.add_optional_label(&mut variables, &written.begin)?;
     let begin_label = make_begin_label(&variables, begin);
-    let mut body = BodyScope::new(place, variables, result_of(&written.result));
+    let mut body = BodyScope::new(context, variables, result_of(&written.result));
     body.declare_parameters(&written.parameters)?;
-    let end = place.add_optional_label(&mut body.variables, &written.end)?;
-    let throws = resolve_throws(place, &mut body.variables, &written.throws)?;
-    let end_label = make_end_label(place.alloc, &mut body.variables, end, begin_label, &throws)?;
+    let end = context.add_optional_label(&mut body.variables, &written.end)?;
+    let throws = resolve_throws(context, &mut body.variables, &written.throws)?;
+    let end_label = make_end_label(
+        context.alloc,
+        &mut body.variables,
+        end,
+        begin_label,
+        &throws,
+    )?;
     let statements = body.resolve_body(&written.body)?;
     let BodyScope {
         mut variables,
         loops,
         ..
     } = body;
-    let slots = variables.take_slots(place.alloc);
+    let slots = variables.take_slots(context.alloc);
     let procedure = Procedure {
         at: written.name.at,
-        name: String::from_str(place.alloc, written.name.text)?,
+        name: String::from_str(context.alloc, written.name.text)?,
         result: value,
         begin_label,
         end_label,

@@ -13,9 +13,9 @@ ghost use Rattle.syntax.specs.Written.{Anywhere, IsInteger, IsNameWithin, IsWrit
 ghost use Rattle.common.specs.declared.limits.TheConstants.{MAX_TEXT};
 
 use crate::cells::{count_global_cells, limit_frames};
-use crate::fault::{TypeDefect, TypeFault, TypeRefusal};
+use crate::fault::{TypeFault, TypeRefusal, TypeRefusalKind};
 use crate::item::{resolve_channel, resolve_global};
-use crate::label::ItemPlace;
+use crate::label::ItemContext;
 use crate::procedure::resolve_procedure;
 use crate::scope::{Meaning, find};
 use crate::top::TopNames;
@@ -51,16 +51,16 @@ impl ItemTables {
         })
     }
 
-    /// Puts the entry of the next item behind the others of its kind.
+    /// Puts the entry of the next item after the others of its kind.
     #[tactic(auto, unfolding(crate::specs::Resolution::next_item))]
-    fn with_item(self, place: &ItemPlace<'_>, item: &Item<'_>) -> Result<ItemTables, TypeFault>
+    fn with_item(self, context: &ItemContext<'_>, item: &Item<'_>) -> Result<ItemTables, TypeFault>
         requires written { IsWrittenItem Anywhere (IsNameWithin MAX_TEXT) IsInteger
             (item_tree item.now) }
         requires inside { AreTablesInside self }
         requires room { length self.variables.labels + item_nodes (item_tree item.now) ≤
             most_nodes }
         ensures made { Resolves tables_view result
-            (next_item place.now.hierarchy.now (top_view place.now.top.now) (tables_view self)
+            (next_item context.now.hierarchy.now (top_view context.now.top.now) (tables_view self)
             (item_tree item.now)) }
         ensures inside { IfOk result AreTablesInside }
         ensures few { IfOk result (λ tables. length tables.variables.labels ≤
@@ -73,16 +73,16 @@ impl ItemTables {
             mut procedures,
         } = self;
         match item {
-            Item::Channel(one) => channels.push(resolve_channel(place, &mut variables, one)?)?,
+            Item::Channel(one) => channels.push(resolve_channel(context, &mut variables, one)?)?,
             Item::Exception { name, .. } => {
-                exceptions.push(String::from_str(place.alloc, name.text)?)?
+                exceptions.push(String::from_str(context.alloc, name.text)?)?
             }
             Item::Global(one) => {
-                let global = resolve_global(place, &mut variables, one)?;
+                let global = resolve_global(context, &mut variables, one)?;
                 variables.push_global(global)?;
             }
             Item::Procedure(one) => {
-                let (after, procedure) = resolve_procedure(place, variables, one)?;
+                let (after, procedure) = resolve_procedure(context, variables, one)?;
                 variables = after;
                 procedures.push(procedure)?;
             }
@@ -97,17 +97,17 @@ impl ItemTables {
 
     /// The tables of these items, each kind in the order of the text.
     #[tactic(auto, unfolding(crate::specs::Resolution::items_finding))]
-    pub fn of(place: &ItemPlace<'_>, items: &[Item<'_>]) -> Result<ItemTables, TypeFault>
+    pub fn of(context: &ItemContext<'_>, items: &[Item<'_>]) -> Result<ItemTables, TypeFault>
         requires written { All (IsWrittenItem Anywhere (IsNameWithin MAX_TEXT) IsInteger)
             (map item_tree items.now) }
         requires room { sum_by item_nodes (map item_tree items.now) < most_nodes }
         ensures { Resolves tables_view result
-            (items_finding place.now.hierarchy.now (top_view place.now.top.now)
+            (items_finding context.now.hierarchy.now (top_view context.now.top.now)
             (map item_tree items.now)) }
     {
-        let mut tables = ItemTables::empty(place.alloc)?;
+        let mut tables = ItemTables::empty(context.alloc)?;
         for item in items {
-            tables = tables.with_item(place, item)?;
+            tables = tables.with_item(context, item)?;
         }
         Ok(tables)
     }
@@ -120,13 +120,13 @@ pub fn find_main(found: Option<Meaning>, tables: &ItemTables) -> Result<u32, Typ
 {
     let Some(Meaning::Procedure(number)) = found else {
         return Err(OrNoMemory::Refused(TypeRefusal {
-            defect: TypeDefect::NoProperMain,
+            kind: TypeRefusalKind::NoProperMain,
             at: 0,
         }));
     };
     let Some(procedure) = tables.procedures.get(number as usize) else {
         return Err(OrNoMemory::Refused(TypeRefusal {
-            defect: TypeDefect::NoProperMain,
+            kind: TypeRefusalKind::NoProperMain,
             at: 0,
         }));
     };
@@ -134,7 +134,7 @@ pub fn find_main(found: Option<Meaning>, tables: &ItemTables) -> Result<u32, Typ
         Ok(number)
     } else {
         Err(OrNoMemory::Refused(TypeRefusal {
-            defect: TypeDefect::NoProperMain,
+            kind: TypeRefusalKind::NoProperMain,
             at: procedure.at,
         }))
     }
@@ -154,12 +154,12 @@ fn resolve_tables(
         (resolution hierarchy.now (program_tree items.now)) }
 {
     let top = TopNames::of(alloc, items)?;
-    let place = ItemPlace {
+    let context = ItemContext {
         alloc,
         hierarchy,
         top: &top,
     };
-    let tables = ItemTables::of(&place, items)?;
+    let tables = ItemTables::of(&context, items)?;
     let main = find_main(find(&top.names, "main"), &tables)?;
     count_global_cells(items)?;
     limit_frames(&tables)?;
@@ -169,7 +169,7 @@ fn resolve_tables(
 /// The resolved program that a program stands for under a hierarchy: names give way to numbers, labels to their canonical forms, and
 /// each expression has the type that its place wants.
 ///
-/// Precondition: the program is that of a text of at most 1 MiB. Its names are names of at most so many bytes, its integers are at
+/// Precondition: the program is that of a text of at most 1 MiB. Its names are names of at most this many bytes, its integers are at
 /// most 2147483647, and it has at most 1,048,577 nodes.
 ///
 /// # Errors

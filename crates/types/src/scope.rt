@@ -7,7 +7,7 @@ ghost use Rattle.types.specs.Resolution.{nothing_declared};
 ghost use Rattle.types.specs.ShortNames as spec;
 ghost use Rattle.std.specs.Prelude.{OnOk, List, [], ◌∷◌, ◌≡◌, ◌≤◌, None, length, true, ℕ};
 
-use crate::fault::{TypeDefect, TypeFault, TypeRefusal};
+use crate::fault::{TypeFault, TypeRefusal, TypeRefusalKind};
 use crate::short_names::ShortNames;
 use common::OrNoMemory;
 use resolved::expression::{Base, Variable};
@@ -84,7 +84,7 @@ fn word_of(name: &[u8]) -> u64
     number
 }
 
-/// The number of a short name: its bytes are the digits, the first one the last digit, behind a 1.
+/// The number of a short name: its bytes are the digits, the first one the last digit, after a 1.
 fn number_of(name: &[u8]) -> Option<u128>
     ensures { result ≡ spec.number_of name.now }
 {
@@ -172,7 +172,7 @@ pub fn require_fresh(found: Option<Meaning>, at: usize) -> Result<(), TypeFault>
     match found {
         None => Ok(()),
         Some(_) => Err(OrNoMemory::Refused(TypeRefusal {
-            defect: TypeDefect::DeclaredTwice,
+            kind: TypeRefusalKind::DeclaredTwice,
             at,
         })),
     }
@@ -189,12 +189,12 @@ pub fn require_scalar(found: Option<Meaning>, at: usize) -> Result<FoundScalar, 
 {
     match found {
         None => Err(OrNoMemory::Refused(TypeRefusal {
-            defect: TypeDefect::UnknownName,
+            kind: TypeRefusalKind::UnknownName,
             at,
         })),
         Some(Meaning::Scalar(variable, base)) => Ok(FoundScalar { variable, base }),
         Some(_) => Err(OrNoMemory::Refused(TypeRefusal {
-            defect: TypeDefect::WrongUse,
+            kind: TypeRefusalKind::WrongUse,
             at,
         })),
     }
@@ -211,7 +211,7 @@ pub fn require_array(found: Option<Meaning>, at: usize) -> Result<FoundArray, Ty
 {
     match found {
         None => Err(OrNoMemory::Refused(TypeRefusal {
-            defect: TypeDefect::UnknownName,
+            kind: TypeRefusalKind::UnknownName,
             at,
         })),
         Some(Meaning::Array(variable, base, size)) => Ok(FoundArray {
@@ -220,7 +220,7 @@ pub fn require_array(found: Option<Meaning>, at: usize) -> Result<FoundArray, Ty
             size,
         }),
         Some(_) => Err(OrNoMemory::Refused(TypeRefusal {
-            defect: TypeDefect::WrongUse,
+            kind: TypeRefusalKind::WrongUse,
             at,
         })),
     }
@@ -237,12 +237,12 @@ pub fn require_variable(found: Option<Meaning>, at: usize) -> Result<Variable, T
 {
     match found {
         None => Err(OrNoMemory::Refused(TypeRefusal {
-            defect: TypeDefect::UnknownName,
+            kind: TypeRefusalKind::UnknownName,
             at,
         })),
         Some(Meaning::Scalar(variable, _) | Meaning::Array(variable, _, _)) => Ok(variable),
         Some(_) => Err(OrNoMemory::Refused(TypeRefusal {
-            defect: TypeDefect::WrongUse,
+            kind: TypeRefusalKind::WrongUse,
             at,
         })),
     }
@@ -259,12 +259,12 @@ pub fn require_input(found: Option<Meaning>, at: usize) -> Result<u32, TypeFault
 {
     match found {
         None => Err(OrNoMemory::Refused(TypeRefusal {
-            defect: TypeDefect::UnknownName,
+            kind: TypeRefusalKind::UnknownName,
             at,
         })),
         Some(Meaning::Input(channel)) => Ok(channel),
         Some(_) => Err(OrNoMemory::Refused(TypeRefusal {
-            defect: TypeDefect::WrongUse,
+            kind: TypeRefusalKind::WrongUse,
             at,
         })),
     }
@@ -281,12 +281,12 @@ pub fn require_output(found: Option<Meaning>, at: usize) -> Result<u32, TypeFaul
 {
     match found {
         None => Err(OrNoMemory::Refused(TypeRefusal {
-            defect: TypeDefect::UnknownName,
+            kind: TypeRefusalKind::UnknownName,
             at,
         })),
         Some(Meaning::Output(channel)) => Ok(channel),
         Some(_) => Err(OrNoMemory::Refused(TypeRefusal {
-            defect: TypeDefect::WrongUse,
+            kind: TypeRefusalKind::WrongUse,
             at,
         })),
     }
@@ -303,12 +303,12 @@ pub fn require_exception(found: Option<Meaning>, at: usize) -> Result<u32, TypeF
 {
     match found {
         None => Err(OrNoMemory::Refused(TypeRefusal {
-            defect: TypeDefect::UnknownName,
+            kind: TypeRefusalKind::UnknownName,
             at,
         })),
         Some(Meaning::Exception(number)) => Ok(number),
         Some(_) => Err(OrNoMemory::Refused(TypeRefusal {
-            defect: TypeDefect::WrongUse,
+            kind: TypeRefusalKind::WrongUse,
             at,
         })),
     }
@@ -325,12 +325,12 @@ pub fn require_procedure(found: Option<Meaning>, at: usize) -> Result<u32, TypeF
 {
     match found {
         None => Err(OrNoMemory::Refused(TypeRefusal {
-            defect: TypeDefect::UnknownName,
+            kind: TypeRefusalKind::UnknownName,
             at,
         })),
         Some(Meaning::Procedure(number)) => Ok(number),
         Some(_) => Err(OrNoMemory::Refused(TypeRefusal {
-            defect: TypeDefect::WrongUse,
+            kind: TypeRefusalKind::WrongUse,
             at,
         })),
     }

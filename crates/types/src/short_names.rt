@@ -1,45 +1,47 @@
 //! What short names stand for, by their numbers.
 
-ghost use Rattle.std.specs.BTreeMap.{IsEmpty, UpdatesBy, get};
+ghost use Rattle.std.specs.BTreeMap.{get};
 ghost use Rattle.std.specs.Ordering.{nat_cmp};
-ghost use Rattle.std.specs.Prelude.{IfOk, OnOk, ◌≡◌, ◌≤◌, Some, None, slice_set};
-ghost use Rattle.types.specs.Places as spec;
-ghost use Rattle.types.specs.Places.{ArePlaces};
+ghost use Rattle.std.specs.Prelude.{IfOk, OnOk, ◌<◌, ◌≡◌, ◌≤◌, Some, None, ℕ, slice_set};
+ghost use Rattle.types.specs.Buckets as spec;
+ghost use Rattle.types.specs.Buckets.{AreBuckets, Updates, found_short};
 
 use crate::scope::Meaning;
 use std::alloc::{AllocError, Global};
 use std::collections::BTreeMap;
 
-/// How far hashes of 32 bits are shifted where there is no place yet, and in the largest table, which has 65,536 places.
-pub const NO_PLACES: u32 = 30;
+/// How far hashes of 32 bits are shifted where there is no bucket yet, and in the largest table, which has 65,536 buckets.
+pub const NO_BUCKETS: u32 = 29;
 
-pub const MOST_PLACES: u32 = 16;
+pub const MOST_BUCKETS: u32 = 16;
 
-/// What a place knows of the numbers that lead to it.
+/// What a bucket knows of the numbers that lead to it.
 #[derive(Clone, Copy, Debug)]
 pub enum Bucket {
     /// None of them stands for anything.
     Free,
+    /// This one stands for this, and no other one for anything.
+    Alone(u128, Meaning),
+    /// This one stands for this, and the others are looked up in the map.
+    First(u128, Meaning),
     /// They are looked up in the map.
-    Open,
-    /// This one stands for this, the others are looked up in the map.
-    Taken(u128, Meaning),
+    Shared,
 }
 
-/// What the numbers of short names stand for: an ordered map, and before it a table of places, which tells most numbers at once. Each
-/// number leads to one place. No choice of names makes looking them up slow: where many lead to one place, the map finds them.
+/// What the numbers of short names stand for: a table of buckets, to one of which each number leads, and an ordered map of the numbers
+/// that another one keeps from theirs. No choice of names makes looking them up slow: where many lead to one bucket, the map finds them.
 #[derive(Drop)]
 pub struct ShortNames {
-    pub meanings: BTreeMap<u128, Meaning>,
-    pub places: Vec<Bucket>,
+    pub buckets: Vec<Bucket>,
     pub shift: u32,
-    ghost told: { ArePlaces shift places.items meanings },
+    pub others: BTreeMap<u128, Meaning>,
+    ghost placed: { AreBuckets shift buckets.items others },
 }
 
-/// The place that a number leads to in a table of 2^(32 - shift) places: the upper bits of a hash.
-fn place_of(number: u128, shift: u32) -> usize
-    requires { shift ≤ NO_PLACES }
-    ensures { result ≡ spec.place_of shift number }
+/// The bucket that a number leads to in a table of 2^(32 - shift) buckets: the upper bits of a hash.
+fn bucket_of(number: u128, shift: u32) -> usize
+    requires { shift ≤ NO_BUCKETS }
+    ensures { result ≡ spec.bucket_of shift number }
 {
     const WORD: u128 = 4294967296;
     let first = (number % WORD) as u64;
@@ -50,62 +52,150 @@ fn place_of(number: u128, shift: u32) -> usize
     (mixed % 4294967296 >> shift) as usize
 }
 
-/// Sets a place, if the table has it.
-fn set_place(places: &mut Vec<Bucket>, at: usize, place: Bucket)
-    ensures { places.new.items ≡ slice_set places.old.items at place }
+/// Sets a bucket, if the table has it.
+fn set_bucket(buckets: &mut Vec<Bucket>, at: usize, bucket: Bucket)
+    ensures { buckets.new.items ≡ slice_set buckets.old.items at bucket }
 {
-    if let Some(old) = places.get_mut(at) {
-        *old = place;
+    if let Some(old) = buckets.get_mut(at) {
+        *old = bucket;
     }
 }
 
 impl ShortNames {
     /// No number stands for anything.
     pub fn new(alloc: Global) -> ShortNames
-        ensures { IsEmpty result.meanings }
+        ensures { (number : ℕ) →
+            found_short result.shift result.buckets.items result.others number ≡ None }
     {
         ShortNames {
-            meanings: BTreeMap::new(alloc),
-            places: Vec::new(alloc),
-            shift: NO_PLACES,
+            buckets: Vec::new(alloc),
+            shift: NO_BUCKETS,
+            others: BTreeMap::new(alloc),
         }
+    }
+
+    // No number stands for anything, by 2^(32 - shift) buckets.
+    fn with_buckets(alloc: Global, shift: u32) -> Result<ShortNames, AllocError>
+        requires { shift ≤ NO_BUCKETS }
+        ensures { IfOk result (λ names. (number : ℕ) →
+            found_short names.shift names.buckets.items names.others number ≡ None) }
+    {
+        let mut buckets = Vec::new(alloc);
+        buckets.resize(1 << (32 - shift), Bucket::Free)?;
+        Ok(ShortNames {
+            buckets,
+            shift,
+            others: BTreeMap::new(alloc),
+        })
+    }
+
+    // What the bucket of a number knows.
+    fn bucket(&self, number: u128) -> Bucket
+        ensures { result ≡
+            spec.bucket_at self.now.buckets.items (spec.bucket_of self.now.shift number) }
+    {
+        match self.buckets.get(bucket_of(number, self.shift)) {
+            Some(bucket) => *bucket,
+            None => Bucket::Shared,
+        }
+    }
+
+    // What the map has of a number.
+    fn look_up(&self, number: u128) -> Option<Meaning>
+        ensures { result ≡ get nat_cmp self.now.others number }
+    {
+        self.others.get(&number).copied()
     }
 
     /// What a number stands for.
     pub fn find(&self, number: u128) -> Option<Meaning>
-        ensures { result ≡ get nat_cmp self.now.meanings number }
+        ensures { result ≡
+            found_short self.now.shift self.now.buckets.items self.now.others number }
     {
-        match self.places.get(place_of(number, self.shift)) {
-            Some(Bucket::Free) => None,
-            Some(Bucket::Taken(kept, meaning)) if *kept == number => Some(*meaning),
-            _ => self.meanings.get(&number).copied(),
+        match self.bucket(number) {
+            Bucket::Free => None,
+            Bucket::Alone(kept, meaning) => { if kept == number { Some(meaning) } else { None } }
+            Bucket::First(kept, meaning) => {
+                if kept == number {
+                    Some(meaning)
+                } else {
+                    self.look_up(number)
+                }
+            }
+            Bucket::Shared => self.look_up(number),
         }
     }
 
-    // Lets a number stand for this, at its place too.
+    // Lets a number stand for this. Of two that lead to one bucket the later one takes it.
     fn put(&mut self, number: u128, meaning: Meaning) -> Result<(), AllocError>
-        ensures { OnOk result
-            (UpdatesBy nat_cmp (nat_cmp number) self.old.meanings self.new.meanings
-            (Some meaning)) }
+        ensures { OnOk result (Updates number (Some meaning)
+            (found_short self.old.shift self.old.buckets.items self.old.others)
+            (found_short self.new.shift self.new.buckets.items self.new.others)) }
     {
-        self.meanings.insert(number, meaning)?;
-        let place = Bucket::Taken(number, meaning);
-        set_place(&mut self.places, place_of(number, self.shift), place);
-        Ok(())
-    }
-
-    // Makes twice as many places where they are fewer than the numbers.
-    fn widen(&mut self, alloc: Global) -> Result<(), AllocError>
-        ensures { self.new.meanings ≡ self.old.meanings }
-    {
-        if self.places.len() < self.meanings.len() && MOST_PLACES < self.shift {
-            self.places = spread(alloc, self.shift - 1, &self.meanings)?;
-            self.shift -= 1;
+        let at = bucket_of(number, self.shift);
+        match self.bucket(number) {
+            Bucket::Free => {
+                set_bucket(&mut self.buckets, at, Bucket::Alone(number, meaning));
+                Ok(())
+            }
+            Bucket::Alone(kept, before) => {
+                if kept == number {
+                    set_bucket(&mut self.buckets, at, Bucket::Alone(number, meaning));
+                    Ok(())
+                } else {
+                    self.others.insert(kept, before)?;
+                    set_bucket(&mut self.buckets, at, Bucket::First(number, meaning));
+                    Ok(())
+                }
+            }
+            Bucket::First(kept, _) => {
+                if kept == number {
+                    set_bucket(&mut self.buckets, at, Bucket::First(number, meaning));
+                    Ok(())
+                } else {
+                    self.others.insert(number, meaning)?;
+                    Ok(())
+                }
+            }
+            Bucket::Shared => {
+                self.others.insert(number, meaning)?;
+                Ok(())
+            }
         }
-        Ok(())
     }
 
-    /// Lets a number stand for this from now on.
+    // Lets the number that stands in a bucket of another table, if one does, stand for the same here.
+    fn take_over(&mut self, bucket: &Bucket) -> Result<(), AllocError>
+        ensures { OnOk result ((number : ℕ) →
+            found_short self.new.shift self.new.buckets.items self.new.others number ≡
+            spec.told_by bucket.now number
+            (found_short self.old.shift self.old.buckets.items self.old.others number)) }
+    {
+        match bucket {
+            Bucket::Free | Bucket::Shared => Ok(()),
+            Bucket::Alone(kept, meaning) => self.put(*kept, *meaning),
+            Bucket::First(kept, meaning) => self.put(*kept, *meaning),
+        }
+    }
+
+    // The same by a table of twice as many buckets.
+    fn spread(&self, alloc: Global) -> Result<ShortNames, AllocError>
+        requires { MOST_BUCKETS < self.now.shift }
+        ensures { IfOk result (λ names. (number : ℕ) →
+            found_short names.shift names.buckets.items names.others number ≡
+            found_short self.now.shift self.now.buckets.items self.now.others number) }
+    {
+        let mut names = ShortNames::with_buckets(alloc, self.shift - 1)?;
+        for bucket in &self.buckets {
+            names.take_over(bucket)?;
+        }
+        for (number, meaning) in &self.others {
+            names.put(*number, *meaning)?;
+        }
+        Ok(names)
+    }
+
+    /// Lets a number stand for this from now on. There are twice as many buckets where the map has an eighth as many numbers.
     ///
     /// # Errors
     ///
@@ -116,39 +206,40 @@ impl ShortNames {
         number: u128,
         meaning: Meaning,
     ) -> Result<(), AllocError>
-        ensures { OnOk result
-            (UpdatesBy nat_cmp (nat_cmp number) self.old.meanings self.new.meanings
-            (Some meaning)) }
+        ensures { OnOk result (Updates number (Some meaning)
+            (found_short self.old.shift self.old.buckets.items self.old.others)
+            (found_short self.new.shift self.new.buckets.items self.new.others)) }
     {
-        self.put(number, meaning)?;
-        self.widen(alloc)?;
-        Ok(())
+        if self.buckets.len() / 8 <= self.others.len() && MOST_BUCKETS < self.shift {
+            *self = self.spread(alloc)?;
+        }
+        self.put(number, meaning)
     }
 
     /// Lets a number stand for nothing from now on.
     pub fn remove(&mut self, number: u128)
-        ensures { UpdatesBy nat_cmp (nat_cmp number) self.old.meanings self.new.meanings
-            None }
+        ensures { Updates number None
+            (found_short self.old.shift self.old.buckets.items self.old.others)
+            (found_short self.new.shift self.new.buckets.items self.new.others) }
     {
-        self.meanings.remove(&number);
-        set_place(&mut self.places, place_of(number, self.shift), Bucket::Open);
+        let at = bucket_of(number, self.shift);
+        match self.bucket(number) {
+            Bucket::Free => {}
+            Bucket::Alone(kept, _) => {
+                if kept == number {
+                    set_bucket(&mut self.buckets, at, Bucket::Free);
+                }
+            }
+            Bucket::First(kept, _) => {
+                if kept == number {
+                    set_bucket(&mut self.buckets, at, Bucket::Shared);
+                } else {
+                    self.others.remove(&number);
+                }
+            }
+            Bucket::Shared => {
+                self.others.remove(&number);
+            }
+        }
     }
-}
-
-/// A table of places for the map, each of which knows one of its numbers, or that none leads there.
-fn spread(
-    alloc: Global,
-    shift: u32,
-    meanings: &BTreeMap<u128, Meaning>,
-) -> Result<Vec<Bucket>, AllocError>
-    requires { shift ≤ NO_PLACES }
-    ensures { IfOk result (λ places. ArePlaces shift places.items meanings.now) }
-{
-    let mut places = Vec::new(alloc);
-    places.resize(1 << (32 - shift), Bucket::Free)?;
-    for (number, meaning) in meanings {
-        let place = Bucket::Taken(*number, *meaning);
-        set_place(&mut places, place_of(*number, shift), place);
-    }
-    Ok(places)
 }

@@ -10,7 +10,7 @@ ghost use Rattle.syntax.specs.Limits.{most_nodes};
 ghost use Rattle.syntax.specs.Tree.{call_tree, expression_tree, name_tree, optional_expression_tree, optional_label_tree, right_tree, size_tree};
 
 use crate::body::BodyScope;
-use crate::fault::{TypeDefect, TypeFault, TypeRefusal};
+use crate::fault::{TypeFault, TypeRefusal, TypeRefusalKind};
 use crate::operator::is_same;
 use crate::scope::{
     Meaning, require_array, require_exception, require_fresh, require_input, require_output,
@@ -45,7 +45,7 @@ pub fn resolve_size(size: Size) -> Result<u32, TypeFault>
         Ok(size.size)
     } else {
         Err(OrNoMemory::Refused(TypeRefusal {
-            defect: TypeDefect::ArraySize,
+            kind: TypeRefusalKind::ArraySize,
             at: size.at,
         }))
     }
@@ -85,7 +85,7 @@ impl<'a, 'n> BodyScope<'a, 'n> {
         let (parameters, value) = self.top.signature(number);
         if parameters.len() != written.arguments.len() {
             return Err(OrNoMemory::Refused(TypeRefusal {
-                defect: TypeDefect::WrongArgumentCount,
+                kind: TypeRefusalKind::WrongArgumentCount,
                 at: name.at,
             }));
         }
@@ -117,7 +117,7 @@ impl<'a, 'n> BodyScope<'a, 'n> {
             } => {
                 if !is_same(Base::Int, base) {
                     return Err(OrNoMemory::Refused(TypeRefusal {
-                        defect: TypeDefect::WrongType,
+                        kind: TypeRefusalKind::WrongType,
                         at: *receive_at,
                     }));
                 }
@@ -128,7 +128,7 @@ impl<'a, 'n> BodyScope<'a, 'n> {
                 let made = self.resolve_call(call)?;
                 if !gives(base, made.result) {
                     return Err(OrNoMemory::Refused(TypeRefusal {
-                        defect: TypeDefect::WrongType,
+                        kind: TypeRefusalKind::WrongType,
                         at: call.procedure.at,
                     }));
                 }
@@ -196,7 +196,7 @@ impl<'a, 'n> BodyScope<'a, 'n> {
         ensures later { OnOk result (IsLater self.old self.new) }
         ensures grows { OnOk result (taken self.new ≤ taken self.old + 2) }
     {
-        let written = self.label_place().resolve_optional(label)?;
+        let written = self.label_context().resolve_optional(label)?;
         require_fresh(self.look_up(name), name.at)?;
         let variable = Variable::Local(self.variables.slots().len() as u32);
         let statement = self.resolve_right_side(at, variable, base, value)?;
@@ -228,7 +228,7 @@ impl<'a, 'n> BodyScope<'a, 'n> {
         ensures later { OnOk result (IsLater self.old self.new) }
         ensures grows { OnOk result (taken self.new ≤ taken self.old + 2) }
     {
-        let label = self.label_place().resolve_optional(written)?;
+        let label = self.label_context().resolve_optional(written)?;
         require_fresh(self.look_up(name), name.at)?;
         let length = resolve_size(size)?;
         let number = self.variables.slots().len() as u32;
@@ -369,7 +369,7 @@ impl<'a, 'n> BodyScope<'a, 'n> {
             None => match self.result {
                 None => Ok(Statement::Return(at, None)),
                 Some(_) => Err(OrNoMemory::Refused(TypeRefusal {
-                    defect: TypeDefect::WrongType,
+                    kind: TypeRefusalKind::WrongType,
                     at,
                 })),
             },
@@ -377,7 +377,7 @@ impl<'a, 'n> BodyScope<'a, 'n> {
                 let found = self.resolve_expression(value)?;
                 match self.result {
                     None => Err(OrNoMemory::Refused(TypeRefusal {
-                        defect: TypeDefect::WrongType,
+                        kind: TypeRefusalKind::WrongType,
                         at: value.at(),
                     })),
                     Some(base) => {
@@ -385,7 +385,7 @@ impl<'a, 'n> BodyScope<'a, 'n> {
                             Ok(Statement::Return(at, Some(found.expression)))
                         } else {
                             Err(OrNoMemory::Refused(TypeRefusal {
-                                defect: TypeDefect::WrongType,
+                                kind: TypeRefusalKind::WrongType,
                                 at: value.at(),
                             }))
                         }

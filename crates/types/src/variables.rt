@@ -160,7 +160,7 @@ impl DeclaredVariables {
         }
     }
 
-    /// Puts a global behind the others. Precondition: its label is in the table.
+    /// Puts a global after the others. Precondition: its label is in the table.
     ///
     /// # Errors
     ///
@@ -175,7 +175,7 @@ impl DeclaredVariables {
         Ok(())
     }
 
-    // Puts a slot behind the others, whose label is in the table.
+    // Puts a slot after the others, whose label is in the table.
     fn push_slot(&mut self, slot: Slot) -> Result<(), AllocError>
         requires inside { IsOptionInside self.old.labels slot.written }
         ensures { OnOk result (self.new ≡ record self.old {
@@ -186,7 +186,7 @@ impl DeclaredVariables {
         Ok(())
     }
 
-    /// Puts a parameter or local behind the others, which takes the next slot.
+    /// Puts a parameter or local after the others, which takes the next slot.
     ///
     /// # Errors
     ///
@@ -212,7 +212,7 @@ impl DeclaredVariables {
         })
     }
 
-    /// Takes the slots out, behind the procedure that is resolved.
+    /// Takes the slots out, after the procedure that is resolved.
     pub fn take_slots(&mut self, alloc: Global) -> Vec<Slot>
         ensures rest { self.new ≡ record self.old { slots = [] } }
         ensures slots { map (slot_entry self.old.labels) result.items ≡ self.old.slots }

@@ -9,7 +9,7 @@ use Rattle.modules.specs.declared.declaration.Slot.TheVariants.{Scalar, Array}
 use Rattle.verifier.specs.Flow.{Effect, Leaves, Misses, all_popped, and_then, popped}
 use Rattle.verifier.specs.Signatures.{slot_kind}
 use Rattle.verifier.specs.Operands.{bit, packed, blocks, full_blocks}
-use Rattle.verifier.specs.declared.fault.CodeDefect.{CodeDefect}
+use Rattle.verifier.specs.declared.fault.CodeRefusalKind.{CodeRefusalKind}
 use Rattle.verifier.proofs.Packing.{blocks_more, drop_drop, length-blocks}
 
 kinds_of-push : (slots : List Slot) (slot : Slot) → kinds_of (slots ++ slot ∷ []) ≡ kinds_of slots ++ slot_kind (Some slot) ∷ []
@@ -23,7 +23,7 @@ length-kinds_of [] = refl
 length-kinds_of (Scalar kind ∷ slots) = ap suc (length-kinds_of slots)
 length-kinds_of (Array kind count ∷ slots) = ap suc (length-kinds_of slots)
 
--- the kinds of the first so many slots, the last one first
+-- the kinds of the first this many slots, the last one first
 abbrev pub reversed : ℕ → List Slot → List ValueKind
 reversed count slots = reverse (kinds_of (take count slots))
 
@@ -64,7 +64,7 @@ module _ (slots : List Slot) (k count : ℕ) (d : Slot) (more : count ≡ k + 1)
     pub pop_step : (rest : List ValueKind) → popped (Some kind) kinds ≡ Leaves rest → all_popped (map (λ kind. Some kind) (reverse (kinds_of (take count slots)))) kinds ≡ all_popped (map (λ kind. Some kind) (reverse (kinds_of (take k slots)))) rest
     pop_step rest e = first_of (Leaves rest) e
 
-    pub pop_fail : (wrong : CodeDefect) → popped (Some kind) kinds ≡ Misses wrong → all_popped (map (λ kind. Some kind) (reverse (kinds_of (take count slots)))) kinds ≡ Misses wrong
+    pub pop_fail : (wrong : CodeRefusalKind) → popped (Some kind) kinds ≡ Misses wrong → all_popped (map (λ kind. Some kind) (reverse (kinds_of (take count slots)))) kinds ≡ Misses wrong
     pop_fail wrong e = first_of (Misses wrong) e
 
 -- ---- the blocks of parameters
@@ -91,7 +91,7 @@ packing_more kinds slots bs more block count d p full is e =
           ∙ sym (blocks_more (length bs) kinds) ∙ ap (λ n. blocks n kinds) (sym one);
     }
 
--- so many as there are
+-- this many as there are
 take_least : {A : Type 0} (xs : List A) (n count : ℕ) → count ≡ min (length xs) n → take n xs ≡ take count xs
 take_least xs n count h = sym (take_min n xs) ∙ (let least : min n (length xs) ≡ count = omega (arith, h) in ap (λ (j : ℕ). take j xs) least)
 

@@ -10,13 +10,13 @@ use Rattle.modules.specs.Values.{kind_of, is_same_kind}
 use Rattle.modules.specs.declared.instruction.Instruction.TheVariants.{Call, Return, ReturnValue}
 use Rattle.modules.specs.declared.value.ValueKind.{ValueKind}
 use Rattle.modules.specs.declared.value.Cell.{Cell}
-use Rattle.verifier.specs.Refusals.{HasNoDefect}
+use Rattle.verifier.specs.Refusals.{IsNotRefused}
 use Rattle.verifier.specs.Flow.{Effect, Leaves, Misses, and_then, all_popped, effect, exchanged, pushed}
 use Rattle.verifier.specs.Signatures.{called, value_kinds}
-use Rattle.verifier.specs.declared.fault.CodeDefect.TheVariants.{OperandKind}
+use Rattle.verifier.specs.declared.fault.CodeRefusalKind.TheVariants.{OperandKind}
 use Rattle.verifier.proofs.Holds.{same_of, holds_first}
 use Rattle.verifier.proofs.Laws.{start_in_flow}
-use Rattle.verifier.proofs.Rows.{right_kind}
+use Rattle.verifier.proofs.Transitions.{right_kind}
 use Rattle.verifier.proofs.Runs.{Waits, inner, Stands, Good, runs, over, leaves_same, leaves_good, value_good}
 use Rattle.common.specs.declared.limits.TheConstants.{MAX_FRAMES}
 
@@ -61,7 +61,7 @@ get_header [] k p e = absurd (let no : None ≡ Some p = e in cc)
 get_header (x ∷ procedures) zero p e = let same : x ≡ p = cc in ap (λ (q : ProcedureContents). Some (header_of q)) same
 get_header (x ∷ procedures) (suc k) p e = get_header procedures k p e
 
-module _ (m : ModuleContents) (free : HasNoDefect m) (p : ProcedureContents) (s : State) where
+module _ (m : ModuleContents) (free : IsNotRefused m) (p : ProcedureContents) (s : State) where
   -- ---- a call
 
   enters_good : (callee : ProcedureContents) (number : ℕ) (rest : List ValueKind) → Stands m p s (Call number) (map kind_of s.frame.operands) → slice_get m.procedures number ≡ Some callee → effect m p (Call number) (map kind_of s.frame.operands) ≡ Leaves (pushed callee.returned rest) → (arguments left : List Cell) → map kind_of arguments ≡ (header_of callee).parameters → map kind_of left ≡ rest → Good m (machine.enters (machine_code m) s number callee.slots (Some (arguments, left)))
@@ -131,7 +131,7 @@ module _ (m : ModuleContents) (free : HasNoDefect m) (p : ProcedureContents) (s 
   gives_good (Some q) (x ∷ operands) after st is some e =
       let all = and_then_leaves (all_popped (Some q ∷ []) (kind_of x ∷ map kind_of operands)) (λ rest. Leaves rest) after e in
       let r = right_kind (is_same_kind q (kind_of x)) (map kind_of operands) all.0 (all_popped []) all.1.0 in
-      subst (λ (b : Bool). Good m (if b then machine.leaves_value s x s.callers else machine.no_row s)) (sym r.0)
+      subst (λ (b : Bool). Good m (if b then machine.leaves_value s x s.callers else machine.stuck s)) (sym r.0)
       (value_good m free s x st.globals p s.callers (is ∙ ap (λ (k : ValueKind). Some k) (same_of q (kind_of x) r.0)) st.callers)
 
   pub gives_back_good : (after : List ValueKind) → Stands m p s ReturnValue (map kind_of s.frame.operands) → effect m p ReturnValue (map kind_of s.frame.operands) ≡ Leaves after → Good m (machine.returns_value s (slice_get (machine_code m).headers s.frame.procedure))

@@ -20,7 +20,7 @@ unmarked (suc count) = ap (λ l. None ∷ l) (unmarked count)
 
 -- ---- in a word
 
--- how many of so many lowest bits are set
+-- how many of this many lowest bits are set
 abbrev pub low : ℕ → ℕ → ℕ
 low w zero = 0
 low w (suc i) = low w i + bit_at w i
@@ -47,7 +47,7 @@ step zero n h = omega arith
 step (suc zero) n h = omega arith
 step (suc (suc b)) n h = absurd (omega (arith, h))
 
--- the bits of a word behind those of the words before it
+-- the bits of a word after those of the words before it
 pub in-word : (starts : List ℕ) (j i : ℕ) → i ≤ 64 → starts_before starts (64 * j + i) ≡ starts_before starts (64 * j) + low (word starts j) i
 in-word starts j zero h = let same : 64 * j + 0 ≡ 64 * j = omega arith in ap (starts_before starts) same ∙ omega arith
 in-word starts j (suc i) h =
@@ -93,7 +93,7 @@ before-rises starts at (suc more) =
     let next : at + suc more ≡ suc (at + more) = omega arith in
     omega (arith, ap (starts_before starts) next, one-least (has_bit starts (at + more)) (starts_before starts (at + more)), before-rises starts at more)
 
--- behind the last one none is counted
+-- after the last one none is counted
 pub before-clear : (starts : List ℕ) (at more : ℕ) → ((k : ℕ) → at ≤ k → has_bit starts k ≡ false) → starts_before starts (at + more) ≡ starts_before starts at
 before-clear starts at zero clear = let same : at + 0 ≡ at = omega arith in ap (starts_before starts) same
 before-clear starts at (suc more) clear =
@@ -131,7 +131,7 @@ pub no-numbers : (starts : List ℕ) (from count : ℕ) → ((k : ℕ) → has_b
 no-numbers starts from zero clear = refl
 no-numbers starts from (suc count) clear = rw (clear from, no-numbers starts (suc from) count clear) refl
 
--- ---- after one more bit is set, behind all others
+-- ---- after one more bit is set, after all others
 
 module _ (old new : List ℕ) (at : ℕ) (added : (k : ℕ) → has_bit new k ≡ (k == at || has_bit old k)) (clear : (k : ℕ) → at ≤ k → has_bit old k ≡ false) where
   other : (k : ℕ) → k ≢ at → has_bit new k ≡ has_bit old k
@@ -143,11 +143,11 @@ module _ (old new : List ℕ) (at : ℕ) (added : (k : ℕ) → has_bit new k �
   before-at : (k : ℕ) → k ≤ at → starts_before new k ≡ starts_before old k
   before-at k le = before-same new old k (λ n lt. other n (λ e. omega (arith, e, lt, le)))
 
-  pub clear-behind : (k : ℕ) → suc at ≤ k → has_bit new k ≡ false
-  clear-behind k ge = other k (λ e. omega (arith, e, ge)) ∙ clear k (omega (arith, ge))
+  pub clear-after : (k : ℕ) → suc at ≤ k → has_bit new k ≡ false
+  clear-after k ge = other k (λ e. omega (arith, e, ge)) ∙ clear k (omega (arith, ge))
 
   pub one-more-before : (more : ℕ) → starts_before new (suc at + more) ≡ suc (starts_before old at)
-  one-more-before more = before-clear new (suc at) more clear-behind ∙ rw here (ap suc (before-at at (omega arith)))
+  one-more-before more = before-clear new (suc at) more clear-after ∙ rw here (ap suc (before-at at (omega arith)))
 
   pub number-added : (count : ℕ) → at < count → numbers_of new 0 count ≡ set (numbers_of old 0 count) at (Some (starts_before old at))
   number-added count h =

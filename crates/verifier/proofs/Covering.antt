@@ -37,7 +37,7 @@ contains_sorted handlers sorted h o c = Contains-permutation sorted handlers h (
 
 -- a handler that covers an offset is there only if one of its end is
 module _ (c : Coverage) (at : ℕ) (good : IsCoverage c) where
-  -- the first number above the offset is the end of a handler that starts behind it
+  -- the first number above the offset is the end of a handler that starts after it
   pub later_waits : (index : ℕ) (h : Handler) → index < length c.handlers.items → h ≡ get_or c.handlers.items index h → at < h.start → ((k : ℕ) → k < index → leaf c.ends k ≤ at) → (x : Handler) → Waits c x → x.start ≤ at → at < x.end → ⊥
   later_waits index h inside is later first x w low high = elim (good.ends w.index x w.inside w.there) [
     | inl zero_is ↦ omega (arith, zero_is, w.waits)
@@ -53,7 +53,7 @@ module _ (c : Coverage) (at : ℕ) (good : IsCoverage c) where
   pub above_inside : (index : ℕ) → at < leaf c.ends index → index < length c.handlers.items
   above_inside index above = elim (cases_lt index (length c.handlers.items)) [
     | inl less ↦ less
-    | inr from ↦ absurd (omega (arith, good.behind index from, above))
+    | inr from ↦ absurd (omega (arith, good.after index from, above))
   ]
 
 -- a handler was taken: its number is 0

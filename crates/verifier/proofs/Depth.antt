@@ -13,8 +13,8 @@ use Rattle.verifier.specs.Flow.{Effect, Leaves, Misses, all_popped, and_then, ex
 use Rattle.verifier.specs.Signatures.{Signature, signature}
 use Rattle.modules.specs.Targets.{goes_on}
 use Rattle.verifier.specs.Operands.{greatest, list_of, IsShared}
-use Rattle.verifier.specs.Search.{row, table, IsSearching, HaveLongest}
-use Rattle.verifier.specs.declared.fault.CodeDefect.TheVariants.{OperandKind}
+use Rattle.verifier.specs.Search.{list_for, table, IsSearching, HaveLongest}
+use Rattle.verifier.specs.declared.fault.CodeRefusalKind.TheVariants.{OperandKind}
 use Rattle.verifier.specs.declared.operands.Link.{Link}
 use Rattle.verifier.specs.declared.search.ReachedOffsets.{ReachedOffsets}
 use Rattle.verifier.proofs.Laws.{flow_within}
@@ -78,7 +78,7 @@ left_less true s kinds after e none = split (all_popped s.pops kinds) refl e
     split (Misses wrong) is e = absurd (cc)
     split (Leaves rest) is e = omega (arith, popped_less s.pops kinds rest is, ap length (leaves_same (pushed s.pushes rest) after e), ap (λ (o : Option ValueKind). length (pushed o rest)) none)
 
--- an instruction behind which control does not go on pushes nothing
+-- an instruction after which control does not go on pushes nothing
 settles : (m : ModuleContents) (p : ProcedureContents) (i : Instruction) → (goes_on i ≡ true) ⊎ ((signature m p i).pushes ≡ None)
 settles m p (Push n) = inl refl
 settles m p (PushBoolean b) = inl refl
@@ -109,15 +109,15 @@ settles m p (Throw exception) = inr refl
 
 -- ---- the lists of a search that is finished
 
-row_there : (lists : List (List ValueKind)) (o : Option ℕ) (kinds : List ValueKind) → row lists o ≡ Some kinds → ((n : ℕ) → o ≡ Some n → n < length lists) → (k : ℕ) × ((k < length lists) × (length kinds ≤ length (list_of lists k)))
-row_there lists None kinds e h = absurd (let no : None ≡ Some kinds = e in cc)
-row_there lists (Some n) kinds e h = let some : Some (list_of lists n) ≡ Some kinds = e in let same : list_of lists n ≡ kinds = cc in (n, (h n refl, omega (arith, ap length same)))
+transition_there : (lists : List (List ValueKind)) (o : Option ℕ) (kinds : List ValueKind) → list_for lists o ≡ Some kinds → ((n : ℕ) → o ≡ Some n → n < length lists) → (k : ℕ) × ((k < length lists) × (length kinds ≤ length (list_of lists k)))
+transition_there lists None kinds e h = absurd (let no : None ≡ Some kinds = e in cc)
+transition_there lists (Some n) kinds e h = let some : Some (list_of lists n) ≡ Some kinds = e in let same : list_of lists n ≡ kinds = cc in (n, (h n refl, omega (arith, ap length same)))
 
 pub run_longest : (m : ModuleContents) (p : ProcedureContents) (s : ReachedOffsets) → IsSearching m p s [] → length s.work ≡ 0 → HaveLongest m p s.operands
 run_longest m p s g empty = record { met = g.met; longest = along }
   where
     in_table : (at : ℕ) (kinds : List ValueKind) → table s at ≡ Some kinds → (k : ℕ) × ((k < length s.operands) × (length kinds ≤ length (list_of s.operands k)))
-    in_table at kinds has = row_there s.operands (get_or s.shapes at None) kinds has (g.numbers at)
+    in_table at kinds has = transition_there s.operands (get_or s.shapes at None) kinds has (g.numbers at)
 
     along : (kinds : List ValueKind) → IsMet m p kinds → (k : ℕ) × ((k < length s.operands) × (length kinds ≤ length (list_of s.operands k)))
     along _ (found flowing at kinds f has) = in_table at kinds (flow_within m p (table s) flowing (table_finished m p s g (no_items s.work empty)) f at kinds has)

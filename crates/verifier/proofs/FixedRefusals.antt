@@ -1,4 +1,4 @@
--- The defects that instructions and handlers have by themselves: the loops that look for the first one, and what is known where
+-- The refusals that instructions and handlers have by themselves: the loops that look for the first one, and what is known where
 -- there is none.
 use Rattle.std.proofs.Common.{◌≡◌, inl, inr, ℕ, zero, suc, ◌+◌, ◌<◌, ◌≤◌, ◌-◌, ◌==◌, if◌then◌else◌, Bool, true, false, List, [], ◌∷◌, ◌++◌, length, drop, get_or, slice_get, Option, Some, None, refl, sym, ap, ◌∙◌, subst, arith}
 use Rattle.std.specs.List.{Contains}
@@ -9,14 +9,14 @@ use Rattle.modules.specs.Code.{width_of, code_length, instruction_at}
 use Rattle.modules.specs.Contents.{ProcedureContents, ModuleContents}
 use Rattle.modules.specs.declared.instruction.Instruction.{Instruction}
 use Rattle.modules.specs.declared.declaration.Handler.{Handler}
-use Rattle.verifier.specs.Fixed.{instruction_defect, instruction_refusals, handler_defect, handler_refusals, procedure_refusals, fixed_refusals, refusals_at, unless, is_start, is_end, has_right_offsets}
+use Rattle.verifier.specs.Fixed.{instruction_refusal, instruction_refusals, handler_refusal, handler_refusals, procedure_refusals, fixed_refusals, refusals_at, unless, is_start, is_end, has_right_offsets}
 use Rattle.verifier.specs.Verified.{own_refusals}
 use Rattle.modules.specs.declared.instruction.Instruction.TheVariants.{Jump, JumpIfFalse}
 use Rattle.modules.specs.Machine.{machine_code}
 use Rattle.modules.specs.Targets.{target_of}
 use Rattle.verifier.specs.Boundaries.{IsBoundary, KeepsBoundaries}
-use Rattle.verifier.specs.declared.fault.CodeDefect.{CodeDefect}
-use Rattle.verifier.specs.declared.fault.CodeDefect.TheVariants as defect
+use Rattle.verifier.specs.declared.fault.CodeRefusalKind.{CodeRefusalKind}
+use Rattle.verifier.specs.declared.fault.CodeRefusalKind.TheVariants as kind
 use Rattle.verifier.proofs.Offsets.{next_boundary}
 use Rattle.verifier.specs.declared.fault.CodeRefusal.{CodeRefusal}
 use Rattle.common.proofs.Cases.{append_empty}
@@ -24,14 +24,14 @@ use Rattle.common.proofs.Cases.{append_empty}
 module _ (m : ModuleContents) (number : ℕ) (procedure : ProcedureContents) where
   -- ---- the loop over instructions
 
-  -- an instruction without a defect adds none
-  pub instructions_on : (offset : ℕ) (code : List Instruction) (k : ℕ) (d : Instruction) → k < length code → instruction_defect m procedure (get_or code k d) ≡ None → instruction_refusals m number procedure offset (drop k code) ≡ instruction_refusals m number procedure (offset + width_of (get_or code k d)) (drop (k + 1) code)
+  -- an instruction that is not refused adds none
+  pub instructions_on : (offset : ℕ) (code : List Instruction) (k : ℕ) (d : Instruction) → k < length code → instruction_refusal m procedure (get_or code k d) ≡ None → instruction_refusals m number procedure offset (drop k code) ≡ instruction_refusals m number procedure (offset + width_of (get_or code k d)) (drop (k + 1) code)
   instructions_on offset code k d h e =
       ap (instruction_refusals m number procedure offset) (drop_more code k d h)
       ∙ ap (λ o. refusals_at number offset o ++ instruction_refusals m number procedure (offset + width_of (get_or code k d)) (drop (k + 1) code)) e
 
-  -- an instruction with a defect is the first refusal of what is left
-  pub first_instruction : (offset : ℕ) (code : List Instruction) (k : ℕ) (d : Instruction) (wrong : CodeDefect) → k < length code → instruction_defect m procedure (get_or code k d) ≡ Some wrong → slice_get (instruction_refusals m number procedure offset (drop k code)) 0 ≡ Some (record { defect = wrong; procedure = number; offset = offset })
+  -- an instruction that is refused is the first refusal of what is left
+  pub first_instruction : (offset : ℕ) (code : List Instruction) (k : ℕ) (d : Instruction) (wrong : CodeRefusalKind) → k < length code → instruction_refusal m procedure (get_or code k d) ≡ Some wrong → slice_get (instruction_refusals m number procedure offset (drop k code)) 0 ≡ Some (record { kind = wrong; procedure = number; offset = offset })
   first_instruction offset code k d wrong h e =
       ap (λ refusals. slice_get refusals 0)
       (ap (instruction_refusals m number procedure offset) (drop_more code k d h)
@@ -39,12 +39,12 @@ module _ (m : ModuleContents) (number : ℕ) (procedure : ProcedureContents) whe
 
   -- ---- the loop over handlers
 
-  pub handlers_on : (handlers : List Handler) (k : ℕ) (d : Handler) → k < length handlers → handler_defect m procedure (get_or handlers k d) ≡ None → handler_refusals m number procedure (drop k handlers) ≡ handler_refusals m number procedure (drop (k + 1) handlers)
+  pub handlers_on : (handlers : List Handler) (k : ℕ) (d : Handler) → k < length handlers → handler_refusal m procedure (get_or handlers k d) ≡ None → handler_refusals m number procedure (drop k handlers) ≡ handler_refusals m number procedure (drop (k + 1) handlers)
   handlers_on handlers k d h e =
       ap (handler_refusals m number procedure) (drop_more handlers k d h)
       ∙ ap (λ o. refusals_at number (get_or handlers k d).start o ++ handler_refusals m number procedure (drop (k + 1) handlers)) e
 
-  pub first_handler : (handlers : List Handler) (k : ℕ) (d : Handler) (wrong : CodeDefect) → k < length handlers → handler_defect m procedure (get_or handlers k d) ≡ Some wrong → slice_get (handler_refusals m number procedure (drop k handlers)) 0 ≡ Some (record { defect = wrong; procedure = number; offset = (get_or handlers k d).start })
+  pub first_handler : (handlers : List Handler) (k : ℕ) (d : Handler) (wrong : CodeRefusalKind) → k < length handlers → handler_refusal m procedure (get_or handlers k d) ≡ Some wrong → slice_get (handler_refusals m number procedure (drop k handlers)) 0 ≡ Some (record { kind = wrong; procedure = number; offset = (get_or handlers k d).start })
   first_handler handlers k d wrong h e =
       ap (λ refusals. slice_get refusals 0)
       (ap (handler_refusals m number procedure) (drop_more handlers k d h)
@@ -76,31 +76,31 @@ module _ (m : ModuleContents) (number : ℕ) where
       ap (λ (ps : List ProcedureContents). slice_get (procedure_refusals m number ps) 0) (drop_more procedures k d h)
       ∙ first_of_front (own_refusals m number (get_or procedures k d)) (procedure_refusals m (number + 1) (drop (k + 1) procedures)) x e
 
--- ---- where there is no defect
+-- ---- where there is no refusal
 
-no_defect : (number offset : ℕ) (o : Option CodeDefect) → refusals_at number offset o ≡ [] → o ≡ None
-no_defect number offset None e = refl
-no_defect number offset (Some wrong) e = absurd (cc)
+not_refused : (number offset : ℕ) (o : Option CodeRefusalKind) → refusals_at number offset o ≡ [] → o ≡ None
+not_refused number offset None e = refl
+not_refused number offset (Some wrong) e = absurd (cc)
 
 module _ (m : ModuleContents) (number : ℕ) (procedure : ProcedureContents) where
-  instructions_right : (offset : ℕ) (code : List Instruction) → instruction_refusals m number procedure offset code ≡ [] → (k : ℕ) (i : Instruction) → slice_get code k ≡ Some i → instruction_defect m procedure i ≡ None
+  instructions_right : (offset : ℕ) (code : List Instruction) → instruction_refusals m number procedure offset code ≡ [] → (k : ℕ) (i : Instruction) → slice_get code k ≡ Some i → instruction_refusal m procedure i ≡ None
   instructions_right offset [] e k i is = absurd (let no : None ≡ Some i = is in cc)
   instructions_right offset (x ∷ code) e zero i is =
-      let both = append_empty (refusals_at number offset (instruction_defect m procedure x)) (instruction_refusals m number procedure (offset + width_of x) code) e in
+      let both = append_empty (refusals_at number offset (instruction_refusal m procedure x)) (instruction_refusals m number procedure (offset + width_of x) code) e in
       let same : x ≡ i = cc in
-      ap (instruction_defect m procedure) (sym same) ∙ no_defect number offset (instruction_defect m procedure x) both.0
+      ap (instruction_refusal m procedure) (sym same) ∙ not_refused number offset (instruction_refusal m procedure x) both.0
   instructions_right offset (x ∷ code) e (suc k) i is =
-      let both = append_empty (refusals_at number offset (instruction_defect m procedure x)) (instruction_refusals m number procedure (offset + width_of x) code) e in
+      let both = append_empty (refusals_at number offset (instruction_refusal m procedure x)) (instruction_refusals m number procedure (offset + width_of x) code) e in
       instructions_right (offset + width_of x) code both.1 k i is
 
-  handlers_right : (handlers : List Handler) → handler_refusals m number procedure handlers ≡ [] → (h : Handler) (k : ℕ) → k < length handlers → get_or handlers k h ≡ h → handler_defect m procedure h ≡ None
+  handlers_right : (handlers : List Handler) → handler_refusals m number procedure handlers ≡ [] → (h : Handler) (k : ℕ) → k < length handlers → get_or handlers k h ≡ h → handler_refusal m procedure h ≡ None
   handlers_right [] e h k inside is = absurd (omega arith)
   handlers_right (x ∷ handlers) e h zero inside is =
-      let both = append_empty (refusals_at number x.start (handler_defect m procedure x)) (handler_refusals m number procedure handlers) e in
+      let both = append_empty (refusals_at number x.start (handler_refusal m procedure x)) (handler_refusals m number procedure handlers) e in
       let same : x ≡ h = is in
-      ap (handler_defect m procedure) (sym same) ∙ no_defect number x.start (handler_defect m procedure x) both.0
+      ap (handler_refusal m procedure) (sym same) ∙ not_refused number x.start (handler_refusal m procedure x) both.0
   handlers_right (x ∷ handlers) e h (suc k) inside is =
-      let both = append_empty (refusals_at number x.start (handler_defect m procedure x)) (handler_refusals m number procedure handlers) e in
+      let both = append_empty (refusals_at number x.start (handler_refusal m procedure x)) (handler_refusals m number procedure handlers) e in
       handlers_right handlers both.1 h k (omega arith) is
 
 procedures_right : (m : ModuleContents) (number : ℕ) (procedures : List ProcedureContents) → procedure_refusals m number procedures ≡ [] → (k : ℕ) (p : ProcedureContents) → slice_get procedures k ≡ Some p → (instruction_refusals m (number + k) p 0 p.code ≡ []) × (handler_refusals m (number + k) p p.handlers ≡ [])
@@ -128,10 +128,10 @@ index_of : (code : List Instruction) (at : ℕ) (i : Instruction) → instructio
 index_of [] at i e = absurd (let no : None ≡ Some i = e in cc)
 index_of (x ∷ code) at i e = later x code at i (λ h. index_of code (at - width_of x) i h) (at == 0) (nat_lt at (width_of x)) e
 
--- a procedure whose instructions and handlers have no defect by themselves
+-- a procedure whose instructions and handlers are not refused by themselves
 pub record IsRight (m : ModuleContents) (p : ProcedureContents) : Type 0 where
-  pub instructions : (at : ℕ) (i : Instruction) → instruction_at p.code at ≡ Some i → instruction_defect m p i ≡ None
-  pub handlers : (h : Handler) → Contains p.handlers h → handler_defect m p h ≡ None
+  pub instructions : (at : ℕ) (i : Instruction) → instruction_at p.code at ≡ Some i → instruction_refusal m p i ≡ None
+  pub handlers : (h : Handler) → Contains p.handlers h → handler_refusal m p h ≡ None
 
 right : (m : ModuleContents) (number : ℕ) (p : ProcedureContents) → instruction_refusals m number p 0 p.code ≡ [] → handler_refusals m number p p.handlers ≡ [] → IsRight m p
 right m number p instructions handlers = record {
@@ -153,21 +153,21 @@ pub started : (o : Option Instruction) → is_some o ≡ true → (i : Instructi
 started None e = absurd (let no : false ≡ true = e in cc)
 started (Some i) e = (i, refl)
 
-pub right_of_unless : (b : Bool) (wrong : CodeDefect) → unless b wrong ≡ None → b ≡ true
+pub right_of_unless : (b : Bool) (wrong : CodeRefusalKind) → unless b wrong ≡ None → b ≡ true
 right_of_unless true wrong e = refl
 right_of_unless false wrong e = absurd (let no : Some wrong ≡ None = e in cc)
 
-pub jump_right : (m : ModuleContents) (p : ProcedureContents) (i : Instruction) (to : ℕ) → instruction_defect m p i ≡ None → target_of i ≡ Some to → is_start p to ≡ true
-jump_right m p (Jump target) to e is = let same : target ≡ to = cc in ap (is_start p) (sym same) ∙ right_of_unless (is_start p target) defect.Jump e
-jump_right m p (JumpIfFalse target) to e is = let same : target ≡ to = cc in ap (is_start p) (sym same) ∙ right_of_unless (is_start p target) defect.Jump e
+pub jump_right : (m : ModuleContents) (p : ProcedureContents) (i : Instruction) (to : ℕ) → instruction_refusal m p i ≡ None → target_of i ≡ Some to → is_start p to ≡ true
+jump_right m p (Jump target) to e is = let same : target ≡ to = cc in ap (is_start p) (sym same) ∙ right_of_unless (is_start p target) kind.Jump e
+jump_right m p (JumpIfFalse target) to e is = let same : target ≡ to = cc in ap (is_start p) (sym same) ∙ right_of_unless (is_start p target) kind.Jump e
 jump_right m p _ to e is = absurd (let no : None ≡ Some to = is in cc)
 
-pub handler_parts : (m : ModuleContents) (p : ProcedureContents) (h : Handler) → handler_defect m p h ≡ None → has_right_offsets p h ≡ true
+pub handler_parts : (m : ModuleContents) (p : ProcedureContents) (h : Handler) → handler_refusal m p h ≡ None → has_right_offsets p h ≡ true
 handler_parts m p h e = split (has_right_offsets p h) refl e
   where
-    split : (b : Bool) → has_right_offsets p h ≡ b → (if b then unless (nat_lt h.exception (machine_code m).exceptions) defect.SlotOrIndex else Some defect.Jump) ≡ None → has_right_offsets p h ≡ true
+    split : (b : Bool) → has_right_offsets p h ≡ b → (if b then unless (nat_lt h.exception (machine_code m).exceptions) kind.SlotOrIndex else Some kind.Jump) ≡ None → has_right_offsets p h ≡ true
     split true is e = is
-    split false is e = absurd (let no : Some defect.Jump ≡ None = e in cc)
+    split false is e = absurd (let no : Some kind.Jump ≡ None = e in cc)
 
 first_boundary : (p : ProcedureContents) (code : List Instruction) → p.code ≡ code → IsBoundary p 0
 first_boundary p [] e = inl (sym (ap code_length e))
@@ -203,7 +203,7 @@ module _ (m q : ModuleContents) (number index : ℕ) (procedures : List Procedur
   pub procedure_none : o ≡ None → slice_get (procedure_refusals m number (drop index procedures)) 0 ≡ slice_get (procedure_refusals m (number + 1) (drop (index + 1) procedures)) 0
   procedure_none e = procedures_on m number procedures index item inside (sym own_are ∙ e)
 
--- behind the last procedure there is none
+-- after the last procedure there is none
 pub none_left : (m : ModuleContents) (number index : ℕ) (procedures : List ProcedureContents) → procedures ≡ m.procedures → length procedures ≤ index → slice_get (procedure_refusals m number (drop index procedures)) 0 ≡ slice_get (procedure_refusals m 0 procedures) 0 → fixed_refusals m ≡ []
 none_left m number index procedures are past same =
     nothing_first (fixed_refusals m)

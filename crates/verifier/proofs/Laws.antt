@@ -7,15 +7,15 @@ use Rattle.modules.specs.Contents.{ProcedureContents, ModuleContents}
 use Rattle.modules.specs.Code.{code_length, instruction_at}
 use Rattle.modules.specs.declared.value.ValueKind.{ValueKind}
 use Rattle.modules.specs.declared.instruction.Instruction.{Instruction}
-use Rattle.verifier.specs.declared.fault.CodeDefect.{CodeDefect}
-use Rattle.verifier.specs.Flow.{Edge, Flow, starts, grows, nowhere, effect, Misses, IsOperandDefect, misses, meets, falls, FlowsWell, between}
+use Rattle.verifier.specs.declared.fault.CodeRefusalKind.{CodeRefusalKind}
+use Rattle.verifier.specs.Flow.{Edge, Flow, starts, grows, nowhere, effect, Misses, IsRefusedForOperands, misses, meets, falls, FlowsWell, between}
 use Rattle.modules.specs.declared.value.ValueKind.TheVariants.{Int, Boolean}
-use Rattle.verifier.specs.declared.fault.CodeDefect.TheVariants.{FallsOffEnd}
+use Rattle.verifier.specs.declared.fault.CodeRefusalKind.TheVariants.{FallsOffEnd}
 
 -- a table that is finished: it has the start, keeps every edge, each of its instructions finds its operands, and none is at the end
 pub record IsFinished (m : ModuleContents) (p : ProcedureContents) (table : ℕ → Option (List ValueKind)) : Type 0 where
   pub first : table 0 ≡ Some []
-  pub finds : (at : ℕ) (kinds : List ValueKind) (i : Instruction) (wrong : CodeDefect) → table at ≡ Some kinds → instruction_at p.code at ≡ Some i → effect m p i kinds ≡ Misses wrong → ⊥
+  pub finds : (at : ℕ) (kinds : List ValueKind) (i : Instruction) (wrong : CodeRefusalKind) → table at ≡ Some kinds → instruction_at p.code at ≡ Some i → effect m p i kinds ≡ Misses wrong → ⊥
   pub keeps : (at : ℕ) (kinds : List ValueKind) (to : ℕ) (after : List ValueKind) → table at ≡ Some kinds → Edge m p at kinds to after → table to ≡ Some after
   pub none_at_end : table (code_length p.code) ≡ None
 
@@ -46,9 +46,9 @@ flow_within m p finished _ d (grows table from before to after f has edge none) 
     ]
 
 pub flows_well : (m : ModuleContents) (p : ProcedureContents) (finished : ℕ → Option (List ValueKind)) → IsFinished m p finished → FlowsWell m p
-flows_well m p finished d offset defect wrong = none offset defect wrong
+flows_well m p finished d offset kind wrong = none offset kind wrong
   where
-    none : (offset : ℕ) (defect : CodeDefect) → IsOperandDefect m p offset defect → ⊥
+    none : (offset : ℕ) (kind : CodeRefusalKind) → IsRefusedForOperands m p offset kind → ⊥
     none _ _ (misses table at kinds i wrong f has is e) = d.finds at kinds i wrong (flow_within m p finished table d f at kinds has) is e
     none _ _ (meets table at kinds to after others f has edge inside there ne) =
         let a = flow_within m p finished table d f at kinds has in
@@ -59,7 +59,7 @@ flows_well m p finished d offset defect wrong = none offset defect wrong
         let a : finished (code_length p.code) ≡ Some kinds = flow_within m p finished table d f (code_length p.code) kinds has in
         absurd (let no : None ≡ Some kinds = sym d.none_at_end ∙ a in cc)
 
--- ---- without a defect, each list that comes along edges stands in a table of the flow
+-- ---- where no rule refuses, each list that comes along edges stands in a table of the flow
 
 kind_cases : (a b : ValueKind) → (a ≡ b) ⊎ (a ≢ b)
 kind_cases Int Int = inl refl
@@ -105,7 +105,7 @@ along_in_flow m p free at kinds to after h edge = cases (h.table to) refl
         ]
 
 -- so an instruction finds its operands, and control does not come to the end
-pub flow_finds : (m : ModuleContents) (p : ProcedureContents) → FlowsWell m p → (at : ℕ) (kinds : List ValueKind) (i : Instruction) (wrong : CodeDefect) → IsInFlow m p at kinds → instruction_at p.code at ≡ Some i → effect m p i kinds ≡ Misses wrong → ⊥
+pub flow_finds : (m : ModuleContents) (p : ProcedureContents) → FlowsWell m p → (at : ℕ) (kinds : List ValueKind) (i : Instruction) (wrong : CodeRefusalKind) → IsInFlow m p at kinds → instruction_at p.code at ≡ Some i → effect m p i kinds ≡ Misses wrong → ⊥
 flow_finds m p free at kinds i wrong h is e = free at wrong (misses h.table at kinds i wrong h.flow h.has is e)
 
 pub flow_stays : (m : ModuleContents) (p : ProcedureContents) → FlowsWell m p → (kinds : List ValueKind) → IsInFlow m p (code_length p.code) kinds → ⊥

@@ -9,7 +9,7 @@ pub mod NeverStuck
 pub mod Offsets
 pub mod Reaching
 pub mod Reported
-pub mod Rows
+pub mod Transitions
 pub mod Runs
 pub mod Shared
 pub mod Packing

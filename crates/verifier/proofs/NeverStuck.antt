@@ -1,4 +1,4 @@
--- A module without a defect is never stuck.
+-- A module that is not refused is never stuck.
 use Rattle.std.proofs.Common.{◌≡◌, inl, inr, ℕ, zero, suc, ◌==◌, Bool, true, false, if◌then◌else◌, List, [], ◌∷◌, map, slice_get, Option, Some, None, refl, sym, ap, ◌∙◌, subst}
 use Rattle.std.specs.Prelude.{ℤ, nat_lt, is_none, is_some}
 use Rattle.std.proofs.lemmas.Bool.{and_parts}
@@ -14,19 +14,19 @@ use Rattle.modules.specs.declared.value.ValueKind.{ValueKind}
 use Rattle.modules.specs.declared.value.Cell.{Cell}
 use Rattle.modules.specs.declared.value.Cell.TheVariants as cell
 use Rattle.modules.specs.declared.declaration.Slot.{Slot}
-use Rattle.verifier.specs.Refusals.{HasNoDefect}
-use Rattle.verifier.specs.Fixed.{instruction_defect}
+use Rattle.verifier.specs.Refusals.{IsNotRefused}
+use Rattle.verifier.specs.Fixed.{instruction_refusal}
 use Rattle.verifier.specs.Flow.{Edge, next, jumps, caught, Flow, starts, grows, nowhere, Effect, Leaves, Misses, and_then, effect}
 use Rattle.verifier.specs.Signatures.{is_array, is_input, is_output, is_scalar, slot_kind}
-use Rattle.verifier.specs.Safety.{HasRow, IsNeverStuck}
+use Rattle.verifier.specs.Safety.{HasTransition, IsNeverStuck}
 use Rattle.verifier.specs.Boundaries.{IsBoundary, KeepsBoundaries}
-use Rattle.verifier.specs.declared.fault.CodeDefect.TheVariants.{SlotOrIndex}
+use Rattle.verifier.specs.declared.fault.CodeRefusalKind.TheVariants.{SlotOrIndex}
 use Rattle.verifier.proofs.Bounds.{IsBounded}
 use Rattle.verifier.proofs.Calls.{get_header, calls_good, returns_good, gives_back_good}
 use Rattle.verifier.proofs.FixedRefusals.{all_right, boundaries, right_of_unless}
 use Rattle.verifier.proofs.Holds.{AllOf, Holds, holds_changed, holds_empty, holds_globals}
 use Rattle.verifier.proofs.Laws.{IsInFlow, start_in_flow, changed_cases, flow_finds, flow_stays}
-use Rattle.verifier.proofs.Rows.{loads_good, stores_good, loads_element_good, stores_element_good, clears_good, computes_good, compares_good, matches_good, drops_good, negates_good, inverts_good, branches_good, sends_good, receives_good}
+use Rattle.verifier.proofs.Transitions.{loads_good, stores_good, loads_element_good, stores_element_good, clears_good, computes_good, compares_good, matches_good, drops_good, negates_good, inverts_good, branches_good, sends_good, receives_good}
 use Rattle.verifier.proofs.Runs.{outermost, Stands, Good, GoodState, runs, over, leaves_same, flows, next_good, jump_good, raised_good}
 
 unpushed : (e : Effect) → and_then e (λ rest. Leaves rest) ≡ e
@@ -51,7 +51,7 @@ procedure_there : (o : Option ProcedureContents) → is_some o ≡ true → (p :
 procedure_there None e = absurd (let no : false ≡ true = e in cc)
 procedure_there (Some p) e = (p, refl)
 
-module _ (m : ModuleContents) (free : HasNoDefect m) (p : ProcedureContents) (s : State) (i : Instruction) (st : Stands m p s i (map kind_of s.frame.operands)) where
+module _ (m : ModuleContents) (free : IsNotRefused m) (p : ProcedureContents) (s : State) (i : Instruction) (st : Stands m p s i (map kind_of s.frame.operands)) where
   slot_here : (k : ℕ) → slot_at (machine_code m) s k ≡ slice_get p.slots k
   slot_here k = ap (λ o. slice_get (slots_of o) k) (get_header m.procedures s.frame.procedure p st.there)
 
@@ -75,8 +75,8 @@ module _ (m : ModuleContents) (free : HasNoDefect m) (p : ProcedureContents) (s 
     callers = st.callers;
   }
 
--- an instruction without a defect whose operands are there acts
-act_good : (m : ModuleContents) → HasNoDefect m → (p : ProcedureContents) (s : State) (i : Instruction) (after : List ValueKind) → Stands m p s i (map kind_of s.frame.operands) → instruction_defect m p i ≡ None → effect m p i (map kind_of s.frame.operands) ≡ Leaves after → Good m (act (machine_code m) i s)
+-- an instruction that is not refused acts where its operands are there
+act_good : (m : ModuleContents) → IsNotRefused m → (p : ProcedureContents) (s : State) (i : Instruction) (after : List ValueKind) → Stands m p s i (map kind_of s.frame.operands) → instruction_refusal m p i ≡ None → effect m p i (map kind_of s.frame.operands) ≡ Leaves after → Good m (act (machine_code m) i s)
 act_good m free p s (Push n) after st d e = next_good m free p s (Push n) _ after (cell.Int n ∷ s.frame.operands) st e refl (leaves_same _ after e)
 act_good m free p s (PushBoolean b) after st d e = next_good m free p s (PushBoolean b) _ after (cell.Bool b ∷ s.frame.operands) st e refl (leaves_same _ after e)
 act_good m free p s Pop after st d e = drops_good m free p Pop s s.frame.operands after st e refl (sym (unpushed _) ∙ e)
@@ -130,7 +130,7 @@ act_good m free p s (Receive channel) after st d e =
 act_good m free p s (Send channel) after st d e =
     sends_good m free p (Send channel) s channel (slice_get (machine_code m).directions channel) s.frame.operands after st e refl (right_of_unless (is_output (slice_get (machine_code m).directions channel)) SlotOrIndex d) (sym (unpushed _) ∙ e)
 act_good m free p s (Throw exception) after st d e =
-    subst (λ (b : Bool). Good m (if b then machine.raised (machine_code m) s exception else machine.no_row s)) (sym (right_of_unless (nat_lt exception (machine_code m).exceptions) SlotOrIndex d))
+    subst (λ (b : Bool). Good m (if b then machine.raised (machine_code m) s exception else machine.stuck s)) (sym (right_of_unless (nat_lt exception (machine_code m).exceptions) SlotOrIndex d))
     (raised_good m free p s (Throw exception) _ exception st)
 
 -- ---- where control goes
@@ -154,7 +154,7 @@ flow_boundary m p boundaries _ (grows table from before to after f has edge none
 
 -- ---- steps
 
-module _ (m : ModuleContents) (free : HasNoDefect m) where
+module _ (m : ModuleContents) (free : IsNotRefused m) where
   instruction_good : (s : State) (g : GoodState m s) (i : Instruction) → instruction_at g.procedure.code s.frame.position ≡ Some i → Good m (act (machine_code m) i s)
   instruction_good s g i is = split (effect m g.procedure i (map kind_of s.frame.operands)) refl
     where
@@ -184,9 +184,9 @@ module _ (m : ModuleContents) (free : HasNoDefect m) where
   exec_good zero machine good = good
   exec_good (suc n) machine good = exec_good n (step (machine_code m) machine) (step_good machine good)
 
-good_row : (m : ModuleContents) (machine : Machine) → Good m machine → HasRow machine
-good_row m _ (runs s g) = tt
-good_row m _ (over ending sent) = tt
+good_transition : (m : ModuleContents) (machine : Machine) → Good m machine → HasTransition machine
+good_transition m _ (runs s g) = tt
+good_transition m _ (over ending sent) = tt
 
 -- ---- the start
 
@@ -198,7 +198,7 @@ main_there (Some p) e = (p, (refl, none p.returned (and_parts (p.parameters == 0
     none None e = refl
     none (Some q) e = absurd (let no : false ≡ true = e in cc)
 
-pub good_after : (m : ModuleContents) → IsBounded m → HasNoDefect m → (world : ℕ → List ℤ) (n : ℕ) → Good m (after_steps m world n)
+pub good_after : (m : ModuleContents) → IsBounded m → IsNotRefused m → (world : ℕ → List ℤ) (n : ℕ) → Good m (after_steps m world n)
 good_after m bounded free world n =
     let main = main_there (slice_get m.procedures m.main) bounded.starts in
     let p = main.0 in
@@ -212,5 +212,5 @@ good_after m bounded free world n =
     }) in
     exec_good m free n (Running (first_state m world)) first
 
-pub never_stuck : (m : ModuleContents) → IsBounded m → HasNoDefect m → IsNeverStuck m
-never_stuck m bounded free = λ world n. good_row m (after_steps m world n) (good_after m bounded free world n)
+pub never_stuck : (m : ModuleContents) → IsBounded m → IsNotRefused m → IsNeverStuck m
+never_stuck m bounded free = λ world n. good_transition m (after_steps m world n) (good_after m bounded free world n)

@@ -32,7 +32,7 @@ packed_with kinds kind bits is = elim (packed_more 63 kinds) [
   | inr e ↦ omega (arith, is, e, packed_small 63 kinds)
 ]
 
--- the kind behind the first so many, which the bits tell
+-- the kind after the first this many, which the bits tell
 pub int_next : (n : ℕ) (kinds : List ValueKind) → n < length kinds → packed (suc n) kinds < 2 ^ n → drop n kinds ≡ Int ∷ drop (suc n) kinds
 int_next n [] h l = absurd (omega arith)
 int_next zero (Int ∷ kinds) h l = refl

@@ -12,17 +12,17 @@ use Rattle.modules.specs.Code.{width_of, code_length, instruction_at}
 use Rattle.modules.specs.declared.value.ValueKind.{ValueKind}
 use Rattle.modules.specs.declared.declaration.Handler.{Handler}
 use Rattle.modules.specs.declared.instruction.Instruction.{Instruction}
-use Rattle.verifier.specs.declared.fault.CodeDefect.{CodeDefect}
+use Rattle.verifier.specs.declared.fault.CodeRefusalKind.{CodeRefusalKind}
 use Rattle.modules.specs.Targets.{goes_on, target_of}
-use Rattle.verifier.specs.Flow.{Edge, next, jumps, caught, Flow, starts, nowhere, grows, misses, meets, falls, IsOperandDefect, FlowsWell, between, effect, all_popped, pushed, exchanged, and_then, Leaves, Misses}
+use Rattle.verifier.specs.Flow.{Edge, next, jumps, caught, Flow, starts, nowhere, grows, misses, meets, falls, IsRefusedForOperands, FlowsWell, between, effect, all_popped, pushed, exchanged, and_then, Leaves, Misses}
 use Rattle.verifier.specs.Signatures.{signature}
 use Rattle.verifier.specs.Operands.{list_of, IsLonger}
 use Rattle.verifier.specs.Boundaries.{IsBoundary, KeepsBoundaries}
 use Rattle.verifier.specs.Coverage.{IsCoverage, Waits}
 use Rattle.verifier.specs.Depth as Depth
 use Rattle.verifier.specs.Depth.{IsMet, found}
-use Rattle.verifier.specs.Search.{row, table, AreMet, IsWaiting, IsFollowed, IsSearching, IsAtEdge, Flowed, KeepsSearching, IsApplied, HasEffect, HasInstruction, StartsWithEmpty, left, unset}
-use Rattle.verifier.specs.declared.fault.CodeDefect.TheVariants.{OperandKind, FallsOffEnd}
+use Rattle.verifier.specs.Search.{list_for, table, AreMet, IsWaiting, IsFollowed, IsSearching, IsAtEdge, Flowed, KeepsSearching, IsApplied, HasEffect, HasInstruction, StartsWithEmpty, left, unset}
+use Rattle.verifier.specs.declared.fault.CodeRefusalKind.TheVariants.{OperandKind, FallsOffEnd}
 use Rattle.verifier.specs.declared.coverage.Coverage.{Coverage}
 use Rattle.verifier.specs.declared.search.ReachedOffsets.{ReachedOffsets}
 use Rattle.verifier.proofs.Offsets.{start_inside}
@@ -45,18 +45,18 @@ unset_set (Some other ∷ shapes) (suc k) list h e = unset_set shapes k list (om
 
 -- nothing is at the end
 pub none_at_end : (m : ModuleContents) (p : ProcedureContents) (s : ReachedOffsets) (busy : List ℕ) → IsSearching m p s busy → table s (code_length p.code) ≡ None
-none_at_end m p s busy g = ap (row s.operands) (past_end s.shapes (code_length p.code) None (omega (arith, g.sized)))
+none_at_end m p s busy g = ap (list_for s.operands) (past_end s.shapes (code_length p.code) None (omega (arith, g.sized)))
 
--- an edge to the end is a defect
-pub falls_at : (m : ModuleContents) (p : ProcedureContents) (s : ReachedOffsets) (busy : List ℕ) (at to : ℕ) (after : List ValueKind) → IsSearching m p s busy → IsAtEdge m p s at to after → to ≡ code_length p.code → IsOperandDefect m p to FallsOffEnd
+-- an edge to the end is refused
+pub falls_at : (m : ModuleContents) (p : ProcedureContents) (s : ReachedOffsets) (busy : List ℕ) (at to : ℕ) (after : List ValueKind) → IsSearching m p s busy → IsAtEdge m p s at to after → to ≡ code_length p.code → IsRefusedForOperands m p to FallsOffEnd
 falls_at m p s busy at to after g e is =
-    subst (λ t. IsOperandDefect m p t FallsOffEnd) (sym is)
+    subst (λ t. IsRefusedForOperands m p t FallsOffEnd) (sym is)
     (falls (updated (table s) (code_length p.code) (Some after)) after (grows (table s) at e.kinds (code_length p.code) after g.flow e.has (subst (λ t. Edge m p at e.kinds t after) is e.edge) (none_at_end m p s busy g)) (changed_at (table s) (code_length p.code) after))
 
--- an edge that brings another list is a defect
-pub meets_at : (m : ModuleContents) (p : ProcedureContents) (s : ReachedOffsets) (busy : List ℕ) (at to : ℕ) (after others : List ValueKind) (defect : CodeDefect) → IsSearching m p s busy → IsAtEdge m p s at to after → to ≢ code_length p.code → table s to ≡ Some others → after ≢ others → defect ≡ between after others → IsOperandDefect m p to defect
-meets_at m p s busy at to after others defect g e inside there ne is =
-    subst (IsOperandDefect m p to) (sym is) (meets (table s) at e.kinds to after others g.flow e.has e.edge inside there ne)
+-- an edge that brings another list is refused
+pub meets_at : (m : ModuleContents) (p : ProcedureContents) (s : ReachedOffsets) (busy : List ℕ) (at to : ℕ) (after others : List ValueKind) (kind : CodeRefusalKind) → IsSearching m p s busy → IsAtEdge m p s at to after → to ≢ code_length p.code → table s to ≡ Some others → after ≢ others → kind ≡ between after others → IsRefusedForOperands m p to kind
+meets_at m p s busy at to after others kind g e inside there ne is =
+    subst (IsRefusedForOperands m p to) (sym is) (meets (table s) at e.kinds to after others g.flow e.has e.edge inside there ne)
 
 -- the search with one more list
 module _ (m : ModuleContents) (p : ProcedureContents) (s new : ReachedOffsets) (at to list : ℕ) (g : IsSearching m p s (at ∷ [])) (e : IsAtEdge m p s at to (list_of s.operands list)) (number : list < length s.operands) (is_boundary : IsBoundary p to) (inside : to < length s.shapes) (unset_there : get_or s.shapes to None ≡ None) (lists : new.operands ≡ s.operands) (shapes : new.shapes ≡ set s.shapes to (Some list)) (work : new.work ≡ s.work ++ to ∷ []) where
@@ -67,10 +67,10 @@ module _ (m : ModuleContents) (p : ProcedureContents) (s new : ReachedOffsets) (
   at_other offset ne = ap (λ l. get_or l offset None) shapes ∙ get_or-set_other s.shapes to offset (Some list) None ne
 
   arrives : table new to ≡ Some (list_of s.operands list)
-  arrives = ap (row new.operands) at_to ∙ ap (λ l. Some (list_of l list)) lists
+  arrives = ap (list_for new.operands) at_to ∙ ap (λ l. Some (list_of l list)) lists
 
   others : (offset : ℕ) → offset ≢ to → table new offset ≡ table s offset
-  others offset ne = ap (row new.operands) (at_other offset ne) ∙ ap (λ l. row l (get_or s.shapes offset None)) lists
+  others offset ne = ap (list_for new.operands) (at_other offset ne) ∙ ap (λ l. list_for l (get_or s.shapes offset None)) lists
 
   is_changed : (offset : ℕ) → table new offset ≡ updated (table s) to (Some (list_of s.operands list)) offset
   is_changed offset =
@@ -87,7 +87,7 @@ module _ (m : ModuleContents) (p : ProcedureContents) (s new : ReachedOffsets) (
           split false f = refl
 
   was_none : table s to ≡ None
-  was_none = ap (row s.operands) unset_there
+  was_none = ap (list_for s.operands) unset_there
 
   keeps : (offset : ℕ) (kinds : List ValueKind) → table s offset ≡ Some kinds → table new offset ≡ Some kinds
   keeps offset kinds h =
@@ -150,7 +150,7 @@ flowed_there m p s new at to list other g there same is =
     subst (λ n. Flowed m p s n at to list) (sym is) (record {
       searching = g;
       keeps = λ offset kinds h. h;
-      arrives = ap (row s.operands) there ∙ ap Some (sym same);
+      arrives = ap (list_for s.operands) there ∙ ap Some (sym same);
       same = refl;
       left = omega arith;
     })
@@ -230,13 +230,13 @@ looked_at m p s at g kept = record {
 
 -- ---- more lists
 
-longer_row : (lists more : List (List ValueKind)) (o : Option ℕ) → ((n : ℕ) → o ≡ Some n → n < length lists) → IsLonger lists more → row more o ≡ row lists o
-longer_row lists more None h l = refl
-longer_row lists more (Some n) h l = ap Some (ap (λ ls. get_or ls n []) l.1 ∙ get_or_append_left lists l.0 [] n (h n refl))
+longer_list : (lists more : List (List ValueKind)) (o : Option ℕ) → ((n : ℕ) → o ≡ Some n → n < length lists) → IsLonger lists more → list_for more o ≡ list_for lists o
+longer_list lists more None h l = refl
+longer_list lists more (Some n) h l = ap Some (ap (λ ls. get_or ls n []) l.1 ∙ get_or_append_left lists l.0 [] n (h n refl))
 
 module _ (m : ModuleContents) (p : ProcedureContents) (s new : ReachedOffsets) (busy : List ℕ) (g : IsSearching m p s busy) (longer : IsLonger s.operands new.operands) (shapes : new.shapes ≡ s.shapes) (work : new.work ≡ s.work) (met : (k : ℕ) → length s.operands ≤ k → k < length new.operands → IsMet m p (list_of new.operands k)) where
   pub same_table : (offset : ℕ) → table new offset ≡ table s offset
-  same_table offset = ap (λ (v : List (Option ℕ)). row new.operands (get_or v offset None)) shapes ∙ longer_row s.operands new.operands (get_or s.shapes offset None) (g.numbers offset) longer
+  same_table offset = ap (λ (v : List (Option ℕ)). list_for new.operands (get_or v offset None)) shapes ∙ longer_list s.operands new.operands (get_or s.shapes offset None) (g.numbers offset) longer
 
   pub going_longer : IsSearching m p new busy
   going_longer = record {
@@ -293,11 +293,11 @@ edge_caught m p s at kinds i h has is inside low high = record { kinds = kinds; 
 effect_own : (m : ModuleContents) (p : ProcedureContents) (i : Instruction) (kinds : List ValueKind) → (signature m p i).own ≡ true → effect m p i kinds ≡ exchanged (signature m p i) kinds
 effect_own m p i kinds own = ap (λ (b : Bool). if b then exchanged (signature m p i) kinds else Misses OperandKind) own
 
-pub misses_at : (m : ModuleContents) (p : ProcedureContents) (s : ReachedOffsets) (busy : List ℕ) (at : ℕ) (kinds : List ValueKind) (i : Instruction) (wrong : CodeDefect) → IsSearching m p s busy → table s at ≡ Some kinds → instruction_at p.code at ≡ Some i → (signature m p i).own ≡ true → all_popped (signature m p i).pops kinds ≡ Misses wrong → IsOperandDefect m p at wrong
+pub misses_at : (m : ModuleContents) (p : ProcedureContents) (s : ReachedOffsets) (busy : List ℕ) (at : ℕ) (kinds : List ValueKind) (i : Instruction) (wrong : CodeRefusalKind) → IsSearching m p s busy → table s at ≡ Some kinds → instruction_at p.code at ≡ Some i → (signature m p i).own ≡ true → all_popped (signature m p i).pops kinds ≡ Misses wrong → IsRefusedForOperands m p at wrong
 misses_at m p s busy at kinds i wrong g has is own e =
     misses (table s) at kinds i wrong g.flow has is (effect_own m p i kinds own ∙ ap (λ o. and_then o (λ rest. Leaves (pushed (signature m p i).pushes rest))) e)
 
-pub misses_own : (m : ModuleContents) (p : ProcedureContents) (s : ReachedOffsets) (busy : List ℕ) (at : ℕ) (kinds : List ValueKind) (i : Instruction) → IsSearching m p s busy → table s at ≡ Some kinds → instruction_at p.code at ≡ Some i → (signature m p i).own ≡ false → IsOperandDefect m p at OperandKind
+pub misses_own : (m : ModuleContents) (p : ProcedureContents) (s : ReachedOffsets) (busy : List ℕ) (at : ℕ) (kinds : List ValueKind) (i : Instruction) → IsSearching m p s busy → table s at ≡ Some kinds → instruction_at p.code at ≡ Some i → (signature m p i).own ≡ false → IsRefusedForOperands m p at OperandKind
 misses_own m p s busy at kinds i g has is own =
     misses (table s) at kinds i OperandKind g.flow has is (ap (λ (b : Bool). if b then exchanged (signature m p i) kinds else Misses OperandKind) own)
 
@@ -398,7 +398,7 @@ no_items (x ∷ xs) e = absurd (omega arith)
 -- a offset is taken from those that wait
 module _ (m : ModuleContents) (p : ProcedureContents) (s new : ReachedOffsets) (at : ℕ) (g : IsSearching m p s []) (operands : new.operands ≡ s.operands) (shapes : new.shapes ≡ s.shapes) (work : s.work ≡ new.work ++ at ∷ []) where
   taken_table : (offset : ℕ) → table new offset ≡ table s offset
-  taken_table offset = ap (λ (v : List (Option ℕ)). row new.operands (get_or v offset None)) shapes ∙ ap (λ ls. row ls (get_or s.shapes offset None)) operands
+  taken_table offset = ap (λ (v : List (Option ℕ)). list_for new.operands (get_or v offset None)) shapes ∙ ap (λ ls. list_for ls (get_or s.shapes offset None)) operands
 
   taken_kept : (offset : ℕ) (kinds : List ValueKind) → IsFollowed m p s offset kinds → IsFollowed m p new offset kinds
   taken_kept offset kinds k = record {
@@ -453,20 +453,20 @@ all_unset : (n : ℕ) → unset (replicate n None) ≡ n
 all_unset zero = refl
 all_unset (suc n) = ap suc (all_unset n)
 
-pub empty_falls : (m : ModuleContents) (p : ProcedureContents) → code_length p.code ≡ 0 → IsOperandDefect m p 0 FallsOffEnd
-empty_falls m p e = subst (λ t. IsOperandDefect m p t FallsOffEnd) e (falls (updated nowhere 0 (Some [])) [] starts (subst (λ t. updated nowhere 0 (Some []) t ≡ Some []) (sym e) (changed_at nowhere 0 [])))
+pub empty_falls : (m : ModuleContents) (p : ProcedureContents) → code_length p.code ≡ 0 → IsRefusedForOperands m p 0 FallsOffEnd
+empty_falls m p e = subst (λ t. IsRefusedForOperands m p t FallsOffEnd) e (falls (updated nowhere 0 (Some [])) [] starts (subst (λ t. updated nowhere 0 (Some []) t ≡ Some []) (sym e) (changed_at nowhere 0 [])))
 
 module _ (m : ModuleContents) (p : ProcedureContents) (s : ReachedOffsets) (n : ℕ) (size : code_length p.code ≡ suc n) (boundaries : KeepsBoundaries p) (operands : s.operands ≡ [] ∷ []) (shapes : s.shapes ≡ set (replicate (suc n) None) 0 (Some 0)) (work : s.work ≡ 0 ∷ []) where
-  start_table : (offset : ℕ) → table s offset ≡ row ([] ∷ []) (get_or (Some 0 ∷ replicate n None) offset None)
-  start_table offset = ap (λ v. row s.operands (get_or v offset None)) shapes ∙ ap (λ ls. row ls (get_or (Some 0 ∷ replicate n None) offset None)) operands
+  start_table : (offset : ℕ) → table s offset ≡ list_for ([] ∷ []) (get_or (Some 0 ∷ replicate n None) offset None)
+  start_table offset = ap (λ v. list_for s.operands (get_or v offset None)) shapes ∙ ap (λ ls. list_for ls (get_or (Some 0 ∷ replicate n None) offset None)) operands
 
-  other_none : (offset : ℕ) → row ([] ∷ []) (get_or (Some 0 ∷ replicate n None) offset None) ≡ updated nowhere 0 (Some []) offset
+  other_none : (offset : ℕ) → list_for ([] ∷ []) (get_or (Some 0 ∷ replicate n None) offset None) ≡ updated nowhere 0 (Some []) offset
   other_none zero = refl
-  other_none (suc k) = ap (row ([] ∷ [])) (all_none n k) ∙ ap (λ (b : Bool). if b then Some [] else None) (sym (not_zero k))
+  other_none (suc k) = ap (list_for ([] ∷ [])) (all_none n k) ∙ ap (λ (b : Bool). if b then Some [] else None) (sym (not_zero k))
 
   only_first : (offset : ℕ) (kinds : List ValueKind) → table s offset ≡ Some kinds → offset ≡ 0
   only_first zero kinds h = refl
-  only_first (suc k) kinds h = absurd (let f : None ≡ Some kinds = sym (start_table (suc k) ∙ ap (row ([] ∷ [])) (all_none n k)) ∙ h in cc)
+  only_first (suc k) kinds h = absurd (let f : None ≡ Some kinds = sym (start_table (suc k) ∙ ap (list_for ([] ∷ [])) (all_none n k)) ∙ h in cc)
 
   pub start_left : left s ≡ suc n
   start_left = omega (arith, ap unset shapes, ap length work, all_unset n)

@@ -1,9 +1,9 @@
 -- What the verifier reports.
 use Rattle.std.proofs.Common.{◌≡◌, inl, inr, ℕ, zero, suc, ◌+◌, ◌<◌, List, [], ◌∷◌, ◌++◌, length, get_or, slice_get, Some, None, sym, ap, ◌∙◌, subst, arith}
 use Rattle.modules.specs.Contents.{ProcedureContents, ModuleContents}
-use Rattle.verifier.specs.Refusals.{HasNoDefect, IsOperandRefusal, IsCodeRefusal, IsCodeRefusalAfter}
+use Rattle.verifier.specs.Refusals.{IsNotRefused, IsOperandRefusal, IsCodeRefusal, IsCodeRefusalAfter}
 use Rattle.verifier.specs.Fixed.{fixed_refusals}
-use Rattle.verifier.specs.Flow.{FlowsWell, IsOperandDefect}
+use Rattle.verifier.specs.Flow.{FlowsWell, IsRefusedForOperands}
 use Rattle.verifier.specs.declared.fault.CodeRefusal.{CodeRefusal}
 use Rattle.std.proofs.lemmas.List.{get_or_append_left}
 use Rattle.std.proofs.lemmas.Option.{slice_get-get_or}
@@ -15,8 +15,8 @@ use Rattle.verifier.proofs.Bounds.{IsBounded}
 use Rattle.verifier.proofs.NeverStuck.{never_stuck}
 use Rattle.common.proofs.Cases.{last_cases}
 
--- where there is a refusal there is a defect
-pub excluded : (m : ModuleContents) (refusal : CodeRefusal) → IsCodeRefusal m refusal → HasNoDefect m → ⊥
+-- where a refusal is answered a rule is broken
+pub excluded : (m : ModuleContents) (refusal : CodeRefusal) → IsCodeRefusal m refusal → IsNotRefused m → ⊥
 excluded m refusal reported free = free.flow refusal (subst (λ (refusals : List CodeRefusal). IsCodeRefusalAfter m refusals refusal) free.fixed reported)
 
 -- the first fixed refusal may be reported, and one of the flow where there is no fixed one
@@ -36,10 +36,10 @@ there_inside (x ∷ all) zero p e = omega arith
 there_inside (x ∷ all) (suc k) p e = omega (arith, there_inside all k p e)
 
 -- each procedure flows well
-pub all_flow : (m : ModuleContents) → fixed_refusals m ≡ [] → ((k : ℕ) (p : ProcedureContents) → k < length m.procedures → slice_get m.procedures k ≡ Some p → FlowsWell m p) → HasNoDefect m
+pub all_flow : (m : ModuleContents) → fixed_refusals m ≡ [] → ((k : ℕ) (p : ProcedureContents) → k < length m.procedures → slice_get m.procedures k ≡ Some p → FlowsWell m p) → IsNotRefused m
 all_flow m none flow = record {
   fixed = none;
-  flow = λ refusal there. flow refusal.procedure there.procedure (there_inside m.procedures refusal.procedure there.procedure there.there) there.there refusal.offset refusal.defect there.defect;
+  flow = λ refusal there. flow refusal.procedure there.procedure (there_inside m.procedures refusal.procedure there.procedure there.there) there.there refusal.offset refusal.kind there.kind;
 }
 
 -- ---- the loop over procedures
@@ -47,8 +47,8 @@ all_flow m none flow = record {
 pub item_at : (m : ModuleContents) (procedures : List ProcedureContents) → procedures ≡ m.procedures → (index : ℕ) (item : ProcedureContents) → item ≡ get_or procedures index item → index < length procedures → slice_get m.procedures index ≡ Some item
 item_at m procedures are index item is inside = ap (λ all. slice_get all index) (sym are) ∙ slice_get-get_or procedures index item inside ∙ ap Some (sym is)
 
-pub is_verified : (m : ModuleContents) → IsBounded m → HasNoDefect m → IsVerified m
-is_verified m bounds free = record { no_defect = free; never_stuck = never_stuck m bounds free }
+pub is_verified : (m : ModuleContents) → IsBounded m → IsNotRefused m → IsVerified m
+is_verified m bounds free = record { not_refused = free; never_stuck = never_stuck m bounds free }
 
 module _ (m : ModuleContents) (procedures : List ProcedureContents) (are : procedures ≡ m.procedures) (index : ℕ) (item body : ProcedureContents) (is : item ≡ get_or procedures index item) (same : body ≡ item) (inside : index < length procedures) where
   pub item_there : slice_get m.procedures index ≡ Some body
@@ -58,7 +58,7 @@ module _ (m : ModuleContents) (procedures : List ProcedureContents) (are : proce
   item_refusal q number refusal same_module number_is e = record {
     procedure = body;
     there = ap (slice_get m.procedures) (e.procedure ∙ number_is) ∙ item_there;
-    defect = subst (λ (x : ModuleContents). IsOperandDefect x body refusal.offset refusal.defect) same_module e.defect;
+    kind = subst (λ (x : ModuleContents). IsRefusedForOperands x body refusal.offset refusal.kind) same_module e.kind;
   }
 
   pub flow_more : (q : ModuleContents) → q ≡ m → FlowsWell q body → ((k : ℕ) (p : ProcedureContents) → k < index → slice_get procedures k ≡ Some p → FlowsWell m p) → (k : ℕ) (p : ProcedureContents) → k < index + 1 → slice_get procedures k ≡ Some p → FlowsWell m p

@@ -1,4 +1,4 @@
--- No run of a module without a defect is stuck: each state of a run has the kinds of operands that the flow has for its offset,
+-- No run of a module that is not refused is stuck: each state of a run has the kinds of operands that the flow has for its offset,
 -- in the running frame and in each frame that waits at a call.
 use Rattle.std.proofs.Common.{◌≡◌, ℕ, suc, ◌+◌, ◌<◌, ◌≤◌, ◌==◌, Bool, true, false, if◌then◌else◌, List, [], ◌∷◌, map, slice_get, Option, Some, None, refl, sym, ap, ◌∙◌, subst, arith}
 use Rattle.std.specs.Prelude.{◌&&◌, not, nat_lt}
@@ -15,16 +15,16 @@ use Rattle.modules.specs.declared.instruction.Instruction.TheVariants.{Call}
 use Rattle.modules.specs.declared.value.ValueKind.{ValueKind}
 use Rattle.modules.specs.declared.value.Cell.{Cell}
 use Rattle.modules.specs.declared.declaration.Handler.{Handler}
-use Rattle.verifier.specs.Refusals.{HasNoDefect}
+use Rattle.verifier.specs.Refusals.{IsNotRefused}
 use Rattle.modules.specs.Targets.{goes_on, target_of}
 use Rattle.verifier.specs.Flow.{next, jumps, caught, Leaves, effect, pushed, FlowsWell}
 use Rattle.verifier.proofs.Holds.{Holds}
 use Rattle.verifier.proofs.Laws.{IsInFlow, along_in_flow}
 
 -- the procedure of a number flows well
-pub flows : (m : ModuleContents) → HasNoDefect m → (k : ℕ) (p : ProcedureContents) → slice_get m.procedures k ≡ Some p → FlowsWell m p
-flows m free k p there offset defect wrong =
-    free.flow (record { defect = defect; procedure = k; offset = offset }) (record { procedure = p; there = there; defect = wrong })
+pub flows : (m : ModuleContents) → IsNotRefused m → (k : ℕ) (p : ProcedureContents) → slice_get m.procedures k ≡ Some p → FlowsWell m p
+flows m free k p there offset kind wrong =
+    free.flow (record { kind = kind; procedure = k; offset = offset }) (record { procedure = p; there = there; kind = wrong })
 
 -- a frame of a procedure that waits at its call of another one
 pub record Waits (m : ModuleContents) (p callee : ProcedureContents) (c : Caller) : Type 0 where
@@ -67,7 +67,7 @@ pub data Good (m : ModuleContents) : Machine → Type 0 where
 pub leaves_same : (a b : List ValueKind) → Leaves a ≡ Leaves b → a ≡ b
 leaves_same a b e = cc
 
-module _ (m : ModuleContents) (free : HasNoDefect m) where
+module _ (m : ModuleContents) (free : IsNotRefused m) where
   -- on to the next instruction
   pub next_good : (p : ProcedureContents) (s : State) (i : Instruction) (kinds after : List ValueKind) (operands : List Cell) → Stands m p s i kinds → effect m p i kinds ≡ Leaves after → goes_on i ≡ true → map kind_of operands ≡ after → Good m (machine.goes_on (machine_code m) s operands)
   next_good p s i kinds after operands st e goes is =
@@ -155,7 +155,7 @@ module _ (m : ModuleContents) (free : HasNoDefect m) where
 
   -- ---- returns
 
-  -- a caller goes on behind its call
+  -- a caller goes on after its call
   resumed_good : (s : State) (operands : List Cell) (callee p : ProcedureContents) (c : Caller) (callers : List Caller) → Holds (machine_code m).globals s.globals → Waits m p callee c → Callers m p callers → map kind_of operands ≡ pushed callee.returned (map kind_of c.frame.operands) → Good m (Running (record s { frame = record c.frame { operands = operands; position = c.resume }; callers = callers }))
   resumed_good s operands callee p c callers globals w more is =
       runs _ (record {

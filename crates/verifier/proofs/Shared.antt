@@ -236,7 +236,7 @@ above_there kind inside lists above k (Some r) same h l e =
 
 -- ---- the list below the topmost 64
 
--- what is below so many operands is there
+-- what is below this many operands is there
 pub tails_drop : (lists : List (List ValueKind)) → HasTails lists → (n r : ℕ) → r < length lists → n ≤ length (list_of lists r) → (b : ℕ) × (b < length lists) × (list_of lists b ≡ drop n (list_of lists r))
 tails_drop lists tails n r l long = along n r (list_of lists r) l refl long
   where

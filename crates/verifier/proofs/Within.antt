@@ -7,7 +7,7 @@ use Rattle.modules.specs.Values.{kind_of}
 use Rattle.modules.specs.declared.instruction.Instruction.TheVariants.{Call}
 use Rattle.modules.specs.declared.value.ValueKind.{ValueKind}
 use Rattle.verifier.specs.Depth.{IsMet, IsWithinDepth, FramesAreWithin, IsNeverDeeper, found, left}
-use Rattle.verifier.specs.Refusals.{HasNoDefect}
+use Rattle.verifier.specs.Refusals.{IsNotRefused}
 use Rattle.verifier.specs.Flow.{pushed}
 use Rattle.verifier.proofs.Bounds.{IsBounded}
 use Rattle.verifier.proofs.NeverStuck.{good_after}
@@ -44,5 +44,5 @@ frames_within m _ (runs s g) = (
 )
 frames_within m _ (over ending sent) = tt
 
-pub never_deeper : (m : ModuleContents) → IsBounded m → HasNoDefect m → IsNeverDeeper m
+pub never_deeper : (m : ModuleContents) → IsBounded m → IsNotRefused m → IsNeverDeeper m
 never_deeper m bounded free = λ world n. frames_within m _ (good_after m bounded free world n)

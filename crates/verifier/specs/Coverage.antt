@@ -15,7 +15,7 @@ node nodes i = slice_index_or nodes i 0
 abbrev pub leaf : MaximumTree → ℕ → ℕ
 leaf ends k = node ends.nodes.items (ends.width + k)
 
--- a number that is doubled so many times
+-- a number that is doubled this many times
 abbrev pub doubled : ℕ → ℕ → ℕ
 doubled zero n = n
 doubled (suc times) n = doubled times (n + n)
@@ -26,7 +26,7 @@ pub record IsGreater (most one other : ℕ) : Type 0 where
   pub high : other ≤ most
   pub is : (most ≡ one) ⊎ (most ≡ other)
 
--- so many leaves, and above them nodes of which each is the greater one of its children
+-- this many leaves, and above them nodes of which each is the greater one of its children
 pub record IsTree (nodes : List ℕ) (width : ℕ) : Type 0 where
   pub height : ℕ
   pub full : width ≡ doubled height 1
@@ -46,7 +46,7 @@ pub record IsCoverage (c : Coverage) : Type 0 where
   pub tree : IsTree c.ends.nodes.items c.ends.width
   pub room : length c.handlers.items ≤ c.ends.width
   pub ends : (k : ℕ) (h : Handler) → k < length c.handlers.items → slice_index_or c.handlers.items k h ≡ h → (leaf c.ends k ≡ 0) ⊎ (leaf c.ends k ≡ h.end)
-  pub behind : (k : ℕ) → length c.handlers.items ≤ k → leaf c.ends k ≡ 0
+  pub after : (k : ℕ) → length c.handlers.items ≤ k → leaf c.ends k ≡ 0
 
 -- a handler that waits
 pub record Waits (c : Coverage) (h : Handler) : Type 0 where

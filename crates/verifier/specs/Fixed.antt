@@ -1,4 +1,4 @@
--- The defects that an instruction or a handler of a module has by itself, and the refusals for them, in the order in which the
+-- For what an instruction or a handler of a module is refused by itself, and these refusals in the order in which the
 -- first is reported: the fixed refusals of the module.
 -- Source: our own; the rules are those of a bytecode verifier, as that of the Java virtual machine.
 use Rattle.std.specs.Prelude.{ℕ, ◌+◌, ◌==◌, nat_lt, Bool, true, ◌&&◌, ◌||◌, if◌then◌else◌, List, [], ◌∷◌, ◌++◌, Option, Some, None, is_some}
@@ -10,15 +10,15 @@ use Rattle.modules.specs.declared.instruction.Instruction.{Instruction}
 use Rattle.modules.specs.declared.declaration.Handler.{Handler}
 use Rattle.modules.specs.Targets.{target_of}
 use Rattle.verifier.specs.Signatures.{signature}
-use Rattle.verifier.specs.declared.fault.CodeDefect.{CodeDefect}
-use Rattle.verifier.specs.declared.fault.CodeDefect.TheVariants as defect
+use Rattle.verifier.specs.declared.fault.CodeRefusalKind.{CodeRefusalKind}
+use Rattle.verifier.specs.declared.fault.CodeRefusalKind.TheVariants as kind
 use Rattle.verifier.specs.declared.fault.CodeRefusal.{CodeRefusal}
 
 -- whether an instruction's first byte stands at an offset
 abbrev pub is_start : ProcedureContents → ℕ → Bool
 is_start procedure offset = is_some (instruction_at procedure.code offset)
 
-abbrev pub unless : Bool → CodeDefect → Option CodeDefect
+abbrev pub unless : Bool → CodeRefusalKind → Option CodeRefusalKind
 unless right wrong = if right then None else Some wrong
 
 -- whether a target is an instruction's first byte, where there is one
@@ -28,11 +28,11 @@ is_right_target procedure (Some target) = is_start procedure target
 
 -- what is wrong with an instruction by itself: a target that is no instruction's first byte, or a slot, global, array,
 -- procedure, channel or exception that is not there or of another sort
-abbrev pub instruction_defect : ModuleContents → ProcedureContents → Instruction → Option CodeDefect
-instruction_defect m procedure instruction =
+abbrev pub instruction_refusal : ModuleContents → ProcedureContents → Instruction → Option CodeRefusalKind
+instruction_refusal m procedure instruction =
     if is_right_target procedure (target_of instruction)
-    then unless (signature m procedure instruction).there defect.SlotOrIndex
-    else Some defect.Jump
+    then unless (signature m procedure instruction).there kind.SlotOrIndex
+    else Some kind.Jump
 
 -- whether a range may end at an offset: at an instruction's first byte or at the end of the code
 abbrev pub is_end : ProcedureContents → ℕ → Bool
@@ -46,28 +46,28 @@ has_right_offsets procedure handler =
     && (is_end procedure handler.end && nat_lt handler.start handler.end))
 
 -- what is wrong with a handler
-abbrev pub handler_defect : ModuleContents → ProcedureContents → Handler → Option CodeDefect
-handler_defect m procedure handler =
+abbrev pub handler_refusal : ModuleContents → ProcedureContents → Handler → Option CodeRefusalKind
+handler_refusal m procedure handler =
     if has_right_offsets procedure handler
-    then unless (nat_lt handler.exception (machine_code m).exceptions) defect.SlotOrIndex
-    else Some defect.Jump
+    then unless (nat_lt handler.exception (machine_code m).exceptions) kind.SlotOrIndex
+    else Some kind.Jump
 
--- the refusal of a procedure at an offset, if there is a defect
-abbrev pub refusals_at : ℕ → ℕ → Option CodeDefect → List CodeRefusal
+-- the refusal of a procedure at an offset, if it is refused there
+abbrev pub refusals_at : ℕ → ℕ → Option CodeRefusalKind → List CodeRefusal
 refusals_at number offset None = []
-refusals_at number offset (Some wrong) = record { defect = wrong; procedure = number; offset = offset } ∷ []
+refusals_at number offset (Some wrong) = record { kind = wrong; procedure = number; offset = offset } ∷ []
 
 -- the refusals of instructions that stand from an offset on
 abbrev pub instruction_refusals : ModuleContents → ℕ → ProcedureContents → ℕ → List Instruction → List CodeRefusal
 instruction_refusals m number procedure offset [] = []
 instruction_refusals m number procedure offset (instruction ∷ code) =
-    refusals_at number offset (instruction_defect m procedure instruction)
+    refusals_at number offset (instruction_refusal m procedure instruction)
     ++ instruction_refusals m number procedure (offset + width_of instruction) code
 
 -- the refusals of handlers, each at its start
 abbrev pub handler_refusals : ModuleContents → ℕ → ProcedureContents → List Handler → List CodeRefusal
 handler_refusals m number procedure handlers =
-    flat_map (λ handler. refusals_at number handler.start (handler_defect m procedure handler)) handlers
+    flat_map (λ handler. refusals_at number handler.start (handler_refusal m procedure handler)) handlers
 
 -- the fixed refusals of procedures that are numbered from a number on
 abbrev pub procedure_refusals : ModuleContents → ℕ → List ProcedureContents → List CodeRefusal

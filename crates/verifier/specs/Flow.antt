@@ -1,5 +1,5 @@
 -- The flow of operands through a procedure: what becomes of their kinds at each instruction, where control goes from it, the kinds
--- with which control reaches an offset, and the defects of that flow.
+-- with which control reaches an offset, and the refusals of that flow.
 -- Source: our own; the rules are those of a bytecode verifier, as that of the Java virtual machine.
 use Rattle.common.specs.Functions.{updated}
 use Rattle.std.specs.Prelude.{◌≡◌, ◌≢◌, ℕ, ◌+◌, ◌≤◌, ◌<◌, ◌==◌, true, if◌then◌else◌, List, [], ◌∷◌, length, Option, Some, None}
@@ -12,15 +12,15 @@ use Rattle.modules.specs.declared.instruction.Instruction.{Instruction}
 use Rattle.modules.specs.declared.value.ValueKind.{ValueKind}
 use Rattle.modules.specs.declared.declaration.Handler.{Handler}
 use Rattle.verifier.specs.Signatures.{Signature, signature}
-use Rattle.verifier.specs.declared.fault.CodeDefect.{CodeDefect}
-use Rattle.verifier.specs.declared.fault.CodeDefect.TheVariants.{OperandKind, OperandDepth, FallsOffEnd}
+use Rattle.verifier.specs.declared.fault.CodeRefusalKind.{CodeRefusalKind}
+use Rattle.verifier.specs.declared.fault.CodeRefusalKind.TheVariants.{OperandKind, OperandDepth, FallsOffEnd}
 
 -- ---- what an instruction makes of the operands
 
--- what becomes of the kinds of the operands, the top first: other kinds, or a defect
+-- what becomes of the kinds of the operands, the top first: other kinds, or a refusal
 pub data Effect : Type 0 where
   Leaves : List ValueKind → Effect
-  Misses : CodeDefect → Effect
+  Misses : CodeRefusalKind → Effect
 
 -- pop an operand of a kind, or of any
 abbrev pub popped : Option ValueKind → List ValueKind → Effect
@@ -69,17 +69,17 @@ pub data Flow (m : ModuleContents) (procedure : ProcedureContents) : (ℕ → Op
   starts : Flow m procedure (updated nowhere 0 (Some []))
   grows : (table : ℕ → Option (List ValueKind)) (at : ℕ) (kinds : List ValueKind) (to : ℕ) (after : List ValueKind) → Flow m procedure table → table at ≡ Some kinds → Edge m procedure at kinds to after → table to ≡ None → Flow m procedure (updated table to (Some after))
 
--- the defect of two paths that meet with different lists
-abbrev pub between : List ValueKind → List ValueKind → CodeDefect
+-- the refusal of two paths that meet with different lists
+abbrev pub between : List ValueKind → List ValueKind → CodeRefusalKind
 between kinds others = if length kinds == length others then OperandKind else OperandDepth
 
--- a defect of the flow at an offset: an instruction that control reaches misses an operand or finds one of another kind; an edge
+-- a refusal of the flow at an offset: an instruction that control reaches misses an operand or finds one of another kind; an edge
 -- brings another list to an instruction than it has; control comes to the end of the code
-pub data IsOperandDefect (m : ModuleContents) (procedure : ProcedureContents) : ℕ → CodeDefect → Type 0 where
-  misses : (table : ℕ → Option (List ValueKind)) (at : ℕ) (kinds : List ValueKind) (i : Instruction) (wrong : CodeDefect) → Flow m procedure table → table at ≡ Some kinds → instruction_at procedure.code at ≡ Some i → effect m procedure i kinds ≡ Misses wrong → IsOperandDefect m procedure at wrong
-  meets : (table : ℕ → Option (List ValueKind)) (at : ℕ) (kinds : List ValueKind) (to : ℕ) (after others : List ValueKind) → Flow m procedure table → table at ≡ Some kinds → Edge m procedure at kinds to after → to ≢ code_length procedure.code → table to ≡ Some others → after ≢ others → IsOperandDefect m procedure to (between after others)
-  falls : (table : ℕ → Option (List ValueKind)) (kinds : List ValueKind) → Flow m procedure table → table (code_length procedure.code) ≡ Some kinds → IsOperandDefect m procedure (code_length procedure.code) FallsOffEnd
+pub data IsRefusedForOperands (m : ModuleContents) (procedure : ProcedureContents) : ℕ → CodeRefusalKind → Type 0 where
+  misses : (table : ℕ → Option (List ValueKind)) (at : ℕ) (kinds : List ValueKind) (i : Instruction) (wrong : CodeRefusalKind) → Flow m procedure table → table at ≡ Some kinds → instruction_at procedure.code at ≡ Some i → effect m procedure i kinds ≡ Misses wrong → IsRefusedForOperands m procedure at wrong
+  meets : (table : ℕ → Option (List ValueKind)) (at : ℕ) (kinds : List ValueKind) (to : ℕ) (after others : List ValueKind) → Flow m procedure table → table at ≡ Some kinds → Edge m procedure at kinds to after → to ≢ code_length procedure.code → table to ≡ Some others → after ≢ others → IsRefusedForOperands m procedure to (between after others)
+  falls : (table : ℕ → Option (List ValueKind)) (kinds : List ValueKind) → Flow m procedure table → table (code_length procedure.code) ≡ Some kinds → IsRefusedForOperands m procedure (code_length procedure.code) FallsOffEnd
 
--- no defect of the flow
+-- no refusal of the flow
 abbrev pub FlowsWell : ModuleContents → ProcedureContents → Type 0
-FlowsWell m procedure = (offset : ℕ) (defect : CodeDefect) → IsOperandDefect m procedure offset defect → ⊥
+FlowsWell m procedure = (offset : ℕ) (kind : CodeRefusalKind) → IsRefusedForOperands m procedure offset kind → ⊥

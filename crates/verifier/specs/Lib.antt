@@ -13,6 +13,6 @@ pub mod Signatures
 pub mod Search
 pub mod Starts
 pub mod Verified
-pub mod Defects
+pub mod RefusalKinds
 pub mod Parameters
 pub mod Positions

@@ -29,13 +29,13 @@ abbrev pub bit : ValueKind → ℕ
 bit Int = 0
 bit Boolean = 1
 
--- the first so many of some kinds, the first one as the lowest bit
+-- the first this many of some kinds, the first one as the lowest bit
 abbrev pub packed : ℕ → List ValueKind → ℕ
 packed zero kinds = 0
 packed (suc count) [] = 0
 packed (suc count) (kind ∷ kinds) = bit kind + 2 * packed count kinds
 
--- kinds in so many blocks of 64, and in all that they fill
+-- kinds in this many blocks of 64, and in all that they fill
 abbrev pub blocks : ℕ → List ValueKind → List ℕ
 blocks zero kinds = []
 blocks (suc count) kinds = packed 64 kinds ∷ blocks count (drop 64 kinds)

@@ -1,4 +1,4 @@
--- Private: what the search for a defect of the flow keeps.
+-- Private: what the search for a refusal of the flow keeps.
 -- Source: our own; a work list over the offsets that control reaches.
 use Rattle.std.specs.Prelude.{◌≡◌, ℕ, suc, ◌+◌, ◌≤◌, ◌<◌, ◌^◌, true, List, [], ◌∷◌, ◌++◌, length, slice_index_or, Option, Some, None, ◌⊎◌}
 use Rattle.std.specs.List.{Contains}
@@ -8,7 +8,7 @@ use Rattle.modules.specs.declared.instruction.Instruction.{Instruction}
 use Rattle.modules.specs.declared.value.ValueKind.{ValueKind}
 use Rattle.modules.specs.declared.declaration.Handler.{Handler}
 use Rattle.modules.specs.Targets.{goes_on, target_of}
-use Rattle.verifier.specs.Flow.{Edge, Flow, Leaves, effect, IsOperandDefect}
+use Rattle.verifier.specs.Flow.{Edge, Flow, Leaves, effect, IsRefusedForOperands}
 use Rattle.verifier.specs.Coverage.{IsCoverage, Waits}
 use Rattle.verifier.specs.Depth.{IsMet}
 use Rattle.verifier.specs.Index.{index_of}
@@ -26,12 +26,12 @@ pub record IsSearchableBody (b : IndexedProcedure) : Type 0 where
 
 -- ---- the table that was found so far
 
-abbrev pub row : List (List ValueKind) → Option ℕ → Option (List ValueKind)
-row lists None = None
-row lists (Some list) = Some (list_of lists list)
+abbrev pub list_for : List (List ValueKind) → Option ℕ → Option (List ValueKind)
+list_for lists None = None
+list_for lists (Some list) = Some (list_of lists list)
 
 abbrev pub table : ReachedOffsets → ℕ → Option (List ValueKind)
-table s offset = row s.operands (slice_index_or s.shapes offset None)
+table s offset = list_for s.operands (slice_index_or s.shapes offset None)
 
 -- a offset whose instruction finds its operands, and from which each edge was followed
 pub record IsFollowed (m : ModuleContents) (p : ProcedureContents) (s : ReachedOffsets) (at : ℕ) (kinds : List ValueKind) : Type 0 where
@@ -127,7 +127,7 @@ pub record HasInstruction (p : ProcedureContents) (s : ReachedOffsets) (at : ℕ
   pub has : table s at ≡ Some kinds
 
 -- a place is that of an offset with its instruction and its list
-pub record IsPlace (p : ProcedureContents) (s : ReachedOffsets) (place : ListedOffset) : Type 0 where
+pub record IsListed (p : ProcedureContents) (s : ReachedOffsets) (place : ListedOffset) : Type 0 where
   pub number : offset_at p.code place.number ≡ place.at
   pub list : table s place.at ≡ Some (list_of s.operands place.list)
   pub inside : place.list < length s.operands
@@ -135,7 +135,7 @@ pub record IsPlace (p : ProcedureContents) (s : ReachedOffsets) (place : ListedO
 -- a search at work that goes straight on to a place, or to none
 abbrev pub IsSearchingNext : ModuleContents → ProcedureContents → ReachedOffsets → Option ListedOffset → Type 0
 IsSearchingNext m p s None = IsSearching m p s []
-IsSearchingNext m p s (Some place) = (IsSearching m p s (place.at ∷ [])) × (HasInstruction p s place.at × IsPlace p s place)
+IsSearchingNext m p s (Some place) = (IsSearching m p s (place.at ∷ [])) × (HasInstruction p s place.at × IsListed p s place)
 
 -- 1 where there is a place to go straight on to
 abbrev pub count : Option ListedOffset → ℕ
@@ -148,6 +148,6 @@ pub record IsWaiting (p : ProcedureContents) (c : Coverage) (s : ReachedOffsets)
   pub real : (h : Handler) → Waits c h → Contains p.handlers h
   pub waits_or_entered : (h : Handler) (at : ℕ) → Contains p.handlers h → h.start ≤ at → at < h.end → Waits c h ⊎ (table s h.target ≡ Some [])
 
--- a refusal of a procedure for a defect of its flow
+-- a refusal of a procedure for its flow
 abbrev pub IsOperandFlowRefusal : ModuleContents → ProcedureContents → FlowRefusal → Type 0
-IsOperandFlowRefusal m p refusal = IsOperandDefect m p refusal.offset refusal.defect
+IsOperandFlowRefusal m p refusal = IsRefusedForOperands m p refusal.offset refusal.kind

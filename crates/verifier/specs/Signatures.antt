@@ -1,5 +1,5 @@
 -- The signature of an instruction in a procedure: whether what it names is there, whether the procedure may have it, and what it pops
--- and pushes; one row for each.
+-- and pushes; one entry for each.
 -- Source: our own; the rules are those of a bytecode verifier, as that of the Java virtual machine.
 use Rattle.std.specs.Prelude.{nat_lt, Bool, true, false, List, [], ◌∷◌, map, reverse, slice_get, Option, Some, None, is_none, is_some}
 use Rattle.modules.specs.Contents.{ProcedureContents, ModuleContents}
@@ -23,7 +23,7 @@ pub record Signature : Type 0 where
   pub pops : List (Option ValueKind)
   pub pushes : Option ValueKind
 
--- ---- the pieces of a row
+-- ---- the pieces of an entry
 
 -- pop these kinds, and push one
 abbrev pub exchange : List ValueKind → Option ValueKind → Signature
@@ -73,7 +73,7 @@ abbrev pub value_kinds : Option ValueKind → List ValueKind
 value_kinds None = []
 value_kinds (Some kind) = kind ∷ []
 
--- ---- the rows
+-- ---- the entries
 
 abbrev pub signature : ModuleContents → ProcedureContents → Instruction → Signature
 signature m procedure (Push n) = exchange [] (Some Int)

@@ -16,7 +16,7 @@ starts_before starts (suc at) = if has_bit starts at then suc (starts_before sta
 abbrev pub number_at : List ℕ → ℕ → Option ℕ
 number_at starts at = if has_bit starts at then Some (starts_before starts at) else None
 
--- the same for each of so many bytes, from one on
+-- the same for each of this many bytes, from one on
 abbrev pub numbers_of : List ℕ → (from count : ℕ) → List (Option ℕ)
 numbers_of starts from zero = []
 numbers_of starts from (suc count) = number_at starts from ∷ numbers_of starts (suc from) count

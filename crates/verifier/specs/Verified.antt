@@ -3,16 +3,16 @@
 use Rattle.std.specs.Prelude.{◌≡◌, ℕ, List, [], ◌∷◌, ◌++◌, map, slice_get, slice_index_or, Option, Some, None}
 use Rattle.modules.specs.Contents.{ProcedureContents, ModuleContents}
 use Rattle.verifier.specs.Depth.{IsGreatestDepth}
-use Rattle.verifier.specs.Refusals.{HasNoDefect}
+use Rattle.verifier.specs.Refusals.{IsNotRefused}
 use Rattle.verifier.specs.Fixed.{instruction_refusals, handler_refusals}
-use Rattle.verifier.specs.Flow.{FlowsWell, IsOperandDefect}
+use Rattle.verifier.specs.Flow.{FlowsWell, IsRefusedForOperands}
 use Rattle.verifier.specs.Index.{indexes_of}
 use Rattle.verifier.specs.Safety.{IsNeverStuck}
 use Rattle.verifier.specs.Positions.{VerifiedCode, positioned, positioned_codes}
 use Rattle.verifier.specs.declared.fault.CodeRefusal.{CodeRefusal}
 
 pub record IsVerified (m : ModuleContents) : Type 0 where
-  pub no_defect : HasNoDefect m
+  pub not_refused : IsNotRefused m
   pub never_stuck : IsNeverStuck m
 
 -- the same beside the code of each procedure, with positions as targets, the greatest number of its operands, and the index of
@@ -28,12 +28,12 @@ abbrev pub own_refusals : ModuleContents → ℕ → ProcedureContents → List 
 own_refusals m number procedure =
     instruction_refusals m number procedure 0 procedure.code ++ handler_refusals m number procedure procedure.handlers
 
--- a refusal of a procedure with a number for a defect of its flow
+-- a refusal of a procedure with a number for its flow
 pub record IsRefusalOf (m : ModuleContents) (number : ℕ) (p : ProcedureContents) (refusal : CodeRefusal) : Type 0 where
   pub procedure : refusal.procedure ≡ number
-  pub defect : IsOperandDefect m p refusal.offset refusal.defect
+  pub kind : IsRefusedForOperands m p refusal.offset refusal.kind
 
--- no defect of the flow was found before or in this procedure, and its code was added
+-- no refusal of the flow was found before or in this procedure, and its code was added
 pub record AddsVerifiedCode (m : ModuleContents) (p : ProcedureContents) (found : Option CodeRefusal) (old new : List VerifiedCode) : Type 0 where
   pub none_before : found ≡ None
   pub flow : FlowsWell m p

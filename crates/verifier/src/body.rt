@@ -1,4 +1,4 @@
-//! A procedure as the search for defects looks at it.
+//! A procedure as the search for refusals looks at it.
 
 ghost use Rattle.modules.specs.Code.{code_length};
 ghost use Rattle.std.specs.Prelude.{IfOk, ◌<◌, ◌^◌, ◌≡◌};

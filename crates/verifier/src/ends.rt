@@ -14,7 +14,7 @@ pub(crate) struct MaximumTree {
 }
 
 impl MaximumTree {
-    /// At least so many numbers, each of them 0.
+    /// At least this many numbers, each of them 0.
     pub(crate) fn new(alloc: Global, count: usize) -> Result<MaximumTree, AllocError>
         requires { count ≤ 2 ^ 32 }
         ensures tree { IfOk result (λ ends. IsTree ends.nodes.items ends.width) }

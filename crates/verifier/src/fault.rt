@@ -1,5 +1,5 @@
 ghost use Rattle.std.specs.Prelude.{◌≡◌, Some};
-ghost use Rattle.verifier.specs.Defects.{code_defect_number, code_defect_words};
+ghost use Rattle.verifier.specs.RefusalKinds.{code_refusal_number, code_refusal_words};
 
 use common::OrNoMemory;
 use std::error::Error;
@@ -7,7 +7,7 @@ use std::fmt;
 
 /// What is wrong in a module's code.
 #[derive(Clone, Copy, Debug, PartialEq, Eq)]
-pub enum CodeDefect {
+pub enum CodeRefusalKind {
     /// 811: a target that is no instruction, or a handler with wrong offsets.
     Jump,
     /// 812: an operand of the wrong kind.
@@ -20,30 +20,30 @@ pub enum CodeDefect {
     FallsOffEnd,
 }
 
-impl CodeDefect {
-    /// The number that the defect is reported by, 811 to 815.
+impl CodeRefusalKind {
+    /// The number that the refusal is reported by, 811 to 815.
     pub fn number(self) -> u32
-        ensures { result ≡ code_defect_number self }
+        ensures { result ≡ code_refusal_number self }
     {
         match self {
-            CodeDefect::Jump => 811,
-            CodeDefect::OperandKind => 812,
-            CodeDefect::OperandDepth => 813,
-            CodeDefect::SlotOrIndex => 814,
-            CodeDefect::FallsOffEnd => 815,
+            CodeRefusalKind::Jump => 811,
+            CodeRefusalKind::OperandKind => 812,
+            CodeRefusalKind::OperandDepth => 813,
+            CodeRefusalKind::SlotOrIndex => 814,
+            CodeRefusalKind::FallsOffEnd => 815,
         }
     }
 
-    /// The words that the defect is reported by.
+    /// The words that the refusal is reported by.
     pub fn words(self) -> &'static str
-        ensures { result.now ≡ code_defect_words self }
+        ensures { result.now ≡ code_refusal_words self }
     {
         match self {
-            CodeDefect::Jump => "jump",
-            CodeDefect::OperandKind => "operand kind",
-            CodeDefect::OperandDepth => "operand depth",
-            CodeDefect::SlotOrIndex => "slot or index",
-            CodeDefect::FallsOffEnd => "falls off the end",
+            CodeRefusalKind::Jump => "jump",
+            CodeRefusalKind::OperandKind => "operand kind",
+            CodeRefusalKind::OperandDepth => "operand depth",
+            CodeRefusalKind::SlotOrIndex => "slot or index",
+            CodeRefusalKind::FallsOffEnd => "falls off the end",
         }
     }
 }
@@ -51,16 +51,16 @@ impl CodeDefect {
 /// What a module's code is refused for: what is wrong, and the procedure and the byte offset where.
 #[derive(Clone, Copy, Debug, PartialEq, Eq)]
 pub struct CodeRefusal {
-    pub defect: CodeDefect,
+    pub kind: CodeRefusalKind,
     pub procedure: u32,
     pub offset: u32,
 }
 
 impl fmt::Display for CodeRefusal {
-    ghost output = { λ refusal. Some (code_defect_words refusal.defect) };
+    ghost output = { λ refusal. Some (code_refusal_words refusal.kind) };
 
     fn fmt<W: fmt::Write>(&self, f: &mut fmt::Formatter<W>) -> fmt::Result {
-        write!(f, "{}", self.defect.words())
+        write!(f, "{}", self.kind.words())
     }
 }
 

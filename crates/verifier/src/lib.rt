@@ -1,4 +1,4 @@
-//! The verifier of modules: no step of any run of a verified module lacks a row of the machine's table.
+//! The verifier of modules: no step of any run of a verified module lacks a transition.
 #![tactic(auto)]
 
 mod body;
@@ -19,7 +19,7 @@ mod search;
 pub mod verified;
 mod work;
 
-pub use fault::{CodeDefect, CodeRefusal, VerifyFault};
+pub use fault::{CodeRefusal, CodeRefusalKind, VerifyFault};
 pub use index::Index;
 pub use loading::{LoadFault, LoadRefusal, load};
 pub use verified::{Verified, verify};

@@ -4,9 +4,9 @@ ghost use Rattle.modules.specs.Form.{Spells};
 ghost use Rattle.modules.specs.Format.{module_file};
 ghost use Rattle.common.specs.Answers.{Answers, IfRefused};
 ghost use Rattle.std.specs.Prelude.{◌≡◌, IfErr, IfOk, Some};
-ghost use Rattle.verifier.specs.Refusals.{HasNoDefect};
+ghost use Rattle.verifier.specs.Refusals.{IsNotRefused};
 ghost use Rattle.verifier.specs.Loaded.{CannotLoad, IsLoaded};
-ghost use Rattle.verifier.specs.Defects.{load_refusal_number, load_refusal_words};
+ghost use Rattle.verifier.specs.RefusalKinds.{load_refusal_number, load_refusal_words};
 ghost use Rattle.verifier.specs.declared.loading.LoadRefusal.TheVariants.{Bytes, Code};
 
 use crate::fault::CodeRefusal;
@@ -27,23 +27,23 @@ pub enum LoadRefusal {
 }
 
 impl LoadRefusal {
-    /// The number that the refusal is reported by: that of its defect.
+    /// The number that the refusal is reported by: that of its kind.
     pub fn number(&self) -> u32
         ensures { result ≡ load_refusal_number self.now }
     {
         match self {
-            LoadRefusal::Bytes(refusal) => refusal.defect.number(),
-            LoadRefusal::Code(refusal) => refusal.defect.number(),
+            LoadRefusal::Bytes(refusal) => refusal.kind.number(),
+            LoadRefusal::Code(refusal) => refusal.kind.number(),
         }
     }
 
-    /// The words that the refusal is reported by: those of its defect.
+    /// The words that the refusal is reported by: those of its kind.
     pub fn words(&self) -> &'static str
         ensures { result.now ≡ load_refusal_words self.now }
     {
         match self {
-            LoadRefusal::Bytes(refusal) => refusal.defect.words(),
-            LoadRefusal::Code(refusal) => refusal.defect.words(),
+            LoadRefusal::Bytes(refusal) => refusal.kind.words(),
+            LoadRefusal::Code(refusal) => refusal.kind.words(),
         }
     }
 }
@@ -79,11 +79,11 @@ impl From<CodeRefusal> for LoadRefusal {
 
 /// The verified module that the bytes of a file spell.
 ///
-/// The bytes are refused for what is wrong first in reading order, and a module that they spell for a defect in
+/// The bytes are refused for what is wrong first in reading order, and a module that they spell for what is wrong first in
 /// its code, as `decode` and `verify` have it.
 pub fn load(alloc: Global, bytes: &[u8]) -> Result<Verified, LoadFault>
     ensures accepted { IfOk result (IsLoaded bytes.now) }
-    ensures complete { (m : ModuleContents) → Spells module_file m bytes.now → HasNoDefect m →
+    ensures complete { (m : ModuleContents) → Spells module_file m bytes.now → IsNotRefused m →
         Answers (λ found. found ≡ m) (λ _. ⊥) result }
     ensures rejected { IfErr result (IfRefused (CannotLoad bytes.now)) }
 {

@@ -1,4 +1,4 @@
-//! Looks for a defect of a module's code.
+//! Looks for a refusal of a module's code.
 
 ghost use Rattle.common.specs.Answers.{IfRefused};
 ghost use Rattle.common.specs.declared.fault.OrNoMemory.TheVariants.{NoMemory};
@@ -14,7 +14,7 @@ use crate::fixed::find_body_refusal;
 use crate::index::Index;
 use crate::parameters::PackedModule;
 use crate::positions::Code;
-use crate::search::{FlowRefusal, ReachedOffsets, find_defect};
+use crate::search::{FlowRefusal, ReachedOffsets, find_refusal};
 use common::OrNoMemory;
 use std::alloc::Global;
 
@@ -25,11 +25,11 @@ pub(crate) struct CheckedCode {
     pub indexes: Vec<Index>,
 }
 
-/// Looks for a defect of a module's code, and answers what is kept of each procedure where there is none.
+/// Looks for a refusal of a module's code, and answers what is kept of each procedure where there is none.
 ///
-/// A defect that an instruction or a handler has by itself is reported before each one of the flow. So past one of
+/// A refusal that an instruction or a handler has by itself is reported before each one of the flow. So past one of
 /// the flow the search goes on, for those alone.
-pub(crate) fn look_for_defects(
+pub(crate) fn look_for_refusals(
     alloc: Global,
     program: &PackedModule,
 ) -> Result<CheckedCode, VerifyFault>
@@ -58,7 +58,7 @@ pub(crate) fn look_for_defects(
     }
 }
 
-// Looks for a defect of the flow of a procedure whose targets are right, unless one was found before. Where there is
+// Looks for a refusal of the flow of a procedure whose targets are right, unless one was found before. Where there is
 // none, the procedure's code is added.
 fn look_for_flow_refusal(
     alloc: Global,
@@ -82,14 +82,14 @@ fn look_for_flow_refusal(
     if found.is_some() {
         return Ok(found);
     }
-    match find_defect(alloc, search, body) {
+    match find_refusal(alloc, search, body) {
         Ok(greatest_depth) => {
             codes.push(Code::of(alloc, body, greatest_depth)?)?;
             Ok(None)
         }
         Err(OrNoMemory::NoMemory) => Err(OrNoMemory::NoMemory),
-        Err(OrNoMemory::Refused(FlowRefusal { defect, offset })) => Ok(Some(CodeRefusal {
-            defect,
+        Err(OrNoMemory::Refused(FlowRefusal { kind, offset })) => Ok(Some(CodeRefusal {
+            kind,
             procedure: number,
             offset,
         })),

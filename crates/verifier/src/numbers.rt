@@ -6,7 +6,7 @@ ghost use Rattle.verifier.specs.Numbers as numbers;
 use std::alloc::{AllocError, Global};
 use std::marker::Model;
 
-/// For each of so many places a number, or none. A place takes four bytes.
+/// For each of this many places a number, or none. A place takes four bytes.
 #[derive(Debug, Drop)]
 pub(crate) struct Numbers {
     // The number of each place and 1, or 0 where it has none.
@@ -23,7 +23,7 @@ impl Model for Numbers {
 }
 
 impl Numbers {
-    /// So many places without numbers.
+    /// This many places without numbers.
     pub(crate) fn new(alloc: Global, count: usize) -> Result<Numbers, AllocError>
         ensures { IfOk result (λ numbers. numbers ≡ replicate count None) }
     {
@@ -31,7 +31,7 @@ impl Numbers {
         Ok(Numbers { marks })
     }
 
-    /// So many places without numbers, in place of those before.
+    /// This many places without numbers, in place of those before.
     pub(crate) fn restart(&mut self, count: usize) -> Result<(), AllocError>
         ensures { OnOk result (self.new ≡ replicate count None) }
     {
@@ -48,22 +48,22 @@ impl Numbers {
     }
 
     /// The number of a place, if there is the place and it has one.
-    pub(crate) fn at(&self, place: usize) -> Option<u32>
-        ensures { result ≡ slice_index_or self.now place None }
+    pub(crate) fn at(&self, index: usize) -> Option<u32>
+        ensures { result ≡ slice_index_or self.now index None }
     {
-        match self.marks.get(place) {
+        match self.marks.get(index) {
             Some(mark) => number_of(*mark),
             None => None,
         }
     }
 
     /// Gives a place a number.
-    pub(crate) fn set(&mut self, place: usize, number: u32)
-        requires place { place < length self.old }
+    pub(crate) fn set(&mut self, index: usize, number: u32)
+        requires index { index < length self.old }
         requires number { number + 1 < 2 ^ 32 }
-        ensures { self.new ≡ set self.old place (Some number) }
+        ensures { self.new ≡ set self.old index (Some number) }
     {
-        self.marks[place] = number + 1;
+        self.marks[index] = number + 1;
     }
 }
 

@@ -5,7 +5,7 @@ ghost use Rattle.verifier.specs.Operands.{bit, full_blocks, greatest, list_of, p
 ghost use Rattle.std.specs.Prelude.{◌≡◌, ◌≢◌, ◌+◌, ◌*◌, ◌<◌, ◌≤◌, ◌^◌, ℕ, List, Some, ◌∷◌, [], IfOk, IfErr, IfNone, IfSome, OnOk, drop, length, map};
 ghost use Rattle.modules.specs.declared.value.ValueKind.{ValueKind};
 
-use crate::fault::CodeDefect;
+use crate::fault::CodeRefusalKind;
 use modules::ValueKind;
 use std::alloc::{AllocError, Global};
 use std::marker::Model;
@@ -223,17 +223,17 @@ impl Operands {
     }
 
     /// Takes an operand of a kind off a list, or of any kind.
-    pub fn pop(&self, list: u32, wanted: Option<ValueKind>) -> Result<u32, CodeDefect>
+    pub fn pop(&self, list: u32, wanted: Option<ValueKind>) -> Result<u32, CodeRefusalKind>
         requires { list < length self.now }
         ensures there { IfOk result (λ r. r < length self.now) }
         ensures accepted { IfOk result (λ r.
             popped wanted (list_of self.now list) ≡ Leaves (list_of self.now r)) }
-        ensures rejected { IfErr result (λ defect.
-            popped wanted (list_of self.now list) ≡ Misses defect) }
+        ensures rejected { IfErr result (λ kind.
+            popped wanted (list_of self.now list) ≡ Misses kind) }
     {
         let _ = &self.links;
         if list == 0 {
-            return Err(CodeDefect::OperandDepth);
+            return Err(CodeRefusalKind::OperandDepth);
         }
         let link = self.links[list as usize - 1];
         match wanted {
@@ -242,20 +242,20 @@ impl Operands {
                 if kind == link.kind {
                     Ok(link.below)
                 } else {
-                    Err(CodeDefect::OperandKind)
+                    Err(CodeRefusalKind::OperandKind)
                 }
             }
         }
     }
 
     /// Takes operands of some kinds off a list, the first one from the top.
-    pub fn pop_all(&self, list: u32, kinds: &[Option<ValueKind>]) -> Result<u32, CodeDefect>
+    pub fn pop_all(&self, list: u32, kinds: &[Option<ValueKind>]) -> Result<u32, CodeRefusalKind>
         requires { list < length self.now }
         ensures there { IfOk result (λ r. r < length self.now) }
         ensures accepted { IfOk result (λ r.
             all_popped kinds.now (list_of self.now list) ≡ Leaves (list_of self.now r)) }
-        ensures rejected { IfErr result (λ defect.
-            all_popped kinds.now (list_of self.now list) ≡ Misses defect) }
+        ensures rejected { IfErr result (λ kind.
+            all_popped kinds.now (list_of self.now list) ≡ Misses kind) }
     {
         let mut rest = list;
         for kind in kinds {
@@ -328,21 +328,21 @@ impl Operands {
     }
 
     /// Whether two lists are the same, or else what is wrong where they meet.
-    pub fn meet(&self, list: u32, other: u32) -> Result<(), CodeDefect>
+    pub fn meet(&self, list: u32, other: u32) -> Result<(), CodeRefusalKind>
         requires list { list < length self.now }
         requires other { other < length self.now }
         ensures accepted { OnOk result (list_of self.now list ≡ list_of self.now other) }
-        ensures differ { IfErr result (λ defect. list_of self.now list ≢ list_of self.now other) }
-        ensures rejected { IfErr result (λ defect.
-            defect ≡ between (list_of self.now list) (list_of self.now other)) }
+        ensures differ { IfErr result (λ kind. list_of self.now list ≢ list_of self.now other) }
+        ensures rejected { IfErr result (λ kind.
+            kind ≡ between (list_of self.now list) (list_of self.now other)) }
     {
         let _ = &self.links;
         if list == other {
             Ok(())
         } else if self.depth(list) == self.depth(other) {
-            Err(CodeDefect::OperandKind)
+            Err(CodeRefusalKind::OperandKind)
         } else {
-            Err(CodeDefect::OperandDepth)
+            Err(CodeRefusalKind::OperandDepth)
         }
     }
 }

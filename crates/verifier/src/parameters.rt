@@ -13,7 +13,7 @@ use modules::{Channel, Global as Variable, Module, Procedure, Slot, ValueKind};
 use std::alloc::{AllocError, Global};
 use std::marker::Model;
 
-// The kinds of the last 64 of the first so many slots as bits, the last one the lowest.
+// The kinds of the last 64 of the first this many slots as bits, the last one the lowest.
 fn block_of(slots: &[Slot], count: usize) -> u64
     requires full { 64 ≤ count }
     requires there { count ≤ length slots.now }

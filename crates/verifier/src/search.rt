@@ -1,4 +1,4 @@
-//! The search for a defect of the flow of operands: from the start along each edge, one list of kinds for each offset.
+//! The search for a refusal of the flow of operands: from the start along each edge, one list of kinds for each offset.
 
 ghost use Rattle.modules.specs.Code.{code_length, instruction_at, offset_at, width_of};
 ghost use Rattle.modules.specs.Contents.{ModuleContents, ProcedureContents};
@@ -13,12 +13,12 @@ ghost use Rattle.verifier.specs.Flow.{FlowsWell};
 ghost use Rattle.verifier.specs.Depth.{IsGreatestDepth};
 ghost use Rattle.verifier.specs.Operands.{list_of};
 ghost use Rattle.verifier.specs.Boundaries.{IsBoundary, KeepsBoundaries};
-ghost use Rattle.verifier.specs.Search.{Flowed, HasEffect, HaveLongest, HasInstruction, IsApplied, IsAtEdge, IsSearchableBody, IsPlace, IsSearchingNext, IsSearching, IsOperandFlowRefusal, IsWaiting, KeepsSearching, count, left, table, waiting};
+ghost use Rattle.verifier.specs.Search.{Flowed, HasEffect, HaveLongest, HasInstruction, IsApplied, IsAtEdge, IsSearchableBody, IsListed, IsSearchingNext, IsSearching, IsOperandFlowRefusal, IsWaiting, KeepsSearching, count, left, table, waiting};
 
 use crate::body::IndexedProcedure;
 use crate::coverage::Coverage;
 use crate::effects::{exchange, is_own};
-use crate::fault::CodeDefect;
+use crate::fault::CodeRefusalKind;
 use crate::numbers::Numbers;
 use crate::operands::Operands;
 use crate::work::Work;
@@ -26,21 +26,21 @@ use common::OrNoMemory;
 use modules::Instruction;
 use std::alloc::{AllocError, Global};
 
-/// A refusal for a defect of the flow of a procedure: what is wrong, and the offset where.
+/// A refusal of a procedure for its flow: what is wrong, and the offset where.
 #[derive(Clone, Copy, Debug, PartialEq, Eq)]
 pub(crate) struct FlowRefusal {
-    pub defect: CodeDefect,
+    pub kind: CodeRefusalKind,
     pub offset: u32,
 }
 
 /// Why a search gave no answer.
 pub(crate) type FlowFault = OrNoMemory<FlowRefusal>;
 
-/// The refusal of a procedure for a defect at an offset.
-fn refuse(defect: CodeDefect, offset: u32) -> FlowFault
-    ensures { result ≡ Refused (record { defect = defect; offset = offset }) }
+/// The refusal of a procedure at an offset.
+fn refuse(kind: CodeRefusalKind, offset: u32) -> FlowFault
+    ensures { result ≡ Refused (record { kind = kind; offset = offset }) }
 {
-    OrNoMemory::Refused(FlowRefusal { defect, offset })
+    OrNoMemory::Refused(FlowRefusal { kind, offset })
 }
 
 /// An offset that has a list: the numbers of the instruction that begins there and of the list.
@@ -99,7 +99,7 @@ impl ReachedOffsets {
             (IsOperandFlowRefusal body.now.program.now body.now.procedure.now)) }
     {
         if to as usize == self.shapes.len() {
-            return Err(refuse(CodeDefect::FallsOffEnd, to));
+            return Err(refuse(CodeRefusalKind::FallsOffEnd, to));
         }
         match self.shapes.at(to as usize) {
             None => {
@@ -108,12 +108,14 @@ impl ReachedOffsets {
             }
             Some(other) => match self.operands.meet(list, other) {
                 Ok(()) => Ok(false),
-                Err(defect) => Err(refuse(defect, to)),
+                Err(kind) => Err(refuse(kind, to)),
             },
         }
     }
 
-    // Control goes from an offset to another one with a list, and that one waits if control is the first there.
+    // Control goes from an offset to another one with a list, and that one waits if control is the first there. It is inlined, so that
+    // where no control goes nothing is answered through memory.
+    #[inline(always)]
     fn reach(
         &mut self,
         body: &IndexedProcedure,
@@ -164,14 +166,14 @@ impl ReachedOffsets {
     {
         if is_own(body, instruction) {
             match exchange(&self.operands, body, instruction, list) {
-                Err(defect) => Err(refuse(defect, at)),
+                Err(kind) => Err(refuse(kind, at)),
                 Ok((rest, pushes)) => match pushes {
                     None => Ok(rest),
                     Some(kind) => Ok(self.operands.push(rest, kind)?),
                 },
             }
         } else {
-            Err(refuse(CodeDefect::OperandKind, at))
+            Err(refuse(CodeRefusalKind::OperandKind, at))
         }
     }
 
@@ -283,13 +285,13 @@ impl ReachedOffsets {
         &mut self,
         body: &IndexedProcedure,
         coverage: &mut Coverage,
-        place: ListedOffset,
+        listed: ListedOffset,
         instruction: Instruction,
     ) -> Result<Option<ListedOffset>, FlowFault>
         requires searching { IsSearching body.now.program.now body.now.procedure.now self.old
-            (place.at ∷ []) }
-        requires place { IsPlace body.now.procedure.now self.old place }
-        requires instruction { instruction_at body.now.procedure.now.code place.at
+            (listed.at ∷ []) }
+        requires listed { IsListed body.now.procedure.now self.old listed }
+        requires instruction { instruction_at body.now.procedure.now.code listed.at
             ≡ Some instruction }
         requires boundaries { KeepsBoundaries body.now.procedure.now }
         requires waiting { IsWaiting body.now.procedure.now coverage.old self.old }
@@ -303,7 +305,7 @@ impl ReachedOffsets {
         ensures rejected { IfErr result (IfRefused
             (IsOperandFlowRefusal body.now.program.now body.now.procedure.now)) }
     {
-        let ListedOffset { at, number, list } = place;
+        let ListedOffset { at, number, list } = listed;
         let after = self.apply(body, at, instruction, list)?;
         self.jump(body, at, instruction, after)?;
         self.raise(body, coverage, at)?;
@@ -316,12 +318,12 @@ impl ReachedOffsets {
         &mut self,
         body: &IndexedProcedure,
         coverage: &mut Coverage,
-        place: ListedOffset,
+        listed: ListedOffset,
     ) -> Result<Option<ListedOffset>, FlowFault>
         requires searching { IsSearching body.now.program.now body.now.procedure.now self.old
-            (place.at ∷ []) }
-        requires there { HasInstruction body.now.procedure.now self.old place.at }
-        requires place { IsPlace body.now.procedure.now self.old place }
+            (listed.at ∷ []) }
+        requires there { HasInstruction body.now.procedure.now self.old listed.at }
+        requires listed { IsListed body.now.procedure.now self.old listed }
         requires boundaries { KeepsBoundaries body.now.procedure.now }
         requires waiting { IsWaiting body.now.procedure.now coverage.old self.old }
         requires body { IsSearchableBody body.now }
@@ -334,18 +336,18 @@ impl ReachedOffsets {
         ensures rejected { IfErr result (IfRefused
             (IsOperandFlowRefusal body.now.program.now body.now.procedure.now)) }
     {
-        let instruction = body.procedure.code()[place.number as usize];
-        self.visit(body, coverage, place, instruction)
+        let instruction = body.procedure.code()[listed.number as usize];
+        self.visit(body, coverage, listed, instruction)
     }
 
     // The place of an offset that has a list.
-    fn place_at(&self, body: &IndexedProcedure, at: u32) -> ListedOffset
+    fn listed_at(&self, body: &IndexedProcedure, at: u32) -> ListedOffset
         requires searching { IsSearching body.now.program.now body.now.procedure.now self.now
             (at ∷ []) }
         requires there { HasInstruction body.now.procedure.now self.now at }
         requires body { IsSearchableBody body.now }
         ensures at { result.at ≡ at }
-        ensures place { IsPlace body.now.procedure.now self.now result }
+        ensures listed { IsListed body.now.procedure.now self.now result }
     {
         let Some(number) = body.index.number(at as usize) else {
             unreachable!()
@@ -381,9 +383,9 @@ impl ReachedOffsets {
         ensures rejected { IfErr result (IfRefused
             (IsOperandFlowRefusal body.now.program.now body.now.procedure.now)) }
     {
-        let mut next = Some(self.place_at(body, at));
-        while let Some(place) = next {
-            next = self.look(body, coverage, place)?;
+        let mut next = Some(self.listed_at(body, at));
+        while let Some(listed) = next {
+            next = self.look(body, coverage, listed)?;
         }
         Ok(())
     }
@@ -408,9 +410,9 @@ impl ReachedOffsets {
     }
 }
 
-/// Looks for a defect of the flow of a procedure whose targets are right, and answers the greatest number of operands where there
+/// Looks for a refusal of the flow of a procedure whose targets are right, and answers the greatest number of operands where there
 /// is none. Memory that the search has is used again.
-pub(crate) fn find_defect(
+pub(crate) fn find_refusal(
     alloc: Global,
     search: &mut ReachedOffsets,
     body: &IndexedProcedure,
@@ -426,7 +428,7 @@ pub(crate) fn find_defect(
 {
     let size = body.index.len();
     if size == 0 {
-        return Err(refuse(CodeDefect::FallsOffEnd, 0));
+        return Err(refuse(CodeRefusalKind::FallsOffEnd, 0));
     }
     let mut coverage = Coverage::new(alloc, body.procedure.handlers())?;
     search.operands.restart();

@@ -4,20 +4,20 @@ ghost use Rattle.modules.specs.Contents.{ProcedureContents};
 ghost use Rattle.common.specs.Answers.{IfRefused};
 ghost use Rattle.verifier.specs.Depth.{IsGreatestDepth};
 ghost use Rattle.verifier.specs.Index.{indexes_of};
-ghost use Rattle.verifier.specs.Refusals.{HasNoDefect, IsCodeRefusal};
+ghost use Rattle.verifier.specs.Refusals.{IsNotRefused, IsCodeRefusal};
 ghost use Rattle.verifier.specs.Safety.{IsNeverStuck};
 ghost use Rattle.verifier.specs.Positions.{positioned};
 
 use crate::fault::VerifyFault;
 use crate::index::Index;
-use crate::looking::{CheckedCode, look_for_defects};
+use crate::looking::{CheckedCode, look_for_refusals};
 use crate::parameters::PackedModule;
 use crate::positions::Code;
 use modules::{Instruction, Module};
 use std::alloc::Global;
 use std::marker::Model;
 
-/// A module of which no run is ever stuck: no step of it lacks a row of the machine's table, whatever the
+/// A module of which no run is ever stuck: no step of it lacks a transition, whatever the
 /// world gives. Only [`verify`] makes one.
 #[derive(Debug, Drop)]
 pub struct Verified {
@@ -42,7 +42,7 @@ impl Verified {
     /// The module.
     pub fn module(&self) -> &Module
         ensures value { result.now ≡ self.now }
-        ensures no_defect { HasNoDefect self.now }
+        ensures not_refused { IsNotRefused self.now }
         ensures never_stuck { IsNeverStuck self.now }
     {
         &self.inner
@@ -51,7 +51,7 @@ impl Verified {
     /// The module, and for each procedure the index of its code: what a run needs. The rest is let go.
     pub fn into_parts(self) -> (Module, Vec<Index>)
         ensures module { result.0 ≡ self }
-        ensures no_defect { HasNoDefect self }
+        ensures not_refused { IsNotRefused self }
         ensures never_stuck { IsNeverStuck self }
         ensures indexes { result.1.items ≡ indexes_of self }
     {
@@ -87,17 +87,17 @@ impl Verified {
 
 /// Verifies a module.
 ///
-/// A module is refused if its code has a defect. The reported defect is really in the code: the first one
+/// A module is refused if its code breaks a rule. The reported refusal is one of the code: the first one
 /// that an instruction or a handler has by itself, or else one of the flow of operands.
 /// Memory grows with the size of the module.
 pub fn verify(alloc: Global, program: Module) -> Result<Verified, VerifyFault>
     ensures accepted { IfOk result (λ verified. verified ≡ program) }
     ensures safe { OnOk result (IsNeverStuck program) }
-    ensures no_defect { OnOk result (HasNoDefect program) }
+    ensures not_refused { OnOk result (IsNotRefused program) }
     ensures rejected { IfErr result (IfRefused (IsCodeRefusal program)) }
 {
     let packed = PackedModule::new(alloc, program)?;
-    let CheckedCode { codes, indexes } = look_for_defects(alloc, &packed)?;
+    let CheckedCode { codes, indexes } = look_for_refusals(alloc, &packed)?;
     Ok(Verified {
         inner: packed.into_module(),
         codes,

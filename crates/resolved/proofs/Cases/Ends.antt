@@ -12,13 +12,13 @@ use Rattle.resolved.specs.declared.statement.Exit.TheVariants.{Normal, Return, B
 use Rattle.resolved.specs.Tree.{Logical, Element, Unary, Binary, Store, Receive, Send, Call, Leave, ReturnWith, Empty, NoMore, Catch}
 use Rattle.resolved.specs.Ends.{raises, statement_ends}
 use Rattle.resolved.specs.EndFaults.{end_faults}
-use Rattle.resolved.specs.declared.fault.EndDefect.{EndDefect}
-use Rattle.resolved.specs.declared.fault.EndDefect.TheVariants.{OutsideLoop, Unreachable, NeverRaised, NoValueReturned, Undeclared}
+use Rattle.resolved.specs.declared.fault.EndRefusalKind.{EndRefusalKind}
+use Rattle.resolved.specs.declared.fault.EndRefusalKind.TheVariants.{OutsideLoop, Unreachable, NeverRaised, NoValueReturned, Undeclared}
 use Rattle.resolved.specs.declared.fault.EndRefusal.{EndRefusal}
 use Rattle.resolved.proofs.Cases.Kit.{arith, bounds, end, oops, s_channel, pub_channel, int_slot, array_slot, int, minus, var, set_to, send_public, positive, block, on, try_to, if_then, while_loop, procedure, thrown, program, main_program}
 
-abbrev fault : EndDefect → ℕ → List EndRefusal
-fault defect at = record { defect = defect; at = at } ∷ []
+abbrev fault : EndRefusalKind → ℕ → List EndRefusal
+fault kind at = record { kind = kind; at = at } ∷ []
 
 -- a nonzero literal divisor, or a minus sign before one, cannot raise; 0 and two signs can
 divisors : map raises (

@@ -162,7 +162,7 @@ end_of (Ended (Throw exception) returned s) = threw exception
 end_of (Ended _ returned s) = other
 end_of (Stopped stop s) = stopped stop
 
--- what a run sends and how it ends, with so many frames and turns
+-- what a run sends and how it ends, with this many frames and so much fuel
 abbrev pub run : (frames k : ℕ) → Program → World → List ℤ × End
 run frames k p world =
     (numbers_of (state_after (run_within frames p world k)).sent, end_of (run_within frames p world k))

@@ -126,7 +126,7 @@ while_fits : fits (secret_program [] (while_loop (positive (var 0)) [] ∷ send_
 unfolding int_wrap
 while_fits = refl
 
--- `while (true) { send pub, 1; if (x > 0) { break; } }`: the second turn tells of x, since the body's normal end comes back
+-- `while (true) { send pub, 1; if (x > 0) { break; } }`: the second round tells of x, since the body's normal end comes back
 while_refused : (label : Label)
     → fits (secret_program [] (while_loop (Logical true) (
     send_public (int 1) ∷ if_then (positive (var 0)) (Leave 0 Break ∷ []) ∷ []) ∷ [])) (loop_is label) ≡ false

@@ -14,7 +14,7 @@ use Rattle.resolved.specs.declared.expression.Value.TheVariants.{Number}
 use Rattle.resolved.specs.declared.statement.Exit.TheVariants.{Break, Continue, Throw}
 use Rattle.resolved.specs.Tree.{Expression, Logical, Read, Element, Unary, Binary, Short, Assign, Clear, Store, Receive, Call, Leave, ReturnWith, Catch}
 use Rattle.resolved.specs.Program.{Program}
-use Rattle.resolved.specs.Meaning.{Deep, OutOfTurns, frame_limit}
+use Rattle.resolved.specs.Meaning.{Deep, OutOfFuel, frame_limit}
 use Rattle.resolved.proofs.Cases.Kit.{arith, bounds, end, oops, s_channel, pub_channel, int_slot, array_slot, int, minus, var, set_to, send_public, positive, block, on, try_to, if_then, while_loop, procedure, thrown, program, program_with, main_program, secret_program, silence, secret, finished, threw, stopped, run}
 
 frames_of_a_run : frame_limit ≡ 512
@@ -80,16 +80,16 @@ short_circuit : run 1 0 (main_program [] (
 unfolding int_wrap
 short_circuit = refl
 
--- `while (i < 3) { int{} a[2]; a[i] = a[0] + 5; send pub, a[i]; i = i + 1; }`: the array is cleared in each turn, and an index past
+-- `while (i < 3) { int{} a[2]; a[i] = a[0] + 5; send pub, a[i]; i = i + 1; }`: the array is cleared in each round, and an index past
 -- its end raises
-cleared_each_turn : run 1 3 (main_program (array_slot 2 [] ∷ int_slot [] ∷ []) (
+cleared_each_round : run 1 3 (main_program (array_slot 2 [] ∷ int_slot [] ∷ []) (
     set_to 1 (int 0)
     ∷ while_loop (Binary (Compare LessThan) (var 1) (int 3)) (
     Clear 0 0 ∷ Store 0 (Local 0) 2 (var 1) (Binary (Compute Add) (Element (Local 0) 2 (int 0)) (int 5))
     ∷ send_public (Element (Local 0) 2 (var 1)) ∷ set_to 1 (Binary (Compute Add) (var 1) (int 1)) ∷ []) ∷ [])) silence
     ≡ (pos 5 ∷ pos 5 ∷ [], threw bounds)
 unfolding int_wrap
-cleared_each_turn = refl
+cleared_each_round = refl
 
 -- without the declaration in the loop the elements would stay
 elements_stay : run 1 2 (main_program (array_slot 1 [] ∷ int_slot [] ∷ []) (
@@ -113,26 +113,26 @@ output_is_empty : run 1 0 (main_program (int_slot [] ∷ []) (Receive 0 pub_chan
 unfolding int_wrap
 output_is_empty = refl
 
--- `while (true) { send pub, 1; }`: with three turns it has sent three times and is out of turns
-out_of_turns : run 1 3 (main_program [] (while_loop (Logical true) (send_public (int 1) ∷ []) ∷ [])) silence
-    ≡ (pos 1 ∷ pos 1 ∷ pos 1 ∷ [], stopped OutOfTurns)
+-- `while (true) { send pub, 1; }`: with fuel 3 it has sent three times and is out of fuel
+out_of_fuel : run 1 3 (main_program [] (while_loop (Logical true) (send_public (int 1) ∷ []) ∷ [])) silence
+    ≡ (pos 1 ∷ pos 1 ∷ pos 1 ∷ [], stopped OutOfFuel)
 unfolding int_wrap
-out_of_turns = refl
+out_of_fuel = refl
 
--- turns are counted anew each time a loop is reached: two turns of the inner loop suffice in both turns of the outer one
-turns_counted_anew : run 1 2 (main_program (int_slot [] ∷ int_slot [] ∷ []) (
+-- rounds are counted anew each time a loop is reached: two rounds of the inner loop suffice in both rounds of the outer one
+fuel_counted_anew : run 1 2 (main_program (int_slot [] ∷ int_slot [] ∷ []) (
     while_loop (Binary (Compare LessThan) (var 0) (int 2)) (
     set_to 1 (int 0)
     ∷ while_loop (Binary (Compare LessThan) (var 1) (int 2)) (send_public (var 1) ∷ set_to 1 (Binary (Compute Add) (var 1) (int 1)) ∷ [])
     ∷ set_to 0 (Binary (Compute Add) (var 0) (int 1)) ∷ []) ∷ [])) silence
     ≡ (pos 0 ∷ pos 1 ∷ pos 0 ∷ pos 1 ∷ [], finished)
 unfolding int_wrap
-turns_counted_anew = refl
+fuel_counted_anew = refl
 
--- being out of turns passes through a `try` and through what follows
+-- being out of fuel passes through a `try` and through what follows
 stop_is_not_caught : run 1 1 (main_program [] (
     try_to (while_loop (Logical true) [] ∷ Leave 0 (Throw oops) ∷ []) (on oops (send_public (int 1) ∷ []))
-    ∷ send_public (int 2) ∷ [])) silence ≡ ([], stopped OutOfTurns)
+    ∷ send_public (int 2) ∷ [])) silence ≡ ([], stopped OutOfFuel)
 unfolding int_wrap
 stop_is_not_caught = refl
 

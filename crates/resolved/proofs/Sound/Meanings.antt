@@ -16,7 +16,7 @@ use Rattle.resolved.specs.Tree.{Expression, Statement, Assign, Clear, Store, Rec
 use Rattle.resolved.specs.Program.{Program, ProcedureEntry, ResultEntry, SlotEntry}
 use Rattle.resolved.specs.Value.{Evaluated, Yields, Raises, base_of, checked_index, truth_in}
 use Rattle.resolved.specs.SourceState.{SourceState, cells, assigned, stored, value_of, values_of}
-use Rattle.resolved.specs.Meaning.{Outcome, Ended, Stopped, Calls, normally, after, evaluated, looped, turns, caught, received, kept_in, sending, leaving, returned_to, entering, calls_with, statement_meaning, block_meaning, handlers_meaning}
+use Rattle.resolved.specs.Meaning.{Outcome, Ended, Stopped, Calls, normally, after, evaluated, looped, fuel, caught, received, kept_in, sending, leaving, returned_to, entering, calls_with, statement_meaning, block_meaning, handlers_meaning}
 use Rattle.resolved.specs.WellFormed.{VariableType, variable_type, scalar_by, array_by, has_length, has_base, has_result, same_base, target_by, statement_fits, block_fits, handlers_fit, channel_is, is_exception, call_matches, arguments_match, parameters_of, well_formed}
 use Rattle.resolved.specs.Kinds.{StateFits, GivesBase, OutcomeFits, MeaningKeepsTypes, ValuesHaveTheirTypes, ArgumentsFit}
 use Rattle.resolved.proofs.WellFormedParts.{ProcedureParts, procedure_there, procedure_at_is}
@@ -68,15 +68,15 @@ module _ (program : Program) (procedure : ProcedureEntry) (place : Exit) (result
   either_fits true first second h k = h
   either_fits false first second h k = k
 
-  turns_fits : (k : ℕ) (condition : SourceState → Evaluated Value) (body : SourceState → Outcome)
+  fuel_fits : (k : ℕ) (condition : SourceState → Evaluated Value) (body : SourceState → Outcome)
       → ((s : SourceState) → StateFits program procedure s → OutcomeFits program procedure place result (body s))
-      → (s : SourceState) → StateFits program procedure s → OutcomeFits program procedure place result (turns k condition body s)
-  turns_fits zero condition body h s state =
+      → (s : SourceState) → StateFits program procedure s → OutcomeFits program procedure place result (fuel k condition body s)
+  fuel_fits zero condition body h s state =
       evaluated_fits (condition s) s _ state (λ v _.
       either_fits (truth_in v) _ _ (record { state = state; returned = tt }) (ended_fits Normal s state))
-  turns_fits (suc k) condition body h s state =
+  fuel_fits (suc k) condition body h s state =
       evaluated_fits (condition s) s _ state (λ v _.
-      either_fits (truth_in v) _ _ (looped_fits (body s) _ (h s state) (turns_fits k condition body h)) (ended_fits Normal s state))
+      either_fits (truth_in v) _ _ (looped_fits (body s) _ (h s state) (fuel_fits k condition body h)) (ended_fits Normal s state))
 
   caught_fits : (outcome : Outcome) (handle : ℕ → SourceState → Outcome) → OutcomeFits program procedure place result outcome
       → ((exception : ℕ) (s : SourceState) → StateFits program procedure s → OutcomeFits program procedure place result (handle exception s))
@@ -260,16 +260,16 @@ module _ (program : Program) (procedure : ProcedureEntry) (calls : Calls) (keep 
         record { state = sending_fits program procedure channel v s state; returned = tt })
     statement_keeps (Call at f arguments target) s state h =
         call_keeps f (slice_get program.procedures f) arguments target s state refl h
-    statement_keeps (If at e yes_block no_block) s state h =
-        let parts : (has_base program procedure Boolean e && block_fits program procedure yes_block ≡ true)
-        × (block_fits program procedure no_block ≡ true) =
-        and_parts (has_base program procedure Boolean e && block_fits program procedure yes_block) _ h in
+    statement_keeps (If at e then_block else_block) s state h =
+        let parts : (has_base program procedure Boolean e && block_fits program procedure then_block ≡ true)
+        × (block_fits program procedure else_block ≡ true) =
+        and_parts (has_base program procedure Boolean e && block_fits program procedure then_block) _ h in
         evaluated_fits program procedure Return procedure.result (value_of s e) s _ state (λ v _.
         either_fits program procedure Return procedure.result (truth_in v) _ _
-        (block_keeps yes_block s state (and_parts (has_base program procedure Boolean e) _ parts.0).1)
-        (block_keeps no_block s state parts.1))
+        (block_keeps then_block s state (and_parts (has_base program procedure Boolean e) _ parts.0).1)
+        (block_keeps else_block s state parts.1))
     statement_keeps (While at loop e body) s state h =
-        turns_fits program procedure Return procedure.result k (λ t. value_of t e) (block_meaning calls k body)
+        fuel_fits program procedure Return procedure.result k (λ t. value_of t e) (block_meaning calls k body)
         (λ t fit. block_keeps body t fit (and_parts (has_base program procedure Boolean e) _ h).1) s state
     statement_keeps (Leave at exit) s state h = record { state = state; returned = tt }
     statement_keeps (ReturnWith at None) s state h = record { state = state; returned = tt }

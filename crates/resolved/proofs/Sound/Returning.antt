@@ -10,7 +10,7 @@ use Rattle.resolved.specs.Tree.{Statement, Assign, Clear, Store, Receive, Send, 
 use Rattle.resolved.specs.Program.{Program, ProcedureEntry, ResultEntry}
 use Rattle.resolved.specs.Value.{Evaluated, Yields, Raises, checked_index, truth_in}
 use Rattle.resolved.specs.SourceState.{SourceState, value_of, values_of}
-use Rattle.resolved.specs.Meaning.{Outcome, Ended, Stopped, after, evaluated, looped, turns, caught, received, leaving, returned_to, calls_with, statement_meaning, block_meaning, handlers_meaning}
+use Rattle.resolved.specs.Meaning.{Outcome, Ended, Stopped, after, evaluated, looped, fuel, caught, received, leaving, returned_to, calls_with, statement_meaning, block_meaning, handlers_meaning}
 use Rattle.resolved.specs.WellFormed.{has_base, statement_fits, block_fits, handlers_fit, is_exception}
 
 -- whatever is returned is a value
@@ -47,11 +47,11 @@ looped_some (Ended Continue returned s) again h each = each s
 looped_some (Ended (Throw exception) returned s) again h each = tt
 looped_some (Stopped stop s) again h each = tt
 
-turns_some : (k : ℕ) (condition : SourceState → Evaluated Value) (body : SourceState → Outcome) → ((s : SourceState) → ReturnsSome (body s)) → (s : SourceState) →
-    ReturnsSome (turns k condition body s)
-turns_some zero condition body each s = evaluated_some (condition s) s _ (λ v. either_some (truth_in v) _ _ tt tt)
-turns_some (suc k) condition body each s =
-    evaluated_some (condition s) s _ (λ v. either_some (truth_in v) _ _ (looped_some (body s) _ (each s) (turns_some k condition body each)) tt)
+fuel_some : (k : ℕ) (condition : SourceState → Evaluated Value) (body : SourceState → Outcome) → ((s : SourceState) → ReturnsSome (body s)) → (s : SourceState) →
+    ReturnsSome (fuel k condition body s)
+fuel_some zero condition body each s = evaluated_some (condition s) s _ (λ v. either_some (truth_in v) _ _ tt tt)
+fuel_some (suc k) condition body each s =
+    evaluated_some (condition s) s _ (λ v. either_some (truth_in v) _ _ (looped_some (body s) _ (each s) (fuel_some k condition body each)) tt)
 
 caught_some : (outcome : Outcome) (handle : ℕ → SourceState → Outcome) → ReturnsSome outcome → ((exception : ℕ) (s : SourceState) → ReturnsSome (handle exception s)) →
     ReturnsSome (caught outcome handle)
@@ -99,13 +99,13 @@ module _ (program : Program) (procedure : ProcedureEntry) (entry : ResultEntry) 
     statement_some (Send at channel e) s fit = evaluated_some (value_of s e) s _ (λ v. tt)
     statement_some (Call at f arguments target) s fit =
         evaluated_some (values_of s arguments) s _ (λ values. returned_to_some target _ (calls_some program k frames f values s))
-    statement_some (If at e yes_block no_block) s fit =
-        let parts = and_parts (has_base program procedure Boolean e && block_fits program procedure yes_block) (block_fits program procedure no_block) fit in
-        let first = and_parts (has_base program procedure Boolean e) (block_fits program procedure yes_block) parts.0 in
-        evaluated_some (value_of s e) s _ (λ v. either_some (truth_in v) _ _ (block_some yes_block s first.1) (block_some no_block s parts.1))
+    statement_some (If at e then_block else_block) s fit =
+        let parts = and_parts (has_base program procedure Boolean e && block_fits program procedure then_block) (block_fits program procedure else_block) fit in
+        let first = and_parts (has_base program procedure Boolean e) (block_fits program procedure then_block) parts.0 in
+        evaluated_some (value_of s e) s _ (λ v. either_some (truth_in v) _ _ (block_some then_block s first.1) (block_some else_block s parts.1))
     statement_some (While at loop e body) s fit =
         let parts = and_parts (has_base program procedure Boolean e) (block_fits program procedure body) fit in
-        turns_some k (λ t. value_of t e) (block_meaning (calls_with program k frames) k body) (λ t. block_some body t parts.1) s
+        fuel_some k (λ t. value_of t e) (block_meaning (calls_with program k frames) k body) (λ t. block_some body t parts.1) s
     statement_some (Leave at Normal) s fit = tt
     statement_some (Leave at Return) s fit = let no : false ≡ true = fit in absurd (cc)
     statement_some (Leave at Break) s fit = tt

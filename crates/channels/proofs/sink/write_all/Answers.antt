@@ -4,7 +4,7 @@ use Rattle.std.proofs.KnownBytes.{Appends-trans}
 use Rattle.channels.proofs.Sinks.{not_failed}
 use Rattle.channels.proofs.sink.write_all.Goals as goal
 
--- what was taken of the rest stands behind the front, and the rest of it is left
+-- what was taken of the rest stands after the front, and the rest of it is left
 moved : (front rest bytes : List ℕ) (n : ℕ) → front ++ rest ≡ bytes
     → (front ++ take n rest) ++ take (length rest - n) (drop n rest) ≡ bytes
 moved front rest bytes n all =

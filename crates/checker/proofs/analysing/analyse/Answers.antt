@@ -5,7 +5,7 @@ use Rattle.std.specs.Prelude.{Ok}
 use Rattle.acceptance.proofs.ProperNames.{tree_of_text}
 use Rattle.acceptance.specs.Accepted.{IsResolvedFrom}
 use Rattle.acceptance.specs.Refused.{NoText, TooLong}
-use Rattle.acceptance.specs.declared.cause.Cause.TheVariants as causes
+use Rattle.acceptance.specs.declared.kind.RefusalKind.TheVariants as kinds
 use Rattle.common.proofs.Casting.{cast-answer, mapped-ok}
 use Rattle.common.specs.Answers.{IfRefused}
 use Rattle.path_map.specs.FirstFault.{IsFirstEndFault}
@@ -20,7 +20,7 @@ use Rattle.checker.specs.Found.{IsFound}
 use Rattle.checker.proofs.analysing.analyse.Goals as goal
 
 pub returns-then-source-gt-MAX_TEXT-clause-first_fault : goal.returns-then-source-gt-MAX_TEXT-clause-first_fault
-returns-then-source-gt-MAX_TEXT-clause-first_fault c = NoText causes.TextTooLong 0 (TooLong (omega (arith, c.if-source-gt-MAX_TEXT.true)))
+returns-then-source-gt-MAX_TEXT-clause-first_fault c = NoText kinds.TextTooLong 0 (TooLong (omega (arith, c.if-source-gt-MAX_TEXT.true)))
 
 pub read-requires : goal.read-requires
 read-requires c = record {

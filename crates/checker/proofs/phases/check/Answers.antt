@@ -11,7 +11,7 @@ use Rattle.checker.proofs.phases.check.Goals as goal
 
 pub returns-in-Err-Refused-clause-rejected : goal.returns-in-Err-Refused-clause-rejected
 returns-in-Err-Refused-clause-rejected c = λ program accepted.
-    accepted_refused c.args.hierarchy.now c.args.source.now program c.in-Err-Refused.field-0-0.cause c.in-Err-Refused.field-0-0.at accepted
+    accepted_refused c.args.hierarchy.now c.args.source.now program c.in-Err-Refused.field-0-0.kind c.in-Err-Refused.field-0-0.at accepted
     (subst (IfRefused (IsFound c.args.hierarchy.now c.args.source.now)) c.in-Err-Refused.field-0-is c.in-Err-Refused.ensures.first_fault)
 
 pub find_labels-requires-clause-names : goal.find_labels-requires-clause-names

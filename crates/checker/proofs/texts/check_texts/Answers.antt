@@ -2,7 +2,7 @@ use Rattle.std.proofs.Common.{subst}
 use Rattle.std.proofs.lemmas.Result.{err_from_is_err_and}
 use Rattle.common.proofs.Casting.{refused-weaker}
 use Rattle.common.specs.Answers.{IfRefused}
-use Rattle.acceptance.specs.declared.cause.Text.TheVariants as texts
+use Rattle.acceptance.specs.declared.kind.Text.TheVariants as texts
 use Rattle.checker.specs.Read.{IsUnread}
 use Rattle.checker.specs.Reported.{HasFlow, IsFirstFault, IsSourceFault, StandForNone}
 use Rattle.checker.proofs.Refusals.{in_source, stand_for_none, unread_no_flow, unread_source}

@@ -4,8 +4,8 @@ use Rattle.common.proofs.Casting.{refused-weaker}
 use Rattle.common.specs.Answers.{IfRefused}
 use Rattle.principals.specs.HierarchyText.{IsRefusedText}
 use Rattle.acceptance.specs.Refused.{Wrong}
-use Rattle.acceptance.specs.declared.cause.Cause.TheVariants as causes
-use Rattle.acceptance.specs.declared.cause.Text.TheVariants as texts
+use Rattle.acceptance.specs.declared.kind.RefusalKind.TheVariants as kinds
+use Rattle.acceptance.specs.declared.kind.Text.TheVariants as texts
 use Rattle.checker.specs.Read.{IsUnread}
 use Rattle.checker.specs.Reported.{HasNoHierarchy, IsFirstFault, IsHierarchyFault}
 use Rattle.checker.proofs.Refusals.{faulty_no_hierarchy, in_hierarchy, unread_fault, unread_hierarchy}
@@ -25,7 +25,7 @@ returns-in-Err-Refused-clause-first_fault c = λ source.
     let reported = subst (IfRefused (IsRefusedText c.in_ok-text.text.now)) c.in-Err-Refused.field-0-is c.in-Err-Refused.ensures.first_fault in
     let refused = subst (λ t. IsRefusedText t refusal) c.in_ok-text.ensures.same reported in
     rw c.refusal_at-refused.ensures
-    (in_hierarchy bytes source (causes.Hierarchy refusal.defect) refusal.at (Wrong c.in_ok-text.ensures.text refusal refused))
+    (in_hierarchy bytes source (kinds.Hierarchy refusal.kind) refusal.at (Wrong c.in_ok-text.ensures.text refusal refused))
 
 pub returns-in_err-text-clause-refused : goal.returns-in_err-text-clause-refused
 returns-in_err-text-clause-refused c =
@@ -47,7 +47,7 @@ returns-in-Err-Refused-clause-refused c =
     let reported = subst (IfRefused (IsRefusedText c.in_ok-text.text.now)) c.in-Err-Refused.field-0-is c.in-Err-Refused.ensures.first_fault in
     let refused = subst (λ t. IsRefusedText t refusal) c.in_ok-text.ensures.same reported in
     record {
-      cause = causes.Hierarchy refusal.defect;
+      kind = kinds.Hierarchy refusal.kind;
       at = refusal.at;
       refused = Wrong c.in_ok-text.ensures.text refusal refused;
       refusal_is = c.refusal_at-refused.ensures;

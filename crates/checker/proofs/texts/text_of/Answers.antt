@@ -13,13 +13,13 @@ returns-in-Ok-clause-text c = record {
 pub returns-clause-none : goal.returns-clause-none
 returns-clause-none c = elim c.if-bytes-gt-MAX_TEXT.branch [
   | then-bytes-gt-MAX_TEXT w ↦ record {
-    cause = c.if-bytes-gt-MAX_TEXT.cause;
-    no_text = rw w.cause-is (TooLong (omega (arith, w.if-bytes-gt-MAX_TEXT.true)));
+    kind = c.if-bytes-gt-MAX_TEXT.kind;
+    no_text = rw w.kind-is (TooLong (omega (arith, w.if-bytes-gt-MAX_TEXT.true)));
     refusal_is = c.refusal_at.ensures;
   }
   | else-bytes-gt-MAX_TEXT+in-Err w ↦ record {
-    cause = c.if-bytes-gt-MAX_TEXT.cause;
-    no_text = rw w.cause-is
+    kind = c.if-bytes-gt-MAX_TEXT.kind;
+    no_text = rw w.kind-is
         (NotUtf8 (omega (arith, w.if-bytes-gt-MAX_TEXT.false)) (λ t. w.in-Err.ensures.cases.0 (IsUtf8-from_is_utf8 c.args.bytes.now t)));
     refusal_is = c.refusal_at.ensures;
   }

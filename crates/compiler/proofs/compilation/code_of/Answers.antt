@@ -7,4 +7,4 @@ returns c =
     let graph = c.in_ok-graph.ensures in
     let module_is = c.in_ok-module.ensures in
     code_of_module (program_of c.args.checked.now.core) c.in_ok-graph.graph c.in_ok-module.module graph.interface module_is.interface
-    c.in_ok-code.code.items module_is.contents module_is.runs graph.kept graph.no_defect graph.never_stuck c.in_ok-code.ensures c.requires
+    c.in_ok-code.code.items module_is.contents module_is.runs graph.kept graph.not_refused graph.never_stuck c.in_ok-code.ensures c.requires

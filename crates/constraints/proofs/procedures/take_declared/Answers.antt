@@ -2,8 +2,8 @@ use Rattle.std.proofs.Common.{get_or, map, refl, subst, arith, ◌∙◌, ◌+�
 use Rattle.std.proofs.lemmas.List.{get_or_default, take_all}
 use Rattle.resolved.specs.ProgramOf.{thrown_entry}
 use Rattle.resolved.specs.declared.tables.Thrown.{Thrown}
-use Rattle.constraints.specs.Procedures.{AreDeclaredTakers}
-use Rattle.constraints.specs.Takers.{no_entry}
+use Rattle.constraints.specs.Procedures.{AreDeclaredExitUnknowns}
+use Rattle.constraints.specs.ExitUnknowns.{no_entry}
 use Rattle.constraints.proofs.Declared.{declared-next, level-free}
 use Rattle.constraints.proofs.Ready.{held-at}
 use Rattle.constraints.proofs.SavedEntries.{width-kept}
@@ -32,5 +32,5 @@ loop-i-preserved c = record {
 
 pub returns-clause-taken : goal.returns-clause-taken
 returns-clause-taken c = λ labels barrier below within.
-    subst (λ list. AreDeclaredTakers (map (thrown_entry labels) list) c.args.number c.args.level c.args.thrown.now.items c.loop-i.thrown.items)
+    subst (λ list. AreDeclaredExitUnknowns (map (thrown_entry labels) list) c.args.number c.args.level c.args.thrown.now.items c.loop-i.thrown.items)
     (take_all c.loop-i.i c.args.throws.now (omega (arith, c.loop-i-test.false))) (c.loop-i.invariant.taken labels barrier below within)

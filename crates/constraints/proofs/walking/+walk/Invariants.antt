@@ -20,7 +20,7 @@ abbrev pub decreases-walk_form : goal.decreases-walk_form
 decreases-walk_form l = 5 * statement_nodes (statement_of l.statement.now) + 2
 
 abbrev pub decreases-walk_if : goal.decreases-walk_if
-decreases-walk_if l = 5 * (block_nodes (block_of l.yes_block.now) + block_nodes (block_of l.no_block.now)) + 6
+decreases-walk_if l = 5 * (block_nodes (block_of l.then_block.now) + block_nodes (block_of l.else_block.now)) + 6
 
 abbrev pub decreases-walk_while : goal.decreases-walk_while
 decreases-walk_while l = 5 * block_nodes (block_of l.body.now) + 6
@@ -33,17 +33,17 @@ decreases-walk_handlers l = 5 * handlers_nodes (handlers_of l.handlers.now) + 5
 
 abbrev pub invariant-walk_statements-loop-statement : goal.invariant-walk_statements-loop-statement
 invariant-walk_statements-loop-statement l = record {
-  along : Along l.walk.table.now.core.now l.walk.table.now.core.now.labels (entries_of l.walk.map.now) l.walk.procedure l.fn.context.pc l.context.takers
+  along : Along l.walk.table.now.core.now l.walk.table.now.core.now.labels (entries_of l.walk.map.now) l.walk.procedure l.fn.context.pc l.context.exit_unknowns
       (block_of l.block) l.fn.progress (block_of (drop l.statement-index l.block)) l.reached l.onward l.progress;
-  ready : AreStatementsReady l.walk.table.now.core.now (entries_of l.walk.map.now) l.walk.procedure l.context.takers
+  ready : AreStatementsReady l.walk.table.now.core.now (entries_of l.walk.map.now) l.walk.procedure l.context.exit_unknowns
       (block_of (drop l.statement-index l.block)) l.progress;
 }
 
 abbrev pub invariant-walk_handlers-loop-i : goal.invariant-walk_handlers-loop-i
 invariant-walk_handlers-loop-i l = record {
   handling : (number : ℕ → ℕ) → l.numbers ≡ map (λ (handler : Handler). number handler.exception) l.handlers →
-      Handling l.walk.table.now.core.now l.walk.table.now.core.now.labels (entries_of l.walk.map.now) l.walk.procedure number l.takers
+      Handling l.walk.table.now.core.now l.walk.table.now.core.now.labels (entries_of l.walk.map.now) l.walk.procedure number l.exit_unknowns
       (handlers_of l.handlers) l.fn.progress (handlers_of (drop l.i l.handlers)) l.progress;
-  ready : AreHandlersReady l.walk.table.now.core.now (entries_of l.walk.map.now) l.walk.procedure l.takers
+  ready : AreHandlersReady l.walk.table.now.core.now (entries_of l.walk.map.now) l.walk.procedure l.exit_unknowns
       (handlers_of (drop l.i l.handlers)) l.progress;
 }

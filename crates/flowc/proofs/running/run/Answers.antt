@@ -27,7 +27,7 @@ returns-in_err-larger-clause-message g c =
     let m = c.in_ok-machine.machine.program in
     let sound : AreSound c.args.files.code.bytes.now c.args.files.world.bytes.now m = record {
       spelled = c.in_ok-machine.ensures.accepted.spelled;
-      no_defect = c.in_ok-machine.ensures.accepted.no_defect;
+      not_refused = c.in_ok-machine.ensures.accepted.not_refused;
       encoded = c.in_ok-machine.ensures.encoded;
       right = c.in_ok-machine.ensures.right;
     } in
@@ -44,7 +44,7 @@ returns-in_err-principal-clause-message g c =
     let m = c.in_ok-machine.machine.program in
     let sound : AreSound c.args.files.code.bytes.now c.args.files.world.bytes.now m = record {
       spelled = c.in_ok-machine.ensures.accepted.spelled;
-      no_defect = c.in_ok-machine.ensures.accepted.no_defect;
+      not_refused = c.in_ok-machine.ensures.accepted.not_refused;
       encoded = c.in_ok-machine.ensures.encoded;
       right = c.in_ok-machine.ensures.right;
     } in
@@ -60,7 +60,7 @@ returns-in_err-principal-clause-rejected g c =
     let m = c.in_ok-machine.machine.program in
     let sound : AreSound c.args.files.code.bytes.now c.args.files.world.bytes.now m = record {
       spelled = c.in_ok-machine.ensures.accepted.spelled;
-      no_defect = c.in_ok-machine.ensures.accepted.no_defect;
+      not_refused = c.in_ok-machine.ensures.accepted.not_refused;
       encoded = c.in_ok-machine.ensures.encoded;
       right = c.in_ok-machine.ensures.right;
     } in
@@ -90,7 +90,7 @@ returns-in_err-show-clause-prefix g c =
     let m = c.in_ok-machine.machine.program in
     let sound : AreSound c.args.files.code.bytes.now c.args.files.world.bytes.now m = record {
       spelled = c.in_ok-machine.ensures.accepted.spelled;
-      no_defect = c.in_ok-machine.ensures.accepted.no_defect;
+      not_refused = c.in_ok-machine.ensures.accepted.not_refused;
       encoded = c.in_ok-machine.ensures.encoded;
       right = c.in_ok-machine.ensures.right;
     } in
@@ -104,7 +104,7 @@ returns-clause-prefix g c =
     let m = c.in_ok-machine.machine.program in
     let sound : AreSound c.args.files.code.bytes.now c.args.files.world.bytes.now m = record {
       spelled = c.in_ok-machine.ensures.accepted.spelled;
-      no_defect = c.in_ok-machine.ensures.accepted.no_defect;
+      not_refused = c.in_ok-machine.ensures.accepted.not_refused;
       encoded = c.in_ok-machine.ensures.encoded;
       right = c.in_ok-machine.ensures.right;
     } in
@@ -118,7 +118,7 @@ returns-clause-stdout g c =
     let m = c.in_ok-machine.machine.program in
     let sound : AreSound c.args.files.code.bytes.now c.args.files.world.bytes.now m = record {
       spelled = c.in_ok-machine.ensures.accepted.spelled;
-      no_defect = c.in_ok-machine.ensures.accepted.no_defect;
+      not_refused = c.in_ok-machine.ensures.accepted.not_refused;
       encoded = c.in_ok-machine.ensures.encoded;
       right = c.in_ok-machine.ensures.right;
     } in
@@ -132,7 +132,7 @@ returns-clause-end g c =
     let m = c.in_ok-machine.machine.program in
     let sound : AreSound c.args.files.code.bytes.now c.args.files.world.bytes.now m = record {
       spelled = c.in_ok-machine.ensures.accepted.spelled;
-      no_defect = c.in_ok-machine.ensures.accepted.no_defect;
+      not_refused = c.in_ok-machine.ensures.accepted.not_refused;
       encoded = c.in_ok-machine.ensures.encoded;
       right = c.in_ok-machine.ensures.right;
     } in

@@ -16,5 +16,5 @@ returns-in_err-verified-clause-message c =
 pub returns-in_err-numbers-clause-message : goal.returns-in_err-numbers-clause-message
 returns-in_err-numbers-clause-message c =
     world_message c.from_residual-in_err-numbers.result c.in_ok-verified.verified c.module.result.now (text_of c.args.code) (text_of c.args.world) _
-    c.in_ok-verified.ensures.accepted.spelled c.in_ok-verified.ensures.accepted.no_defect c.module.ensures.value
+    c.in_ok-verified.ensures.accepted.spelled c.in_ok-verified.ensures.accepted.not_refused c.module.ensures.value
     c.from_residual-in_err-numbers.ensures.1 c.in_err-numbers.ensures.message

@@ -13,9 +13,9 @@ loop-byte-preserved c =
     let n = c.args.to - c.args.from in
     let in_part : i < n = omega (arith, length-take n (drop c.args.from text)) in
     let within : here < length text = omega arith in
-    let behind : here + 1 ≡ c.args.from + (i + 1) = omega arith in
+    let beyond : here + 1 ≡ c.args.from + (i + 1) = omega arith in
     c.next-place.ensures
     ∙ ap (λ place. next_place place (get_or (take n (drop c.args.from text)) i 0)) c.loop-byte.invariant
     ∙ ap (next_place (place_at text here)) (get_or-take n (drop c.args.from text) i 0 in_part ∙ get_or-drop c.args.from text i 0)
     ∙ next-place_at text here 0 within
-    ∙ ap (place_at text) behind
+    ∙ ap (place_at text) beyond

@@ -11,8 +11,8 @@ returns-in_ok-push_branch-in-Short t c =
     let left = expression_of c.deref-in-Short-2.result.now in
     let right = expression_of c.deref-in-Short-3.result.now in
     let tree : expression_of c.args.condition.now ≡ Short c.in-Short.connective left right = search rules in
-    let place : c.args.behind ≡ length c.args.code.now.items + branch_size c.decides_at-decides.result left + branch_size c.args.wanted right = search rules in
+    let position : c.args.beyond ≡ length c.args.code.now.items + branch_size c.decides_at-decides.result left + branch_size c.args.wanted right = search rules in
     on_ok_weaker c.push_branch-in-Short-2.result
     (λ made. short-branched c.args.code.now.items c.push_branch-in-Short.new.code.items _ left right c.in-Short.connective _ c.args.wanted c.decides_at-decides.result c.args.target _ c.inner_target-inner.result
-    c.decides_at-decides.ensures place c.inner_target-inner.ensures c.in_ok-push_branch-in-Short.ensures made tree)
+    c.decides_at-decides.ensures position c.inner_target-inner.ensures c.in_ok-push_branch-in-Short.ensures made tree)
     c.push_branch-in-Short-2.ensures

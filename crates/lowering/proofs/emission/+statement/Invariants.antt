@@ -13,7 +13,7 @@ abbrev pub decreases-push_block : goal.decreases-push_block
 decreases-push_block l = 4 * block_nodes (block_of l.block.now) + 1
 
 abbrev pub decreases-push_if : goal.decreases-push_if
-decreases-push_if l = 4 * (block_nodes (block_of l.branches.now.yes_block.now) + block_nodes (block_of l.branches.now.no_block.now)) + 2
+decreases-push_if l = 4 * (block_nodes (block_of l.branches.now.then_block.now) + block_nodes (block_of l.branches.now.else_block.now)) + 2
 
 abbrev pub decreases-push_while : goal.decreases-push_while
 decreases-push_while l = 4 * block_nodes (block_of l.body.now) + 2
@@ -28,11 +28,11 @@ decreases-push_handlers l = 4 * handlers_nodes (handlers_of l.handlers.now) + 1
 abbrev pub invariant-push_block-loop-statement : goal.invariant-push_block-loop-statement
 invariant-push_block-loop-statement l =
     let program = program_of l.core in
-    let loop : Loop = record { behind = l.around.behind; test = l.around.test } in
+    let loop : Loop = record { beyond = l.around.beyond; test = l.around.test } in
     let all = block_of l.block in
     let left = block_of (drop l.statement-index l.block) in
     record {
-      added : AreLeft (λ place. block_code program loop place all) (λ place. block_table program place all) (λ place. block_code program loop place left) (λ place. block_table program place left)
+      added : AreLeft (λ position. block_code program loop position all) (λ position. block_table program position all) (λ position. block_code program loop position left) (λ position. block_table program position left)
           l.fn.code.items l.code.items l.fn.table.items l.table.items;
       size : length l.code.items + block_size program left ≡ length l.fn.code.items + block_size program all;
       nodes : block_nodes left ≤ block_nodes all;
@@ -41,14 +41,14 @@ invariant-push_block-loop-statement l =
 abbrev pub invariant-push_handlers-loop-handler : goal.invariant-push_handlers-loop-handler
 invariant-push_handlers-loop-handler l =
     let program = program_of l.core in
-    let loop : Loop = record { behind = l.around.behind; test = l.around.test } in
+    let loop : Loop = record { beyond = l.around.beyond; test = l.around.test } in
     let all = handlers_of l.handlers in
     let left = handlers_of (drop l.handler-index l.handlers) in
     record {
-      added : AreLeft (λ place. handlers_code program loop l.tried.behind place all) (λ place. handlers_table program l.tried.start l.tried.end place all)
-          (λ place. handlers_code program loop l.tried.behind place left) (λ place. handlers_table program l.tried.start l.tried.end place left)
+      added : AreLeft (λ position. handlers_code program loop l.tried.beyond position all) (λ position. handlers_table program l.tried.start l.tried.end position all)
+          (λ position. handlers_code program loop l.tried.beyond position left) (λ position. handlers_table program l.tried.start l.tried.end position left)
           l.fn.code.items l.code.items l.fn.table.items l.table.items;
       size : length l.code.items + handlers_size program left ≡ length l.fn.code.items + handlers_size program all;
       nodes : handlers_nodes left ≤ handlers_nodes all;
-      place : l.next ≡ l.handler-index;
+      position : l.next ≡ l.handler-index;
     }

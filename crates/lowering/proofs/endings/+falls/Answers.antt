@@ -7,14 +7,14 @@ use Rattle.lowering.proofs.endings.+falls.Goals as goal
 
 pub statement_falls-returns-then-block_falls : goal.statement_falls-returns-then-block_falls
 statement_falls-returns-then-block_falls t c =
-    first-decides (block_falls (block_of c.deref.result.now)) (block_falls (block_of c.in-If.no_block.items)) c.block_falls.result c.block_falls.ensures c.if-block_falls.true
-    ∙ sym (ap statement_falls (tree-if c.args.statement.now _ _ c.in-If.yes_block c.in-If.no_block c.deref.result.now c.in-If.no_block.items c.in-If.is c.deref.ensures.value refl))
+    first-decides (block_falls (block_of c.deref.result.now)) (block_falls (block_of c.in-If.else_block.items)) c.block_falls.result c.block_falls.ensures c.if-block_falls.true
+    ∙ sym (ap statement_falls (tree-if c.args.statement.now _ _ c.in-If.then_block c.in-If.else_block c.deref.result.now c.in-If.else_block.items c.in-If.is c.deref.ensures.value refl))
 
 pub statement_falls-returns-else-block_falls : goal.statement_falls-returns-else-block_falls
 statement_falls-returns-else-block_falls t c =
     second-decides (block_falls (block_of c.deref.result.now)) (block_falls (block_of c.deref-else-block_falls.result.now)) c.block_falls.result c.block_falls-else-block_falls.result
     c.block_falls.ensures c.if-block_falls.false c.block_falls-else-block_falls.ensures
-    ∙ sym (ap statement_falls (tree-if c.args.statement.now _ _ c.in-If.yes_block c.in-If.no_block c.deref.result.now c.deref-else-block_falls.result.now c.in-If.is c.deref.ensures.value c.deref-else-block_falls.ensures.value))
+    ∙ sym (ap statement_falls (tree-if c.args.statement.now _ _ c.in-If.then_block c.in-If.else_block c.deref.result.now c.deref-else-block_falls.result.now c.in-If.is c.deref.ensures.value c.deref-else-block_falls.ensures.value))
 
 pub statement_falls-returns-then-block_falls-2 : goal.statement_falls-returns-then-block_falls-2
 statement_falls-returns-then-block_falls-2 t c =

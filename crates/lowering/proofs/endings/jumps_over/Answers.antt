@@ -5,5 +5,5 @@ use Rattle.lowering.proofs.endings.jumps_over.Goals as goal
 
 pub returns-then-not-is_empty : goal.returns-then-not-is_empty
 returns-then-not-is_empty c =
-    let filled : 0 < length c.args.no_block.now = grind (arith, common_steps) in
-    over-filled c.args.yes_block.now c.args.no_block.now c.block_falls.result filled c.block_falls.ensures
+    let filled : 0 < length c.args.else_block.now = grind (arith, common_steps) in
+    over-filled c.args.then_block.now c.args.else_block.now c.block_falls.result filled c.block_falls.ensures

@@ -2,15 +2,15 @@ use Rattle.std.proofs.Common.{arith, ◌≡◌, ◌∙◌, ap}
 use Rattle.resolved.specs.CoreOf.{program_of}
 use Rattle.resolved.specs.TreeOf.{block_of, handlers_of}
 use Rattle.resolved.specs.WellFormed.{block_nodes, handlers_nodes}
-use Rattle.lowering.specs.Code.{block_size, handlers_size, jump_size, jumps_over, jumps_behind}
+use Rattle.lowering.specs.Code.{block_size, handlers_size, jump_size, jumps_over, jumps_after}
 use Rattle.lowering.proofs.Forms.{size_if, size_try, nodes_if, nodes_try}
 use Rattle.lowering.proofs.lengths.+size.Goals as goal
 
 pub statement_size-block_size-yes_size-requires : goal.statement_size-block_size-yes_size-requires
 statement_size-block_size-yes_size-requires t c =
     let program = program_of c.args.core.now in
-    let size = size_if program c.args.statement.now _ _ c.in-If.yes_block c.in-If.no_block c.in-If.is in
-    let nodes = nodes_if c.args.statement.now _ _ c.in-If.yes_block c.in-If.no_block c.in-If.is in
+    let size = size_if program c.args.statement.now _ _ c.in-If.then_block c.in-If.else_block c.in-If.is in
+    let nodes = nodes_if c.args.statement.now _ _ c.in-If.then_block c.in-If.else_block c.in-If.is in
     let same = ap (λ l. block_size program (block_of l)) c.deref-in-If-3.ensures.value in
     let same_nodes = ap (λ l. block_nodes (block_of l)) c.deref-in-If-3.ensures.value in
     (omega (arith, nodes, same_nodes), omega (arith, size, same, c.requires))
@@ -18,8 +18,8 @@ statement_size-block_size-yes_size-requires t c =
 pub statement_size-block_size-no_size-requires : goal.statement_size-block_size-no_size-requires
 statement_size-block_size-no_size-requires t c =
     let program = program_of c.args.core.now in
-    let size = size_if program c.args.statement.now _ _ c.in-If.yes_block c.in-If.no_block c.in-If.is in
-    let nodes = nodes_if c.args.statement.now _ _ c.in-If.yes_block c.in-If.no_block c.in-If.is in
+    let size = size_if program c.args.statement.now _ _ c.in-If.then_block c.in-If.else_block c.in-If.is in
+    let nodes = nodes_if c.args.statement.now _ _ c.in-If.then_block c.in-If.else_block c.in-If.is in
     let same = ap (λ l. block_size program (block_of l)) c.deref-in-If-4.ensures.value in
     let same_nodes = ap (λ l. block_nodes (block_of l)) c.deref-in-If-4.ensures.value in
     (omega (arith, nodes, same_nodes), omega (arith, size, same, c.requires))
@@ -45,16 +45,16 @@ statement_size-handlers_size-caught_size-requires t c =
 pub statement_size-returns-in-If : goal.statement_size-returns-in-If
 statement_size-returns-in-If t c =
     let program = program_of c.args.core.now in
-    let yes_block = c.in-If.yes_block in
-    let no_block = c.in-If.no_block in
-    let size = size_if program c.args.statement.now _ _ yes_block no_block c.in-If.is in
-    let jump : c.jump_size-jump.result ≡ jump_size (jumps_over (block_of yes_block.items) (block_of no_block.items)) =
+    let then_block = c.in-If.then_block in
+    let else_block = c.in-If.else_block in
+    let size = size_if program c.args.statement.now _ _ then_block else_block c.in-If.is in
+    let jump : c.jump_size-jump.result ≡ jump_size (jumps_over (block_of then_block.items) (block_of else_block.items)) =
     c.jump_size-jump.ensures ∙ ap jump_size (c.jumps_over.ensures
     ∙ (ap (λ l. jumps_over (block_of l) (block_of c.deref-in-If-2.result.now)) c.deref-in-If.ensures.value
-    ∙ ap (λ l. jumps_over (block_of yes_block.items) (block_of l)) c.deref-in-If-2.ensures.value)) in
-    let yes_size : c.block_size-yes_size.result ≡ block_size program (block_of yes_block.items) =
+    ∙ ap (λ l. jumps_over (block_of then_block.items) (block_of l)) c.deref-in-If-2.ensures.value)) in
+    let yes_size : c.block_size-yes_size.result ≡ block_size program (block_of then_block.items) =
     c.block_size-yes_size.ensures ∙ ap (λ l. block_size program (block_of l)) c.deref-in-If-3.ensures.value in
-    let no_size : c.block_size-no_size.result ≡ block_size program (block_of no_block.items) =
+    let no_size : c.block_size-no_size.result ≡ block_size program (block_of else_block.items) =
     c.block_size-no_size.ensures ∙ ap (λ l. block_size program (block_of l)) c.deref-in-If-4.ensures.value in
     omega (arith, size, jump, yes_size, no_size, c.branch_size-test.ensures)
 
@@ -64,10 +64,10 @@ statement_size-returns-in-Try t c =
     let block = c.in-Try.block in
     let handlers = c.in-Try.handlers in
     let size = size_try program c.args.statement.now _ block handlers c.in-Try.is in
-    let jump : c.jump_size-jump-in-Try.result ≡ jump_size (jumps_behind (block_of block.items) (handlers_of handlers.items)) =
-    c.jump_size-jump-in-Try.ensures ∙ ap jump_size (c.jumps_behind.ensures
-    ∙ (ap (λ l. jumps_behind (block_of l) (handlers_of c.deref-in-Try-2.result.now)) c.deref-in-Try.ensures.value
-    ∙ ap (λ l. jumps_behind (block_of block.items) (handlers_of l)) c.deref-in-Try-2.ensures.value)) in
+    let jump : c.jump_size-jump-in-Try.result ≡ jump_size (jumps_after (block_of block.items) (handlers_of handlers.items)) =
+    c.jump_size-jump-in-Try.ensures ∙ ap jump_size (c.jumps_after.ensures
+    ∙ (ap (λ l. jumps_after (block_of l) (handlers_of c.deref-in-Try-2.result.now)) c.deref-in-Try.ensures.value
+    ∙ ap (λ l. jumps_after (block_of block.items) (handlers_of l)) c.deref-in-Try-2.ensures.value)) in
     let tried : c.block_size-tried_size.result ≡ block_size program (block_of block.items) =
     c.block_size-tried_size.ensures ∙ ap (λ l. block_size program (block_of l)) c.deref-in-Try-3.ensures.value in
     let caught : c.handlers_size-caught_size.result ≡ handlers_size program (handlers_of handlers.items) =

@@ -24,5 +24,5 @@ abbrev pub invariant-handlers_size-loop-handler : goal.invariant-handlers_size-l
 invariant-handlers_size-loop-handler l = record {
   size : l.size + handlers_size (program_of l.core) (handlers_of (drop l.handler-index l.handlers)) ≡ handlers_size (program_of l.core) (handlers_of l.handlers);
   nodes : handlers_nodes (handlers_of (drop l.handler-index l.handlers)) ≤ handlers_nodes (handlers_of l.handlers);
-  place : l.next ≡ l.handler-index;
+  position : l.next ≡ l.handler-index;
 }

@@ -9,14 +9,14 @@ use Rattle.resolved.specs.CoreOf.{program_of}
 use Rattle.resolved.specs.EndFaults.{end_faults}
 use Rattle.resolved.specs.Names.{HasNames}
 use Rattle.resolved.specs.declared.program.Core.{Core}
-use Rattle.verifier.specs.Refusals.{HasNoDefect}
+use Rattle.verifier.specs.Refusals.{IsNotRefused}
 use Rattle.verifier.specs.Safety.{IsNeverStuck}
 use Rattle.lowering.specs.Direct.{HasDirectJumps}
 use Rattle.lowering.specs.Graphs.{graph_of}
 use Rattle.lowering.specs.Interface.{HasInterfaceOf}
 use Rattle.lowering.specs.SameMeaning.{SameMeaning}
 use Rattle.lowering.proofs.Directs.{graphs-direct}
-use Rattle.lowering.proofs.Faultless.{modules-have-no-defect, modules-run}
+use Rattle.lowering.proofs.Faultless.{modules-are-not-refused, modules-run}
 use Rattle.lowering.proofs.Interfaces.{graph-interface}
 use Rattle.lowering.proofs.Keeping.{graphs-keep}
 use Rattle.lowering.proofs.program.lower.Goals as goal
@@ -44,11 +44,11 @@ returns-clause-interface c =
     let core = c.args.checked.now.core in
     subst (HasInterfaceOf (program_of core)) (sym (graph_is c.in_ok-graph.graph c.core.result.now core c.in_ok-graph.ensures c.core.ensures.core)) (graph-interface (program_of core))
 
-pub returns-clause-no_defect : goal.returns-clause-no_defect
-returns-clause-no_defect c =
+pub returns-clause-not_refused : goal.returns-clause-not_refused
+returns-clause-not_refused c =
     let core = c.args.checked.now.core in
-    subst (λ (graph : ModuleContents). HasNoDefect (laid_out graph)) (sym (graph_is c.in_ok-graph.graph c.core.result.now core c.in_ok-graph.ensures c.core.ensures.core))
-    (modules-have-no-defect (program_of core) core.well_formed c.core.ensures.checked.ended)
+    subst (λ (graph : ModuleContents). IsNotRefused (laid_out graph)) (sym (graph_is c.in_ok-graph.graph c.core.result.now core c.in_ok-graph.ensures c.core.ensures.core))
+    (modules-are-not-refused (program_of core) core.well_formed c.core.ensures.checked.ended)
 
 pub returns-clause-never_stuck : goal.returns-clause-never_stuck
 returns-clause-never_stuck c =

@@ -9,13 +9,13 @@ use Rattle.lowering.proofs.versions.+bits.Goals as goal
 
 pub statement_uses_bits-block_uses_bits-requires : goal.statement_uses_bits-block_uses_bits-requires
 statement_uses_bits-block_uses_bits-requires t c =
-    let nodes = nodes_if c.args.statement.now _ _ c.in-If.yes_block c.in-If.no_block c.in-If.is in
+    let nodes = nodes_if c.args.statement.now _ _ c.in-If.then_block c.in-If.else_block c.in-If.is in
     let same = ap (λ l. block_nodes (block_of l)) c.deref-in-If.ensures.value in
     (omega (arith, nodes, same), tt)
 
 pub statement_uses_bits-block_uses_bits-requires-else-block_uses_bits : goal.statement_uses_bits-block_uses_bits-requires-else-block_uses_bits
 statement_uses_bits-block_uses_bits-requires-else-block_uses_bits t c =
-    let nodes = nodes_if c.args.statement.now _ _ c.in-If.yes_block c.in-If.no_block c.in-If.is in
+    let nodes = nodes_if c.args.statement.now _ _ c.in-If.then_block c.in-If.else_block c.in-If.is in
     let same = ap (λ l. block_nodes (block_of l)) c.deref-else-block_uses_bits.ensures.value in
     (omega (arith, nodes, same), tt)
 
@@ -33,8 +33,8 @@ statement_uses_bits-handlers_use_bits-requires t c =
 
 pub statement_uses_bits-returns-then-block_uses_bits : goal.statement_uses_bits-returns-then-block_uses_bits
 statement_uses_bits-returns-then-block_uses_bits t c =
-    let yes = c.in-If.yes_block in
-    let no = c.in-If.no_block in
+    let yes = c.in-If.then_block in
+    let no = c.in-If.else_block in
     let first : c.block_uses_bits.result ≡ block_uses_bits (block_of yes.items) =
     c.block_uses_bits.ensures ∙ ap (λ l. block_uses_bits (block_of l)) c.deref-in-If.ensures.value in
     first-decides _ (block_uses_bits (block_of no.items)) c.block_uses_bits.result
@@ -44,8 +44,8 @@ statement_uses_bits-returns-then-block_uses_bits t c =
 
 pub statement_uses_bits-returns-else-block_uses_bits : goal.statement_uses_bits-returns-else-block_uses_bits
 statement_uses_bits-returns-else-block_uses_bits t c =
-    let yes = c.in-If.yes_block in
-    let no = c.in-If.no_block in
+    let yes = c.in-If.then_block in
+    let no = c.in-If.else_block in
     let first : c.block_uses_bits.result ≡ block_uses_bits (block_of yes.items) =
     c.block_uses_bits.ensures ∙ ap (λ l. block_uses_bits (block_of l)) c.deref-in-If.ensures.value in
     let second : c.block_uses_bits-else-block_uses_bits.result ≡ block_uses_bits (block_of no.items) =

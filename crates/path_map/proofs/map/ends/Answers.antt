@@ -8,14 +8,14 @@ use Rattle.resolved.specs.EndFaults.{end_faults, procedure_faults}
 use Rattle.resolved.specs.ProgramOf.{procedure_entry}
 use Rattle.path_map.specs.FirstFault.{IsFirstEndFault}
 use Rattle.path_map.specs.Paths.{AreAlike, block_paths}
-use Rattle.path_map.proofs.Procedures.{Beside, beside-begin, beside-first, beside-step, beside-end, beside-clean, next-procedure, last-procedure}
+use Rattle.path_map.proofs.Procedures.{WithEnds, beside-begin, beside-first, beside-step, beside-end, beside-clean, next-procedure, last-procedure}
 use Rattle.path_map.proofs.Pieces.{ends-found}
 use Rattle.path_map.proofs.map.ends.Goals as goal
 
 pub loop-procedure-init : goal.loop-procedure-init
 loop-procedure-init c =
     let program = program_of c.args.core.now in
-    subst (λ list. Beside program (map (procedure_entry c.args.core.now.labels) c.args.core.now.procedures.items) (map (procedure_entry c.args.core.now.labels) list) c.in_ok-table.table)
+    subst (λ list. WithEnds program (map (procedure_entry c.args.core.now.labels) c.args.core.now.procedures.items) (map (procedure_entry c.args.core.now.labels) list) c.in_ok-table.table)
     (sym c.deref-procedure-items.ensures.value)
     (beside-begin program (map (procedure_entry c.args.core.now.labels) c.args.core.now.procedures.items) c.in_ok-table.table c.in_ok-table.ensures)
 
@@ -26,7 +26,7 @@ loop-procedure-preserved c =
     let all = map (procedure_entry c.args.core.now.labels) c.args.core.now.procedures.items in
     let tail = map (procedure_entry c.args.core.now.labels) (drop (c.loop-procedure.procedure-index + 1) c.deref-procedure-items.result.now) in
     beside-step program all procedure tail c.loop-procedure.table c.walk_procedure.new.table
-    (subst (λ list. Beside program all list c.loop-procedure.table)
+    (subst (λ list. WithEnds program all list c.loop-procedure.table)
     (next-procedure (procedure_entry c.args.core.now.labels) c.deref-procedure-items.result.now c.loop-procedure.procedure-index c.procedure-item.result c.loop-procedure-test.true c.procedure-item.is) c.loop-procedure.invariant)
     (subst (λ core. AreAlike c.walk_procedure.new.table (c.loop-procedure.table ++ block_paths (program_of core) (procedure_entry core.labels c.procedure-item.result).body)) c.in_ok-walk.ensures c.in_ok-walk_procedure.ensures.found)
     (subst (λ core. procedure_faults (program_of core) (procedure_entry core.labels c.procedure-item.result) ≡ []) c.in_ok-walk.ensures c.in_ok-walk_procedure.ensures.accepted)
@@ -39,7 +39,7 @@ returns-in_err-walk_procedure-clause-first_fault c =
     let tail = map (procedure_entry c.args.core.now.labels) (drop (c.loop-procedure.procedure-index + 1) c.deref-procedure-items.result.now) in
     let first : IfRefused (IsFirstEndFault (end_faults program)) c.in_err-walk_procedure.field-0.0 =
     beside-first program all procedure tail c.loop-procedure.table c.in_err-walk_procedure.field-0.0
-    (subst (λ list. Beside program all list c.loop-procedure.table)
+    (subst (λ list. WithEnds program all list c.loop-procedure.table)
     (next-procedure (procedure_entry c.args.core.now.labels) c.deref-procedure-items.result.now c.loop-procedure.procedure-index c.procedure-item.result c.loop-procedure-test.true c.procedure-item.is) c.loop-procedure.invariant)
     (subst (λ core. IfRefused (IsFirstEndFault (procedure_faults (program_of core) (procedure_entry core.labels c.procedure-item.result))) c.in_err-walk_procedure.field-0.0) c.in_ok-walk.ensures c.in_err-walk_procedure.ensures.first_fault) in
     search (rules, first)
@@ -50,7 +50,7 @@ returns-clause-found c =
     let all = map (procedure_entry c.args.core.now.labels) c.args.core.now.procedures.items in
     ends-found program c.loop-procedure.table
     (beside-end program all c.loop-procedure.table
-    (subst (λ list. Beside program all list c.loop-procedure.table)
+    (subst (λ list. WithEnds program all list c.loop-procedure.table)
     (last-procedure (procedure_entry c.args.core.now.labels) c.deref-procedure-items.result.now c.loop-procedure.procedure-index c.loop-procedure-test.false) c.loop-procedure.invariant))
 
 pub returns-clause-accepted : goal.returns-clause-accepted
@@ -58,7 +58,7 @@ returns-clause-accepted c =
     let program = program_of c.args.core.now in
     let all = map (procedure_entry c.args.core.now.labels) c.args.core.now.procedures.items in
     beside-clean program all c.loop-procedure.table
-    (subst (λ list. Beside program all list c.loop-procedure.table)
+    (subst (λ list. WithEnds program all list c.loop-procedure.table)
     (last-procedure (procedure_entry c.args.core.now.labels) c.deref-procedure-items.result.now c.loop-procedure.procedure-index c.loop-procedure-test.false) c.loop-procedure.invariant)
 
 pub walk_procedure-requires : goal.walk_procedure-requires

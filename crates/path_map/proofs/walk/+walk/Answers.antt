@@ -8,7 +8,7 @@ use Rattle.resolved.specs.EndFaults.{block_faults, handlers_faults, inner_faults
 use Rattle.resolved.specs.Tree as T
 use Rattle.resolved.specs.TreeOf.{expression_of, some_expression_of, statement_of, block_of, handlers_of}
 use Rattle.resolved.specs.declared.statement.Exit.{Exit}
-use Rattle.resolved.specs.declared.fault.EndDefect.TheVariants as defect
+use Rattle.resolved.specs.declared.fault.EndRefusalKind.TheVariants as kind
 use Rattle.common.specs.declared.fault.OrNoMemory.TheVariants.{Refused}
 use Rattle.path_map.specs.FirstFault.{IsFirstEndFault}
 use Rattle.path_map.specs.Paths.{block_paths, rest_paths, inner_paths}
@@ -122,12 +122,12 @@ pub walk_form-returns-in_ok-no-in-If-clause-found : goal.walk_form-returns-in_ok
 walk_form-returns-in_ok-no-in-If-clause-found t c =
     let program = program_of c.args.walk.now.core.now in
     let test = expression_of c.in-If.condition in
-    let yes_block = block_of c.deref-in-If.result.now in
-    let no_block = block_of c.deref-in-If-2.result.now in
-    found-at program c.args.statement.now (T.If c.in-If.field-0 test yes_block no_block)
-    (tree-if c.args.statement.now c.in-If.field-0 c.in-If.condition c.in-If.yes_block c.in-If.no_block c.deref-in-If.result.now c.deref-in-If-2.result.now c.in-If.is c.deref-in-If.ensures.value c.deref-in-If-2.ensures.value)
+    let then_block = block_of c.deref-in-If.result.now in
+    let else_block = block_of c.deref-in-If-2.result.now in
+    found-at program c.args.statement.now (T.If c.in-If.field-0 test then_block else_block)
+    (tree-if c.args.statement.now c.in-If.field-0 c.in-If.condition c.in-If.then_block c.in-If.else_block c.deref-in-If.result.now c.deref-in-If-2.result.now c.in-If.is c.deref-in-If.ensures.value c.deref-in-If-2.ensures.value)
     c.args.table.now c.walk_block-in-If.new.table (members c.args.raised.now) (members c.walk_block-in-If.new.raised) c.join-in-If.result
-    (if-found program c.in-If.field-0 test yes_block no_block c.args.table.now c.walk_block.new.table c.walk_block-in-If.new.table
+    (if-found program c.in-If.field-0 test then_block else_block c.args.table.now c.walk_block.new.table c.walk_block-in-If.new.table
     (members c.args.raised.now) (members c.test.new.raised) (members c.walk_block.new.raised) (members c.walk_block-in-If.new.raised)
     c.in_ok-tested-in-If.tested c.in_ok-yes-in-If.yes c.in_ok-no-in-If.no c.join.result c.join-in-If.result
     (c.in_ok-tested-in-If.ensures.found c.args.table.now) c.in_ok-yes-in-If.ensures.found c.in_ok-no-in-If.ensures.found c.join.ensures c.join-in-If.ensures)
@@ -135,34 +135,34 @@ walk_form-returns-in_ok-no-in-If-clause-found t c =
 pub walk_form-returns-in_ok-no-in-If-clause-accepted : goal.walk_form-returns-in_ok-no-in-If-clause-accepted
 walk_form-returns-in_ok-no-in-If-clause-accepted t c =
     let program = program_of c.args.walk.now.core.now in
-    let yes_block = block_of c.deref-in-If.result.now in
-    let no_block = block_of c.deref-in-If-2.result.now in
-    faults-at program c.args.statement.now (T.If c.in-If.field-0 (expression_of c.in-If.condition) yes_block no_block)
-    (tree-if c.args.statement.now c.in-If.field-0 c.in-If.condition c.in-If.yes_block c.in-If.no_block c.deref-in-If.result.now c.deref-in-If-2.result.now c.in-If.is c.deref-in-If.ensures.value c.deref-in-If-2.ensures.value)
+    let then_block = block_of c.deref-in-If.result.now in
+    let else_block = block_of c.deref-in-If-2.result.now in
+    faults-at program c.args.statement.now (T.If c.in-If.field-0 (expression_of c.in-If.condition) then_block else_block)
+    (tree-if c.args.statement.now c.in-If.field-0 c.in-If.condition c.in-If.then_block c.in-If.else_block c.deref-in-If.result.now c.deref-in-If-2.result.now c.in-If.is c.deref-in-If.ensures.value c.deref-in-If-2.ensures.value)
     c.args.in_loop
-    (none-both (block_faults program c.args.in_loop true yes_block) (block_faults program c.args.in_loop true no_block) c.in_ok-yes-in-If.ensures.accepted c.in_ok-no-in-If.ensures.accepted)
+    (none-both (block_faults program c.args.in_loop true then_block) (block_faults program c.args.in_loop true else_block) c.in_ok-yes-in-If.ensures.accepted c.in_ok-no-in-If.ensures.accepted)
 
 pub walk_form-returns-in_err-yes-in-If-clause-first_fault : goal.walk_form-returns-in_err-yes-in-If-clause-first_fault
 walk_form-returns-in_err-yes-in-If-clause-first_fault t c =
     let program = program_of c.args.walk.now.core.now in
     let first : IfRefused (IsFirstEndFault (inner_faults program c.args.in_loop (statement_of c.args.statement.now))) c.in_err-yes-in-If.field-0.0 =
-    first-at program c.args.statement.now (T.If c.in-If.field-0 (expression_of c.in-If.condition) (block_of c.deref-in-If.result.now) (block_of c.in-If.no_block.items))
-    (tree-if c.args.statement.now c.in-If.field-0 c.in-If.condition c.in-If.yes_block c.in-If.no_block c.deref-in-If.result.now c.in-If.no_block.items c.in-If.is c.deref-in-If.ensures.value refl)
+    first-at program c.args.statement.now (T.If c.in-If.field-0 (expression_of c.in-If.condition) (block_of c.deref-in-If.result.now) (block_of c.in-If.else_block.items))
+    (tree-if c.args.statement.now c.in-If.field-0 c.in-If.condition c.in-If.then_block c.in-If.else_block c.deref-in-If.result.now c.in-If.else_block.items c.in-If.is c.deref-in-If.ensures.value refl)
     c.args.in_loop c.in_err-yes-in-If.field-0.0
-    (first-left (block_faults program c.args.in_loop true (block_of c.deref-in-If.result.now)) (block_faults program c.args.in_loop true (block_of c.in-If.no_block.items)) c.in_err-yes-in-If.field-0.0
+    (first-left (block_faults program c.args.in_loop true (block_of c.deref-in-If.result.now)) (block_faults program c.args.in_loop true (block_of c.in-If.else_block.items)) c.in_err-yes-in-If.field-0.0
     c.in_err-yes-in-If.ensures.first_fault) in
     search (rules, first)
 
 pub walk_form-returns-in_err-no-in-If-clause-first_fault : goal.walk_form-returns-in_err-no-in-If-clause-first_fault
 walk_form-returns-in_err-no-in-If-clause-first_fault t c =
     let program = program_of c.args.walk.now.core.now in
-    let yes_block = block_of c.deref-in-If.result.now in
-    let no_block = block_of c.deref-in-If-2.result.now in
+    let then_block = block_of c.deref-in-If.result.now in
+    let else_block = block_of c.deref-in-If-2.result.now in
     let first : IfRefused (IsFirstEndFault (inner_faults program c.args.in_loop (statement_of c.args.statement.now))) c.in_err-no-in-If.field-0.0 =
-    first-at program c.args.statement.now (T.If c.in-If.field-0 (expression_of c.in-If.condition) yes_block no_block)
-    (tree-if c.args.statement.now c.in-If.field-0 c.in-If.condition c.in-If.yes_block c.in-If.no_block c.deref-in-If.result.now c.deref-in-If-2.result.now c.in-If.is c.deref-in-If.ensures.value c.deref-in-If-2.ensures.value)
+    first-at program c.args.statement.now (T.If c.in-If.field-0 (expression_of c.in-If.condition) then_block else_block)
+    (tree-if c.args.statement.now c.in-If.field-0 c.in-If.condition c.in-If.then_block c.in-If.else_block c.deref-in-If.result.now c.deref-in-If-2.result.now c.in-If.is c.deref-in-If.ensures.value c.deref-in-If-2.ensures.value)
     c.args.in_loop c.in_err-no-in-If.field-0.0
-    (first-right (block_faults program c.args.in_loop true yes_block) (block_faults program c.args.in_loop true no_block) c.in_err-no-in-If.field-0.0
+    (first-right (block_faults program c.args.in_loop true then_block) (block_faults program c.args.in_loop true else_block) c.in_err-no-in-If.field-0.0
     c.in_ok-yes-in-If.ensures.accepted c.in_err-no-in-If.ensures.first_fault) in
     search (rules, first)
 
@@ -309,7 +309,7 @@ walk_statements-returns-then-not-may_stand-clause-first_fault t c =
     subst (λ rest. Along program c.args.in_loop block rest c.args.table.now c.loop-statement.table (members c.args.raised.now) (members c.loop-statement.raised) c.loop-statement.exits)
     (next-statement c.args.block.now c.loop-statement.statement-index c.statement-item.result c.loop-statement-test.true c.statement-item.is) c.loop-statement.invariant.along in
     subst (λ fault. IfRefused (IsFirstEndFault (block_faults program c.args.in_loop true block)) fault)
-    (sym (c.refuse.ensures ∙ ap (λ at. Refused (record { defect = defect.OutsideLoop; at = at })) c.at.ensures))
+    (sym (c.refuse.ensures ∙ ap (λ at. Refused (record { kind = kind.OutsideLoop; at = at })) c.at.ensures))
     (outside program c.args.in_loop block c.args.table.now (members c.args.raised.now) statement tail c.loop-statement.table (members c.loop-statement.raised) c.loop-statement.exits along
     (sym c.may_stand.ensures ∙ c.if-not-may_stand.true))
 
@@ -408,14 +408,14 @@ walk_handlers-loop-handler-preserved t c =
 -- what fits, and is smaller
 pub walk_form-walk_block-requires : goal.walk_form-walk_block-requires
 walk_form-walk_block-requires t c =
-    let tree = tree-if c.args.statement.now c.in-If.field-0 c.in-If.condition c.in-If.yes_block c.in-If.no_block c.deref-in-If.result.now c.in-If.no_block.items c.in-If.is c.deref-in-If.ensures.value refl in (
+    let tree = tree-if c.args.statement.now c.in-If.field-0 c.in-If.condition c.in-If.then_block c.in-If.else_block c.deref-in-If.result.now c.in-If.else_block.items c.in-If.is c.deref-in-If.ensures.value refl in (
       omega (arith, ap statement_nodes tree),
-      (yes-fits (program_of c.args.walk.now.core.now) c.args.statement.now c.in-If.field-0 (expression_of c.in-If.condition) (block_of c.deref-in-If.result.now) (block_of c.in-If.no_block.items) tree c.requires.fits, c.test.ensures.bound ∙ c.requires.bound),
+      (yes-fits (program_of c.args.walk.now.core.now) c.args.statement.now c.in-If.field-0 (expression_of c.in-If.condition) (block_of c.deref-in-If.result.now) (block_of c.in-If.else_block.items) tree c.requires.fits, c.test.ensures.bound ∙ c.requires.bound),
     )
 
 pub walk_form-walk_block-requires-in-If : goal.walk_form-walk_block-requires-in-If
 walk_form-walk_block-requires-in-If t c =
-    let tree = tree-if c.args.statement.now c.in-If.field-0 c.in-If.condition c.in-If.yes_block c.in-If.no_block c.deref-in-If.result.now c.deref-in-If-2.result.now c.in-If.is c.deref-in-If.ensures.value c.deref-in-If-2.ensures.value in (
+    let tree = tree-if c.args.statement.now c.in-If.field-0 c.in-If.condition c.in-If.then_block c.in-If.else_block c.deref-in-If.result.now c.deref-in-If-2.result.now c.in-If.is c.deref-in-If.ensures.value c.deref-in-If-2.ensures.value in (
       omega (arith, ap statement_nodes tree),
       (no-fits (program_of c.args.walk.now.core.now) c.args.statement.now c.in-If.field-0 (expression_of c.in-If.condition) (block_of c.deref-in-If.result.now) (block_of c.deref-in-If-2.result.now) tree c.requires.fits, c.walk_block.ensures.bound ∙ (c.test.ensures.bound ∙ c.requires.bound)),
     )

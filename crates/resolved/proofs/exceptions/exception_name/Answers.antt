@@ -6,6 +6,6 @@ use Rattle.resolved.proofs.exceptions.exception_name.Goals as goal
 
 pub returns-in_default : goal.returns-in_default
 returns-in_default c =
-    let behind : c.args.exception ≡ suc (suc (suc (c.args.exception - 3))) = omega arith in
+    let after : c.args.exception ≡ suc (suc (suc (c.args.exception - 3))) = omega arith in
     c.declared_name.ensures
-    ∙ sym (ap (λ name. unwrap_or name []) (declared_name (map string_bytes c.args.declared.now) c.args.exception (c.args.exception - 3) behind))
+    ∙ sym (ap (λ name. unwrap_or name []) (declared_name (map string_bytes c.args.declared.now) c.args.exception (c.args.exception - 3) after))

@@ -6,8 +6,8 @@ use Rattle.solver.proofs.breaker.left_row.Goals as goal
 
 pub loop-atom-preserved : goal.loop-atom-preserved
 loop-atom-preserved c = record {
-  count = c.add_atom.ensures.count ∙ c.loop-atom.invariant.count;
-  members = λ n. left-step c.args.rows.now c.args.left.now c.loop-atom.atom-index n _ _ _ c.loop-atom-test.true (c.loop-atom.invariant.members n) (c.add_atom.ensures.members n);
+  count = c.in_ok-add_atom.ensures.count ∙ c.loop-atom.invariant.count;
+  members = λ n. left-step c.args.rows.now c.args.left.now c.loop-atom.atom-index n _ _ _ c.loop-atom-test.true (c.loop-atom.invariant.members n) (c.in_ok-add_atom.ensures.members n);
 }
 
 pub returns-clause-members : goal.returns-clause-members

@@ -24,9 +24,9 @@ returns-in-None-clause-accepted g c =
     let l = g.W.WrittenElements.order c.args.written.now in
     let table = g.W.WrittenElements.elements c.args.written.now in
     let cs = c.args.constraints.now in
-    let rows = c.in_ok-reached.reached.rows.items in
+    let rows = c.in_ok-reached.reached.rows in
     let edges = are-edges cs c.in_ok-edges.edges c.in_ok-edges.ensures.written c.in_ok-edges.ensures.unknown in
-    let first : IsFirstBreaker (is_below l table) (length table) rows cs None = rw (c.as_slice.ensures.value, c.in-None.is) at c.in_ok-first_breaker.ensures in
+    let first : IsFirstBreaker (is_below l table) (length table) rows cs None = rw c.in-None.is at c.in_ok-first_breaker.ensures in
     let is : c.of.result ≡ solved (reached_by 0 (length table) rows) c.in_ok-reached.reached.looks = c.of.ensures ∙ ap (λ n. solved (reached_by 0 n rows) c.in_ok-reached.reached.looks) c.len-count.ensures in
     subst (λ (solution : Solved). IsSolution l table cs solution) (sym is) (record {
       rows = length-reached_by 0 (length table) rows;
@@ -40,7 +40,7 @@ returns-in-None-clause-looks g c =
     let table = g.W.WrittenElements.elements c.args.written.now in
     let count : length c.in_ok-edges.edges.written.items ≡ length table = omega (arith, c.in_ok-edges.ensures.written_count, c.len-count.ensures) in
     subst (λ (solution : Solved). AreLooks (length table) cs solution.looks) (sym c.of.ensures)
-    (looks-last (length table) cs c.in_ok-edges.edges c.in_ok-reached.reached.rows.items c.in_ok-reached.reached.looks count c.in_ok-reached.ensures.looks)
+    (looks-last (length table) cs c.in_ok-edges.edges c.in_ok-reached.reached.rows c.in_ok-reached.reached.looks count c.in_ok-reached.ensures.looks)
 
 pub find_refusal-requires-clause-inside : goal.find_refusal-requires-clause-inside
 find_refusal-requires-clause-inside g c =
@@ -58,9 +58,9 @@ find_refusal-requires-clause-breaks g c =
     let l = g.W.WrittenElements.order c.args.written.now in
     let table = g.W.WrittenElements.elements c.args.written.now in
     let cs = c.args.constraints.now in
-    let rows = c.in_ok-reached.reached.rows.items in
+    let rows = c.in_ok-reached.reached.rows in
     let edges = are-edges cs c.in_ok-edges.edges c.in_ok-edges.ensures.written c.in_ok-edges.ensures.unknown in
-    let first : IsFirstBreaker (is_below l table) (length table) rows cs (Some c.in-Some.value) = rw (c.as_slice.ensures.value, c.in-Some.is) at c.in_ok-first_breaker.ensures in (
+    let first : IsFirstBreaker (is_below l table) (length table) rows cs (Some c.in-Some.value) = rw c.in-Some.is at c.in_ok-first_breaker.ensures in (
       first.index,
       breaks-along l c.keep_laws.ensures table cs c.in_ok-edges.edges edges c.args.unknowns c.requires rows c.in_ok-reached.ensures.rows c.in-Some.value first.index first.breaks,
     )
@@ -70,9 +70,9 @@ returns-clause-rejected g c =
     let l = g.W.WrittenElements.order c.args.written.now in
     let table = g.W.WrittenElements.elements c.args.written.now in
     let cs = c.args.constraints.now in
-    let rows = c.in_ok-reached.reached.rows.items in
+    let rows = c.in_ok-reached.reached.rows in
     let edges = are-edges cs c.in_ok-edges.edges c.in_ok-edges.ensures.written c.in_ok-edges.ensures.unknown in
-    let first : IsFirstBreaker (is_below l table) (length table) rows cs (Some c.in-Some.value) = rw (c.as_slice.ensures.value, c.in-Some.is) at c.in_ok-first_breaker.ensures in
+    let first : IsFirstBreaker (is_below l table) (length table) rows cs (Some c.in-Some.value) = rw c.in-Some.is at c.in_ok-first_breaker.ensures in
     let refused = refused-by l c.keep_laws.ensures table cs c.in_ok-edges.edges edges c.args.unknowns c.requires rows c.in_ok-reached.ensures.rows c.in-Some.value first
     c.in_ok-refusal-in-Some.refusal.chain.items c.in_ok-refusal-in-Some.ensures.chain in
     record {

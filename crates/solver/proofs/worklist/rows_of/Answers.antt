@@ -1,8 +1,12 @@
-use Rattle.std.proofs.Common.{◌≡◌, ◌+◌, ap, ◌∙◌, sym, subst, arith, length, set, false, ◌∷◌, ℕ, List}
+use Rattle.std.proofs.Common.{◌≡◌, ◌+◌, ap, ◌∙◌, sym, subst, arith, length, set, false, ◌≤◌, ◌∷◌, [], ℕ, List, Bool}
 use Rattle.std.specs.Prelude.{Contains}
+use Rattle.std.proofs.lemmas.List.{length-replicate}
+use Rattle.std.proofs.lemmas.List.Elements.{All-replicate}
 use Rattle.common.proofs.Elements.{Contains-first}
+use Rattle.solver.specs.Rows.{AreSized, has_at}
 use Rattle.solver.specs.Work.{AreSoFar, IsWork}
 use Rattle.solver.proofs.Comparing.{slice_get-inside}
+use Rattle.solver.proofs.Standing.{has_at-none}
 use Rattle.solver.proofs.Queued.{next-none, next-some}
 use Rattle.solver.proofs.Working.{rows-last, so-far-first, work-first, work-next}
 use Rattle.solver.proofs.worklist.rows_of.Given.{Over}
@@ -11,11 +15,15 @@ use Rattle.solver.proofs.worklist.rows_of.Goals.{In-Some}
 
 pub loop-by-init : goal.loop-by-init
 loop-by-init g c =
-    let all : length c.in_ok-empty_rows.field-0.items ≡ length c.args.edges.now.unknown.items = omega (arith, c.in_ok-empty_rows.ensures.all, c.len.ensures, c.args.edges.now.unknown.ok.0) in
+    let rows = c.in_ok-new.field-0 in
+    let is = c.in_ok-new.ensures in
+    let all : length rows ≡ length c.args.edges.now.unknown.items = ap length is ∙ (length-replicate _ _ ∙ omega (arith, c.len-2.ensures, c.args.edges.now.unknown.ok.0)) in
+    let sized : AreSized (length c.args.edges.now.written.items) rows =
+    subst (λ (r : List (List Bool)). AreSized (length c.args.edges.now.written.items) r) (sym is) (All-replicate (λ (row : List Bool). length row ≤ length c.args.edges.now.written.items) _ [] (omega arith)) in
+    let empty : (u n : ℕ) → has_at rows u n ≡ false = λ u n. ap (λ (r : List (List Bool)). has_at r u n) is ∙ has_at-none _ u n in
     record {
-      work = work-first c.args.constraints.now c.args.edges.now c.requires.edges c.in_ok-empty_rows.field-0.items c.in_ok-queue.queue.waits.items c.in_ok-queue.queue.order.items all
-          (c.in_ok-empty_rows.ensures.sized (length c.args.edges.now.written.items)) c.in_ok-empty_rows.ensures.empty c.in_ok-queue.ensures;
-      so_far = so-far-first c.args.constraints.now c.args.edges.now c.requires.edges c.in_ok-empty_rows.field-0.items c.in_ok-queue.queue.waits.items c.in_ok-queue.queue.order.items c.in_ok-queue.ensures;
+      work = work-first c.args.constraints.now c.args.edges.now c.requires.edges rows c.in_ok-queue.queue.waits.items c.in_ok-queue.queue.order.items all sized empty c.in_ok-queue.ensures;
+      so_far = so-far-first c.args.constraints.now c.args.edges.now c.requires.edges rows c.in_ok-queue.queue.waits.items c.in_ok-queue.queue.order.items c.in_ok-queue.ensures;
     }
 
 pub next-requires : goal.next-requires
@@ -37,13 +45,13 @@ pub look-requires-clause-work : goal.look-requires-clause-work
 look-requires-clause-work g c =
     let is = next_is g (goal.at.look-requires-clause-work g c).In-Some in
     rw is.1
-    (work-next c.args.constraints.now c.args.edges.now c.requires.edges c.loop-by.reached.rows.items c.loop-by.queue.waits.items c.next.new.self.order.items c.in-Some.by
-    (subst (λ (xs : List ℕ). IsWork c.args.constraints.now c.args.edges.now c.loop-by.reached.rows.items c.loop-by.queue.waits.items xs (length c.args.constraints.now)) is.0 c.loop-by.invariant.work))
+    (work-next c.args.constraints.now c.args.edges.now c.requires.edges c.loop-by.reached.rows c.loop-by.queue.waits.items c.next.new.self.order.items c.in-Some.by
+    (subst (λ (xs : List ℕ). IsWork c.args.constraints.now c.args.edges.now c.loop-by.reached.rows c.loop-by.queue.waits.items xs (length c.args.constraints.now)) is.0 c.loop-by.invariant.work))
 
 pub look-requires-clause-so_far : goal.look-requires-clause-so_far
 look-requires-clause-so_far g c =
     let is = next_is g (goal.at.look-requires-clause-so_far g c).In-Some in
-    subst (λ (xs : List ℕ). AreSoFar c.args.constraints.now c.args.edges.now c.loop-by.reached.rows.items xs c.loop-by.reached.looks) is.0 c.loop-by.invariant.so_far
+    subst (λ (xs : List ℕ). AreSoFar c.args.constraints.now c.args.edges.now c.loop-by.reached.rows xs c.loop-by.reached.looks) is.0 c.loop-by.invariant.so_far
 
 pub loop-by-smaller : goal.loop-by-smaller
 loop-by-smaller g c =
@@ -55,10 +63,10 @@ loop-by-smaller g c =
 pub returns-clause-rows : goal.returns-clause-rows
 returns-clause-rows g c =
     let empty = next-none c.loop-by.queue.waits.items c.loop-by.queue.order.items c.next.new.self.waits.items c.next.new.self.order.items c.in_default.ensures in
-    rows-last c.args.constraints.now c.args.edges.now c.requires.edges c.loop-by.reached.rows.items c.loop-by.queue.waits.items
-    (subst (λ (xs : List ℕ). IsWork c.args.constraints.now c.args.edges.now c.loop-by.reached.rows.items c.loop-by.queue.waits.items xs (length c.args.constraints.now)) empty c.loop-by.invariant.work)
+    rows-last c.args.constraints.now c.args.edges.now c.requires.edges c.loop-by.reached.rows c.loop-by.queue.waits.items
+    (subst (λ (xs : List ℕ). IsWork c.args.constraints.now c.args.edges.now c.loop-by.reached.rows c.loop-by.queue.waits.items xs (length c.args.constraints.now)) empty c.loop-by.invariant.work)
 
 pub returns-clause-looks : goal.returns-clause-looks
 returns-clause-looks g c =
     let empty = next-none c.loop-by.queue.waits.items c.loop-by.queue.order.items c.next.new.self.waits.items c.next.new.self.order.items c.in_default.ensures in
-    subst (λ (xs : List ℕ). AreSoFar c.args.constraints.now c.args.edges.now c.loop-by.reached.rows.items xs c.loop-by.reached.looks) empty c.loop-by.invariant.so_far
+    subst (λ (xs : List ℕ). AreSoFar c.args.constraints.now c.args.edges.now c.loop-by.reached.rows xs c.loop-by.reached.looks) empty c.loop-by.invariant.so_far

@@ -5,9 +5,9 @@ use Rattle.solver.proofs.worklist.rows_of.Given as goal
 
 abbrev pub invariant-loop-by : goal.invariant-loop-by
 invariant-loop-by g l = record {
-  work : IsWork l.constraints l.edges l.reached.rows.items l.queue.waits.items l.queue.order.items (length l.constraints);
-  so_far : AreSoFar l.constraints l.edges l.reached.rows.items l.queue.order.items l.reached.looks;
+  work : IsWork l.constraints l.edges l.reached.rows l.queue.waits.items l.queue.order.items (length l.constraints);
+  so_far : AreSoFar l.constraints l.edges l.reached.rows l.queue.order.items l.reached.looks;
 }
 
 abbrev pub decreases-loop-by : goal.decreases-loop-by
-decreases-loop-by g l = length l.queue.order.items + room (written_left l.constraints 0 (length l.edges.written.items)) l.edges.unknown.items l.reached.rows.items
+decreases-loop-by g l = length l.queue.order.items + room (written_left l.constraints 0 (length l.edges.written.items)) l.edges.unknown.items l.reached.rows

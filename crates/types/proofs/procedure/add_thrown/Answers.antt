@@ -19,7 +19,7 @@ returns-clause-made c =
     let after = c.add_label.new.variables in
     let one : Thrown = record { exception = c.in_ok-number.number; label = c.in_ok-label.label } in
     let new : is_thrown (throws_view before.labels c.args.throws.now) c.in_ok-number.number ≡ false = sym (c.requires.same c.in_ok-number.number) ∙ search rules in
-    thrown_found (item_scope c.args.place.now before) (throws_view before.labels c.args.throws.now) (throws_view after.labels c.push.new.self) (thrown_tree c.args.written.now)
+    thrown_found (item_scope c.args.context.now before) (throws_view before.labels c.args.throws.now) (throws_view after.labels c.push.new.self) (thrown_tree c.args.written.now)
     c.in_ok-number.number (label_at after.labels c.in_ok-label.label) (search rules) new c.in_ok-label.ensures.made
     (thrown_pushed before.labels after.labels c.in_ok-label.ensures.more.extended c.args.throws.now.items c.push.new.self.items one c.requires.inside c.in_ok-push.ensures.items)
 

@@ -11,7 +11,7 @@ use Rattle.common.specs.Answers.{IfRefused}
 use Rattle.types.specs.Finding.{IsRefusalOf, along}
 use Rattle.types.specs.Labels.{optional_label_finding}
 use Rattle.types.specs.Resolution.{end_label_of, next_parameter, parameters_finding, setting_within, throws_finding}
-use Rattle.types.specs.Statements.{behind_block, block_finding}
+use Rattle.types.specs.Statements.{after_block, block_finding}
 use Rattle.types.specs.VariableEntries.{VariableEntries}
 use Rattle.types.specs.Views.{item_scope, item_scope_of, point_of, setting_of, taken, throws_view, top_view}
 use Rattle.types.proofs.LabelNumbers.{extends_through, still_inside, same_label, same_written, result_still_inside, same_result, thrown_still_inside, same_thrown}
@@ -22,13 +22,13 @@ use Rattle.types.proofs.procedure.resolve_procedure.Goals.{After-deref, After-de
 
 -- ---- with the begin label: what it was found to be, and that the globals are as they were and no slot is taken
 
-begun : (c : After-deref) → optional_label_finding (item_scope c.args.place.now c.args.variables) (procedure_tree c.args.written.now).begin
+begun : (c : After-deref) → optional_label_finding (item_scope c.args.context.now c.args.variables) (procedure_tree c.args.written.now).begin
     ≡ Ok (written_at c.add_optional_label.new.variables.labels c.in_ok-begin.begin)
 begun c =
-    let scope = item_scope c.args.place.now c.args.variables in
+    let scope = item_scope c.args.context.now c.args.variables in
     let first = c.resolve_result.new.variables in
-    let same = same_scope c.args.place.now c.args.variables first c.in_ok-value.ensures.more.globals in
-    optional_in_scope (item_scope c.args.place.now first) scope (procedure_tree c.args.written.now).begin _ same c.in_ok-begin.ensures.made
+    let same = same_scope c.args.context.now c.args.variables first c.in_ok-value.ensures.more.globals in
+    optional_in_scope (item_scope c.args.context.now first) scope (procedure_tree c.args.written.now).begin _ same c.in_ok-begin.ensures.made
 
 begun_globals : (c : After-deref) → c.add_optional_label.new.variables.globals ≡ c.args.variables.globals
 begun_globals c = c.in_ok-begin.ensures.more.globals ∙ c.in_ok-value.ensures.more.globals
@@ -45,11 +45,11 @@ begun_taken : (c : After-deref) → taken c.new-body.result
 begun_taken c = omega (arith, ap length (begun_slots c), c.new-body.ensures.taken, c.in_ok-value.ensures.more.few, c.in_ok-begin.ensures.more.few)
 
 parameters_are : (c : After-deref) → along (next_parameter (item_scope_of c.new-body.result)) (point_of c.new-body.result) (map parameter_tree c.deref.result.now)
-    ≡ parameters_finding (item_scope c.args.place.now c.args.variables) (procedure_tree c.args.written.now).parameters
+    ≡ parameters_finding (item_scope c.args.context.now c.args.variables) (procedure_tree c.args.written.now).parameters
 parameters_are c =
-    let scope = item_scope c.args.place.now c.args.variables in
+    let scope = item_scope c.args.context.now c.args.variables in
     let begins = c.new-body.result in
-    let same = c.new-body.ensures.scope ∙ same_scope c.args.place.now c.args.variables c.add_optional_label.new.variables (begun_globals c) in
+    let same = c.new-body.ensures.scope ∙ same_scope c.args.context.now c.args.variables c.add_optional_label.new.variables (begun_globals c) in
     let start = c.new-body.ensures.point ∙ ap (λ slots. record { names = scope.names; slots = slots; loops = 0 }) (begun_slots c) in
     parameters_in_scope (item_scope_of begins) scope (point_of begins) (map parameter_tree c.deref.result.now) (procedure_tree c.args.written.now).parameters
     same start (ap (map parameter_tree) c.deref.ensures.value)
@@ -59,7 +59,7 @@ parameters_room c = parameters_need parameter_tree c.deref.result.now c.args.wri
 
 -- ---- with the parameters and the end label
 
-declared : (c : After-deref-2) → parameters_finding (item_scope c.args.place.now c.args.variables) (procedure_tree c.args.written.now).parameters
+declared : (c : After-deref-2) → parameters_finding (item_scope c.args.context.now c.args.variables) (procedure_tree c.args.written.now).parameters
     ≡ Ok (point_of c.declare_parameters.new.self)
 declared c = sym (parameters_are (goal.at.resolve_throws-requires c).After-deref) ∙ c.in_ok-declare_parameters.ensures.made
 
@@ -79,19 +79,19 @@ declared_taken c =
     let at = (goal.at.resolve_throws-requires c).After-deref in
     omega (arith, begun_taken at, parameters_room at, c.in_ok-declare_parameters.ensures.grows)
 
-ended : (c : After-deref-2) → optional_label_finding (item_scope c.args.place.now c.args.variables) (procedure_tree c.args.written.now).end
+ended : (c : After-deref-2) → optional_label_finding (item_scope c.args.context.now c.args.variables) (procedure_tree c.args.written.now).end
     ≡ Ok (written_at c.add_optional_label-2.new.variables.labels c.in_ok-end.end)
 ended c =
-    let scope = item_scope c.args.place.now c.args.variables in
+    let scope = item_scope c.args.context.now c.args.variables in
     let third = c.declare_parameters.new.self.variables in
-    optional_in_scope (item_scope c.args.place.now third) scope (procedure_tree c.args.written.now).end _ (same_scope c.args.place.now c.args.variables third (declared_globals c)) c.in_ok-end.ensures.made
+    optional_in_scope (item_scope c.args.context.now third) scope (procedure_tree c.args.written.now).end _ (same_scope c.args.context.now c.args.variables third (declared_globals c)) c.in_ok-end.ensures.made
 
-throws_are : (c : After-deref-2) → throws_finding (item_scope c.args.place.now c.add_optional_label-2.new.variables) (map thrown_tree c.deref-2.result.now)
-    ≡ throws_finding (item_scope c.args.place.now c.args.variables) (procedure_tree c.args.written.now).throws
+throws_are : (c : After-deref-2) → throws_finding (item_scope c.args.context.now c.add_optional_label-2.new.variables) (map thrown_tree c.deref-2.result.now)
+    ≡ throws_finding (item_scope c.args.context.now c.args.variables) (procedure_tree c.args.written.now).throws
 throws_are c =
-    let scope = item_scope c.args.place.now c.args.variables in
+    let scope = item_scope c.args.context.now c.args.variables in
     let globals = c.in_ok-end.ensures.more.globals ∙ declared_globals c in
-    ap (λ one. throws_finding one (map thrown_tree c.deref-2.result.now)) (same_scope c.args.place.now c.args.variables c.add_optional_label-2.new.variables globals)
+    ap (λ one. throws_finding one (map thrown_tree c.deref-2.result.now)) (same_scope c.args.context.now c.args.variables c.add_optional_label-2.new.variables globals)
     ∙ ap (λ list. throws_finding scope (map thrown_tree list)) c.deref-2.ensures.value
 
 throws_room : (c : After-deref-2) → length c.deref-2.result.now ≤ sum_by thrown_nodes (procedure_tree c.args.written.now).throws
@@ -99,7 +99,7 @@ throws_room c = throws_need thrown_tree c.deref-2.result.now c.args.written.now.
 
 -- ---- with the exceptions
 
-thrown : (c : After-deref-3) → throws_finding (item_scope c.args.place.now c.args.variables) (procedure_tree c.args.written.now).throws
+thrown : (c : After-deref-3) → throws_finding (item_scope c.args.context.now c.args.variables) (procedure_tree c.args.written.now).throws
     ≡ Ok (throws_view c.resolve_throws.new.variables.labels c.in_ok-throws.throws)
 thrown c = sym (throws_are (goal.at.make_end_label-requires-clause-room c).After-deref-2) ∙ c.in_ok-throws.ensures.made
 
@@ -131,12 +131,12 @@ entered_slots c = c.in_ok-end_label.ensures.more.slots ∙ c.in_ok-throws.ensure
 block_is : (c : After-resolve_body) → c.add_optional_label.new.variables.globals ≡ c.args.variables.globals →
     block_finding (setting_of (record c.declare_parameters.new.self { variables = c.make_end_label.new.variables }))
     (point_of (record c.declare_parameters.new.self { variables = c.make_end_label.new.variables })) (procedure_tree c.args.written.now).body
-    ≡ block_finding (setting_within (item_scope c.args.place.now c.args.variables) (top_view c.args.place.now.top.now).signatures (procedure_tree c.args.written.now))
+    ≡ block_finding (setting_within (item_scope c.args.context.now c.args.variables) (top_view c.args.context.now.top.now).signatures (procedure_tree c.args.written.now))
     (point_of c.declare_parameters.new.self) (procedure_tree c.args.written.now).body
 block_is c globals =
     let tree = procedure_tree c.args.written.now in
-    let signatures = (top_view c.args.place.now.top.now).signatures in
-    let scope = item_scope c.args.place.now c.args.variables in
+    let signatures = (top_view c.args.context.now.top.now).signatures in
+    let scope = item_scope c.args.context.now c.args.variables in
     let third = c.declare_parameters.new.self in
     let entered = record third { variables = c.make_end_label.new.variables } in
     let setting : setting_of entered ≡ setting_within scope signatures tree =
@@ -145,7 +145,7 @@ block_is c globals =
     let point : point_of entered ≡ point_of third = λ i. record (point_of third) { slots = entered_slots c i } in
     λ i. block_finding (setting i) (point i) tree.body
 
--- ---- behind the body: labels keep their numbers
+-- ---- after the body: labels keep their numbers
 
 last_of_fifth : (c : After-len) → Extends c.resolve_throws.new.variables.labels c.resolve_body.new.self.variables.labels
 last_of_fifth c =
@@ -206,9 +206,9 @@ returns-in_err-end-clause-made c =
     let fault = c.in_err-end.field-0.0 in
     let third = c.declare_parameters.new.self.variables in
     let globals = c.in_ok-declare_parameters.ensures.later.globals ∙ ap (λ (one : VariableEntries). one.globals) c.new-body.ensures.variables ∙ begun_globals at in
-    let same = same_scope c.args.place.now c.args.variables third globals in
+    let same = same_scope c.args.context.now c.args.variables third globals in
     rw (p.1, p.2) (end_wrong _ _ _ _ _ c.in_ok-value.ensures.made (begun at) _ (sym (parameters_are at) ∙ c.in_ok-declare_parameters.ensures.made) fault
-    (optional_wrong_in_scope (item_scope c.args.place.now third) (item_scope c.args.place.now c.args.variables) (procedure_tree c.args.written.now).end fault same c.in_err-end.ensures.made))
+    (optional_wrong_in_scope (item_scope c.args.context.now third) (item_scope c.args.context.now c.args.variables) (procedure_tree c.args.written.now).end fault same c.in_err-end.ensures.made))
 
 pub returns-in_err-throws-clause-made : goal.returns-in_err-throws-clause-made
 returns-in_err-throws-clause-made c =
@@ -245,7 +245,7 @@ returns-clause-made c =
     (map (thrown_entry fifth) (c.deref-3.ensures.value i))) in
     let counted : c.len.result ≡ length (procedure_tree c.args.written.now).parameters = omega (arith, length-map c.args.written.now.parameters.items parameter_tree) in
     let found = procedure_found _ _ _ _ _ c.in_ok-value.ensures.made (begun at.After-deref)
-    _ (declared at.After-deref-2) _ (ended at.After-deref-2) _ (thrown at.After-deref-3) (behind_block (point_of c.declare_parameters.new.self) (point_of c.resolve_body.new.self)) (block_of c.in_ok-statements.statements.items)
+    _ (declared at.After-deref-2) _ (ended at.After-deref-2) _ (thrown at.After-deref-3) (after_block (point_of c.declare_parameters.new.self) (point_of c.resolve_body.new.self)) (block_of c.in_ok-statements.statements.items)
     (sym (block_is at.After-resolve_body (begun_globals at.After-deref)) ∙ c.in_ok-statements.ensures.made) (string_bytes c.in_ok-from_str.field-0) entered (label_at sixth c.in_ok-end_label.end_label) c.len.result
     c.in_ok-from_str.ensures.ok c.make_begin_label-begin_label.ensures.label ends counted in
     rw c.take_slots-slots.ensures.rest (found ∙ (λ i. Ok (record {

@@ -14,7 +14,7 @@ pub returns-in_err-add_thrown-clause-made : goal.returns-in_err-add_thrown-claus
 returns-in_err-add_thrown-clause-made c =
     let p = err_from_is_err_and c.from_residual.result c.from_residual.ensures.1 in
     let now = c.loop-one.variables in
-    let scope = same_scope c.args.place.now c.args.variables.now now c.loop-one.invariant.more.globals in
+    let scope = same_scope c.args.context.now c.args.variables.now now c.loop-one.invariant.more.globals in
     rw (p.1, p.2) (goes_wrong c.loop-one.invariant.on c.one-item.result c.in_err-add_thrown.field-0.0 c.one-item.is c.loop-one-test.true
     (subst (λ one. IfRefused (IsRefusalOf (next_thrown one (throws_view now.labels c.loop-one.throws) (thrown_tree c.one-item.result))) c.in_err-add_thrown.field-0.0) scope c.in_err-add_thrown.ensures.made))
 
@@ -22,7 +22,7 @@ pub loop-one-preserved : goal.loop-one-preserved
 loop-one-preserved c =
     let now = c.loop-one.variables in
     let after = c.add_thrown.new.variables in
-    let scope = same_scope c.args.place.now c.args.variables.now now c.loop-one.invariant.more.globals in
+    let scope = same_scope c.args.context.now c.args.variables.now now c.loop-one.invariant.more.globals in
     record {
       on = goes_further c.loop-one.invariant.on c.one-item.result _ c.one-item.is c.loop-one-test.true
           (ap (λ one. next_thrown one (throws_view now.labels c.loop-one.throws) (thrown_tree c.one-item.result)) (sym scope) ∙ c.in_ok-add_thrown.ensures.made);

@@ -9,7 +9,7 @@ use Rattle.types.proofs.procedure.resolve_throws.Given as goal
 
 abbrev pub invariant-loop-one : goal.invariant-loop-one
 invariant-loop-one l = record {
-  on : GoesOn (next_thrown (item_scope l.place l.initial.variables)) thrown_tree l.written (throws_finding (item_scope l.place l.initial.variables) (map thrown_tree l.written)) (throws_view l.variables.labels l.throws) l.one-index;
+  on : GoesOn (next_thrown (item_scope l.context l.initial.variables)) thrown_tree l.written (throws_finding (item_scope l.context l.initial.variables) (map thrown_tree l.written)) (throws_view l.variables.labels l.throws) l.one-index;
   same : (number : ℕ) → contains nat_eq l.seen number ≡ is_thrown (throws_view l.variables.labels l.throws) number;
   inside : AreThrownInside l.variables.labels l.throws.items;
   more : HasMoreLabels l.one-index l.initial.variables l.variables;

@@ -10,7 +10,7 @@ use Rattle.modules.proofs.Widths.{code_length_more, width_of-pos}
 use Rattle.verifier.specs.Index.{index_from}
 use Rattle.verifier.specs.Starts.{numbers_of, starts_before}
 use Rattle.verifier.proofs.Offsets.{code_length_within, code_length_drop}
-use Rattle.verifier.proofs.Counted.{clear-behind, no-numbers, number-added, one-more-before}
+use Rattle.verifier.proofs.Counted.{clear-after, no-numbers, number-added, one-more-before}
 use Rattle.verifier.proofs.Indices.{indices_step}
 use Rattle.verifier.proofs.Reaching.{take_all}
 use Rattle.verifier.proofs.index.starts_of.Goals as goal
@@ -69,7 +69,7 @@ loop-instruction-preserved c =
           ∙ ap (λ l. set l at (Some k)) (v.numbers_are ∙ ap (λ n. index_from 0 (take k code) ++ replicate n None) (code_length_drop code k (Push (pos 0)) h))
           ∙ indices_step (take k code) i (code_length (drop (k + 1) code)) at k v.offset_is number
           ∙ ap (λ l. index_from 0 l ++ replicate (code_length (drop (k + 1) code)) None) (sym (take_more code k (Push (pos 0)) h));
-      clear = λ n ge. clear-behind old new at added v.clear n (omega (arith, ge, back));
+      clear = λ n ge. clear-after old new at added v.clear n (omega (arith, ge, back));
     }
 
 pub returns : goal.returns

@@ -5,7 +5,7 @@ use Rattle.verifier.specs.Index.{index_from}
 use Rattle.verifier.specs.Starts.{numbers_of, starts_before}
 use Rattle.verifier.proofs.index.starts_of.Given as goal
 
--- the bits of the code so far, and none behind them
+-- the bits of the code so far, and none after them
 abbrev pub invariant-loop-instruction : goal.invariant-loop-instruction
 invariant-loop-instruction l = record {
   offset_is : l.offset ≡ code_length (take l.instruction-index l.code);

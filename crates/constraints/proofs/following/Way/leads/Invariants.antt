@@ -5,7 +5,7 @@ use Rattle.constraints.specs.Following.{IsWay}
 use Rattle.constraints.specs.Merging.{IsFollowed}
 use Rattle.constraints.proofs.following.Way.leads.Given as goal
 
-abbrev pub invariant-loop-turn : goal.invariant-loop-turn
-invariant-loop-turn l = record {
+abbrev pub invariant-loop-round : goal.invariant-loop-round
+invariant-loop-round l = record {
   at : (real : ℕ) (base : List Stored) → IsWay real base l.self → IsFollowed real base (Unknown l.from) (Unknown l.at);
 }

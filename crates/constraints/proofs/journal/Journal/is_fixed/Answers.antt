@@ -1,6 +1,6 @@
 use Rattle.std.proofs.Common.{◌≡◌, ◌∙◌, sym, subst, ap, arith}
 use Rattle.constraints.specs.Journals.{AreUpToCall, entry_from}
-use Rattle.constraints.specs.Takers.{no_entry}
+use Rattle.constraints.specs.ExitUnknowns.{no_entry}
 use Rattle.constraints.proofs.Moments.{fixed-between}
 use Rattle.constraints.proofs.journal.Journal.is_fixed.Goals as goal
 

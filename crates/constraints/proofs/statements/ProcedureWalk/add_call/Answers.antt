@@ -8,7 +8,7 @@ use Rattle.gathering.specs.Names.{NamedAtom, named_atoms}
 use Rattle.gathering.specs.Walk.{argument_constraints, call_atoms, call_flows, inner_atom, inner_constraint, raise_atoms_all, rule_constraint, target_constraint}
 use Rattle.solver.specs.declared.constraints.Atom.TheVariants as stored
 use Rattle.constraints.specs.LeftSides.{scope_of}
-use Rattle.constraints.specs.Takers.{takers_around}
+use Rattle.constraints.specs.ExitUnknowns.{exit_unknowns_around}
 use Rattle.constraints.specs.Walks.{kept_ends}
 use Rattle.constraints.proofs.Added.{added-then, alone-left}
 use Rattle.constraints.proofs.statements.ProcedureWalk.add_call.Goals as goal
@@ -22,11 +22,11 @@ returns c = λ named stands.
     let scope = scope_of core procedure in
     let k = c.args.number in
     let arguments = map expression_of c.args.arguments.now in
-    let takers = takers_around c.args.around.now in
+    let exit_unknowns = exit_unknowns_around c.args.around.now in
     let raised : List NamedAtom = named ∷ named_atoms (raise_atoms_all scope arguments) in
     let own : List NamedAtom = inner_atom k ∷ [] in
     let received : List NamedAtom = inner_atom k ∷ named_atoms (call_atoms program c.args.site.callee Normal ++ one (label_of program (ToValue c.args.site.callee))) in
-    let ends = call_flows program c.args.site.callee k takers (kept_ends arguments) in
+    let ends = call_flows program c.args.site.callee k exit_unknowns (kept_ends arguments) in
     let demands = target_constraint scope c.args.site.at 6 received c.args.site.target in
     let passed = argument_constraints scope c.args.site.at k c.args.site.callee 0 arguments in
     let begun = rule_constraint scope c.args.site.at 6 own (ToBegin c.args.site.callee) in

@@ -7,7 +7,7 @@ use Rattle.solver.specs.declared.constraints.Atom.TheVariants as stored
 use Rattle.constraints.specs.Added.{AreAdded}
 use Rattle.constraints.specs.LeftSides.{Unknown, scope_of}
 use Rattle.constraints.specs.Procedures.{number_in}
-use Rattle.constraints.specs.declared.takers.Taker.{Taker}
+use Rattle.constraints.specs.declared.exit_unknowns.ExitUnknown.{ExitUnknown}
 use Rattle.constraints.proofs.Added.{alone-left}
 use Rattle.constraints.proofs.Declared.{demands-next}
 use Rattle.constraints.proofs.statements.ProcedureWalk.add_declared_demands.Goals as goal
@@ -24,7 +24,7 @@ loop-declared-preserved c = λ at_is.
     c.loop-declared-test.true (get_or_default c.args.throws.now i none x c.loop-declared-test.true) at_is (c.loop-declared.invariant at_is)
     (c.in_ok-add_rule.ensures c.args.self.now.procedure (inner_atom k ∷ [])
     (alone-left core table (inner_atom k) (stored.Unknown c.entry_in.result.number) c.in_ok-left.left.items c.in_ok-left.ensures
-    (ap (λ (entry : Taker). Unknown entry.number) c.entry_in.ensures)))
+    (ap (λ (entry : ExitUnknown). Unknown entry.number) c.entry_in.ensures)))
 
 pub returns : goal.returns
 returns c = λ at_is.

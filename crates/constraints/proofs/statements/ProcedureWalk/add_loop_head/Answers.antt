@@ -9,7 +9,7 @@ use Rattle.resolved.specs.declared.target.Target.TheVariants.{ToLoop}
 use Rattle.gathering.specs.Names.{NamedAtom, Real, named_atoms}
 use Rattle.gathering.specs.Walk.{flow, inner_atom, inner_constraint, raise_atoms, raised_flows, rule_constraint}
 use Rattle.constraints.specs.LeftSides.{scope_of}
-use Rattle.constraints.specs.Takers.{takers_around}
+use Rattle.constraints.specs.ExitUnknowns.{exit_unknowns_around}
 use Rattle.constraints.proofs.Added.{added-then, flow-added}
 use Rattle.constraints.proofs.statements.ProcedureWalk.add_loop_head.Goals as goal
 
@@ -20,15 +20,15 @@ returns c = λ named stands.
     let procedure = c.args.self.now.procedure in
     let scope = scope_of core procedure in
     let e = expression_of c.args.condition.now in
-    let takers = takers_around c.args.around.now in
-    let turn : NamedAtom = renamed Real (label_of (program_of core) (ToLoop procedure c.args.site.number)) in
+    let exit_unknowns = exit_unknowns_around c.args.around.now in
+    let loop_atom : NamedAtom = renamed Real (label_of (program_of core) (ToLoop procedure c.args.site.number)) in
     let body : List NamedAtom = inner_atom c.args.inner ∷ [] in
-    let raised = raised_flows (turn ∷ named_atoms (raise_atoms scope e)) takers (raises e) in
-    let leaving = flow body (takers Normal) in
-    let branch = inner_constraint (turn ∷ named_atoms (value_label scope e)) c.args.inner in
+    let raised = raised_flows (loop_atom ∷ named_atoms (raise_atoms scope e)) exit_unknowns (raises e) in
+    let leaving = flow body (exit_unknowns Normal) in
+    let branch = inner_constraint (loop_atom ∷ named_atoms (value_label scope e)) c.args.inner in
     added-then core table (rule_constraint scope c.args.site.at 8 (named ∷ []) (ToLoop procedure c.args.site.number)) (branch ++ (leaving ++ raised)) _ _ _ (c.in_ok-add_turn.ensures named stands)
-    (added-then core table branch (leaving ++ raised) _ _ _ (c.in_ok-add_branch.ensures turn c.part-turn.ensures)
+    (added-then core table branch (leaving ++ raised) _ _ _ (c.in_ok-add_branch.ensures loop_atom c.part-loop_atom.ensures)
     (added-then core table leaving raised _ _ _
-    (flow-added core table body c.taker-taker.result (takers Normal) _ _ c.taker-taker.ensures
+    (flow-added core table body c.exit_unknown-exit_unknown.result (exit_unknowns Normal) _ _ c.exit_unknown-exit_unknown.ensures
     (c.in_ok-add_pc_flow.ensures (inner_atom c.args.inner) refl))
-    (c.in_ok-add_condition.ensures turn c.part-turn.ensures)))
+    (c.in_ok-add_condition.ensures loop_atom c.part-loop_atom.ensures)))

@@ -6,7 +6,7 @@ use Rattle.gathering.specs.Names.{named_atoms}
 use Rattle.gathering.specs.Walk.{inner_constraint, raise_atoms, raised_flows}
 use Rattle.constraints.specs.Ready.{entries_of}
 use Rattle.constraints.specs.LeftSides.{scope_of}
-use Rattle.constraints.specs.Takers.{takers_of}
+use Rattle.constraints.specs.ExitUnknowns.{exit_unknowns_of}
 use Rattle.constraints.specs.Walked.{branch_constraints}
 use Rattle.constraints.proofs.Added.{added-then}
 use Rattle.constraints.proofs.InContext.{gathered-around}
@@ -22,9 +22,9 @@ returns-clause-added c =
     let number = c.make-number.result in
     let thrown = c.deref.result.now in
     made-walked c.args.self.now.table.now.core.now c.args.self.now.table.now.core.now.labels (entries_of c.args.self.now.map.now)
-    c.args.context.pc c.args.context.takers thrown 1 number (λ t n named. branch_constraints scope named (takers_of c.args.context.takers t) n e) c.args.progress.now c.make-number.new.self _
+    c.args.context.pc c.args.context.exit_unknowns thrown 1 number (λ t n named. branch_constraints scope named (exit_unknowns_of c.args.context.exit_unknowns t) n e) c.args.progress.now c.make-number.new.self _
     c.make-number.ensures.made c.make-number.ensures.first c.deref.ensures.value refl refl refl refl
     (λ named stands. added-then core table (inner_constraint (named ∷ named_atoms (value_label scope e)) number)
-    (raised_flows (named ∷ named_atoms (raise_atoms scope e)) (takers_of c.args.context.takers thrown) (raises e)) _ _ _
-    (c.in_ok-add_branch.ensures named stands) (gathered-around core table (λ t n. raised_flows (n ∷ named_atoms (raise_atoms scope e)) t (raises e)) c.around-around.result c.args.context.pc (takers_of c.args.context.takers thrown) _ _
-    c.around-around.ensures.pc c.around-around.ensures.takers c.in_ok-add_condition.ensures named stands))
+    (raised_flows (named ∷ named_atoms (raise_atoms scope e)) (exit_unknowns_of c.args.context.exit_unknowns thrown) (raises e)) _ _ _
+    (c.in_ok-add_branch.ensures named stands) (gathered-around core table (λ t n. raised_flows (n ∷ named_atoms (raise_atoms scope e)) t (raises e)) c.around-around.result c.args.context.pc (exit_unknowns_of c.args.context.exit_unknowns thrown) _ _
+    c.around-around.ensures.pc c.around-around.ensures.exit_unknowns c.in_ok-add_condition.ensures named stands))

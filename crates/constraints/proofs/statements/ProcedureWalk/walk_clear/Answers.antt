@@ -9,6 +9,6 @@ pub returns : goal.returns
 returns c =
     on_ok_weaker c.add_clear.result
     (λ simple. simple-walked c.args.self.now.table.now.core.now c.args.self.now.table.now.core.now.labels (entries_of c.args.self.now.map.now) c.args.self.now.procedure
-    (T.Clear c.args.at c.args.slot) c.args.context.pc c.args.context.takers c.around-around.result c.deref.result.now c.args.progress.now _
-    refl refl c.deref.ensures.value refl refl refl refl c.around-around.ensures.pc c.around-around.ensures.takers simple)
+    (T.Clear c.args.at c.args.slot) c.args.context.pc c.args.context.exit_unknowns c.around-around.result c.deref.result.now c.args.progress.now _
+    refl refl c.deref.ensures.value refl refl refl refl c.around-around.ensures.pc c.around-around.ensures.exit_unknowns simple)
     c.add_clear.ensures

@@ -9,6 +9,6 @@ pub returns : goal.returns
 returns c =
     on_ok_weaker c.add_leave.result
     (λ simple. simple-walked c.args.self.now.table.now.core.now c.args.self.now.table.now.core.now.labels (entries_of c.args.self.now.map.now) c.args.self.now.procedure
-    (T.Leave c.args.at c.args.exit) c.args.context.pc c.args.context.takers c.around-around.result c.deref.result.now c.args.progress.now _
-    refl refl c.deref.ensures.value refl refl refl refl c.around-around.ensures.pc c.around-around.ensures.takers simple)
+    (T.Leave c.args.at c.args.exit) c.args.context.pc c.args.context.exit_unknowns c.around-around.result c.deref.result.now c.args.progress.now _
+    refl refl c.deref.ensures.value refl refl refl refl c.around-around.ensures.pc c.around-around.ensures.exit_unknowns simple)
     c.add_leave.ensures

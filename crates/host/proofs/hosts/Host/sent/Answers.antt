@@ -11,8 +11,8 @@ returns-in_default-clause-rejected c =
 
 pub returns-clause-sent : goal.returns-clause-sent
 returns-clause-sent c =
-    let place = c.find.ensures ∙ ap (λ (l : List SessionRun). position (λ session. session.id == c.args.id) l) c.deref.ensures.value in (
+    let index = c.find.ensures ∙ ap (λ (l : List SessionRun). position (λ session. session.id == c.args.id) l) c.deref.ensures.value in (
       contents_of c.index-session.result.now,
-      is_open c.args.self.now c.self.inside.sessions.items (ap (λ (h : HostRuns). h.sessions) c.self.view_is) c.args.id c.find.result c.in-Some.place c.index-session.result.now place c.in-Some.is c.index-session.ensures,
+      is_open c.args.self.now c.self.inside.sessions.items (ap (λ (h : HostRuns). h.sessions) c.self.view_is) c.args.id c.find.result c.in-Some.index c.index-session.result.now index c.in-Some.is c.index-session.ensures,
       c.sent.ensures,
     )

@@ -21,13 +21,13 @@ returns c =
     let at = c.index_mut-session.ensures.value in
     let found = c.find.ensures ∙ ap (λ (l : List SessionRun). position (λ session. session.id == c.args.id) l) c.deref.ensures.value in (
       contents_of old,
-      is_open c.args.self.now kept (ap (λ (h : HostRuns). h.sessions) c.self.view_is) c.args.id c.find.result c.in-Some.place old found c.in-Some.is at,
+      is_open c.args.self.now kept (ap (λ (h : HostRuns). h.sessions) c.self.view_is) c.args.id c.find.result c.in-Some.index old found c.in-Some.is at,
       (
         machine_of new.run,
         c.turn.ensures.takes,
-        of_parts (next_of c.self.inside.next) c.args.self.now.next (map contents_of (set kept c.in-Some.place new)) (with_machine c.args.id (machine_of new.run) (map contents_of c.args.self.now.sessions))
+        of_parts (next_of c.self.inside.next) c.args.self.now.next (map contents_of (set kept c.in-Some.index new)) (with_machine c.args.id (machine_of new.run) (map contents_of c.args.self.now.sessions))
             (ap (λ (h : HostRuns). h.next) c.self.view_is)
-            (turned c.args.id kept c.in-Some.place old new (sym found ∙ c.in-Some.is) at c.turn.ensures.id c.turn.ensures.program c.turn.ensures.under
+            (turned c.args.id kept c.in-Some.index old new (sym found ∙ c.in-Some.is) at c.turn.ensures.id c.turn.ensures.program c.turn.ensures.under
             ∙ ap (λ (h : HostRuns). with_machine c.args.id (machine_of new.run) (map contents_of h.sessions)) c.self.view_is),
       ),
     )

@@ -11,8 +11,8 @@ use Rattle.host.proofs.hosts.Host.view.Goals.{After-count}
 -- the session that was found, and how many principals its hierarchy has
 found : (c : After-count) → IsOpen (host_of c.args.self.now) c.args.id (contents_of c.index-session.result.now)
 found c =
-    let place = c.find.ensures ∙ ap (λ (l : List SessionRun). position (λ session. session.id == c.args.id) l) c.deref.ensures.value in
-    is_open c.args.self.now c.self.inside.sessions.items (ap (λ (h : HostRuns). h.sessions) c.self.view_is) c.args.id c.find.result c.in-Some.place c.index-session.result.now place c.in-Some.is c.index-session.ensures
+    let index = c.find.ensures ∙ ap (λ (l : List SessionRun). position (λ session. session.id == c.args.id) l) c.deref.ensures.value in
+    is_open c.args.self.now c.self.inside.sessions.items (ap (λ (h : HostRuns). h.sessions) c.self.view_is) c.args.id c.find.result c.in-Some.index c.index-session.result.now index c.in-Some.is c.index-session.ensures
 
 counted : (c : After-count) → c.count.result ≡ length (contents_of c.index-session.result.now).hierarchy.names
 counted c = c.count.ensures.count ∙ ap (λ (h : PrincipalHierarchy). length h.names) c.hierarchy.ensures

@@ -2,15 +2,15 @@ use Rattle.std.proofs.Common.{◌≡◌, sym, ◌∙◌, subst, rules}
 use Rattle.std.specs.Prelude.{◌==◌}
 use Rattle.std.proofs.lemmas.Fn.{filter_same}
 use Rattle.std.proofs.lemmas.List.Filters.{dedup_is}
-use Rattle.labels.specs.Canonical.{IsCanonicalPolicy, readers_beside}
-use Rattle.labels.proofs.Written.{readers_beside-made, IsCanonicalPolicy-written}
+use Rattle.labels.specs.Canonical.{IsCanonicalPolicy, readers_with}
+use Rattle.labels.proofs.Written.{readers_with-made, IsCanonicalPolicy-written}
 use Rattle.labels.proofs.policies.Policy.written.Goals as goal
 use Rattle.labels.proofs.policies.Policy.written.Goals.{After-retain}
 
 canonical : (c : After-retain) → IsCanonicalPolicy (record { owner = c.args.owner; readers = c.retain.new.self.items })
 canonical c =
-    let kept : c.retain.new.self.items ≡ readers_beside c.args.owner c.args.readers.items =
-    readers_beside-made c.args.owner c.args.readers.items c.sort_unstable.new.self.items c.dedup.new.self.items c.retain.new.self.items
+    let kept : c.retain.new.self.items ≡ readers_with c.args.owner c.args.readers.items =
+    readers_with-made c.args.owner c.args.readers.items c.sort_unstable.new.self.items c.dedup.new.self.items c.retain.new.self.items
     c.sort_unstable.ensures.permutation c.sort_unstable.ensures.sorted
     (dedup_is ◌==◌ c.sort_unstable.new.self.items c.dedup.new.self.items c.dedup.ensures.filtered)
     (filter_same _ _ _ (λ x b f' k. search rules) _ _ c.retain.ensures.filtered) in
@@ -25,8 +25,8 @@ of-requires-clause-owner_left_out c = (canonical c).owner_left_out
 
 pub returns : goal.returns
 returns c =
-    let kept : c.retain.new.self.items ≡ readers_beside c.args.owner c.args.readers.items =
-    readers_beside-made c.args.owner c.args.readers.items c.sort_unstable.new.self.items c.dedup.new.self.items c.retain.new.self.items
+    let kept : c.retain.new.self.items ≡ readers_with c.args.owner c.args.readers.items =
+    readers_with-made c.args.owner c.args.readers.items c.sort_unstable.new.self.items c.dedup.new.self.items c.retain.new.self.items
     c.sort_unstable.ensures.permutation c.sort_unstable.ensures.sorted
     (dedup_is ◌==◌ c.sort_unstable.new.self.items c.dedup.new.self.items c.dedup.ensures.filtered)
     (filter_same _ _ _ (λ x b f' k. search rules) _ _ c.retain.ensures.filtered) in

@@ -4,16 +4,16 @@ use Rattle.std.proofs.lemmas.List.{map_push}
 use Rattle.lexer.specs.declared.token.Kind.TheVariants.{Comma}
 use Rattle.syntax.specs.Tree.{name_tree}
 use Rattle.syntax.specs.Grammar.{name}
-use Rattle.parser.proofs.Loops.{starts_behind, fails_behind, parted_more, parted_over, parted_fails, parted_falls}
+use Rattle.parser.proofs.Loops.{starts_after, fails_after, parted_more, parted_over, parted_fails, parted_falls}
 use Rattle.parser.proofs.cursor.Parser.parse_names.Goals as goal
 
 pub returns-in_err-first : goal.returns-in_err-first
 returns-in_err-first c =
     let p = err_from_is_err_and c.from_residual.result c.from_residual.ensures.1 in
-    λ room. rw (p.1, p.2) (fails_behind room Comma name _ c.in_err-first.field-0.0 (c.in_err-first.ensures room))
+    λ room. rw (p.1, p.2) (fails_after room Comma name _ c.in_err-first.field-0.0 (c.in_err-first.ensures room))
 
 pub loop-self-init : goal.loop-self-init
-loop-self-init c = λ room. rw c.in_ok-push.ensures.items (rw c.new-names.ensures.items (starts_behind room Comma name _ _ _ (c.in_ok-first.ensures room)))
+loop-self-init c = λ room. rw c.in_ok-push.ensures.items (rw c.new-names.ensures.items (starts_after room Comma name _ _ _ (c.in_ok-first.ensures room)))
 
 pub returns-in_err-name : goal.returns-in_err-name
 returns-in_err-name c =

@@ -4,16 +4,16 @@ use Rattle.std.proofs.lemmas.List.{map_push}
 use Rattle.lexer.specs.declared.token.Kind.TheVariants.{Semicolon}
 use Rattle.syntax.specs.Tree.{component_tree}
 use Rattle.syntax.specs.Grammar.{component}
-use Rattle.parser.proofs.Loops.{starts_behind, fails_behind, parted_more, parted_over, parted_fails, parted_falls}
+use Rattle.parser.proofs.Loops.{starts_after, fails_after, parted_more, parted_over, parted_fails, parted_falls}
 use Rattle.parser.proofs.cursor.Parser.parse_some_components.Goals as goal
 
 pub returns-in_err-first : goal.returns-in_err-first
 returns-in_err-first c =
     let p = err_from_is_err_and c.from_residual.result c.from_residual.ensures.1 in
-    λ room. rw (p.1, p.2) (fails_behind room Semicolon component _ c.in_err-first.field-0.0 (c.in_err-first.ensures room))
+    λ room. rw (p.1, p.2) (fails_after room Semicolon component _ c.in_err-first.field-0.0 (c.in_err-first.ensures room))
 
 pub loop-self-init : goal.loop-self-init
-loop-self-init c = λ room. rw c.in_ok-push.ensures.items (rw c.new-components.ensures.items (starts_behind room Semicolon component _ _ _ (c.in_ok-first.ensures room)))
+loop-self-init c = λ room. rw c.in_ok-push.ensures.items (rw c.new-components.ensures.items (starts_after room Semicolon component _ _ _ (c.in_ok-first.ensures room)))
 
 pub returns-in_err-component : goal.returns-in_err-component
 returns-in_err-component c =

@@ -4,16 +4,16 @@ use Rattle.std.proofs.lemmas.List.{map_push}
 use Rattle.lexer.specs.declared.token.Kind.TheVariants.{Comma}
 use Rattle.syntax.specs.Tree.{expression_tree}
 use Rattle.syntax.specs.Grammar.{expression}
-use Rattle.parser.proofs.Loops.{starts_behind, fails_behind, parted_more, parted_over, parted_fails, parted_falls}
+use Rattle.parser.proofs.Loops.{starts_after, fails_after, parted_more, parted_over, parted_fails, parted_falls}
 use Rattle.parser.proofs.cursor.Parser.parse_some_expressions.Goals as goal
 
 pub returns-in_err-first : goal.returns-in_err-first
 returns-in_err-first c =
     let p = err_from_is_err_and c.from_residual.result c.from_residual.ensures.1 in
-    rw (p.1, p.2) (fails_behind c.args.room Comma expression _ c.in_err-first.field-0.0 c.in_err-first.ensures)
+    rw (p.1, p.2) (fails_after c.args.room Comma expression _ c.in_err-first.field-0.0 c.in_err-first.ensures)
 
 pub loop-self-init : goal.loop-self-init
-loop-self-init c = rw c.in_ok-push.ensures.items (rw c.new-expressions.ensures.items (starts_behind c.args.room Comma expression _ _ _ (c.in_ok-first.ensures)))
+loop-self-init c = rw c.in_ok-push.ensures.items (rw c.new-expressions.ensures.items (starts_after c.args.room Comma expression _ _ _ (c.in_ok-first.ensures)))
 
 pub returns-in_err-expression : goal.returns-in_err-expression
 returns-in_err-expression c =

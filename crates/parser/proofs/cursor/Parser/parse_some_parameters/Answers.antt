@@ -4,16 +4,16 @@ use Rattle.std.proofs.lemmas.List.{map_push}
 use Rattle.lexer.specs.declared.token.Kind.TheVariants.{Comma}
 use Rattle.syntax.specs.Tree.{parameter_tree}
 use Rattle.syntax.specs.Grammar.{parameter}
-use Rattle.parser.proofs.Loops.{starts_behind, fails_behind, parted_more, parted_over, parted_fails, parted_falls}
+use Rattle.parser.proofs.Loops.{starts_after, fails_after, parted_more, parted_over, parted_fails, parted_falls}
 use Rattle.parser.proofs.cursor.Parser.parse_some_parameters.Goals as goal
 
 pub returns-in_err-first : goal.returns-in_err-first
 returns-in_err-first c =
     let p = err_from_is_err_and c.from_residual.result c.from_residual.ensures.1 in
-    λ room. rw (p.1, p.2) (fails_behind room Comma parameter _ c.in_err-first.field-0.0 (c.in_err-first.ensures room))
+    λ room. rw (p.1, p.2) (fails_after room Comma parameter _ c.in_err-first.field-0.0 (c.in_err-first.ensures room))
 
 pub loop-self-init : goal.loop-self-init
-loop-self-init c = λ room. rw c.in_ok-push.ensures.items (rw c.new-parameters.ensures.items (starts_behind room Comma parameter _ _ _ (c.in_ok-first.ensures room)))
+loop-self-init c = λ room. rw c.in_ok-push.ensures.items (rw c.new-parameters.ensures.items (starts_after room Comma parameter _ _ _ (c.in_ok-first.ensures room)))
 
 pub returns-in_err-parameter : goal.returns-in_err-parameter
 returns-in_err-parameter c =

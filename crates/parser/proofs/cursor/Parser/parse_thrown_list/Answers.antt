@@ -4,18 +4,18 @@ use Rattle.std.proofs.lemmas.List.{map_push}
 use Rattle.lexer.specs.declared.token.Kind.TheVariants.{Comma}
 use Rattle.syntax.specs.Tree.{thrown_tree}
 use Rattle.syntax.specs.Grammar.{thrown, thrown_list}
-use Rattle.parser.proofs.Loops.{starts_behind, fails_behind, parted_more, parted_over, parted_fails, parted_falls}
+use Rattle.parser.proofs.Loops.{starts_after, fails_after, parted_more, parted_over, parted_fails, parted_falls}
 use Rattle.parser.proofs.cursor.Parser.parse_thrown_list.Goals as goal
 
 pub returns-in_err-first : goal.returns-in_err-first
 unfolding thrown_list
 returns-in_err-first c =
     let p = err_from_is_err_and c.from_residual.result c.from_residual.ensures.1 in
-    λ room. rw (p.1, p.2) (fails_behind room Comma thrown _ c.in_err-first.field-0.0 (c.in_err-first.ensures room))
+    λ room. rw (p.1, p.2) (fails_after room Comma thrown _ c.in_err-first.field-0.0 (c.in_err-first.ensures room))
 
 pub loop-self-init : goal.loop-self-init
 unfolding thrown_list
-loop-self-init c = λ room. rw c.in_ok-push.ensures.items (rw c.new-list.ensures.items (starts_behind room Comma thrown _ _ _ (c.in_ok-first.ensures room)))
+loop-self-init c = λ room. rw c.in_ok-push.ensures.items (rw c.new-list.ensures.items (starts_after room Comma thrown _ _ _ (c.in_ok-first.ensures room)))
 
 pub returns-in_err-thrown : goal.returns-in_err-thrown
 returns-in_err-thrown c =

@@ -12,6 +12,6 @@ returns-clause-made c =
     let tree = parameter_tree c.args.written.now in
     parameter_declared (item_scope_of before) (point_of before) (point_of c.declare.new.self) tree (label_with before.variables.labels c.in_ok-label.label) c.look_up.result c.base_of-base.result
     (length c.slots.result.now) (new_slot_entry before.variables.labels c.in_ok-slot.slot)
-    (item_labelled tree.label c.in_ok-label.label _ _ _ _ c.item_label_place.ensures.scope c.item_label_place.ensures.variables c.in_ok-label.ensures)
+    (item_labelled tree.label c.in_ok-label.label _ _ _ _ c.item_label_context.ensures.scope c.item_label_context.ensures.variables c.in_ok-label.ensures)
     c.look_up.ensures c.in_ok-require_fresh.ensures.made c.base_of-base.ensures (next_slot before.variables.labels c.slots.result.now before.variables.slots (length c.slots.result.now) c.slots.ensures refl)
     c.in_ok-slot.ensures c.in_ok-declare.ensures.made

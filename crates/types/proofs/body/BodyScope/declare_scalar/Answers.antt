@@ -13,7 +13,7 @@ returns-in_err-statement-clause-made c =
     let p = err_from_is_err_and c.from_residual-in_err-statement.result c.from_residual-in_err-statement.ensures.1 in
     rw (p.1, p.2) (scalar_refused (setting_of before) (point_of before) c.args.at c.args.base (optional_label_tree c.args.label.now)
     (name_tree c.args.name.now) (optional_label_with before.variables.labels c.in_ok-written.written) c.look_up.result (length c.slots.result.now)
-    (labelled (optional_label_tree c.args.label.now) c.in_ok-written.written _ _ _ _ c.label_place.ensures.scope c.label_place.ensures.variables c.in_ok-written.ensures)
+    (labelled (optional_label_tree c.args.label.now) c.in_ok-written.written _ _ _ _ c.label_context.ensures.scope c.label_context.ensures.variables c.in_ok-written.ensures)
     c.look_up.ensures c.in_ok-require_fresh.ensures.made (next_slot before.variables.labels c.slots.result.now before.variables.slots (length c.slots.result.now) c.slots.ensures refl)
     (right_tree c.args.value.now) c.in_err-statement.field-0.0 c.in_err-statement.ensures)
 
@@ -22,6 +22,6 @@ returns-clause-made c =
     let before = c.args.self.now in
     scalar_declared (setting_of before) (point_of before) c.args.at c.args.base (optional_label_tree c.args.label.now)
     (name_tree c.args.name.now) (optional_label_with before.variables.labels c.in_ok-written.written) c.look_up.result (length c.slots.result.now)
-    (labelled (optional_label_tree c.args.label.now) c.in_ok-written.written _ _ _ _ c.label_place.ensures.scope c.label_place.ensures.variables c.in_ok-written.ensures)
+    (labelled (optional_label_tree c.args.label.now) c.in_ok-written.written _ _ _ _ c.label_context.ensures.scope c.label_context.ensures.variables c.in_ok-written.ensures)
     c.look_up.ensures c.in_ok-require_fresh.ensures.made (next_slot before.variables.labels c.slots.result.now before.variables.slots (length c.slots.result.now) c.slots.ensures refl)
     (point_of c.declare.new.self) (new_slot_entry before.variables.labels c.in_ok-slot.slot) (right_tree c.args.value.now) (statement_of c.in_ok-statement.statement) c.in_ok-statement.ensures c.in_ok-slot.ensures c.in_ok-declare.ensures.made

@@ -8,7 +8,7 @@ use Rattle.types.proofs.program.ItemTables.of.Given as goal
 
 abbrev pub invariant-loop-item : goal.invariant-loop-item
 invariant-loop-item l = record {
-  on : GoesOn (next_item l.place.hierarchy.now (top_view l.place.top.now)) item_tree l.items (items_finding l.place.hierarchy.now (top_view l.place.top.now) (map item_tree l.items)) (tables_view l.tables) l.item-index;
+  on : GoesOn (next_item l.context.hierarchy.now (top_view l.context.top.now)) item_tree l.items (items_finding l.context.hierarchy.now (top_view l.context.top.now) (map item_tree l.items)) (tables_view l.tables) l.item-index;
   inside : AreTablesInside l.tables;
   few : length l.tables.variables.labels + sum_by item_nodes (map item_tree (drop l.item-index l.items)) ≤ 1 + sum_by item_nodes (map item_tree l.items);
 }

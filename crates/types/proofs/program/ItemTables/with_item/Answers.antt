@@ -6,8 +6,8 @@ use Rattle.types.proofs.program.ItemTables.with_item.Goals.{in-Channel+in_ok-res
 
 pub returns-clause-made : goal.returns-clause-made
 returns-clause-made c =
-    let h = c.args.place.now.hierarchy.now in
-    let top = top_view c.args.place.now.top.now in
+    let h = c.args.context.now.hierarchy.now in
+    let top = top_view c.args.context.now.top.now in
     elim c.match-item.branch [
       | in-Channel+in_ok-resolve_channel-in-Channel+in_ok-push-in-Channel w ↦
           rw (w.in-Channel.is, w.variables-is, w.channels-is, w.exceptions-is, w.procedures-is) (channel_added h top c.args.self c.requires.inside w.resolve_channel.new.variables

@@ -1,16 +1,13 @@
-use Rattle.std.proofs.Common.{◌≡◌, get_or, sym, ap, ◌∙◌}
-use Rattle.types.specs.declared.short_names.Bucket.TheVariants.{Open, Taken}
-use Rattle.types.specs.Places.{place_of}
-use Rattle.types.proofs.Places.{taken_tells}
+use Rattle.std.proofs.Common.{sym, ◌∙◌}
+use Rattle.types.proofs.Buckets.{alone_tells, first_tells}
 use Rattle.types.proofs.short_names.ShortNames.find.Goals as goal
 
-pub returns-in-Some-Taken : goal.returns-in-Some-Taken
-returns-in-Some-Taken c =
+pub returns-else-kept-number : goal.returns-else-kept-number
+returns-else-kept-number c =
     let names = c.args.self.now in
-    let at = place_of names.shift c.args.number in
-    let is : get_or names.places.items at Open ≡ Taken c.in-Some-Taken.kept c.in-Some-Taken.meaning =
-    ap (λ table. get_or table at Open) (sym c.deref.ensures.value)
-    ∙ ap (λ n. get_or c.deref.result.now n Open) (sym c.place_of.ensures)
-    ∙ sym (c.in-Some-Taken.ensures.lookup.3.1 Open)
-    ∙ c.in-Some-Taken.field-0-is in
-    taken_tells (get_or names.places.items at Open) c.in-Some-Taken.kept c.args.number c.in-Some-Taken.meaning names.meanings is c.if-kept-number.true (names.told.tells c.args.number)
+    sym (alone_tells names.shift c.args.number names.buckets.items names.others c.in-Alone.kept c.in-Alone.meaning (sym c.bucket.ensures ∙ c.in-Alone.is) c.if-kept-number.false)
+
+pub returns-else-kept-number-2 : goal.returns-else-kept-number-2
+returns-else-kept-number-2 c =
+    let names = c.args.self.now in
+    c.look_up.ensures ∙ sym (first_tells names.shift c.args.number names.buckets.items names.others c.in-First.kept c.in-First.meaning (sym c.bucket.ensures ∙ c.in-First.is) c.if-kept-number-2.false)

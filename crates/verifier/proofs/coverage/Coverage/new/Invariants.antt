@@ -9,5 +9,5 @@ invariant-loop-index l = record {
   tree : IsTree l.ends.nodes.items l.ends.width;
   room : length l.handlers.items ≤ l.ends.width;
   done : (k : ℕ) (h : Handler) → k < l.index → k < length l.handlers.items → get_or l.handlers.items k h ≡ h → leaf l.ends k ≡ h.end;
-  behind : (k : ℕ) → l.index ≤ k → leaf l.ends k ≡ 0;
+  after : (k : ℕ) → l.index ≤ k → leaf l.ends k ≡ 0;
 }

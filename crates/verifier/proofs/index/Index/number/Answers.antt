@@ -29,8 +29,8 @@ sum : (starts counts : List ℕ) (size at w n : ℕ) → HasCounts starts counts
     n + count_ones (bit_and w (1 * 2 ^ (at % 64) % 2 ^ 64 - 1)) ≡ starts_before starts at
 sum starts counts size at w n has enough under is count =
     let there : at / 64 < length starts = omega (arith, enough, under) in
-    let place : at % 64 < 64 = omega arith in
-    ap (λ m. n + count_ones (bit_and w (m - 1))) (one_shl (at % 64) 64 place)
+    let bit : at % 64 < 64 = omega arith in
+    ap (λ m. n + count_ones (bit_and w (m - 1))) (one_shl (at % 64) 64 bit)
     ∙ ap (λ m. n + count_ones m) (and_mask w (at % 64) ∙ ap (λ x. x % 2 ^ (at % 64)) is)
     ∙ ap (λ m. m + count_ones (word starts (at / 64) % 2 ^ (at % 64))) count
     ∙ counted starts counts at has there
@@ -39,14 +39,14 @@ pub returns-then-offset-self : goal.returns-then-offset-self
 returns-then-offset-self c =
     sym (ap (λ l. get_or l c.args.offset None) (sym c.self.view_is) ∙ number-beyond c.self.inside.starts.items c.self.inside.size c.args.offset c.if-offset-self.true)
 
-pub returns-then-starts-place-eq0 : goal.returns-then-starts-place-eq0
-returns-then-starts-place-eq0 c =
+pub returns-then-starts-bit-eq0 : goal.returns-then-starts-bit-eq0
+returns-then-starts-bit-eq0 c =
     let starts = c.self.inside.starts.items in
     let at = c.args.offset in
     let w = c.index-starts.result.now in
     let there : at / 64 < length starts = omega (arith, c.self.invariant.enough, c.if-offset-self.false) in
     let is : w ≡ word starts (at / 64) = get_or_read starts (at / 64) w there c.index-starts.ensures 0 in
-    sym (ap (λ l. get_or l at None) (sym c.self.view_is) ∙ number-in starts c.self.inside.size at c.if-offset-self.false ∙ unset starts at w is c.if-starts-place-eq0.true)
+    sym (ap (λ l. get_or l at None) (sym c.self.view_is) ∙ number-in starts c.self.inside.size at c.if-offset-self.false ∙ unset starts at w is c.if-starts-bit-eq0.true)
 
 pub overflow_add-result : goal.overflow_add-result
 overflow_add-result c =
@@ -70,4 +70,4 @@ returns c =
     let is : w ≡ word starts (at / 64) = get_or_read starts (at / 64) w there c.index-starts.ensures 0 in
     let count : c.index.result.now ≡ get_or counts (at / 64) 0 = get_or_read counts (at / 64) c.index.result.now (omega (arith, there, v.counts.long)) c.index.ensures 0 in
     ap Some (sum starts counts c.self.inside.size at w c.index.result.now v.counts v.enough c.if-offset-self.false is count)
-    ∙ sym (ap (λ l. get_or l at None) (sym c.self.view_is) ∙ number-in starts c.self.inside.size at c.if-offset-self.false ∙ is-set starts at w is c.if-starts-place-eq0.false)
+    ∙ sym (ap (λ l. get_or l at None) (sym c.self.view_is) ∙ number-in starts c.self.inside.size at c.if-offset-self.false ∙ is-set starts at w is c.if-starts-bit-eq0.false)

@@ -8,6 +8,6 @@ marked number = let next : number + 1 ≡ suc number = omega arith in ap number_
 
 pub returns : goal.returns
 returns c =
-    map-set number_of c.self.inside.marks.items c.args.place (c.args.number + 1)
-    ∙ ap (set (map number_of c.self.inside.marks.items) c.args.place) (marked c.args.number)
-    ∙ ap (λ l. set l c.args.place (Some c.args.number)) c.self.view_is
+    map-set number_of c.self.inside.marks.items c.args.index (c.args.number + 1)
+    ∙ ap (set (map number_of c.self.inside.marks.items) c.args.index) (marked c.args.number)
+    ∙ ap (λ l. set l c.args.index (Some c.args.number)) c.self.view_is

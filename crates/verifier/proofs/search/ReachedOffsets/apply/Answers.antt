@@ -6,7 +6,7 @@ use Rattle.verifier.proofs.search.ReachedOffsets.apply.Goals as goal
 
 pub returns-in-Err-clause-rejected : goal.returns-in-Err-clause-rejected
 returns-in-Err-clause-rejected c =
-    rw c.refuse.ensures (misses_at c.args.body.now.program.now c.args.body.now.procedure.now c.args.self.now (c.args.at ∷ []) c.args.at (list_of c.args.self.now.operands c.args.list) c.args.instruction c.in-Err.defect c.requires.searching c.requires.shape c.requires.instruction (sym c.is_own.ensures ∙ c.if-is_own.true) c.in-Err.ensures.rejected)
+    rw c.refuse.ensures (misses_at c.args.body.now.program.now c.args.body.now.procedure.now c.args.self.now (c.args.at ∷ []) c.args.at (list_of c.args.self.now.operands c.args.list) c.args.instruction c.in-Err.kind c.requires.searching c.requires.shape c.requires.instruction (sym c.is_own.ensures ∙ c.if-is_own.true) c.in-Err.ensures.rejected)
 
 pub returns-else-is_own-clause-rejected : goal.returns-else-is_own-clause-rejected
 returns-else-is_own-clause-rejected c =

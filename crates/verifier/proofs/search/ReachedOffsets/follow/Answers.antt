@@ -8,8 +8,8 @@ look-requires-clause-searching c = (subst (IsSearchingNext c.args.body.now.progr
 pub look-requires-clause-there : goal.look-requires-clause-there
 look-requires-clause-there c = (subst (IsSearchingNext c.args.body.now.program.now c.args.body.now.procedure.now c.loop-next.self) c.in-Some.is c.loop-next.invariant.next).1.0
 
-pub look-requires-clause-place : goal.look-requires-clause-place
-look-requires-clause-place c = (subst (IsSearchingNext c.args.body.now.program.now c.args.body.now.procedure.now c.loop-next.self) c.in-Some.is c.loop-next.invariant.next).1.1
+pub look-requires-clause-listed : goal.look-requires-clause-listed
+look-requires-clause-listed c = (subst (IsSearchingNext c.args.body.now.program.now c.args.body.now.procedure.now c.loop-next.self) c.in-Some.is c.loop-next.invariant.next).1.1
 
 pub look-requires-clause-room : goal.look-requires-clause-room
 look-requires-clause-room c = omega (arith, c.loop-next.invariant.few, ap count c.in-Some.is, c.requires.room)

@@ -14,12 +14,12 @@ read code found number at i d same there is =
     ∙ slice_get-get_or code number d (number_inside code number at i there is)
     ∙ ap (λ l. Some (get_or l number d)) (sym same)
 
-pub bounds-code-place : goal.bounds-code-place
-bounds-code-place c =
+pub bounds-code-listed : goal.bounds-code-listed
+bounds-code-listed c =
     let r = c.requires in
-    omega (arith, number_inside c.args.body.now.procedure.now.code c.args.place.number c.args.place.at r.there.instruction r.place.number r.there.there, ap length c.code.ensures)
+    omega (arith, number_inside c.args.body.now.procedure.now.code c.args.listed.number c.args.listed.at r.there.instruction r.listed.number r.there.there, ap length c.code.ensures)
 
 pub visit-requires-clause-instruction : goal.visit-requires-clause-instruction
 visit-requires-clause-instruction c =
     let r = c.requires in
-    read c.args.body.now.procedure.now.code c.code.result.now c.args.place.number c.args.place.at r.there.instruction _ c.code.ensures r.place.number r.there.there
+    read c.args.body.now.procedure.now.code c.code.result.now c.args.listed.number c.args.listed.at r.there.instruction _ c.code.ensures r.listed.number r.there.there

@@ -11,7 +11,7 @@ raise-requires-clause-there c =
       instruction = c.args.instruction;
       there = c.requires.instruction;
       kinds = e.kinds;
-      has = c.in_ok-jump.ensures.accepted.keeps c.args.place.at e.kinds e.has;
+      has = c.in_ok-jump.ensures.accepted.keeps c.args.listed.at e.kinds e.has;
     }
 
 pub raise-requires-clause-waiting : goal.raise-requires-clause-waiting
@@ -26,7 +26,7 @@ go_on-requires-clause-effect c =
     record {
       there = e.there;
       kinds = e.kinds;
-      has = c.in_ok-raise.ensures.accepted.keeps c.args.place.at e.kinds (c.in_ok-jump.ensures.accepted.keeps c.args.place.at e.kinds e.has);
+      has = c.in_ok-raise.ensures.accepted.keeps c.args.listed.at e.kinds (c.in_ok-jump.ensures.accepted.keeps c.args.listed.at e.kinds e.has);
       effect = e.effect ∙ ap Leaves (ap (λ ls. list_of ls c.in_ok-after.after) (sym (c.in_ok-raise.ensures.accepted.same ∙ c.in_ok-jump.ensures.accepted.same)));
     }
 

@@ -1,0 +1,311 @@
+//! Rows of bits that share their numbers: a row that has few numbers beyond another one stands as that one and these.
+ghost use Rattle.solver.specs.Sharing.{AreForms, AreShared, IsKeptAs, MayBeKeptAs, bits_of, with_numbers};
+ghost use Rattle.labels.specs.Row.{has};
+ghost use Rattle.std.specs.Prelude.{All, IfOk, OnOk, [], length, replicate, set, slice_index_or, ℕ, ◌<◌, ◌||◌, ◌≡◌, ◌≤◌};
+
+use crate::constraints::Atom;
+use labels::Row;
+use smallvec::SmallVec;
+use std::alloc::{AllocError, Global};
+use std::marker::Model;
+
+// A row has at most this many numbers beyond the one on which it stands.
+const MOST_BEYOND: usize = 4;
+
+// A row stands on this many others at most.
+const MOST_STEPS: u32 = 32;
+
+// Shorter rows are kept whole.
+const SHORT: usize = 512;
+
+/// How a row is kept: whole, or as the one with a number and some numbers beyond that.
+#[derive(Debug, Drop)]
+pub(crate) enum Form {
+    Whole(Row),
+    Beyond(usize, SmallVec<usize, 2>),
+}
+
+/// How a row is kept, and on how many others it stands.
+#[derive(Debug, Drop)]
+pub(crate) struct Kept {
+    pub steps: u32,
+    pub form: Form,
+}
+
+/// For each unknown a row of numbers. Rows of unknowns along a flow differ by few numbers, and take memory for these alone. A contract
+/// sees the rows as lists of truth values.
+#[derive(Debug, Drop)]
+pub(crate) struct SharedRows {
+    // First come a row below 0 and one without numbers. A row that stands on another one keeps its number when more are added.
+    kept: Vec<Kept>,
+    // For each unknown the number of its row.
+    of: Vec<usize>,
+}
+
+impl Model for SharedRows {
+    ghost use Rattle.std.specs.Prelude.{Bool, List, map};
+
+    ghost Value = { List (List Bool) };
+
+    ghost use Rattle.solver.specs.Sharing.{AreShared, bits_of};
+
+    ghost view = { λ rows. map (bits_of rows.kept.items) rows.of.items };
+
+    ghost invariant = { λ rows. AreShared rows.kept.items rows.of.items };
+}
+
+// A row near another one: with so few of the numbers of that which it lacked.
+#[derive(Drop)]
+struct Near {
+    row: Row,
+    more: SmallVec<usize, 2>,
+}
+
+// The first unknown of a left side, if it has one.
+fn first_unknown(left: &[Atom]) -> Option<usize> {
+    for atom in left {
+        if let Atom::Unknown(unknown) = *atom {
+            return Some(unknown as usize);
+        }
+    }
+    None
+}
+
+// The last one.
+fn last_unknown(left: &[Atom]) -> Option<usize> {
+    for i in 0..left.len() {
+        if let Atom::Unknown(unknown) = left[left.len() - 1 - i] {
+            return Some(unknown as usize);
+        }
+    }
+    None
+}
+
+// The same row once more.
+fn copy(alloc: Global, row: &Row) -> Result<Row, AllocError>
+    ensures { IfOk result (λ copied. copied ≡ row.now) }
+{
+    let mut copied = Row::new(alloc, row.bound())?;
+    let _grew = copied.join_from(row);
+    Ok(copied)
+}
+
+// A row with some numbers more.
+fn with_all(base: Row, numbers: &[usize]) -> Row
+    requires { All (λ n. n < length base) numbers.now }
+    ensures { result ≡ with_numbers base numbers.now }
+{
+    let mut row = base;
+    for number in numbers {
+        row.set(*number);
+    }
+    row
+}
+
+// The row with a number.
+fn whole(alloc: Global, kept: &[Kept], number: usize) -> Result<Row, AllocError>
+    requires forms { AreForms kept.now }
+    requires number { number < length kept.now }
+    ensures { IfOk result (λ row. row ≡ bits_of kept.now number) }
+{
+    match &kept[number].form {
+        Form::Whole(row) => copy(alloc, row),
+        Form::Beyond(base, more) => {
+            let below = whole(alloc, kept, *base)?;
+            Ok(with_all(below, more.as_slice()))
+        }
+    }
+}
+
+// A row with the first numbers of another one that it lacks.
+fn come_near(alloc: Global, base: Row, row: &Row) -> Result<Near, AllocError>
+    requires { length row.now ≡ length base }
+    ensures row { IfOk result (λ near. near.row ≡ with_numbers base near.more.items) }
+    ensures inside { IfOk result (λ near. All (λ n. n < length base) near.more.items) }
+{
+    let mut near = base;
+    let mut more = SmallVec::new(alloc);
+    let mut from = 0;
+    for _i in 0..MOST_BEYOND {
+        let Some(number) = row.first_beyond(&near, from) else {
+            return Ok(Near { row: near, more });
+        };
+        near.set(number);
+        more.push(number)?;
+        from = number;
+    }
+    Ok(Near { row: near, more })
+}
+
+// How a row is kept beyond that with a number, if it has few numbers more.
+fn beyond(alloc: Global, kept: &[Kept], base: usize, row: &Row) -> Result<Option<Kept>, AllocError>
+    requires forms { AreForms kept.now }
+    requires base { base < length kept.now }
+    ensures { IfOk result (MayBeKeptAs kept.now row.now) }
+{
+    let steps = kept[base].steps;
+    if steps >= MOST_STEPS {
+        return Ok(None);
+    }
+    let below = whole(alloc, kept, base)?;
+    if below.bound() != row.bound() {
+        return Ok(None);
+    }
+    let near = come_near(alloc, below, row)?;
+    if !near.row.is_same(row) {
+        return Ok(None);
+    }
+    Ok(Some(Kept {
+        steps: steps + 1,
+        form: Form::Beyond(base, near.more),
+    }))
+}
+
+// How a row is kept beyond that of an unknown, if there is one and it has few numbers more.
+fn beyond_unknown(
+    alloc: Global,
+    kept: &[Kept],
+    of: &[usize],
+    unknown: Option<usize>,
+    row: &Row,
+) -> Result<Option<Kept>, AllocError>
+    requires { AreShared kept.now of.now }
+    ensures { IfOk result (MayBeKeptAs kept.now row.now) }
+{
+    let Some(unknown) = unknown else {
+        return Ok(None);
+    };
+    if unknown >= of.len() {
+        return Ok(None);
+    }
+    beyond(alloc, kept, of[unknown], row)
+}
+
+// How a row is kept beyond one that it may be near to: that without numbers, or those of the last and the first unknown of a left side.
+fn beyond_some(
+    alloc: Global,
+    kept: &[Kept],
+    of: &[usize],
+    left: &[Atom],
+    row: &Row,
+) -> Result<Option<Kept>, AllocError>
+    requires { AreShared kept.now of.now }
+    ensures { IfOk result (MayBeKeptAs kept.now row.now) }
+{
+    if let Some(form) = beyond(alloc, kept, 1, row)? {
+        return Ok(Some(form));
+    }
+    if let Some(form) = beyond_unknown(alloc, kept, of, last_unknown(left), row)? {
+        return Ok(Some(form));
+    }
+    beyond_unknown(alloc, kept, of, first_unknown(left), row)
+}
+
+// How a new row of an unknown is kept: beyond another one, if it is long and near to one, or else whole.
+fn kept_as(
+    alloc: Global,
+    kept: &[Kept],
+    of: &[usize],
+    unknown: usize,
+    row: Row,
+    left: &[Atom],
+) -> Result<Kept, AllocError>
+    requires { AreShared kept.now of.now }
+    ensures { IfOk result (IsKeptAs kept.now row) }
+{
+    if row.bound() >= SHORT {
+        if let Some(form) = beyond_some(alloc, kept, of, left, &row)? {
+            return Ok(form);
+        }
+        if let Some(form) = beyond_unknown(alloc, kept, of, Some(unknown), &row)? {
+            return Ok(form);
+        }
+    }
+    Ok(Kept {
+        steps: 0,
+        form: Form::Whole(row),
+    })
+}
+
+impl SharedRows {
+    /// This many empty rows, which will have numbers below a count.
+    pub(crate) fn new(
+        alloc: Global,
+        count: usize,
+        unknowns: usize,
+    ) -> Result<SharedRows, AllocError>
+        ensures { IfOk result (λ rows. rows ≡ replicate unknowns []) }
+    {
+        let mut kept = Vec::new(alloc);
+        let nothing = Row::new(alloc, 0)?;
+        kept.push(Kept {
+            steps: 0,
+            form: Form::Whole(nothing),
+        })?;
+        let none = Row::new(alloc, count)?;
+        kept.push(Kept {
+            steps: 0,
+            form: Form::Whole(none),
+        })?;
+        let of = vec![in alloc; 0usize; unknowns]?;
+        Ok(SharedRows { kept, of })
+    }
+
+    /// The row of an unknown, which is empty where there is none.
+    pub(crate) fn row(&self, alloc: Global, unknown: usize) -> Result<Row, AllocError>
+        ensures { IfOk result (λ row. row ≡ slice_index_or self.now unknown []) }
+    {
+        if unknown >= self.of.len() {
+            return Row::new(alloc, 0);
+        }
+        whole(alloc, self.kept.as_slice(), self.of[unknown])
+    }
+
+    /// Adds the numbers of the row of an unknown to another one, which is as long or longer. A row that is kept whole is not copied.
+    pub(crate) fn include_in(
+        &self,
+        alloc: Global,
+        unknown: usize,
+        row: &mut Row,
+    ) -> Result<(), AllocError>
+        requires { length (slice_index_or self.now unknown []) ≤ length row.old }
+        ensures bound { OnOk result (length row.new ≡ length row.old) }
+        ensures members { OnOk result ((n : ℕ) → has row.new n
+            ≡ (has row.old n || has (slice_index_or self.now unknown []) n)) }
+    {
+        if unknown < self.of.len() {
+            if let Form::Whole(own) = &self.kept[self.of[unknown]].form {
+                row.include(own);
+                return Ok(());
+            }
+        }
+        let own = self.row(alloc, unknown)?;
+        row.include(&own);
+        Ok(())
+    }
+
+    /// Puts a row for an unknown in the place of its own. It may stand on that of an unknown of a left side.
+    pub(crate) fn put(
+        &mut self,
+        alloc: Global,
+        unknown: usize,
+        row: Row,
+        left: &[Atom],
+    ) -> Result<(), AllocError>
+        requires { unknown < length self.old }
+        ensures { OnOk result (self.new ≡ set self.old unknown row) }
+    {
+        let number = self.kept.len();
+        let form = kept_as(
+            alloc,
+            self.kept.as_slice(),
+            self.of.as_slice(),
+            unknown,
+            row,
+            left,
+        )?;
+        self.kept.push(form)?;
+        self.of[unknown] = number;
+        Ok(())
+    }
+}

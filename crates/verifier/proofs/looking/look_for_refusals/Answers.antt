@@ -1,0 +1,95 @@
+use Rattle.std.proofs.Common.{◌≡◌, ◌<◌, ◌^◌, [], ℕ, Some, None, slice_get, length, arith, ap, sym, subst, ◌∙◌, ◌++◌, ◌∷◌, map, List, Option, ◌⊎◌, inl, inr}
+use Rattle.std.specs.Prelude.{IfNone, IfSome}
+use Rattle.modules.specs.Contents.{ProcedureContents}
+use Rattle.verifier.specs.Fixed.{fixed_refusals, procedure_refusals}
+use Rattle.verifier.specs.Verified.{AddsVerifiedCode, IsRefusalOf}
+use Rattle.verifier.specs.declared.fault.CodeRefusal.{CodeRefusal}
+use Rattle.verifier.proofs.Reported.{item_at, item_refusal, flow_more, depth_more, there_inside, all_flow, is_verified, reported_first, reported_flow}
+use Rattle.verifier.proofs.Bounds.{bounded}
+use Rattle.verifier.proofs.FixedRefusals.{boundaries, own_right, none_left, procedure_some, procedure_none}
+use Rattle.verifier.proofs.Positioned.{codes_more, all_codes, indexes_more, all_indexes, as_many, instructions_more}
+use Rattle.verifier.proofs.looking.look_for_refusals.Goals as goal
+
+pub new-requires-in-loop-procedure : goal.new-requires-in-loop-procedure
+new-requires-in-loop-procedure c =
+    (bounded c.args.program.now c.procedures-procedures.ensures.spelled).short c.loop-procedure.procedure-index c.procedure-item.result
+    (item_at c.args.program.now c.procedures-procedures.result.now c.procedures-procedures.ensures.procedures c.loop-procedure.procedure-index c.procedure-item.result c.procedure-item.is c.loop-procedure-test.true)
+
+pub overflow_add-number : goal.overflow_add-number
+overflow_add-number c = omega (arith, c.loop-procedure.invariant.number_is, c.loop-procedure-test.true, ap length c.procedures-procedures.ensures.procedures, (bounded c.args.program.now c.procedures-procedures.ensures.spelled).few)
+
+pub look_for_flow_refusal-requires-clause-few : goal.look_for_flow_refusal-requires-clause-few
+look_for_flow_refusal-requires-clause-few c =
+    subst (λ (p : ProcedureContents). length p.handlers < 2 ^ 32) (sym (c.in_ok-body.ensures.procedure))
+    ((bounded c.args.program.now c.procedures-procedures.ensures.spelled).handled c.loop-procedure.procedure-index c.procedure-item.result
+    (item_at c.args.program.now c.procedures-procedures.result.now c.procedures-procedures.ensures.procedures c.loop-procedure.procedure-index c.procedure-item.result c.procedure-item.is c.loop-procedure-test.true))
+
+pub look_for_flow_refusal-requires-clause-boundaries : goal.look_for_flow_refusal-requires-clause-boundaries
+look_for_flow_refusal-requires-clause-boundaries c =
+    boundaries c.in_ok-body.body.program.now c.in_ok-body.body.procedure.now
+    (own_right c.in_ok-body.body.program.now c.loop-procedure.number c.in_ok-body.body.procedure.now (sym c.in_default.is ∙ c.find_body_refusal.ensures))
+
+pub returns-in-Some-clause-rejected : goal.returns-in-Some-clause-rejected
+returns-in-Some-clause-rejected c =
+    let m = c.args.program.now in
+    let l = c.loop-procedure in
+    reported_first m c.in-Some.refusal
+    (sym (ap (λ all. slice_get (procedure_refusals m 0 all) 0) (sym c.procedures-procedures.ensures.procedures)
+    ∙ sym l.invariant.same
+    ∙ procedure_some m c.in_ok-body.body.program.now l.number l.procedure-index c.procedures-procedures.result.now c.procedure-item.result c.in_ok-body.body.procedure.now c.in_ok-body.ensures.program c.in_ok-body.ensures.procedure c.procedure-item.is c.loop-procedure-test.true c.find_body_refusal.result c.find_body_refusal.ensures c.in-Some.refusal c.in-Some.is))
+
+pub loop-procedure-preserved : goal.loop-procedure-preserved
+loop-procedure-preserved c =
+    let m = c.args.program.now in
+    let l = c.loop-procedure in
+    let b = c.in_ok-body in
+    let procedures = c.procedures-procedures.result.now in
+    let are = c.procedures-procedures.ensures.procedures in
+    let now = c.in_ok-found in
+    let added : now.found ≡ None → AddsVerifiedCode b.body.program.now b.body.procedure.now l.found l.codes.items c.look_for_flow_refusal.new.codes.items =
+    λ e. subst (λ (o : Option CodeRefusal). IfNone o (AddsVerifiedCode b.body.program.now b.body.procedure.now l.found l.codes.items c.look_for_flow_refusal.new.codes.items)) e now.ensures.none in
+    record {
+      number_is = omega (arith, l.invariant.number_is);
+      same =
+          sym (procedure_none m b.body.program.now l.number l.procedure-index procedures c.procedure-item.result b.body.procedure.now b.ensures.program b.ensures.procedure c.procedure-item.is c.loop-procedure-test.true c.find_body_refusal.result c.find_body_refusal.ensures c.in_default.is)
+          ∙ l.invariant.same;
+      found = λ refusal e. elim (subst (λ (o : Option CodeRefusal). IfSome o (λ f. (l.found ≡ Some f) ⊎ IsRefusalOf b.body.program.now l.number b.body.procedure.now f)) e now.ensures.some) [
+        | inl before ↦ l.invariant.found refusal before
+        | inr here ↦ item_refusal m procedures are l.procedure-index c.procedure-item.result b.body.procedure.now c.procedure-item.is b.ensures.procedure c.loop-procedure-test.true b.body.program.now l.number refusal b.ensures.program l.invariant.number_is here
+      ];
+      flow = λ e. flow_more m procedures are l.procedure-index c.procedure-item.result b.body.procedure.now c.procedure-item.is b.ensures.procedure c.loop-procedure-test.true b.body.program.now b.ensures.program (added e).flow (l.invariant.flow (added e).none_before);
+      codes_are = λ e.
+          let now_added = added e in
+          codes_more procedures (map (λ code. code.instructions) l.codes.items) (map (λ code. code.instructions) c.look_for_flow_refusal.new.codes.items) l.procedure-index _ b.body.procedure.now c.loop-procedure-test.true
+          (l.invariant.codes_are now_added.none_before) (ap (map (λ code. code.instructions)) now_added.added ∙ instructions_more l.codes.items now_added.last ∙ ap (λ i. map (λ code. code.instructions) l.codes.items ++ i ∷ []) now_added.code) (b.ensures.procedure ∙ c.procedure-item.is);
+      indexes_are = indexes_more procedures l.indexes.items c.push.new.self.items l.procedure-index _ b.body.procedure.now c.loop-procedure-test.true l.invariant.indexes_are
+          (c.in_ok-push.ensures.items ∙ ap (λ (i : List (Option ℕ)). l.indexes.items ++ i ∷ []) b.ensures.body.index) (b.ensures.procedure ∙ c.procedure-item.is);
+      depths = λ e.
+          let now_added = added e in
+          let long = as_many l.codes.items procedures l.procedure-index (omega (arith, c.loop-procedure-test.true)) (l.invariant.codes_are now_added.none_before) in
+          depth_more m procedures are l.procedure-index c.procedure-item.result b.body.procedure.now c.procedure-item.is b.ensures.procedure c.loop-procedure-test.true b.body.program.now b.ensures.program
+          l.codes.items c.look_for_flow_refusal.new.codes.items now_added.last long now_added.added now_added.depth (l.invariant.depths now_added.none_before);
+    }
+
+pub returns-in-Some-found-clause-rejected : goal.returns-in-Some-found-clause-rejected
+returns-in-Some-found-clause-rejected c =
+    let m = c.args.program.now in
+    let l = c.loop-procedure in
+    let none : fixed_refusals m ≡ [] = none_left m l.number l.procedure-index c.procedures-procedures.result.now c.procedures-procedures.ensures.procedures c.loop-procedure-test.false l.invariant.same in
+    reported_flow m c.in-Some-found.refusal none (l.invariant.found c.in-Some-found.refusal c.in-Some-found.is)
+
+pub returns-in-None-clause-accepted : goal.returns-in-None-clause-accepted
+returns-in-None-clause-accepted c =
+    let m = c.args.program.now in
+    let l = c.loop-procedure in
+    let are = c.procedures-procedures.ensures.procedures in
+    let bounds = bounded m c.procedures-procedures.ensures.spelled in
+    let none : fixed_refusals m ≡ [] = none_left m l.number l.procedure-index c.procedures-procedures.result.now are c.loop-procedure-test.false l.invariant.same in
+    record {
+      codes_are = all_codes m.procedures c.procedures-procedures.result.now (map (λ code. code.instructions) l.codes.items) l.procedure-index are c.loop-procedure-test.false (l.invariant.codes_are c.in-None.is);
+      indexes_are = all_indexes m.procedures c.procedures-procedures.result.now l.indexes.items l.procedure-index are c.loop-procedure-test.false l.invariant.indexes_are;
+      depths = λ k p d there.
+          l.invariant.depths c.in-None.is k p d (omega (arith, there_inside m.procedures k p there, c.loop-procedure-test.false, ap length are)) (ap (λ (all : List ProcedureContents). slice_get all k) are ∙ there);
+      verified = is_verified m bounds (all_flow m none (λ k p below there.
+          l.invariant.flow c.in-None.is k p (omega (arith, below, c.loop-procedure-test.false, ap length are)) (ap (λ (all : List ProcedureContents). slice_get all k) are ∙ there)));
+    }

@@ -1,6 +1,0 @@
-use Rattle.verifier.proofs.Bounds.{bounded}
-use Rattle.verifier.proofs.NeverStuck.{never_stuck}
-use Rattle.verifier.proofs.safety.modules_without_a_defect_are_never_stuck.Goals as goal
-
-pub returns : goal.returns
-returns c = λ m fits free. never_stuck m (bounded m fits) free

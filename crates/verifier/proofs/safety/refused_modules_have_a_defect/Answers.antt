@@ -1,5 +1,0 @@
-use Rattle.verifier.proofs.Reported.{excluded}
-use Rattle.verifier.proofs.safety.refused_modules_have_a_defect.Goals as goal
-
-pub returns : goal.returns
-returns c = λ m refusal reported free. excluded m refusal reported free
