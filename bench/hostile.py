@@ -165,6 +165,20 @@ def labels_along_a_backward_chain(size):
     return flat(256), "void main() {\n" + joined(found) + joined(reversed(found[:-1]), 1) + "}\n"
 
 
+def sets_of_labels_one_after_another(size):
+    """Many sets of six labels, each in a local of its own, that are copied one after another to each of a dozen others."""
+    found = pieces(
+        size - 400,
+        lambda n: (
+            f"int s{n} = 0;\n"
+            + "".join(f"int{{P{(6 * n + k) % 256}: P{(6 * n + k) // 256}}} x{n}_{k} = 0; s{n} = x{n}_{k};\n" for k in range(6)),
+            "".join(f"t{k} = s{n};" for k in range(12)) + "\n",
+        ),
+    )
+    takers = "".join(f"int t{k} = 0;\n" for k in range(12))
+    return flat(256), "void main() {\n" + takers + joined(found) + joined(found, 1) + "}\n"
+
+
 def many_labels_to_one_channel(size):
     """Many locals, each with a label of its own, that are sent to one channel: each label is compared with the channel's, and is
     new where it is."""
@@ -455,6 +469,7 @@ SHAPES = [
     (nearly_equal_long_labels, 5, 400),
     (many_readers, 5, 400),
     (many_labels, 5, 400),
+    (sets_of_labels_one_after_another, 20, 20),
     (many_labels_to_one_channel, 5, 400),
     (long_names, 5, 400),
     (many_names, 5, 400),
@@ -484,7 +499,7 @@ SHAPES = [
     (all_names_flow_to_the_last, 20, 400),
     (exceptions_of_calls, 20, 400),
     (exceptions_of_calls_at_many_labels, 20, 20),
-    (exceptions_of_calls_in_tries, 20, 400),
+    (exceptions_of_calls_in_tries, 20, 40),
     (exceptions_handed_on, 20, 400),
     (exceptions_of_many_callees, 20, 20),
     (exceptions_of_uneven_callees, 20, 20),

@@ -29,6 +29,7 @@ pub mod KeptRows
 pub mod LaidRows
 pub mod CallRows
 pub mod SpreadRows
+pub mod SpreadTaken
 pub mod SpreadCalls
 pub mod Merged
 mod Gathered

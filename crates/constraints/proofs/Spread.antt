@@ -19,11 +19,10 @@ use Rattle.solver.specs.declared.constraints.Atom as stored
 use Rattle.constraints.specs.Added.{AreAdded, IsLeft, IsPart, PartConstraint, Stored, stand_for, stands_for, wanted_constraint}
 use Rattle.constraints.specs.LeftSides.{left_parts, part as part-of, wanted_part}
 use Rattle.constraints.specs.Journals.{HasOneExitUnknown, raised_flow, exit_unknown_at}
-use Rattle.constraints.specs.Spreading.{AreCallsOf, AreLabelsOf, AreSpread, AreSpreadTo, IsNode, IsSpread, IsSpreadTo, IsSpreadWhole, StandForThemselves, StandFrom, exceptions_of, fixed_flows, joining_flow, owns_of}
+use Rattle.constraints.specs.Spreading.{AreCallsOf, AreLabelsOf, AreSpread, AreSpreadTo, IsNode, IsSpread, IsSpreadTo, IsSpreadWhole, MadeList, StandForThemselves, StandFrom, exceptions_of, fixed_flows, joining_flow, owns_of}
 use Rattle.constraints.specs.declared.journal.Called.{Called}
 use Rattle.constraints.specs.declared.journal.Journal.{Journal}
 use Rattle.constraints.specs.declared.rows.ThrownLabel.{ThrownLabel}
-use Rattle.constraints.specs.declared.spreading.Made.{Made}
 use Rattle.constraints.proofs.Added.{added-none, added-then}
 use Rattle.constraints.proofs.FixedFlows.{fixed-in, in-fixed}
 use Rattle.constraints.proofs.Tables.{map-map}
@@ -84,12 +83,12 @@ spread-more core journal stands first next first' next' calls more c least most 
 })
 
 -- ---- one after the other
-pub both-spread : (core : Core) (table : List Label) (journal : Journal) (raises : Called → ℕ → Type 0) (a b : List Called) (old middle new : Made)
+pub both-spread : (core : Core) (table : List Label) (journal : Journal) (raises : Called → ℕ → Type 0) (a b : List Called) (old middle new : MadeList)
     → AreSpread core table journal raises a old middle → AreSpread core table journal raises b middle new → AreSpread core table journal raises (a ++ b) old new
 both-spread core table journal raises a b old middle new first second = record {
   added = first.added ++ second.added;
   meanings = first.meanings ++ second.meanings;
-  are_added = added-then core table first.added second.added old.constraints.items middle.constraints.items new.constraints.items first.are_added second.are_added;
+  are_added = added-then core table first.added second.added old.constraints middle.constraints new.constraints first.are_added second.are_added;
   number_is = omega (arith, first.number_is, second.number_is, length-append first.meanings second.meanings);
   few = omega (arith, first.few, second.few, length-append first.meanings second.meanings, length-append a b);
   each = λ stands themselves from c h. ⊎_elim
@@ -108,12 +107,12 @@ both-spread core table journal raises a b old middle new first second = record {
 }
 
 -- ---- nothing, where nothing is raised
-pub none-spread : (core : Core) (table : List Label) (journal : Journal) (raises : Called → ℕ → Type 0) (calls : List Called) (made : Made)
+pub none-spread : (core : Core) (table : List Label) (journal : Journal) (raises : Called → ℕ → Type 0) (calls : List Called) (made : MadeList)
     → ((called : Called) (exception : ℕ) → Contains calls called → raises called exception → ⊥) → AreSpread core table journal raises calls made made
 none-spread core table journal raises calls made none = record {
   added = [];
   meanings = [];
-  are_added = added-none core table made.constraints.items;
+  are_added = added-none core table made.constraints;
   number_is = omega arith;
   few = omega arith;
   each = λ stands themselves from c h. absurd (none_in_nil c h);
@@ -121,7 +120,7 @@ none-spread core table journal raises calls made none = record {
 }
 
 -- the same of other exceptions, each one of those, and of other calls
-pub raises-less : (core : Core) (table : List Label) (journal : Journal) (raises raises' : Called → ℕ → Type 0) (calls calls' : List Called) (old new : Made)
+pub raises-less : (core : Core) (table : List Label) (journal : Journal) (raises raises' : Called → ℕ → Type 0) (calls calls' : List Called) (old new : MadeList)
     → length calls ≤ length calls' → ((called : Called) → Contains calls called → Contains calls' called)
     → ((called : Called) (exception : ℕ) → Contains calls' called → raises' called exception → Contains calls called × raises called exception)
     → AreSpread core table journal raises calls old new → AreSpread core table journal raises' calls' old new
@@ -139,7 +138,7 @@ raises-less core table journal raises raises' calls calls' old new fewer within 
 }
 
 -- ---- to one unknown: a single call
-pub one-spread : (core : Core) (table : List Label) (journal : Journal) (called : Called) (made : Made) (atom : stored.Atom)
+pub one-spread : (core : Core) (table : List Label) (journal : Journal) (called : Called) (made : MadeList) (atom : stored.Atom)
     → IsPart core table (inner_atom called.own) atom → IsSpreadTo core table journal [] (called ∷ []) made made atom
 unfolding none-spread
 one-spread core table journal called made atom part = record {
@@ -162,9 +161,9 @@ join-brings stands calls to themselves is node own h k =
     let same : node ≡ own = ⊎_elim (λ e. e) (λ none. absurd (none_in_nil own none)) (Contains-cons_cases node [] own (subst (λ list. Contains list own) alone k)) in
     subst (λ list. Contains list own) (sym is) (subst (Contains (owns_of calls)) same h)
 
-pub all-spread : (core : Core) (table : List Label) (journal : Journal) (calls : List Called) (old new : Made) (atom : stored.Atom)
+pub all-spread : (core : Core) (table : List Label) (journal : Journal) (calls : List Called) (old new : MadeList) (atom : stored.Atom)
     → 1 < length calls → new.number ≡ old.number + 1
-    → AreAdded core table (inner_constraint (map (λ (called : Called). inner_atom called.own) calls) old.number) old.constraints.items new.constraints.items
+    → AreAdded core table (inner_constraint (map (λ (called : Called). inner_atom called.own) calls) old.number) old.constraints new.constraints
     → IsPart core table (inner_atom old.number) atom → IsSpreadTo core table journal [] calls old new atom
 all-spread core table journal calls old new atom several number added part =
     let join : NamedConstraint = joining_flow (owns_of calls) old.number in
@@ -173,7 +172,7 @@ all-spread core table journal calls old new atom several number added part =
       spread = record {
         added = join ∷ [];
         meanings = owns_of calls ∷ [];
-        are_added = subst (λ atoms. AreAdded core table (inner_constraint atoms old.number) old.constraints.items new.constraints.items) same added;
+        are_added = subst (λ atoms. AreAdded core table (inner_constraint atoms old.number) old.constraints new.constraints) same added;
         number_is = number;
         few = omega (arith, several);
         each = λ stands themselves from c h. inl (record {
@@ -214,13 +213,13 @@ raised-leads program xs callee callee' own node exception exception' exit_unknow
     (Contains-cons_cases (inner_atom own) (label_part program callee' exception') from h)
 
 pub fixed-spread : (core : Core) (table : List Label) (journal : Journal) (labels varied fixed : List ThrownLabel) (calls : List Called) (one : Called) (callee : ℕ)
-    (old middle new : Made) (atom : stored.Atom)
+    (old middle new : MadeList) (atom : stored.Atom)
     → Contains calls one → AreCallsOf callee calls → AreLabelsOf core table callee fixed
     → ((x : ThrownLabel) → Contains fixed x → HasOneExitUnknown journal calls x.exception)
     → ((x : ThrownLabel) → Contains labels x → Contains fixed x ⊎ Contains varied x)
     → new.number ≡ middle.number
     → ((number : ℕ) → IsPart core table (inner_atom number) atom →
-    AreAdded core table (fixed_flows (program_of core) journal one callee number fixed) middle.constraints.items new.constraints.items)
+    AreAdded core table (fixed_flows (program_of core) journal one callee number fixed) middle.constraints new.constraints)
     → IsSpreadTo core table journal varied calls old middle atom → IsSpreadTo core table journal labels calls old new atom
 fixed-spread core table journal labels varied fixed calls one callee old middle new atom inside-one of labelled once parts number added to =
     let program : Program = program_of core in
@@ -236,7 +235,7 @@ fixed-spread core table journal labels varied fixed calls one callee old middle 
       spread = record {
         added = all;
         meanings = was.meanings;
-        are_added = added-then core table was.added flows old.constraints.items middle.constraints.items new.constraints.items was.are_added (added node to.is_part);
+        are_added = added-then core table was.added flows old.constraints middle.constraints new.constraints was.are_added (added node to.is_part);
         number_is = number ∙ was.number_is;
         few = was.few;
         each = λ stands themselves from c h. ⊎_elim
@@ -281,10 +280,10 @@ fixed-spread core table journal labels varied fixed calls one callee old middle 
       fewer = to.fewer;
     }
 
-pub single-spread : (core : Core) (table : List Label) (journal : Journal) (labels : List ThrownLabel) (called : Called) (old new : Made) (atom : stored.Atom)
+pub single-spread : (core : Core) (table : List Label) (journal : Journal) (labels : List ThrownLabel) (called : Called) (old new : MadeList) (atom : stored.Atom)
     → IsPart core table (inner_atom called.own) atom → new.number ≡ old.number
     → ((callee number : ℕ) → IsPart core table (inner_atom number) atom → AreLabelsOf core table callee labels →
-    AreAdded core table (fixed_flows (program_of core) journal called callee number labels) old.constraints.items new.constraints.items)
+    AreAdded core table (fixed_flows (program_of core) journal called callee number labels) old.constraints new.constraints)
     → AreSpreadTo core table journal labels (called ∷ []) old new atom
 single-spread core table journal labels called old new atom part number added callee of labelled =
     fixed-spread core table journal labels [] labels (called ∷ []) called callee old old new atom (Contains-first called []) of labelled
@@ -311,9 +310,9 @@ two-bring stands owns xs ys a b split first second node own h k =
     node h k)
 
 pub two-spread : (core : Core) (table : List Label) (journal : Journal) (labels : List ThrownLabel) (a b : List Called) (parts : List stored.Atom)
-    (old middle late new : Made) (first second atom : stored.Atom)
+    (old middle late new : MadeList) (first second atom : stored.Atom)
     → parts ≡ first ∷ second ∷ [] → new.number ≡ late.number + 1
-    → ((atoms : List NamedAtom) → IsLeft core table atoms parts → AreAdded core table (inner_constraint atoms late.number) late.constraints.items new.constraints.items)
+    → ((atoms : List NamedAtom) → IsLeft core table atoms parts → AreAdded core table (inner_constraint atoms late.number) late.constraints new.constraints)
     → IsPart core table (inner_atom late.number) atom
     → IsSpreadTo core table journal labels a old middle first → IsSpreadTo core table journal labels b middle late second
     → IsSpreadTo core table journal labels (a ++ b) old new atom
@@ -342,7 +341,7 @@ two-spread core table journal labels a b parts old middle late new first second 
       spread = record {
         added = all;
         meanings = both.meanings ++ owns ∷ [];
-        are_added = added-then core table both.added (join ∷ []) old.constraints.items late.constraints.items new.constraints.items both.are_added (added (map inner_atom nodes) left);
+        are_added = added-then core table both.added (join ∷ []) old.constraints late.constraints new.constraints both.are_added (added (map inner_atom nodes) left);
         number_is = omega (arith, number, both.number_is, counted);
         few = omega (arith, counted, one.fewer, other.fewer, length-append one.spread.meanings other.spread.meanings, length-append a b);
         each = λ stands themselves from c h. ⊎_elim
@@ -387,14 +386,14 @@ first-in [] d h = absurd (omega (arith, h))
 first-in (x ∷ xs) d h = Contains-first x xs
 
 pub parted-spread : (core : Core) (table : List Label) (journal : Journal) (labels varied fixed varied' fixed' : List ThrownLabel) (calls : List Called) (one : Called)
-    (old middle new : Made) (atom : stored.Atom)
+    (old middle new : MadeList) (atom : stored.Atom)
     → fixed' ≡ fixed → varied' ≡ varied → 0 < length calls → one ≡ get_or calls 0 one
     → ((x : ThrownLabel) → Contains fixed x → HasOneExitUnknown journal calls x.exception)
     → ((x : ThrownLabel) → Contains labels x → Contains fixed x ⊎ Contains varied x)
     → ((x : ThrownLabel) → Contains fixed x → Contains labels x) → ((x : ThrownLabel) → Contains varied x → Contains labels x)
     → new.number ≡ middle.number
     → ((callee number : ℕ) → IsPart core table (inner_atom number) atom → AreLabelsOf core table callee fixed' →
-    AreAdded core table (fixed_flows (program_of core) journal one callee number fixed') middle.constraints.items new.constraints.items)
+    AreAdded core table (fixed_flows (program_of core) journal one callee number fixed') middle.constraints new.constraints)
     → AreSpreadTo core table journal varied' calls old middle atom
     → AreSpreadTo core table journal labels calls old new atom
 parted-spread core table journal labels varied fixed varied' fixed' calls one old middle new atom same same' some first once parts fixed_of varied_of number added to callee of labelled =
@@ -407,11 +406,11 @@ parted-spread core table journal labels varied fixed varied' fixed' calls one ol
     (to callee of (λ x h. labelled x (varied_of x (subst (λ list. Contains list x) same' h))))
 
 -- ---- what a new unknown gives, if there is one
-pub joined-all : (core : Core) (table : List Label) (journal : Journal) (labels : List ThrownLabel) (calls : List Called) (parts : List stored.Atom) (old new : Made)
+pub joined-all : (core : Core) (table : List Label) (journal : Journal) (labels : List ThrownLabel) (calls : List Called) (parts : List stored.Atom) (old new : MadeList)
     (result : Result stored.Atom AllocError)
     → length labels ≡ 0 → 1 < length calls → IsLeft core table (map (λ (called : Called). inner_atom called.own) calls) parts
     → OnOk result (new.number ≡ old.number + 1)
-    → OnOk result ((atoms : List NamedAtom) → IsLeft core table atoms parts → AreAdded core table (inner_constraint atoms old.number) old.constraints.items new.constraints.items)
+    → OnOk result ((atoms : List NamedAtom) → IsLeft core table atoms parts → AreAdded core table (inner_constraint atoms old.number) old.constraints new.constraints)
     → IfOk result (λ atom. IsPart core table (inner_atom old.number) atom)
     → IfOk result (λ atom. AreSpreadTo core table journal labels calls old new atom)
 joined-all core table journal (x ∷ labels) calls parts old new result none several left number added part = absurd (omega (arith, none))
@@ -420,11 +419,11 @@ joined-all core table journal [] calls parts old new (Ok atom) none several left
     all-spread core table journal calls old new atom several number (added (map (λ (called : Called). inner_atom called.own) calls) left) part
 
 pub joined-two : (core : Core) (table : List Label) (journal : Journal) (labels : List ThrownLabel) (n : ℕ) (calls a b : List Called) (parts : List stored.Atom)
-    (old middle late new : Made) (first second : stored.Atom) (result : Result stored.Atom AllocError)
+    (old middle late new : MadeList) (first second : stored.Atom) (result : Result stored.Atom AllocError)
     → a ≡ take n calls → b ≡ drop n calls → parts ≡ first ∷ second ∷ []
     → AreSpreadTo core table journal labels a old middle first → AreSpreadTo core table journal labels b middle late second
     → OnOk result (new.number ≡ late.number + 1)
-    → OnOk result ((atoms : List NamedAtom) → IsLeft core table atoms parts → AreAdded core table (inner_constraint atoms late.number) late.constraints.items new.constraints.items)
+    → OnOk result ((atoms : List NamedAtom) → IsLeft core table atoms parts → AreAdded core table (inner_constraint atoms late.number) late.constraints new.constraints)
     → IfOk result (λ atom. IsPart core table (inner_atom late.number) atom)
     → IfOk result (λ atom. AreSpreadTo core table journal labels calls old new atom)
 joined-two core table journal labels n calls a b parts old middle late new first second (Err e) front back are one other number added part = tt
@@ -449,16 +448,16 @@ whole-none core table journal raises calls first none = record {
   leads = λ called inside exception raised. let below = inside.1 in absurd (omega (arith, none, below));
 }
 
-pub whole-then : (core : Core) (table : List Label) (journal : Journal) (raises : Called → ℕ → Type 0) (a b : List Called) (first : ℕ) (before : List Stored) (old new : Made)
-    → IsSpreadWhole core table journal raises a first old.number before → AreSpread core table journal raises b old new → old.constraints.items ≡ []
-    → IsSpreadWhole core table journal raises (a ++ b) first new.number (before ++ new.constraints.items)
+pub whole-then : (core : Core) (table : List Label) (journal : Journal) (raises : Called → ℕ → Type 0) (a b : List Called) (first : ℕ) (before : List Stored) (old new : MadeList)
+    → IsSpreadWhole core table journal raises a first old.number before → AreSpread core table journal raises b old new → old.constraints ≡ []
+    → IsSpreadWhole core table journal raises (a ++ b) first new.number (before ++ new.constraints)
 whole-then core table journal raises a b first before old new one other none =
     let wanted : NamedConstraint → PartConstraint = wanted_constraint (program_of core) in
     record {
       added = one.added ++ other.added;
       meanings = one.meanings ++ other.meanings;
-      stored_are = map-append (stands_for table) before new.constraints.items
-          ∙ (ap (λ xs. xs ++ stand_for table new.constraints.items) one.stored_are
+      stored_are = map-append (stands_for table) before new.constraints
+          ∙ (ap (λ xs. xs ++ stand_for table new.constraints) one.stored_are
           ∙ (ap (λ ys. map wanted one.added ++ ys) (other.are_added ∙ ap (λ xs. stand_for table xs ++ map wanted other.added) none)
           ∙ sym (map-append wanted one.added other.added)));
       number_is = omega (arith, one.number_is, other.number_is, length-append one.meanings other.meanings);

@@ -22,12 +22,11 @@ use Rattle.solver.specs.declared.constraints.Atom.{Atom}
 use Rattle.constraints.specs.Added.{Stored}
 use Rattle.constraints.specs.LeftSides.{Written, part}
 use Rattle.constraints.specs.Rows.{IsRow, thrown_parts}
-use Rattle.constraints.specs.Spreading.{AreCallsOf, AreLabelsOf, AreRowsOf, AreSpread, AreSpreadTo, Declares, IsSpreadTo, IsSpreadWhole, all_calls, exceptions_of}
+use Rattle.constraints.specs.Spreading.{AreCallsOf, AreLabelsOf, AreRowsOf, AreSpread, AreSpreadTo, Declares, IsSpreadTo, IsSpreadWhole, MadeList, all_calls, exceptions_of}
 use Rattle.constraints.specs.declared.journal.Called.{Called}
 use Rattle.constraints.specs.declared.journal.Journal.{Journal}
 use Rattle.constraints.specs.declared.rows.ProcedureLabels.{ProcedureLabels}
 use Rattle.constraints.specs.declared.rows.ThrownLabel.{ThrownLabel}
-use Rattle.constraints.specs.declared.spreading.Made.{Made}
 use Rattle.constraints.proofs.CallRows.{all-next, row-calls}
 use Rattle.constraints.proofs.Spread.{none-spread, raises-less, whole-less, whole-then}
 use Rattle.constraints.proofs.Tables.{no_procedure}
@@ -83,7 +82,7 @@ labels-of core table callee row labels is same x h =
     )
 
 -- ---- the calls of one procedure
-pub row-spread : (core : Core) (table : List Label) (journal : Journal) (callee : ℕ) (row : ProcedureLabels) (labels : List ThrownLabel) (calls : List Called) (old new : Made) (atom : Atom)
+pub row-spread : (core : Core) (table : List Label) (journal : Journal) (callee : ℕ) (row : ProcedureLabels) (labels : List ThrownLabel) (calls : List Called) (old new : MadeList) (atom : Atom)
     → IsRow table (unknowns_before (program_of core) callee) (procedure_at (program_of core) callee) row → labels ≡ row.throws.items
     → AreSpreadTo core table journal labels calls old new atom → AreCallsOf callee calls → AreSpread core table journal (Declares core) calls old new
 row-spread core table journal callee row labels calls old new atom is same to of =
@@ -96,12 +95,12 @@ row-spread core table journal callee row labels calls old new atom is same to of
     ))
     made.spread
 
-pub row-none : (core : Core) (table : List Label) (journal : Journal) (calls : List Called) (made : Made)
+pub row-none : (core : Core) (table : List Label) (journal : Journal) (calls : List Called) (made : MadeList)
     → length calls ≡ 0 → AreSpread core table journal (Declares core) calls made made
 row-none core table journal calls made none =
     none-spread core table journal (Declares core) calls made (λ called x inside raised. let below = inside.1 in absurd (omega (arith, none, below)))
 
-pub row-quiet : (core : Core) (table : List Label) (journal : Journal) (callee : ℕ) (row : ProcedureLabels) (labels : List ThrownLabel) (calls : List Called) (made : Made)
+pub row-quiet : (core : Core) (table : List Label) (journal : Journal) (callee : ℕ) (row : ProcedureLabels) (labels : List ThrownLabel) (calls : List Called) (made : MadeList)
     → IsRow table (unknowns_before (program_of core) callee) (procedure_at (program_of core) callee) row → labels ≡ row.throws.items → length labels ≡ 0
     → AreCallsOf callee calls → AreSpread core table journal (Declares core) calls made made
 row-quiet core table journal callee row labels calls made is same none of =
@@ -115,13 +114,13 @@ row-quiet core table journal callee row labels calls made is same none of =
 
 -- ---- those of all procedures
 pub calls-next : (core : Core) (table : List Label) (journal : Journal) (rows : List (Vec Called Global)) (count i : ℕ) (row : Vec Called Global) (own calls : List Called)
-    (first : ℕ) (before : List Stored) (old new : Made)
+    (first : ℕ) (before : List Stored) (old new : MadeList)
     → i < length rows → row ≡ get_or rows i row → own ≡ row.items → AreRowsOf count calls rows
     → IsSpreadWhole core table journal (Declares core) (all_calls (take i rows)) first old.number before
-    → (AreCallsOf i own → AreSpread core table journal (Declares core) own old new) → old.constraints.items ≡ []
-    → IsSpreadWhole core table journal (Declares core) (all_calls (take (i + 1) rows)) first new.number (before ++ new.constraints.items)
+    → (AreCallsOf i own → AreSpread core table journal (Declares core) own old new) → old.constraints ≡ []
+    → IsSpreadWhole core table journal (Declares core) (all_calls (take (i + 1) rows)) first new.number (before ++ new.constraints)
 calls-next core table journal rows count i row own calls first before old new inside found same are so_far step none =
-    subst (λ list. IsSpreadWhole core table journal (Declares core) list first new.number (before ++ new.constraints.items))
+    subst (λ list. IsSpreadWhole core table journal (Declares core) list first new.number (before ++ new.constraints))
     (ap (λ xs. all_calls (take i rows) ++ xs) same ∙ sym (all-next rows i row inside found))
     (whole-then core table journal (Declares core) (all_calls (take i rows)) own first before old new so_far
     (step (subst (AreCallsOf i) (sym same) (row-calls rows i row count calls inside found are))) none)

@@ -72,6 +72,12 @@ pub record AreTaken (Over : Atom → Atom → Type 0) (taken : List Stored) (old
   pub goes : (part to : Atom) → Flows taken part to → Flows rest part to ⊎ ((k : ℕ) × (to ≡ Unknown k) × IsCovered Over (parts_at rows k) part)
   pub came : (k : ℕ) (part : Atom) → Contains (parts_at rows k) part → Contains (parts_at old_rows k) part ⊎ Flows taken part (Unknown k)
 
+-- some constraints were taken, of which this holds
+pub record AreSomeTaken (Over : Atom → Atom → Type 0) (Holds : List Stored → Type 0) (old_rows rows : List Row) (old new : List Stored) : Type 0 where
+  pub own : List Stored
+  pub holds : Holds own
+  pub are_taken : AreTaken Over own old_rows rows old new
+
 -- an inner constraint with some part
 abbrev pub IsInnerWithPart : Stored → Type 0
 IsInnerWithPart c = (c.target ≡ None) × ((part : Atom) × Contains c.left.items part)

@@ -21,7 +21,6 @@ use Rattle.constraints.specs.LeftSides.{Written, part}
 use Rattle.constraints.specs.declared.journal.Called.{Called}
 use Rattle.constraints.specs.declared.journal.Journal.{Journal}
 use Rattle.constraints.specs.declared.rows.ThrownLabel.{ThrownLabel}
-use Rattle.constraints.specs.declared.spreading.Made.{Made}
 
 -- ---- what inner unknowns stand for: own labels of calls, by their numbers
 abbrev pub owns_of : List Called → List ℕ
@@ -74,12 +73,20 @@ abbrev pub IsSpread : Core → Journal → (stands : ℕ → List ℕ) → (firs
 IsSpread core journal stands first next calls c =
     IsJoin stands first next calls c ⊎ IsSpreadRaise core journal stands first next calls c
 
+-- what is made: the number of the next unknown, and constraints
+pub record MadeList : Type 0 where
+  pub number : ℕ
+  pub constraints : List Stored
+
+abbrev pub made_list : (number : ℕ) → List Stored → MadeList
+made_list number constraints = record { number = number; constraints = constraints }
+
 -- the flows of these exceptions of calls were added: each by a path, and nothing but what comes from a call at which that is the exit unknown.
 -- The unknowns that were made have the numbers from the next one on, and stand for the meanings in their order.
-pub record AreSpread (core : Core) (table : List Label) (journal : Journal) (raises : Called → ℕ → Type 0) (calls : List Called) (old new : Made) : Type 0 where
+pub record AreSpread (core : Core) (table : List Label) (journal : Journal) (raises : Called → ℕ → Type 0) (calls : List Called) (old new : MadeList) : Type 0 where
   pub added : List NamedConstraint
   pub meanings : List (List ℕ)
-  pub are_added : AreAdded core table added old.constraints.items new.constraints.items
+  pub are_added : AreAdded core table added old.constraints new.constraints
   pub number_is : new.number ≡ old.number + length meanings
   pub few : length meanings ≤ length calls
   pub each : (stands : ℕ → List ℕ) → StandForThemselves stands calls → StandFrom stands old.number meanings →
@@ -130,7 +137,7 @@ fixed_flows program journal called callee node (x ∷ rest) =
     ++ fixed_flows program journal called callee node rest
 
 -- the flows of exceptions of calls of one procedure were added, and a part stands for all of these calls
-pub record IsSpreadTo (core : Core) (table : List Label) (journal : Journal) (labels : List ThrownLabel) (calls : List Called) (old new : Made) (atom : Atom) : Type 0 where
+pub record IsSpreadTo (core : Core) (table : List Label) (journal : Journal) (labels : List ThrownLabel) (calls : List Called) (old new : MadeList) (atom : Atom) : Type 0 where
   pub spread : AreSpread core table journal (λ called x. Contains (exceptions_of labels) x) calls old new
   pub node : ℕ
   pub is_part : IsPart core table (inner_atom node) atom
@@ -140,7 +147,7 @@ pub record IsSpreadTo (core : Core) (table : List Label) (journal : Journal) (la
   pub reaches : (called : Called) → Contains calls called → Leads spread.added (inner_atom called.own) (inner_atom node)
   pub fewer : length spread.meanings < length calls
 
-abbrev pub AreSpreadTo : Core → (table : List Label) → Journal → List ThrownLabel → List Called → (old new : Made) → Atom → Type 0
+abbrev pub AreSpreadTo : Core → (table : List Label) → Journal → List ThrownLabel → List Called → (old new : MadeList) → Atom → Type 0
 AreSpreadTo core table journal labels calls old new atom =
     (callee : ℕ) → AreCallsOf callee calls → AreLabelsOf core table callee labels →
     IsSpreadTo core table journal labels calls old new atom

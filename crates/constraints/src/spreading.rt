@@ -1,9 +1,10 @@
 //! The flows of the exceptions that calls raise: all calls at which an exception has one exit unknown reach it by one inner unknown.
 ghost use Rattle.constraints.specs.Added.{AreAdded, IsLeft, IsPart};
+ghost use Rattle.constraints.specs.Following.{IsOver};
 ghost use Rattle.constraints.specs.Journals.{AreInOrder, HasOneExitUnknown};
-ghost use Rattle.constraints.specs.Merging.{AreSpreadShared};
+ghost use Rattle.constraints.specs.Merging.{AreSomeTaken, AreSpreadShared, rows_of};
 ghost use Rattle.constraints.specs.Ready.{most_unknowns};
-ghost use Rattle.constraints.specs.Spreading.{AreCallsOf, AreLabelsOf, AreRowsOf, AreSpread, AreSpreadTo, Declares, fixed_flows};
+ghost use Rattle.constraints.specs.Spreading.{AreCallsOf, AreLabelsOf, AreRowsOf, AreSpread, AreSpreadTo, Declares, fixed_flows, made_list};
 ghost use Rattle.constraints.specs.declared.journal.Called.{Called};
 ghost use Rattle.constraints.specs.declared.rows.ThrownLabel.{ThrownLabel};
 ghost use Rattle.gathering.specs.Names.{NamedAtom};
@@ -15,19 +16,20 @@ ghost use Rattle.std.specs.Prelude.{Contains, IfOk, IsTrue, List, OnOk, [], if�
 use crate::exit_unknowns::exit_unknown_in;
 use crate::following::Following;
 use crate::journal::{Called, Journal};
-use crate::merging::{lay_out, no_parts, take_all};
+use crate::merging::{Parts, lay_out, no_parts, take_all};
 use crate::rows::ThrownLabel;
 use crate::table::Table;
 use resolved::target::Target;
 use solver::{Atom, Constraint, Left};
 use std::alloc::{AllocError, Global};
 
-/// The table of labels, and the entries of exceptions at each call.
+/// The table of labels, the entries of exceptions at each call, and which labels of calls flow on to others.
 #[derive(Drop)]
 pub(crate) struct Spreading<'a> {
     pub alloc: Global,
     pub table: &'a Table<'a>,
     pub journal: &'a Journal,
+    pub following: &'a Following,
 }
 
 /// What is made: constraints, and the number of the next unknown.
@@ -217,48 +219,122 @@ impl<'a> Spreading<'a> {
         Ok(Atom::Unknown(number))
     }
 
-    // Adds the flows of exceptions from one call, whose own label is the part that stands for it.
+    // Keeps a new inner unknown, to which these parts flow.
+    fn keep_joined(
+        &self,
+        parts: Vec<Atom>,
+        kept: &mut Vec<Parts>,
+        made: &mut Made,
+    ) -> Result<Atom, AllocError>
+        requires { made.old.number < most_unknowns }
+        ensures number { OnOk result (made.new.number ≡ made.old.number + 1) }
+        ensures count { OnOk result (length kept.new.items ≡ length kept.old.items) }
+        ensures taken { OnOk result (AreSomeTaken (IsOver self.now.following.now)
+            (λ own. (atoms : List NamedAtom) →
+            IsLeft self.now.table.now.core.now self.now.table.now.core.now.labels atoms parts.items →
+            AreAdded self.now.table.now.core.now self.now.table.now.core.now.labels
+            (inner_constraint atoms made.old.number) [] own)
+            (rows_of kept.old.items) (rows_of kept.new.items)
+            made.old.constraints.items made.new.constraints.items) }
+        ensures part { IfOk result (λ atom.
+            IsPart self.now.table.now.core.now self.now.table.now.core.now.labels
+            (inner_atom made.old.number) atom) }
+    {
+        let mut own = Made {
+            number: made.number,
+            constraints: Vec::new(self.alloc),
+        };
+        let node = self.joined(parts, &mut own)?;
+        made.number = own.number;
+        take_all(own.constraints, self.following, kept, &mut made.constraints)?;
+        Ok(node)
+    }
+
+    // Keeps the flows of exceptions that have at all calls that a part stands for the exit unknown that they have at this one. They are
+    // made a list of their own, so that no list holds those of all calls.
+    fn keep_fixed(
+        &self,
+        called: Called,
+        node: Atom,
+        fixed: &[ThrownLabel],
+        kept: &mut Vec<Parts>,
+        made: &mut Made,
+    ) -> Result<(), AllocError>
+        requires { AreInOrder self.now.journal.now }
+        ensures number { OnOk result (made.new.number ≡ made.old.number) }
+        ensures count { OnOk result (length kept.new.items ≡ length kept.old.items) }
+        ensures taken { OnOk result (AreSomeTaken (IsOver self.now.following.now)
+            (λ own. (callee number : ℕ) →
+            IsPart self.now.table.now.core.now self.now.table.now.core.now.labels
+            (inner_atom number) node →
+            AreLabelsOf self.now.table.now.core.now self.now.table.now.core.now.labels callee
+            fixed.now →
+            AreAdded self.now.table.now.core.now self.now.table.now.core.now.labels
+            (fixed_flows (program_of self.now.table.now.core.now) self.now.journal.now called
+            callee number fixed.now) [] own)
+            (rows_of kept.old.items) (rows_of kept.new.items)
+            made.old.constraints.items made.new.constraints.items) }
+    {
+        let mut own = Made {
+            number: made.number,
+            constraints: Vec::new(self.alloc),
+        };
+        self.add_fixed(called, node, fixed, &mut own)?;
+        take_all(own.constraints, self.following, kept, &mut made.constraints)
+    }
+
+    // Keeps the flows of exceptions from one call, whose own label is the part that stands for it.
     fn single(
         &self,
         called: Called,
         labels: &[ThrownLabel],
+        kept: &mut Vec<Parts>,
         made: &mut Made,
     ) -> Result<Atom, AllocError>
         requires { AreInOrder self.now.journal.now }
         ensures number { OnOk result (made.new.number ≡ made.old.number) }
-        ensures spread { IfOk result (λ atom. AreSpreadTo self.now.table.now.core.now
+        ensures count { OnOk result (length kept.new.items ≡ length kept.old.items) }
+        ensures spread { IfOk result (λ atom. AreSomeTaken (IsOver self.now.following.now)
+            (λ own. AreSpreadTo self.now.table.now.core.now
             self.now.table.now.core.now.labels self.now.journal.now labels.now (called ∷ [])
-            made.old made.new atom) }
+            (made_list made.old.number []) (made_list made.new.number own) atom)
+            (rows_of kept.old.items) (rows_of kept.new.items)
+            made.old.constraints.items made.new.constraints.items) }
     {
         let node = Atom::Unknown(called.own);
-        self.add_fixed(called, node, labels, made)?;
+        self.keep_fixed(called, node, labels, kept, made)?;
         Ok(node)
     }
 }
 
-// Adds the flows of exceptions from some calls, and gives a part that stands for all of the calls.
+// Keeps the flows of exceptions from some calls, and gives a part that stands for all of the calls.
 #[cycle(spread)]
 fn spread(
     of: &Spreading,
     calls: &[Called],
     labels: &[ThrownLabel],
+    kept: &mut Vec<Parts>,
     made: &mut Made,
 ) -> Result<Atom, AllocError>
     requires ordered { AreInOrder of.now.journal.now }
     requires some { 0 < length calls.now }
     requires room { made.old.number + length calls.now ≤ most_unknowns }
     ensures fewer { OnOk result (made.new.number < made.old.number + length calls.now) }
-    ensures spread { IfOk result (λ atom. AreSpreadTo of.now.table.now.core.now
+    ensures count { OnOk result (length kept.new.items ≡ length kept.old.items) }
+    ensures spread { IfOk result (λ atom. AreSomeTaken (IsOver of.now.following.now)
+        (λ own. AreSpreadTo of.now.table.now.core.now
         of.now.table.now.core.now.labels of.now.journal.now labels.now calls.now
-        made.old made.new atom) }
+        (made_list made.old.number []) (made_list made.new.number own) atom)
+        (rows_of kept.old.items) (rows_of kept.new.items)
+        made.old.constraints.items made.new.constraints.items) }
 {
     let one = calls[0];
     if calls.len() == 1 {
-        return of.single(one, labels, made);
+        return of.single(one, labels, kept, made);
     }
     let parted = of.parted(one.barrier, calls, labels)?;
-    let node = spread_halves(of, calls, &parted.varied, made)?;
-    of.add_fixed(one, node, &parted.fixed, made)?;
+    let node = spread_halves(of, calls, &parted.varied, kept, made)?;
+    of.keep_fixed(one, node, &parted.fixed, kept, made)?;
     Ok(node)
 }
 
@@ -268,25 +344,30 @@ fn spread_halves(
     of: &Spreading,
     calls: &[Called],
     varied: &[ThrownLabel],
+    kept: &mut Vec<Parts>,
     made: &mut Made,
 ) -> Result<Atom, AllocError>
     requires ordered { AreInOrder of.now.journal.now }
     requires several { 1 < length calls.now }
     requires room { made.old.number + length calls.now ≤ most_unknowns }
     ensures fewer { OnOk result (made.new.number < made.old.number + length calls.now) }
-    ensures spread { IfOk result (λ atom. AreSpreadTo of.now.table.now.core.now
+    ensures count { OnOk result (length kept.new.items ≡ length kept.old.items) }
+    ensures spread { IfOk result (λ atom. AreSomeTaken (IsOver of.now.following.now)
+        (λ own. AreSpreadTo of.now.table.now.core.now
         of.now.table.now.core.now.labels of.now.journal.now varied.now calls.now
-        made.old made.new atom) }
+        (made_list made.old.number []) (made_list made.new.number own) atom)
+        (rows_of kept.old.items) (rows_of kept.new.items)
+        made.old.constraints.items made.new.constraints.items) }
 {
     if varied.is_empty() {
         let owns = of.owns(calls)?;
-        return of.joined(owns, made);
+        return of.keep_joined(owns, kept, made);
     }
     let (first, second) = calls.split_at(calls.len() / 2);
-    let one = spread(of, first, varied, made)?;
-    let other = spread(of, second, varied, made)?;
+    let one = spread(of, first, varied, kept, made)?;
+    let other = spread(of, second, varied, kept, made)?;
     let both = vec![in of.alloc; one, other]?;
-    of.joined(both, made)
+    of.keep_joined(both, kept, made)
 }
 
 // This many rows without calls.
@@ -314,7 +395,7 @@ fn add_called(called: Called, rows: &mut Vec<Vec<Called>>) -> Result<(), AllocEr
 }
 
 // The calls of each procedure.
-fn rows_of(
+fn rows_of_calls(
     alloc: Global,
     procedures: usize,
     calls: &[Called],
@@ -328,25 +409,31 @@ fn rows_of(
     Ok(rows)
 }
 
-// Adds the flows of the exceptions that the calls of one procedure raise.
+// Keeps the flows of the exceptions that the calls of one procedure raise.
 fn spread_row(
     of: &Spreading,
     callee: u32,
     calls: &[Called],
+    kept: &mut Vec<Parts>,
     made: &mut Made,
 ) -> Result<(), AllocError>
     requires ordered { AreInOrder of.now.journal.now }
     requires room { made.old.number + length calls.now ≤ most_unknowns }
     ensures few { OnOk result (made.new.number ≤ made.old.number + length calls.now) }
-    ensures spread { OnOk result (AreCallsOf callee calls.now →
+    ensures count { OnOk result (length kept.new.items ≡ length kept.old.items) }
+    ensures spread { OnOk result (AreSomeTaken (IsOver of.now.following.now)
+        (λ own. AreCallsOf callee calls.now →
         AreSpread of.now.table.now.core.now of.now.table.now.core.now.labels of.now.journal.now
-        (Declares of.now.table.now.core.now) calls.now made.old made.new) }
+        (Declares of.now.table.now.core.now) calls.now
+        (made_list made.old.number []) (made_list made.new.number own))
+        (rows_of kept.old.items) (rows_of kept.new.items)
+        made.old.constraints.items made.new.constraints.items) }
 {
     let throws = &of.table.row(callee).throws;
     if calls.is_empty() || throws.is_empty() {
         return Ok(());
     }
-    spread(of, calls, throws, made)?;
+    spread(of, calls, throws, kept, made)?;
     Ok(())
 }
 
@@ -362,28 +449,18 @@ pub(crate) fn spread_calls<'a>(
     ensures { OnOk result (AreSpreadShared table.now.core.now table.now.core.now.labels journal.now
         journal.now.calls.items made.old made.new) }
 {
+    let rows = rows_of_calls(alloc, table.core.procedures.len(), &journal.calls)?;
+    let mut kept = no_parts(alloc, made.number as usize)?;
+    let real = table.unknowns;
+    let following = Following::of(alloc, real, made.number, &made.constraints, &journal.calls)?;
     let spreading = Spreading {
         alloc,
         table,
         journal,
+        following: &following,
     };
-    let rows = rows_of(alloc, table.core.procedures.len(), &journal.calls)?;
-    let mut kept = no_parts(alloc, made.number as usize)?;
-    let real = table.unknowns;
-    let following = Following::of(alloc, real, made.number, &made.constraints, &journal.calls)?;
     for (i, row) in rows.iter().enumerate() {
-        let mut own = Made {
-            number: made.number,
-            constraints: Vec::new(alloc),
-        };
-        spread_row(&spreading, i as u32, row, &mut own)?;
-        made.number = own.number;
-        take_all(
-            own.constraints,
-            &following,
-            &mut kept,
-            &mut made.constraints,
-        )?;
+        spread_row(&spreading, i as u32, row, &mut kept, made)?;
     }
     lay_out(alloc, kept, made)?;
     Ok(())

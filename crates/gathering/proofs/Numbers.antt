@@ -13,7 +13,7 @@ use Rattle.lattices.proofs.Gathered.{fits-alike, fits-down, fits-up}
 use Rattle.resolved.specs.Program.{Program, ProcedureEntry, procedure_at}
 use Rattle.resolved.specs.EndFaults.{end_faults}
 use Rattle.resolved.specs.Flow.{Gathered, AreGathered}
-use Rattle.resolved.specs.Labelled.{FitsDemands, Labelling, Unwritten, OfLocal, OfLoop, chosen, program_demands}
+use Rattle.resolved.specs.Labelled.{FitsDemands, Labelling, Unwritten, OfLocal, OfLoop, program_demands}
 use Rattle.resolved.specs.WellFormed.{well_formed}
 use Rattle.gathering.specs.Names.{Name, Real, Inner, is_inner_name, NamedAtom, NamedConstraint, own_unknowns, unknowns_before, real_unknowns, unwritten_number, unknown_number, IsUnwrittenOf, numbered, numbered_atom}
 use Rattle.gathering.specs.Gathered.{AreConstraintsOf}
@@ -160,9 +160,9 @@ labellings-fit program formed none labelling =
     let laws = IsLattice-flows program.hierarchy in (
       λ fits.
           let up = fits-up (program_demands program) (gathered_constraints program) gathered lattice laws
-          (λ (a b : ℕ). a == b) (λ a b e. grind (arith, e)) (λ a. grind arith) (chosen labelling) fits in
+          (λ (a b : ℕ). a == b) (λ a b e. grind (arith, e)) (λ a. grind arith) labelling fits in
           record { labels = up.0; fits = up.1; chosen_by = λ u there. up.2 u there ∙ ap up.0 (numbers u) },
-      λ found. fits-alike lattice (program_demands program) (λ u. found.labels (gathered.number u)) (chosen labelling)
+      λ found. fits-alike lattice (program_demands program) (λ u. found.labels (gathered.number u)) labelling
           (λ u there. ap found.labels (numbers u) ∙ sym (found.chosen_by u there))
           (fits-down (program_demands program) (gathered_constraints program) gathered lattice laws found.labels found.fits),
     )

@@ -6,7 +6,7 @@ use Rattle.labels.proofs.FlowTests.{IsLattice-flows}
 use Rattle.lattices.proofs.Gathered.{fits-alike, fits-down, fits-up}
 use Rattle.resolved.specs.EndFaults.{end_faults}
 use Rattle.resolved.specs.Flow.{Gathered}
-use Rattle.resolved.specs.Labelled.{Labelling, FitsDemands, chosen, program_demands}
+use Rattle.resolved.specs.Labelled.{Labelling, FitsDemands, program_demands}
 use Rattle.resolved.specs.Program.{Program}
 use Rattle.resolved.specs.WellFormed.{well_formed}
 use Rattle.gathering.specs.Gathered.{AreConstraintsOf, FitsConstraints}
@@ -24,9 +24,9 @@ constraints-fit program cs are labelling =
     let laws = IsLattice-flows program.hierarchy in (
       λ fits.
           let up = fits-up (program_demands program) cs are.gathered lattice laws
-          (λ (a b : ℕ). a == b) (λ a b e. grind (arith, e)) (λ a. grind arith) (chosen labelling) fits in
+          (λ (a b : ℕ). a == b) (λ a b e. grind (arith, e)) (λ a. grind arith) labelling fits in
           record { labels = up.0; fits = up.1; chosen_by = λ u there. up.2 u there ∙ ap up.0 (are.numbered u) },
-      λ found. fits-alike lattice (program_demands program) (λ u. found.labels (are.gathered.number u)) (chosen labelling)
+      λ found. fits-alike lattice (program_demands program) (λ u. found.labels (are.gathered.number u)) labelling
           (λ u there. ap found.labels (are.numbered u) ∙ sym (found.chosen_by u there))
           (fits-down (program_demands program) cs are.gathered lattice laws found.labels found.fits),
     )

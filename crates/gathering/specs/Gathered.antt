@@ -7,7 +7,7 @@ use Rattle.lattices.specs.Constraints.{FitsAll, Occurs}
 use Rattle.labels.specs.LabelLattice.{label_lattice}
 use Rattle.resolved.specs.Program.{Program}
 use Rattle.resolved.specs.Flow.{Gathered, AreGathered}
-use Rattle.resolved.specs.Labelled.{Labelling, Unwritten, chosen, program_demands}
+use Rattle.resolved.specs.Labelled.{Labelling, Unwritten, program_demands}
 use Rattle.gathering.specs.Names.{unwritten_number}
 
 -- constraints that stand for a program's demands one by one and in their order, each with its byte, its rule and its target, and with
@@ -20,4 +20,4 @@ pub record AreConstraintsOf (program : Program) (cs : List Gathered) : Type 0 wh
 pub record FitsConstraints (program : Program) (cs : List Gathered) (labelling : Labelling) : Type 0 where
   pub labels : ℕ → Label
   pub fits : FitsAll (label_lattice program.hierarchy) cs labels
-  pub chosen_by : (u : Unwritten) → Occurs (program_demands program) u → chosen labelling u ≡ labels (unwritten_number program u)
+  pub chosen_by : (u : Unwritten) → Occurs (program_demands program) u → labelling u ≡ labels (unwritten_number program u)

@@ -21,7 +21,8 @@ use Rattle.resolved.specs.Meaning.{Stop, Outcome, Ended, Stopped, normally, afte
 use Rattle.resolved.specs.Ends.{same_exit, has_end, raises, thrown_ends, leaves_loop, handles, passes, statement_ends, block_ends, index_can_raise}
 use Rattle.resolved.specs.declared.target.Target.{Target}
 use Rattle.resolved.specs.declared.target.Target.TheVariants.{ToEnd, ToThrown, ToValue, ToVariable, ToChannel, ToBegin, ToValue, ToLoop}
-use Rattle.resolved.specs.Labelled.{chosen, Scope, ExitLabels, Demand, demand, join_under, label_under, FitsDemands, variable_label, channel_label, result_label, value_label, raise_label, raise_labels, label_if, at_ends, own_label, raised_exits, call_exits, any_of, loop_exits, statement_rule, block_rule, handlers_rule, block_exits, target_demand, argument_demands, statement_demands, block_demands, handlers_demands, Labelling, Join, one, label_of, here, LabelAtom}
+use Rattle.resolved.specs.Labelled.{Scope, ExitLabels, Demand, demand, join_under, label_under, FitsDemands, variable_label, channel_label, result_label, value_label, raise_label, raise_labels, label_if, at_ends, raised_exits, call_exits, any_of, loop_exits, statement_rule, block_rule, handlers_rule, block_exits, target_demand, argument_demands, statement_demands, block_demands, handlers_demands, Labelling, Join, one, label_of, here, LabelAtom}
+use Rattle.isolation.proofs.OwnLabel.{own_label}
 use Rattle.lattices.specs.Constraints.{holds}
 use Rattle.labels.specs.LabelLattice.{label_lattice}
 use Rattle.isolation.proofs.Among.{CallsAmong, expression-raises, thrown-among, statement-among, block-among}
@@ -33,13 +34,13 @@ use Rattle.common.specs.declared.exceptions.TheConstants.{END}
 -- demands that hold hold in both parts of their list
 pub fits-left : (h : PrincipalHierarchy) (labelling : Labelling) (xs ys : List Demand) → FitsDemands h labelling (xs ++ ys) → FitsDemands h labelling xs
 fits-left h labelling xs ys fits =
-    (and_parts (list_all (λ (d : Demand). holds (label_lattice h) (chosen labelling) d) xs) (list_all (λ (d : Demand). holds (label_lattice h) (chosen labelling) d) ys)
-    (sym (list_all-append (λ (d : Demand). holds (label_lattice h) (chosen labelling) d) xs ys) ∙ fits)).0
+    (and_parts (list_all (λ (d : Demand). holds (label_lattice h) labelling d) xs) (list_all (λ (d : Demand). holds (label_lattice h) labelling d) ys)
+    (sym (list_all-append (λ (d : Demand). holds (label_lattice h) labelling d) xs ys) ∙ fits)).0
 
 pub fits-right : (h : PrincipalHierarchy) (labelling : Labelling) (xs ys : List Demand) → FitsDemands h labelling (xs ++ ys) → FitsDemands h labelling ys
 fits-right h labelling xs ys fits =
-    (and_parts (list_all (λ (d : Demand). holds (label_lattice h) (chosen labelling) d) xs) (list_all (λ (d : Demand). holds (label_lattice h) (chosen labelling) d) ys)
-    (sym (list_all-append (λ (d : Demand). holds (label_lattice h) (chosen labelling) d) xs ys) ∙ fits)).1
+    (and_parts (list_all (λ (d : Demand). holds (label_lattice h) labelling d) xs) (list_all (λ (d : Demand). holds (label_lattice h) labelling d) ys)
+    (sym (list_all-append (λ (d : Demand). holds (label_lattice h) labelling d) xs ys) ∙ fits)).1
 
 pub fits-one : (h : PrincipalHierarchy) (labelling : Labelling) (program : Program) (at rule : ℕ) (left : Join) (target : Target) →
     FitsDemands h labelling (demand program at rule left target) →

@@ -25,13 +25,10 @@ use Rattle.isolation.proofs.Secure.{statement-secure}
 use Rattle.isolation.proofs.Isolated.{Accepted, procedure-fits, calls-confine, calls-secure, runs-prefix}
 use Rattle.isolation.proofs.Readers.{principal-reader, carried-reader}
 
-abbrev labelling_of : (program : Program) → Labelled program → Labelling
-labelling_of program labelled = record { locals = labelled.0; loops = labelled.1.0 }
-
-accepted-from : (program : Program) → end_faults program ≡ [] → (labelled : Labelled program) → Accepted program (labelling_of program labelled)
+accepted-from : (program : Program) → end_faults program ≡ [] → (labelled : Labelled program) → Accepted program labelled.0
 accepted-from program faults labelled = record {
   declared = ends-as-declared program faults;
-  fits = procedure-fits program (labelling_of program labelled) labelled.1.1;
+  fits = procedure-fits program labelled.0 labelled.1;
 }
 
 unread-end : (scope : Scope) (labelling : Labelling) (p : ℕ) (exits : ExitLabels) (value : Bool) (o : Outcome) →
@@ -45,7 +42,7 @@ confined scope labelling faults labelled p pc unread statement fits frames k s =
     let reader = under (principal-reader scope.program.hierarchy p) labelling in
     let accepted = accepted-from scope.program faults labelled in
     let calls = calls_with scope.program k frames in
-    let confines = calls-confine scope.program (labelling_of scope.program labelled) accepted (principal-reader scope.program.hierarchy p) k frames scope.number labelling in
+    let confines = calls-confine scope.program labelled.0 accepted (principal-reader scope.program.hierarchy p) k frames scope.number labelling in
     let o : Outcome = statement_meaning calls k statement s in
     let unseen = unseen-closed reader (view_of reader scope) (reads_result reader (here scope)) (statement_ends scope.program statement) pc
     (statement_rule scope pc statement) s o unread
@@ -57,12 +54,12 @@ confined scope labelling faults labelled p pc unread statement fits frames k s =
 
 pub isolated : (program : Program) → end_faults program ≡ [] → Labelled program → Isolated program
 isolated program faults labelled p first second agree k m =
-    runs-prefix program (labelling_of program labelled) (accepted-from program faults labelled) (principal-reader program.hierarchy p) first second agree frame_limit k m
+    runs-prefix program labelled.0 (accepted-from program faults labelled) (principal-reader program.hierarchy p) first second agree frame_limit k m
 
 pub isolated-carried : (program : Program) (larger : PrincipalHierarchy) (carry : ℕ → ℕ) → end_faults program ≡ [] →
     Labelled program → KeepsActsFor program.hierarchy larger carry → IsolatedCarried program larger carry
 isolated-carried program larger carry faults labelled keeps p first second agree k m =
-    runs-prefix program (labelling_of program labelled) (accepted-from program faults labelled)
+    runs-prefix program labelled.0 (accepted-from program faults labelled)
     (carried-reader program.hierarchy larger carry keeps p) first second agree frame_limit k m
 
 pub ends-unread : (scope : Scope) (labelling : Labelling) → PossibleEndsAreUnread scope labelling
@@ -142,7 +139,7 @@ statements-agree scope labelling faults labelled p pc statement fits frames k m 
     let accepted = accepted-from scope.program faults labelled in
     let calls = calls_with scope.program k frames in
     let further = calls_with scope.program m frames in
-    let secures = calls-secure scope.program (labelling_of scope.program labelled) accepted (principal-reader scope.program.hierarchy p) k m frames scope.number labelling in
+    let secures = calls-secure scope.program labelled.0 accepted (principal-reader scope.program.hierarchy p) k m frames scope.number labelling in
     let o : Outcome = statement_meaning calls k statement s in
     let q : Outcome = statement_meaning further m statement t in
     outcomes-agree scope labelling p (statement_exits scope pc statement) o q

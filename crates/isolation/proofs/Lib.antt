@@ -10,6 +10,7 @@ pub mod Unseen
 pub mod Laws
 pub mod Longer
 pub mod Observer
+pub mod OwnLabel
 pub mod Readers
 pub mod Related
 pub mod Secure

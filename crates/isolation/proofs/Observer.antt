@@ -15,7 +15,7 @@ use Rattle.resolved.specs.declared.expression.Value.{Value}
 use Rattle.resolved.specs.SourceState.{SourceState, cells, with_cells}
 use Rattle.resolved.specs.Value.{number_in}
 use Rattle.resolved.specs.Meaning.{sending}
-use Rattle.resolved.specs.Labelled.{chosen, Scope, Join, one, Labelling, label_under, join_under, variable_label, channel_label, LabelAtom}
+use Rattle.resolved.specs.Labelled.{Scope, Join, one, Labelling, label_under, join_under, variable_label, channel_label, LabelAtom}
 use Rattle.lattices.specs.Constraints.{Written}
 
 -- who reads labels: a test that the empty label passes, and a join where both its sides do. Where a label flows to another one,
@@ -49,7 +49,7 @@ under {h} base labelling = record {
   label = base.reads;
   written = λ label. reads-one base label;
   nothing = base.nothing;
-  joined = λ a b. ap base.reads (join_of-append (chosen labelling) a b) ∙ base.joined (join_under labelling a) (join_under labelling b);
+  joined = λ a b. ap base.reads (join_of-append labelling a b) ∙ base.joined (join_under labelling a) (join_under labelling b);
   flowing = λ a b flow e. base.flowing (join_under labelling a) (label_under labelling b) flow (sym (reads-one base (label_under labelling b)) ∙ e);
 }
 

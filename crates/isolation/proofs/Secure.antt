@@ -16,7 +16,8 @@ use Rattle.resolved.specs.Meaning.{Ended, normally, kept_in, received, sending, 
 use Rattle.resolved.specs.Ends.{same_exit, passes, statement_ends, block_ends, index_can_raise}
 use Rattle.resolved.specs.declared.target.Target.{Target}
 use Rattle.resolved.specs.declared.target.Target.TheVariants.{ToParameter, ToValue, ToVariable, ToChannel, ToBegin, ToValue, ToLoop}
-use Rattle.resolved.specs.Labelled.{Scope, ExitLabels, demand, FitsDemands, variable_label, value_label, raise_label, raise_labels, label_if, at_ends, own_label, raised_exits, call_exits, statement_rule, block_rule, handlers_rule, target_demand, argument_demands, statement_demands, block_demands, handlers_demands, Labelling, Join, one, label_of, here}
+use Rattle.resolved.specs.Labelled.{Scope, ExitLabels, demand, FitsDemands, variable_label, value_label, raise_label, raise_labels, label_if, at_ends, raised_exits, call_exits, statement_rule, block_rule, handlers_rule, target_demand, argument_demands, statement_demands, block_demands, handlers_demands, Labelling, Join, one, label_of, here}
+use Rattle.isolation.proofs.OwnLabel.{own_label}
 use Rattle.isolation.proofs.Grows.{CallsGrow, block-grows, handlers-grow}
 use Rattle.isolation.proofs.Among.{statement-among, block-among}
 use Rattle.isolation.proofs.Observer.{Reader, View, view_of, AgreeFor, agree-with_cells, agree-with_input, agree-sending, with_input, read-left, read-right, unread-left, unread-right}

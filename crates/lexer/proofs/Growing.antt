@@ -1,17 +1,22 @@
 -- One more lexeme of a text that is cut so far.
-use Rattle.std.proofs.Common.{◌≡◌, ℕ, ◌+◌, ◌-◌, ◌<◌, ◌≤◌, List, [], ◌∷◌, ◌++◌, Option, Some, None, length, sym, ap, subst, ◌∙◌, arith, append-nil}
+use Rattle.std.proofs.Common.{◌≡◌, ℕ, ◌+◌, ◌-◌, ◌<◌, ◌≤◌, true, List, [], ◌∷◌, ◌++◌, Option, Some, None, length, sym, ap, subst, ◌∙◌, arith, append-nil}
 use Rattle.std.proofs.lemmas.Str.{encodes-chars, chars-nil}
 use Rattle.std.specs.Str.{chars, IsUtf8, encode_utf8_all}
 use Rattle.lexer.specs.Terminal.{Terminal}
 use Rattle.lexer.specs.Lexeme.{Lexeme, Word, Gap}
 use Rattle.lexer.specs.Cut.{Cuts, Nothing, Token, Between, IsNextLexeme, IsCut, IsTextRefused, IsStuck, terminal_at, size}
-use Rattle.lexer.specs.Scan.{Reads, lexeme_of}
+use Rattle.lexer.specs.Scan.{Reads, after_run, lexeme_of}
+use Rattle.lexer.specs.Words.{is_white_space}
 use Rattle.lexer.specs.declared.token.Kind.{Kind}
 use Rattle.lexer.specs.declared.token.Kind.TheVariants.{End}
 use Rattle.lexer.specs.declared.fault.LexRefusal.{LexRefusal}
 use Rattle.lexer.proofs.Cutting.{cuts_on}
 use Rattle.lexer.proofs.Listed.{size-append, front_some}
-use Rattle.lexer.proofs.Runs.{same_before}
+use Rattle.lexer.proofs.Nexts.{next_white}
+use Rattle.lexer.proofs.Reading.{run_parts}
+use Rattle.lexer.proofs.Runs.{Stops, same_before}
+use Rattle.std.proofs.lemmas.Bool.{and_parts}
+use Rattle.std.specs.List.{list_all}
 
 -- the text is cut up to where `rest` begins
 pub record IsCutSoFar (text rest : List ℕ) (tokens : List Terminal) : Type 0 where
@@ -65,6 +70,58 @@ gap text rest left tokens ok tail_ok so_far (front, next) =
         cuts = subst (λ ts. Cuts 0 (chars text) ts (length text - length left) (chars left)) (append-nil tokens)
             (cuts_on 0 (chars text) tokens here (chars rest) [] (length text - length left) (chars left) so_far.cuts step);
       };
+    }
+
+-- white space is cut into gaps
+blanks_cut : (start : ℕ) (front rest : List ℕ) → list_all is_white_space front ≡ true
+    → Cuts start (front ++ rest) [] (start + size front) rest
+blanks_cut start [] rest all =
+    let none : start ≡ start + size [] = omega arith in
+    subst (λ k. Cuts start rest [] k rest) none (Nothing start rest)
+blanks_cut start (c ∷ front) rest all =
+    let (first, others) = and_parts (is_white_space c) (list_all is_white_space front) all in
+    let parts = size-append (c ∷ []) front in
+    let place : start + size (c ∷ []) + size front ≡ start + size (c ∷ front) = omega arith in
+    Between start (c ∷ (front ++ rest)) (c ∷ []) (front ++ rest) [] (start + size (c ∷ front)) rest
+    (next_white c (front ++ rest) first)
+    (subst (λ k. Cuts (start + size (c ∷ [])) (front ++ rest) [] k rest) place (blanks_cut (start + size (c ∷ [])) front rest others))
+
+-- the white space is passed
+pub record PassesBlanks (text left : List ℕ) (tokens : List Terminal) : Type 0 where
+  pub so_far : IsCutSoFar text left tokens
+  pub dark : Stops is_white_space (chars left)
+
+pub no_longer : (rest left : List ℕ) → IsUtf8 rest → IsUtf8 left → chars left ≡ after_run is_white_space (chars rest)
+    → length left ≤ length rest
+no_longer rest left ok tail_ok e =
+    let (front, run) = run_parts is_white_space (chars rest) in
+    let n : length rest ≡ size (chars rest) = ap length (sym (encodes-chars rest ok)) in
+    let m : length left ≡ size (chars left) = ap length (sym (encodes-chars left tail_ok)) in
+    let whole : chars rest ≡ front ++ chars left = run.text_is ∙ ap (λ r. front ++ r) (sym e) in
+    let parts : size (chars rest) ≡ size front + size (chars left) = ap size whole ∙ size-append front (chars left) in
+    omega arith
+
+pub blanks : (text rest left : List ℕ) (tokens : List Terminal) → IsUtf8 rest → IsUtf8 left → IsCutSoFar text rest tokens
+    → chars left ≡ after_run is_white_space (chars rest) → PassesBlanks text left tokens
+blanks text rest left tokens ok tail_ok so_far e =
+    let (front, run) = run_parts is_white_space (chars rest) in
+    let n : length rest ≡ size (chars rest) = ap length (sym (encodes-chars rest ok)) in
+    let m : length left ≡ size (chars left) = ap length (sym (encodes-chars left tail_ok)) in
+    let whole : chars rest ≡ front ++ chars left = run.text_is ∙ ap (λ r. front ++ r) (sym e) in
+    let parts : size (chars rest) ≡ size front + size (chars left) = ap size whole ∙ size-append front (chars left) in
+    let h = so_far.within in
+    let here = length text - length rest in
+    let place : here + size front ≡ length text - length left = omega arith in
+    let step : Cuts here (chars rest) [] (length text - length left) (chars left) =
+    subst (λ t. Cuts here t [] (length text - length left) (chars left)) (sym whole)
+    (subst (λ k. Cuts here (front ++ chars left) [] k (chars left)) place (blanks_cut here front (chars left) run.passes)) in
+    record {
+      so_far = record {
+        within = omega arith;
+        cuts = subst (λ ts. Cuts 0 (chars text) ts (length text - length left) (chars left)) (append-nil tokens)
+            (cuts_on 0 (chars text) tokens here (chars rest) [] (length text - length left) (chars left) so_far.cuts step);
+      };
+      dark = subst (Stops is_white_space) (sym e) run.stops;
     }
 
 -- a token, with the bytes of its text

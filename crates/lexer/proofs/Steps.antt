@@ -7,7 +7,9 @@ use Rattle.std.proofs.Math.Seq.{drop-cons}
 use Rattle.std.proofs.lemmas.List.{take-append-le, take_all}
 use Rattle.std.specs.Char.{encode_utf8}
 use Rattle.std.specs.Str.{chars, IsUtf8, IsCharBoundary, encode_utf8_all}
-use Rattle.lexer.specs.Scan.{after_run, after_close, IsTail}
+use Rattle.lexer.specs.Scan.{after_run, after_close, holds, IsStopped, IsTail}
+use Rattle.lexer.specs.declared.pieces.Class.{Class}
+use Rattle.std.proofs.lemmas.Bool.Decides.{nat_tests}
 
 -- no byte, no character
 pub chars-empty : (bs : List ℕ) → length bs ≡ 0 → chars bs ≡ []
@@ -53,6 +55,17 @@ ascii_on p text at utf8 within boundary passes =
     drop-cons text at 0 within ∙ ap (λ k. byte ∷ drop k text) next ∙ ap (λ l. l ++ drop (at + 1) text) (sym (encode_ascii byte small)) in
     let characters = chars_past_char (drop at text) (drop (at + 1) text) byte (IsUtf8-drop text at utf8 boundary) cut in
     (IsCharBoundary-after_ascii text at utf8 within small, run_on p _ _ byte characters parts.1)
+
+-- an ASCII character that is not of the class ends the run
+pub stopped_ascii : (class : Class) (rest : List ℕ) → IsUtf8 rest → 0 < length rest → get_or rest 0 0 < 128
+    → IsStopped class rest → chars rest ≡ after_run (holds class) (chars rest)
+stopped_ascii class [] utf8 some small stops = absurd (omega arith)
+stopped_ascii class (byte ∷ bytes) utf8 some small stops =
+    let cut : byte ∷ bytes ≡ encode_utf8 byte ++ bytes = ap (λ l. l ++ bytes) (sym (encode_ascii byte small)) in
+    let characters = chars_past_char (byte ∷ bytes) bytes byte utf8 cut in
+    let ascii : nat_lt byte 128 ≡ true = grind (arith, nat_tests) in
+    let fails : holds class byte ≡ false = ap (λ b. b && holds class byte) (sym ascii) ∙ stops in
+    run_stop (holds class) _ _ byte characters fails
 
 pub close_found : (starred : Bool) (cs rest : List ℕ) (c : ℕ) → cs ≡ c ∷ rest → starred ≡ true → c ≡ 47
     → after_close starred cs ≡ Some rest

@@ -1,6 +1,6 @@
 -- What the private functions of the scanner read, as functions on characters. No public contract cites this file.
 -- Source: our own.
-use Rattle.std.specs.Prelude.{◌≡◌, ℕ, ◌==◌, ◌&&◌, ◌||◌, Bool, not, cond, List, [], ◌∷◌, ◌++◌, Option, None, Some, get_or, length, nat_eq}
+use Rattle.std.specs.Prelude.{◌≡◌, ℕ, ◌==◌, ◌&&◌, ◌||◌, Bool, not, cond, List, [], ◌∷◌, ◌++◌, Option, None, Some, get_or, false, length, nat_eq, nat_lt}
 use Rattle.std.specs.List.{list_any}
 use Rattle.std.specs.Map.{lookup_entry}
 use Rattle.std.specs.Char.{is_ascii_digit}
@@ -9,7 +9,7 @@ use Rattle.lexer.specs.Lexeme.{Lexeme, Word, Gap, sign_of, signs}
 use Rattle.lexer.specs.Cut.{IsNextLexeme}
 use Rattle.lexer.specs.declared.token.Kind.{Kind}
 use Rattle.lexer.specs.declared.pieces.Class.{Class}
-use Rattle.lexer.specs.declared.pieces.Class.TheVariants.{Digit, NamePart, InLine}
+use Rattle.lexer.specs.declared.pieces.Class.TheVariants.{Blank, Digit, NamePart, InLine}
 
 -- whether a word has so many bytes and begins with the byte; the keyword of which that holds
 abbrev pub has_shape : ℕ → ℕ → List ℕ → Bool
@@ -20,9 +20,15 @@ candidate_of count first = lookup_entry (has_shape count first) keywords
 
 -- whether the character is of the class
 abbrev pub holds : Class → ℕ → Bool
+holds Blank c = is_white_space c
 holds Digit c = is_ascii_digit c
 holds NamePart c = may_continue c
 holds InLine c = not (c == 10)
+
+-- the text is empty, or does not begin with an ASCII character of the class
+abbrev pub IsStopped : Class → List ℕ → Type 0
+IsStopped class [] = Unit {0}
+IsStopped class (byte ∷ bytes) = (nat_lt byte 128 && holds class byte) ≡ false
 
 -- the character begins no lexeme but a sign
 abbrev pub begins_sign : ℕ → Bool

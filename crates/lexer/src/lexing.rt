@@ -7,7 +7,7 @@ ghost use Rattle.std.specs.Prelude.{◌≡◌, ◌≤◌, ◌+◌, List, IfOk, I
 ghost use Rattle.std.specs.List.{All};
 
 use crate::fault::{LexFault, LexRefusal};
-use crate::pieces::{Piece, cut_piece, split_first, take_front};
+use crate::pieces::{Piece, cut_piece, skip_blanks, split_first, take_front};
 use crate::token::{Kind, Token};
 use common::OrNoMemory;
 use std::alloc::Global;
@@ -36,17 +36,18 @@ pub fn lex(alloc: Global, src: &str) -> Result<Vec<Token<'_>>, LexFault>
 {
     // A token takes three bytes or more of most texts, with the space before it.
     let mut tokens = Vec::with_capacity(alloc, src.len() / 3 + 1)?;
-    let mut rest = src;
+    let mut rest = skip_blanks(src);
     while let Some((first, after)) = split_first(rest) {
         let start = src.len() - rest.len();
         let Piece { kind, rest: left } = cut_piece(rest, first, after, start).map_err(
             OrNoMemory::Refused,
         )?;
+        let front = rest;
+        rest = skip_blanks(left);
         if let Some(kind) = kind {
-            let text = take_front(rest, left);
+            let text = take_front(front, left);
             tokens.push(Token { kind, text, start })?;
         }
-        rest = left;
     }
     tokens.push(Token {
         kind: Kind::End,

@@ -28,7 +28,11 @@ fn is_identifier(text: &str) -> bool
 pub(crate) fn begins_name(character: char) -> bool
     ensures { result ≡ may_begin character }
 {
-    unicode_ident::is_xid_start(character) || character == '_'
+    if character.is_ascii() {
+        character.is_ascii_alphabetic() || character == '_'
+    } else {
+        unicode_ident::is_xid_start(character)
+    }
 }
 
 pub(crate) fn continues_name(character: char) -> bool
@@ -38,6 +42,7 @@ pub(crate) fn continues_name(character: char) -> bool
 }
 
 /// The kind of the keyword that `text` is, if it is one.
+#[inline(always)]
 pub(crate) fn find_keyword(text: &str) -> Option<Kind>
     ensures { result ≡ keyword_of text.now }
 {
@@ -49,6 +54,7 @@ pub(crate) fn find_keyword(text: &str) -> Option<Kind>
 }
 
 /// The keyword of a length that begins with a byte, if there is one, and its kind: no two keywords have both in common.
+#[inline(always)]
 fn find_candidate(length: usize, first: u8) -> Option<(&'static str, Kind)>
     ensures { option_map (λ found. (found.0.now, found.1)) result ≡ candidate_of length first }
 {

@@ -1,9 +1,9 @@
 //! The next lexeme of a text. A private part of the lexer.
 ghost use Rattle.lexer.specs.Cut.{IsStuck, HasNoLexeme};
 ghost use Rattle.lexer.specs.Lexeme.{sign_of};
-ghost use Rattle.lexer.specs.Scan.{holds, after_run, after_close, begins_sign, begins_sign_of, IsDouble, IsNoDouble, IsTriple, IsNoTriple, IsTail, Reads};
+ghost use Rattle.lexer.specs.Scan.{holds, after_run, after_close, begins_sign, begins_sign_of, IsStopped, IsDouble, IsNoDouble, IsTriple, IsNoTriple, IsTail, Reads};
 ghost use Rattle.lexer.specs.Words.{is_white_space, may_begin};
-ghost use Rattle.std.specs.Prelude.{◌≡◌, ◌&&◌, ◌++◌, ◌∷◌, [], MatchResult, MatchOption, IsTrue, Some, None, false, nat_lt};
+ghost use Rattle.std.specs.Prelude.{◌≡◌, ◌&&◌, ◌++◌, ◌∷◌, [], IfSome, MatchResult, MatchOption, IsTrue, Some, None, false, nat_lt};
 ghost use Rattle.std.specs.Char.{is_ascii_digit};
 ghost use Rattle.std.specs.Str.{chars};
 
@@ -22,6 +22,7 @@ pub(crate) struct Piece<'a> {
 /// The characters of a run.
 #[derive(Clone, Copy)]
 enum Class {
+    Blank,
     Digit,
     NamePart,
     InLine,
@@ -32,6 +33,7 @@ impl Class {
         ensures { result ≡ holds self character }
     {
         match self {
+            Class::Blank => is_white_space(character),
             Class::Digit => character.is_ascii_digit(),
             Class::NamePart => continues_name(character),
             Class::InLine => character != '\n',
@@ -45,23 +47,19 @@ impl Class {
     }
 }
 
-/// The next lexeme of `text`, which begins with `first` and goes on with `after`, at the byte `at`.
+/// The next lexeme of `text`, which begins with `first` and goes on with `after`, at the byte `at`, and not with white space.
 pub(crate) fn cut_piece<'a>(
     text: &'a str,
     first: char,
     after: &'a str,
     at: usize,
 ) -> Result<Piece<'a>, LexRefusal>
-    requires { chars text.now ≡ first ∷ chars after.now }
+    requires split { chars text.now ≡ first ∷ chars after.now }
+    requires dark { is_white_space first ≡ false }
     ensures { MatchResult result (λ piece. Reads (chars text.now) piece.kind (chars piece.rest.now))
         (IsStuck at (chars text.now)) }
 {
-    if is_white_space(first) {
-        Ok(Piece {
-            kind: None,
-            rest: after,
-        })
-    } else if first.is_ascii_digit() {
+    if first.is_ascii_digit() {
         cut_literal(text, first, after, at)
     } else if begins_name(first) {
         Ok(cut_word(text, first, after))
@@ -153,6 +151,12 @@ fn cut_sign<'a>(text: &'a str, first: char, after: &'a str) -> Option<Piece<'a>>
     ensures { MatchOption result (HasNoLexeme (chars text.now)) (λ piece. Reads (chars text.now)
         piece.kind (chars piece.rest.now)) }
 {
+    if let Some(kind) = kind_of_short(first) {
+        return Some(Piece {
+            kind: Some(kind),
+            rest: after,
+        });
+    }
     if let Some((kind, rest)) = cut_triple_sign(first, after) {
         return Some(Piece {
             kind: Some(kind),
@@ -238,6 +242,31 @@ fn kind_of_pair(first: char, second: char) -> Option<Kind>
     }
 }
 
+/// The kind of the sign that a character is, if no longer one begins with it.
+fn kind_of_short(character: char) -> Option<Kind>
+    ensures sign { IfSome result (λ kind. sign_of (character ∷ []) ≡ Some kind) }
+    ensures alone { IfSome result (λ _. begins_sign_of 2 character ≡ false) }
+    ensures single { IfSome result (λ _. begins_sign_of 3 character ≡ false) }
+{
+    match character {
+        '{' => Some(Kind::OpenBrace),
+        '}' => Some(Kind::CloseBrace),
+        '(' => Some(Kind::OpenParenthesis),
+        ')' => Some(Kind::CloseParenthesis),
+        '[' => Some(Kind::OpenBracket),
+        ']' => Some(Kind::CloseBracket),
+        ';' => Some(Kind::Semicolon),
+        ',' => Some(Kind::Comma),
+        ':' => Some(Kind::Colon),
+        '+' => Some(Kind::Plus),
+        '-' => Some(Kind::Minus),
+        '*' => Some(Kind::Star),
+        '%' => Some(Kind::Percent),
+        '^' => Some(Kind::BitXor),
+        _ => None,
+    }
+}
+
 fn kind_of_sign(character: char) -> Option<Kind>
     ensures { result ≡ sign_of (character ∷ []) }
 {
@@ -287,8 +316,10 @@ pub(crate) fn take_front<'a>(text: &'a str, rest: &str) -> &'a str
 }
 
 /// What follows the longest front of `text` that is ASCII and of the class: bytes cost less to look at than characters.
+#[inline(always)]
 fn skip_ascii(text: &str, class: Class) -> &str
-    ensures { after_run (holds class) (chars result.now) ≡
+    ensures stops { IsStopped class result.now }
+    ensures run { after_run (holds class) (chars result.now) ≡
         after_run (holds class) (chars text.now) }
 {
     let bytes = text.as_bytes();
@@ -301,10 +332,23 @@ fn skip_ascii(text: &str, class: Class) -> &str
 }
 
 /// What follows the longest front of `text` whose characters are all of the class.
+#[inline(always)]
 fn skip_run(text: &str, class: Class) -> &str
     ensures { chars result.now ≡ after_run (holds class) (chars text.now) }
 {
-    let mut characters = skip_ascii(text, class).chars();
+    let rest = skip_ascii(text, class);
+    match rest.as_bytes() {
+        [byte, ..] if !byte.is_ascii() => skip_characters(rest, class),
+        _ => rest,
+    }
+}
+
+/// The same, character by character.
+#[inline(never)]
+fn skip_characters(text: &str, class: Class) -> &str
+    ensures { chars result.now ≡ after_run (holds class) (chars text.now) }
+{
+    let mut characters = text.chars();
     loop {
         let rest = characters.as_str();
         let Some(character) = characters.next() else {
@@ -314,6 +358,13 @@ fn skip_run(text: &str, class: Class) -> &str
             return rest;
         }
     }
+}
+
+/// What follows the white space at the front of `text`.
+pub(crate) fn skip_blanks(text: &str) -> &str
+    ensures { chars result.now ≡ after_run is_white_space (chars text.now) }
+{
+    skip_run(text, Class::Blank)
 }
 
 /// What follows the first `*/` of `text`.

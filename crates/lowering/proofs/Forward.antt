@@ -16,7 +16,7 @@ use Rattle.resolved.specs.declared.statement.Exit.TheVariants.{Normal, Return, B
 use Rattle.resolved.specs.Tree.{Expression, Integer, Logical, Read, Element, Unary, Binary, Short, Statement, Assign, Clear, Store, Receive, Send, Call, If, While, Leave, ReturnWith, Try, Nested, Block, Empty, Then, Handlers, NoMore, Catch, place_of}
 use Rattle.resolved.specs.Program.{Program, ResultEntry, procedure_at}
 use Rattle.resolved.specs.Ends.{same_exit, has_end, statement_ends, block_ends}
-use Rattle.resolved.specs.EndFaults.{fault_unless, may_leave, may_stand, inner_faults, block_faults, handlers_faults}
+use Rattle.resolved.specs.EndFaults.{fault_unless, may_stand, inner_faults, block_faults, handlers_faults}
 use Rattle.resolved.specs.declared.fault.EndRefusalKind.TheVariants.{OutsideLoop, Unreachable, NeverRaised}
 use Rattle.modules.specs.declared.instruction.Instruction.{Instruction}
 use Rattle.modules.specs.declared.instruction.Instruction.TheVariants as instruction
@@ -165,12 +165,12 @@ record LoopAhead (at : ℕ) (in_loop : Bool) (loop : Loop) : Type 0 where
 sooner : (at end : ℕ) (in_loop : Bool) (loop : Loop) → at ≤ end → LoopAhead end in_loop loop → LoopAhead at in_loop loop
 sooner at end in_loop loop less h = record { beyond = λ e. omega (arith, less, h.beyond e); test = λ e. omega (arith, less, h.test e) }
 
-leave-ahead : (at : ℕ) (in_loop : Bool) (loop : Loop) (exit : Exit) → LoopAhead (at + 1) in_loop loop → may_leave in_loop exit ≡ true → Ahead at (leave_code loop exit ∷ [])
-leave-ahead at in_loop loop Normal loops h = ahead-one at _ refl
-leave-ahead at in_loop loop Return loops h = ahead-one at _ refl
-leave-ahead at in_loop loop Break loops h = ahead-jump at loop.beyond [] (omega (arith, loops.beyond h)) (ahead-none (at + 1))
-leave-ahead at in_loop loop Continue loops h = ahead-jump at loop.test [] (omega (arith, loops.test h)) (ahead-none (at + 1))
-leave-ahead at in_loop loop (Throw exception) loops h = ahead-one at _ refl
+leave-ahead : (mark at : ℕ) (in_loop : Bool) (loop : Loop) (exit : Exit) → LoopAhead (at + 1) in_loop loop → may_stand in_loop (Leave mark exit) ≡ true → Ahead at (leave_code loop exit ∷ [])
+leave-ahead mark at in_loop loop Normal loops h = ahead-one at _ refl
+leave-ahead mark at in_loop loop Return loops h = ahead-one at _ refl
+leave-ahead mark at in_loop loop Break loops h = ahead-jump at loop.beyond [] (omega (arith, loops.beyond h)) (ahead-none (at + 1))
+leave-ahead mark at in_loop loop Continue loops h = ahead-jump at loop.test [] (omega (arith, loops.test h)) (ahead-none (at + 1))
+leave-ahead mark at in_loop loop (Throw exception) loops h = ahead-one at _ refl
 
 -- ---- statements
 module _ (program : Program) where
@@ -211,7 +211,7 @@ module _ (program : Program) where
         (ahead-both (p + 1) m (block_code program inner (p + 1) body) _ (block-sized program inner (p + 1) body)
         (block-ahead inner true true (p + 1) body faults (record { beyond = λ h. omega arith; test = λ h. omega arith }))
         (branch-ahead e true (p + 1 + m) (p + 1)))
-    statement-ahead loop in_loop p (Leave at exit) stands faults loops = leave-ahead p in_loop loop exit loops stands
+    statement-ahead loop in_loop p (Leave at exit) stands faults loops = leave-ahead at p in_loop loop exit loops stands
     statement-ahead loop in_loop p (ReturnWith at e) stands faults loops = return-ahead p e
     statement-ahead loop in_loop p (Try at block handlers) stands faults loops =
         let m = block_size program block in

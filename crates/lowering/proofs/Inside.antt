@@ -12,7 +12,7 @@ use Rattle.resolved.specs.declared.statement.Exit.TheVariants.{Normal, Return, B
 use Rattle.resolved.specs.Tree.{Expression, Statement, Assign, Clear, Store, Receive, Send, Call, If, While, Leave, ReturnWith, Try, Nested, Block, Empty, Then, Handlers, NoMore, Catch, place_of}
 use Rattle.resolved.specs.Program.{Program, ProcedureEntry, ResultEntry, procedure_at}
 use Rattle.resolved.specs.Ends.{same_exit, has_end, statement_ends, block_ends}
-use Rattle.resolved.specs.EndFaults.{fault_unless, may_leave, may_stand, inner_faults, block_faults, handlers_faults, may_end, procedure_faults, end_faults}
+use Rattle.resolved.specs.EndFaults.{fault_unless, may_stand, inner_faults, block_faults, handlers_faults, may_end, procedure_faults, end_faults}
 use Rattle.resolved.specs.declared.fault.EndRefusalKind.TheVariants.{OutsideLoop, Unreachable, NeverRaised, NoValueReturned, Undeclared}
 use Rattle.resolved.specs.WellFormed.{has_base, is_exception, statement_fits, block_fits, handlers_fit, procedure_fits}
 use Rattle.resolved.proofs.WellFormedParts.{program_parts, procedure_parts, passes_at}
@@ -89,12 +89,12 @@ result-below : (n : ℕ) (result : Option ResultEntry) (target : Option Variable
 result-below n None target = none-below n
 result-below n (Some entry) target = one-below n _ (kept-below n target)
 
-leave-below : (n : ℕ) (in_loop : Bool) (loop : Loop) (exit : Exit) → LoopIn n in_loop loop → may_leave in_loop exit ≡ true → Below n (leave_code loop exit)
-leave-below n in_loop loop Normal loops h = tt
-leave-below n in_loop loop Return loops h = tt
-leave-below n in_loop loop Break loops h = loops.beyond h
-leave-below n in_loop loop Continue loops h = loops.test h
-leave-below n in_loop loop (Throw exception) loops h = tt
+leave-below : (mark n : ℕ) (in_loop : Bool) (loop : Loop) (exit : Exit) → LoopIn n in_loop loop → may_stand in_loop (Leave mark exit) ≡ true → Below n (leave_code loop exit)
+leave-below mark n in_loop loop Normal loops h = tt
+leave-below mark n in_loop loop Return loops h = tt
+leave-below mark n in_loop loop Break loops h = loops.beyond h
+leave-below mark n in_loop loop Continue loops h = loops.test h
+leave-below mark n in_loop loop (Throw exception) loops h = tt
 
 return-below : (n p : ℕ) (e : Option Expression) → p + return_size e ≤ n → Stays n (return_code p e)
 return-below n p None room = one-below n instruction.Return tt
@@ -178,7 +178,7 @@ module _ (program : Program) (procedure : ProcedureEntry) (n : ℕ) where
               (both-below n (block_code program inner (p + 1) body) _ placed.code (branch-below e true (p + 1 + m) (p + 1) n (omega (arith, strict)) (omega (arith, strict))));
           entries = placed.entries;
         }
-    statement-placed loop in_loop p (Leave at exit) fits stands faults loops ends = plain (one-below n _ (leave-below n in_loop loop exit loops stands))
+    statement-placed loop in_loop p (Leave at exit) fits stands faults loops ends = plain (one-below n _ (leave-below at n in_loop loop exit loops stands))
     statement-placed loop in_loop p (ReturnWith at e) fits stands faults loops ends = plain (return-below n p e ends.within)
     statement-placed loop in_loop p (Try at block handlers) fits stands faults loops ends =
         let m = block_size program block in

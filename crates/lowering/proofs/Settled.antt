@@ -13,7 +13,7 @@ use Rattle.common.specs.declared.direction.Direction.TheVariants.{Input, Output}
 use Rattle.resolved.specs.Tree.{Expression, Statement, Assign, Clear, Store, Receive, Send, Call, If, While, Leave, ReturnWith, Try, Nested, Block, Empty, Then, Handlers, NoMore, Catch, place_of}
 use Rattle.resolved.specs.Program.{Program, ProcedureEntry, ResultEntry, SlotEntry, procedure_at}
 use Rattle.resolved.specs.Ends.{same_exit, has_end, statement_ends, block_ends}
-use Rattle.resolved.specs.EndFaults.{fault_unless, may_leave, may_stand, inner_faults, block_faults, handlers_faults}
+use Rattle.resolved.specs.EndFaults.{fault_unless, may_stand, inner_faults, block_faults, handlers_faults}
 use Rattle.resolved.specs.declared.fault.EndRefusalKind.TheVariants.{OutsideLoop, Unreachable, NeverRaised}
 use Rattle.resolved.specs.WellFormed.{VariableType, variable_type, has_base, same_base, scalar_by, array_by, target_by, has_result, channel_is, parameters_of, arguments_match, call_matches, is_array, is_exception, may_leave_by, statement_fits, block_fits, handlers_fit}
 use Rattle.resolved.proofs.WellFormedParts.{procedure_at_is}
@@ -221,13 +221,13 @@ module _ (program : Program) (procedure : ProcedureEntry) (m : ModuleContents) (
       subst (λ (c : ProcedureEntry). Flows m p whole at (arguments_code at arguments ++ instruction.Call f ∷ result_code c.result target) (Unit {0}) [] [])
       (sym (procedure_at_is program f callee there)) (called-flows at f callee arguments target there fits)
 
-  leave-flows : (in_loop : Bool) (loop : Loop) (exit : Exit) (at : ℕ) → may_leave_by program exit ≡ true → may_leave in_loop exit ≡ true
+  leave-flows : (mark : ℕ) (in_loop : Bool) (loop : Loop) (exit : Exit) (at : ℕ) → may_leave_by program exit ≡ true → may_stand in_loop (Leave mark exit) ≡ true
       → Flows m p whole at (leave_code loop exit ∷ []) (LoopFlows m p whole in_loop loop) [] []
-  leave-flows in_loop loop Normal at fits stands = absurd (let no : false ≡ true = fits in cc)
-  leave-flows in_loop loop Return at fits stands = absurd (let no : false ≡ true = fits in cc)
-  leave-flows in_loop loop Break at fits stands = flows-jump m p whole loop.beyond (λ loops. loops.beyond stands)
-  leave-flows in_loop loop Continue at fits stands = flows-jump m p whole loop.test (λ loops. loops.test stands)
-  leave-flows in_loop loop (Throw exception) at fits stands = flows-one m p whole (throw-does m p exception (exception-there exception fits))
+  leave-flows mark in_loop loop Normal at fits stands = absurd (let no : false ≡ true = fits in cc)
+  leave-flows mark in_loop loop Return at fits stands = absurd (let no : false ≡ true = fits in cc)
+  leave-flows mark in_loop loop Break at fits stands = flows-jump m p whole loop.beyond (λ loops. loops.beyond stands)
+  leave-flows mark in_loop loop Continue at fits stands = flows-jump m p whole loop.test (λ loops. loops.test stands)
+  leave-flows mark in_loop loop (Throw exception) at fits stands = flows-one m p whole (throw-does m p exception (exception-there exception fits))
 
   value-returned : (at : ℕ) (result : Option ResultEntry) (e : Expression) → procedure.result ≡ result → has_result result (λ b. has_base program procedure b e) ≡ true
       → Flows m p whole at (return_code at (Some e)) (Unit {0}) [] []
@@ -321,7 +321,7 @@ module _ (program : Program) (procedure : ProcedureEntry) (m : ModuleContents) (
         (block-sized program inner (position + 1) body) (branch-sized e true (position + 1 + n) (position + 1))
         (block-settles inner true true (position + 1) body parts.1 faults)
         (branch-flows program procedure m p whole stated e true (position + 1 + n) (position + 1) [] parts.0)
-    statement-settles loop in_loop position (Leave mark exit) fits stands faults = settles-plain m p whole (leave-flows in_loop loop exit position fits stands)
+    statement-settles loop in_loop position (Leave mark exit) fits stands faults = settles-plain m p whole (leave-flows mark in_loop loop exit position fits stands)
     statement-settles loop in_loop position (ReturnWith mark e) fits stands faults = free (return-flows position e mark fits)
     statement-settles loop in_loop position (Try mark block handlers) fits stands faults =
         let n = block_size program block in

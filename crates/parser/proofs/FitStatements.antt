@@ -6,26 +6,16 @@ use Rattle.lexer.specs.declared.token.Kind.{Kind}
 use Rattle.lexer.specs.declared.token.Kind.TheVariants as kinds
 use Rattle.syntax.specs.declared.tree.BaseType.{BaseType}
 use Rattle.syntax.specs.Form.{Form, level, ◌·◌, only}
-use Rattle.syntax.specs.Grammar.{at, ◌▸◌, ◌◂◌, base, optional_label, name, index, expression, call, right, block, condition, otherwise, catch, catches, first_with, declare_with, after_with, named_with, receive, send, conditional, while_statement, break_statement, continue_statement, throw_statement, returned, return_statement, attempt, nested, statement, production}
+use Rattle.syntax.specs.Grammar.{at, ◌▸◌, ◌◂◌, base, optional_label, name, index, expression, call, right, size, declare, declare_array, assign, assign_element, call_statement, block, condition, otherwise, catch, catches, receive, send, conditional, while_statement, break_statement, continue_statement, throw_statement, returned, return_statement, attempt, nested, statement, production}
 use Rattle.syntax.specs.Nesting.{IsNestedExpression, IsNestedOptionalExpression, IsNestedCall, IsNestedRight, IsNestedStatement, IsNestedBlock, AreNestedCatches}
 use Rattle.syntax.specs.Nodes.{optional_label_nodes, expression_nodes, optional_expression_nodes, call_nodes, right_nodes, statement_nodes, block_nodes, catches_nodes}
 use Rattle.syntax.specs.Symbol.{Symbol, Expression, Unary, Operands, Arguments, Statements, tree_of}
-use Rattle.syntax.specs.Tree.{NameTree, LabelTree, ExpressionTree, CallTree, RightTree, FirstTree, FirstValue, FirstSize, AfterTree, AssignedTree, AtIndexTree, ArgumentsTree, local_tree, named_tree, StatementTree, BlockTree, CatchTree, if_tree, catches_of}
+use Rattle.syntax.specs.Tree.{NameTree, LabelTree, ExpressionTree, CallTree, RightTree, StatementTree, BlockTree, CatchTree, if_tree, catches_of}
 use Rattle.syntax.specs.Written.{IsWrittenName, IsWrittenOptionalLabel, IsWrittenExpression, IsWrittenOptionalExpression, IsWrittenCall, IsWrittenRight, IsWrittenSize, IsWrittenStatement, IsWrittenBlock, AreWrittenCatches}
 use Rattle.parser.proofs.Holds.{Each}
 use Rattle.parser.proofs.Fits.{Fit, Fits, Has, FitStatements, from_at, from_after, from_before}
 use Rattle.parser.proofs.FitLabels.{name_fits, optional_label_fits, base_fits, size_fits}
 use Rattle.parser.proofs.FitExpressions.{others_fit, index_fits, expression_fits, operand_fits, unary_symbol_fits, expressions_fit, arguments_fit}
-
--- the nodes of what is only read as a piece of a statement
-abbrev first_nodes : FirstTree → ℕ
-first_nodes (FirstValue value) = right_nodes value
-first_nodes (FirstSize size) = 1
-
-abbrev after_nodes : AfterTree → ℕ
-after_nodes (AssignedTree value) = right_nodes value
-after_nodes (AtIndexTree index value) = expression_nodes index + expression_nodes value
-after_nodes (ArgumentsTree arguments) = 1 + sum_by expression_nodes arguments
 
 abbrev otherwise_nodes : Option BlockTree → ℕ
 otherwise_nodes None = 0
@@ -101,102 +91,79 @@ module _ (fits : ℕ → Type 0) (word : List ℕ → Type 0) (number : ℕ → 
       let one = expression_fits fits word number room tree inner.0 inner.1 in
       record { written = one.written; few = omega (arith, one.few, inner.2, front.2); nested = one.nested }
 
-  -- what stands after the name of a local
-  abbrev FirstWritten : FirstTree → Type 0
-  FirstWritten (FirstValue value) = IsWrittenRight fits word number value
-  FirstWritten (FirstSize size) = IsWrittenSize fits word number size
-
-  abbrev FirstNested : FirstTree → Type 0
-  FirstNested (FirstValue value) = IsNestedRight room value
-  FirstNested (FirstSize size) = Unit {0}
-
-  first_fits : (tree : FirstTree) (k : ℕ) → Having (first_with right) tree k → Fit (FirstWritten tree) (1 + first_nodes tree) (FirstNested tree) k
-  first_fits tree k (inl h) =
-      let inner = from_after fits word number room kinds.Assign right h.0 k h.1 in
-      let one = right_fits h.0 inner.0 inner.1 in
-      subst (λ t. Fit (FirstWritten t) (1 + first_nodes t) (FirstNested t) k) (sym h.2) (record { written = one.written; few = omega (arith, one.few, inner.2); nested = one.nested })
-  first_fits tree k (inr h) =
-      let one = size_fits fits word number room h.0 k h.1 in
-      subst (λ t. Fit (FirstWritten t) (1 + first_nodes t) (FirstNested t) k) (sym h.2) (record { written = one.written; few = omega (arith, one.few); nested = tt })
-
-  local_fits : (place : ℕ) (base : BaseType) (label : Option LabelTree) (named : NameTree) (first : FirstTree) (k : ℕ) → fits place → IsWrittenOptionalLabel fits word number label → IsWrittenName fits word number named → Fit (FirstWritten first) (2 + (optional_label_nodes label + first_nodes first)) (FirstNested first) k → FitStatement (local_tree place base label named first) k
-  local_fits place base label named (FirstValue value) k here labelled written one =
-      record { written = (here, labelled, written, one.written); few = omega (arith, one.few); nested = one.nested }
-  local_fits place base label named (FirstSize size) k here labelled written one =
-      record { written = (here, labelled, written, one.written); few = omega (arith, one.few); nested = tt }
-
-  declare_fits : (tree : StatementTree) (k : ℕ) → Having (declare_with right) tree k → FitStatement tree k
+  -- a declaration with its first value, and one of an array
+  declare_fits : (tree : StatementTree) (k : ℕ) → Having declare tree k → FitStatement tree k
+  unfolding declare
   declare_fits tree k h =
-      let line = from_before fits word number room (base · optional_label · name · first_with right) kinds.Semicolon h.0 k h.1 in
+      let line = from_before fits word number room (base · optional_label · name · kinds.Assign ▸ right) kinds.Semicolon h.0 k h.1 in
       let a = line.1 in
       let b = a.2 in
       let c = b.2 in
       let typed = base_fits fits word number room h.0.0.0.0 c.0 c.2 in
       let labelled = optional_label_fits fits word number room h.0.0.0.1 c.1 c.3 in
       let named = name_fits fits word number room h.0.0.1 b.1 b.3 in
-      let first = first_fits h.0.1 a.1 a.3 in
-      subst (λ t. FitStatement t k) (sym h.2) (local_fits h.0.0.0.0.0 h.0.0.0.0.1 h.0.0.0.1 h.0.0.1 h.0.1 k typed.0 labelled.written named.written (record {
-        written = first.written;
-        few = omega (arith, typed.1, labelled.few, named.few, first.few, line.2, a.4, b.4, c.4);
-        nested = first.nested;
-      }))
+      let inner = from_after fits word number room kinds.Assign right h.0.1 a.1 a.3 in
+      let value = right_fits h.0.1 inner.0 inner.1 in
+      subst (λ t. FitStatement t k) (sym h.2) (record {
+        written = (typed.0, labelled.written, named.written, value.written);
+        few = omega (arith, typed.1, labelled.few, named.few, value.few, inner.2, line.2, a.4, b.4, c.4);
+        nested = value.nested;
+      })
 
-  -- what stands after the name that a statement begins with
-  abbrev AfterWritten : AfterTree → Type 0
-  AfterWritten (AssignedTree value) = IsWrittenRight fits word number value
-  AfterWritten (AtIndexTree index value) = IsWrittenExpression fits word number index × IsWrittenExpression fits word number value
-  AfterWritten (ArgumentsTree arguments) = All (IsWrittenExpression fits word number) arguments
+  declare_array_fits : (tree : StatementTree) (k : ℕ) → Having declare_array tree k → FitStatement tree k
+  unfolding declare_array
+  declare_array_fits tree k h =
+      let line = from_before fits word number room (base · optional_label · name · size) kinds.Semicolon h.0 k h.1 in
+      let a = line.1 in
+      let b = a.2 in
+      let c = b.2 in
+      let typed = base_fits fits word number room h.0.0.0.0 c.0 c.2 in
+      let labelled = optional_label_fits fits word number room h.0.0.0.1 c.1 c.3 in
+      let named = name_fits fits word number room h.0.0.1 b.1 b.3 in
+      let sized = size_fits fits word number room h.0.1 a.1 a.3 in
+      subst (λ t. FitStatement t k) (sym h.2) (record {
+        written = (typed.0, labelled.written, named.written, sized.written);
+        few = omega (arith, typed.1, labelled.few, named.few, sized.few, line.2, a.4, b.4, c.4);
+        nested = tt;
+      })
 
-  abbrev AfterNested : AfterTree → Type 0
-  AfterNested (AssignedTree value) = IsNestedRight room value
-  AfterNested (AtIndexTree index value) = (0 < room) × IsNestedExpression (pred room) index × IsNestedExpression room value
-  AfterNested (ArgumentsTree arguments) = (0 < room) × All (IsNestedExpression (pred room)) arguments
-
-  abbrev FitAfter : AfterTree → ℕ → Type 0
-  FitAfter tree k = Fit (AfterWritten tree) (1 + after_nodes tree) (AfterNested tree) k
-
-  after_fits : (tree : AfterTree) (k : ℕ) → Having (after_with right) tree k → FitAfter tree k
-  after_fits tree k h = elim h [
-    | inl one ↦
-        let inner = from_after fits word number room kinds.Assign right one.0 k one.1 in
-        let value = right_fits one.0 inner.0 inner.1 in
-        subst (λ t. FitAfter t k) (sym one.2) (record { written = value.written; few = omega (arith, value.few, inner.2); nested = value.nested })
-    | inr h ↦ elim h [
-      | inl one ↦
-          let both = one.1 in
-          let front = from_before fits word number room index kinds.Assign one.0.0 both.0 both.2 in
-          let index = index_fits fits word number room one.0.0 front.0 front.1 in
-          let value = expression_fits fits word number room one.0.1 both.1 both.3 in
-          subst (λ t. FitAfter t k) (sym one.2) (record {
-            written = (index.written, value.written);
-            few = omega (arith, index.few, value.few, front.2, both.4);
-            nested = (index.nested.0, index.nested.1, value.nested);
-          })
-      | inr one ↦
-          let list = arguments_fit fits word number room one.0 k one.1 in
-          subst (λ t. FitAfter t k) (sym one.2) (record { written = list.written; few = omega (arith, list.few); nested = list.nested })
-    ]
-  ]
-
-  with_name : (named : NameTree) (after : AfterTree) (k : ℕ) → IsWrittenName fits word number named → Fit (AfterWritten after) (2 + after_nodes after) (AfterNested after) k → FitStatement (named_tree named after) k
-  with_name named (AssignedTree value) k written one =
-      record { written = (written, one.written); few = omega (arith, one.few); nested = one.nested }
-  with_name named (AtIndexTree index value) k written one =
-      record { written = (written, one.written.0, one.written.1); few = omega (arith, one.few); nested = one.nested }
-  with_name named (ArgumentsTree arguments) k written one =
-      record { written = (written, one.written); few = omega (arith, one.few); nested = one.nested }
-
-  named_fits : (tree : StatementTree) (k : ℕ) → Having (named_with right) tree k → FitStatement tree k
-  named_fits tree k h =
-      let line = from_before fits word number room (name · after_with right) kinds.Semicolon h.0 k h.1 in
+  -- an assignment to a scalar, and one to an element
+  assign_fits : (tree : StatementTree) (k : ℕ) → Having assign tree k → FitStatement tree k
+  unfolding assign
+  assign_fits tree k h =
+      let line = from_before fits word number room (name · kinds.Assign ▸ right) kinds.Semicolon h.0 k h.1 in
       let both = line.1 in
       let named = name_fits fits word number room h.0.0 both.0 both.2 in
-      let after = after_fits h.0.1 both.1 both.3 in
-      subst (λ t. FitStatement t k) (sym h.2) (with_name h.0.0 h.0.1 k named.written (record {
-        written = after.written;
-        few = omega (arith, named.few, after.few, line.2, both.4);
-        nested = after.nested;
-      }))
+      let inner = from_after fits word number room kinds.Assign right h.0.1 both.1 both.3 in
+      let value = right_fits h.0.1 inner.0 inner.1 in
+      subst (λ t. FitStatement t k) (sym h.2) (record {
+        written = (named.written, value.written);
+        few = omega (arith, named.few, value.few, inner.2, line.2, both.4);
+        nested = value.nested;
+      })
+
+  assign_element_fits : (tree : StatementTree) (k : ℕ) → Having assign_element tree k → FitStatement tree k
+  unfolding assign_element
+  assign_element_fits tree k h =
+      let line = from_before fits word number room (name · (index ◂ kinds.Assign · expression)) kinds.Semicolon h.0 k h.1 in
+      let both = line.1 in
+      let named = name_fits fits word number room h.0.0 both.0 both.2 in
+      let pair = both.3 in
+      let front = from_before fits word number room index kinds.Assign h.0.1.0 pair.0 pair.2 in
+      let index = index_fits fits word number room h.0.1.0 front.0 front.1 in
+      let value = expression_fits fits word number room h.0.1.1 pair.1 pair.3 in
+      subst (λ t. FitStatement t k) (sym h.2) (record {
+        written = (named.written, index.written, value.written);
+        few = omega (arith, named.few, index.few, value.few, front.2, pair.4, both.4, line.2);
+        nested = (index.nested.0, index.nested.1, value.nested);
+      })
+
+  call_statement_fits : (tree : StatementTree) (k : ℕ) → Having call_statement tree k → FitStatement tree k
+  unfolding call_statement
+  call_statement_fits tree k h =
+      let line = from_before fits word number room call kinds.Semicolon h.0 k h.1 in
+      let called = call_fits h.0 line.0 line.1 in
+      subst (λ t. FitStatement t k) (sym h.2) (record { written = called.written; few = omega (arith, called.few, line.2); nested = called.nested })
 
   receive_fits : (tree : StatementTree) (k : ℕ) → Having receive tree k → FitStatement tree k
   unfolding receive
@@ -388,24 +355,33 @@ module _ (fits : ℕ → Type 0) (word : List ℕ → Type 0) (number : ℕ → 
   statement_fits tree k h = elim h [
     | inl one ↦ declare_fits tree k one
     | inr h ↦ elim h [
-      | inl one ↦ named_fits tree k one
+      | inl one ↦ declare_array_fits tree k one
       | inr h ↦ elim h [
-        | inl one ↦ receive_fits tree k one
+        | inl one ↦ assign_fits tree k one
         | inr h ↦ elim h [
-          | inl one ↦ send_fits tree k one
+          | inl one ↦ assign_element_fits tree k one
           | inr h ↦ elim h [
-            | inl one ↦ conditional_fits tree k one
+            | inl one ↦ call_statement_fits tree k one
             | inr h ↦ elim h [
-              | inl one ↦ while_fits tree k one
+              | inl one ↦ receive_fits tree k one
               | inr h ↦ elim h [
-                | inl one ↦ break_fits tree k one
+                | inl one ↦ send_fits tree k one
                 | inr h ↦ elim h [
-                  | inl one ↦ continue_fits tree k one
+                  | inl one ↦ conditional_fits tree k one
                   | inr h ↦ elim h [
-                    | inl one ↦ throw_fits tree k one
+                    | inl one ↦ while_fits tree k one
                     | inr h ↦ elim h [
-                      | inl one ↦ return_fits tree k one
-                      | inr h ↦ elim h [ inl one ↦ attempt_fits tree k one | inr one ↦ nested_fits tree k one ]
+                      | inl one ↦ break_fits tree k one
+                      | inr h ↦ elim h [
+                        | inl one ↦ continue_fits tree k one
+                        | inr h ↦ elim h [
+                          | inl one ↦ throw_fits tree k one
+                          | inr h ↦ elim h [
+                            | inl one ↦ return_fits tree k one
+                            | inr h ↦ elim h [ inl one ↦ attempt_fits tree k one | inr one ↦ nested_fits tree k one ]
+                          ]
+                        ]
+                      ]
                     ]
                   ]
                 ]

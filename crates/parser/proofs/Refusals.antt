@@ -6,7 +6,7 @@ use Rattle.parser.specs.declared.fault.ParseRefusal.{ParseRefusal}
 use Rattle.parser.specs.declared.fault.ParseRefusalKind.{ParseRefusalKind}
 use Rattle.parser.specs.declared.fault.ParseRefusalKind.TheVariants.{UnexpectedToken, TooDeep}
 use Rattle.parser.specs.Reading.{read}
-use Rattle.parser.specs.Refusal.{IsPrefixWithin, IsPrefixOfProgram, IsUnexpectedAt, IsTooDeepAt, IsRefusedAt, AreTokensRefused}
+use Rattle.parser.specs.Refusal.{IsPrefixWithin, IsPrefixOfProgram, IsRefusedFor, AreTokensRefused}
 use Rattle.syntax.specs.Grammar.{SpellsProgram, SpellsBut, program}
 use Rattle.syntax.specs.Tree.{ProgramTree}
 use Rattle.parser.proofs.Growing.{grows}
@@ -49,49 +49,10 @@ order (first ∷ a) x b [] y d e = after a (ap (λ one. one ∷ a) (same_heads f
 order (first ∷ a) x b (other ∷ c) y d e =
     longer first other a x c y (same_heads first other (a ++ x ∷ b) (c ++ y ∷ d) e) (order a x b c y d (same_tails first other (a ++ x ∷ b) (c ++ y ∷ d) e))
 
--- a token at fault: what stands before it begins a program within the levels, and with it begins none
-record Stop (tokens : List Terminal) (at : ℕ) : Type 0 where
-  front : List Terminal
-  token : Terminal
-  after : List Terminal
-  split : tokens ≡ front ++ token ∷ after
-  place : token.start ≡ at
-  begun : IsPrefixWithin front
-  stopped : IsPrefixWithin (front ++ token ∷ []) → ⊥
-
-abbrev stop_of : (tokens : List Terminal) (kind : ParseRefusalKind) (at : ℕ) → IsRefusedAt kind tokens at → Stop tokens at
-stop_of tokens UnexpectedToken at u = record {
-  front = u.before;
-  token = u.token;
-  after = u.after;
-  split = u.split;
-  place = u.place;
-  begun = u.begun;
-  stopped = λ b. u.unexpected (within_prefix (u.before ++ u.token ∷ []) b);
-}
-stop_of tokens TooDeep at u = record {
-  front = u.before;
-  token = u.token;
-  after = u.after;
-  split = u.split;
-  place = u.place;
-  begun = u.begun;
-  stopped = u.too_deep;
-}
-
-module _ (tokens : List Terminal) (at place : ℕ) (one : Stop tokens at) (other : Stop tokens place) where
-  by_order : Order one.front one.token other.front other.token → (one.front ≡ other.front) × (one.token ≡ other.token)
-  by_order (same e f) = (e, f)
-  by_order (before between e) =
-      absurd (one.stopped (within_front (one.front ++ one.token ∷ []) between (subst IsPrefixWithin e other.begun)))
-  by_order (after between e) =
-      absurd (other.stopped (within_front (other.front ++ other.token ∷ []) between (subst IsPrefixWithin e one.begun)))
-
-  one_stop : (one.front ≡ other.front) × (one.token ≡ other.token)
-  one_stop = by_order (order one.front one.token one.after other.front other.token other.after (sym one.split ∙ other.split))
-
-  one_place : at ≡ place
-  one_place = sym one.place ∙ (ap (λ (token : Terminal). token.start) one_stop.1 ∙ other.place)
+-- what is refused at its last token begins no program within the levels
+none_within : (kind : ParseRefusalKind) (tokens : List Terminal) → IsRefusedFor kind tokens → IsPrefixWithin tokens → ⊥
+none_within UnexpectedToken tokens refused b = refused (within_prefix tokens b)
+none_within TooDeep tokens refused b = refused.1 b
 
 abbrev up_to : List Terminal → Terminal → List Terminal
 up_to front token = front ++ token ∷ []
@@ -100,27 +61,33 @@ same_front : (a c : List Terminal) (x y : Terminal) → a ≡ c → x ≡ y → 
 same_front a c x y e f = ap (λ list. up_to list x) e ∙ ap (up_to c) f
 
 -- no token is both unexpected and too deep
-not_two : (tokens : List Terminal) (at place : ℕ) → IsUnexpectedAt tokens at → IsTooDeepAt tokens place → ⊥
-not_two tokens at place u d =
-    let s = one_stop tokens at place (stop_of tokens UnexpectedToken at u) (stop_of tokens TooDeep place d) in
-    u.unexpected (subst IsPrefixOfProgram (sym (same_front u.before d.before u.token d.token s.0 s.1)) d.expected)
+one_kind : (kind other : ParseRefusalKind) (front next : List Terminal) → front ≡ next → IsRefusedFor kind front → IsRefusedFor other next → kind ≡ other
+one_kind UnexpectedToken UnexpectedToken front next e r s = refl
+one_kind UnexpectedToken TooDeep front next e r s = absurd (r (subst IsPrefixOfProgram (sym e) s.0))
+one_kind TooDeep UnexpectedToken front next e r s = absurd (s (subst IsPrefixOfProgram e r.0))
+one_kind TooDeep TooDeep front next e r s = refl
 
-one_kind : (tokens : List Terminal) (kind other : ParseRefusalKind) (at place : ℕ) → IsRefusedAt kind tokens at → IsRefusedAt other tokens place → kind ≡ other
-one_kind tokens UnexpectedToken UnexpectedToken at place r s = refl
-one_kind tokens UnexpectedToken TooDeep at place r s = absurd (not_two tokens at place r s)
-one_kind tokens TooDeep UnexpectedToken at place r s = absurd (not_two tokens place at s r)
-one_kind tokens TooDeep TooDeep at place r s = refl
+module _ (tokens : List Terminal) (refusal other : ParseRefusal) (r : AreTokensRefused tokens refusal) (s : AreTokensRefused tokens other) where
+  by_order : Order r.before r.token s.before s.token → (r.before ≡ s.before) × (r.token ≡ s.token)
+  by_order (same e f) = (e, f)
+  by_order (before between e) =
+      absurd (none_within refusal.kind (up_to r.before r.token) r.stops (within_front (up_to r.before r.token) between (subst IsPrefixWithin e s.goes_on)))
+  by_order (after between e) =
+      absurd (none_within other.kind (up_to s.before s.token) s.stops (within_front (up_to s.before s.token) between (subst IsPrefixWithin e r.goes_on)))
 
-pub one_refusal : (tokens : List Terminal) (refusal other : ParseRefusal) → AreTokensRefused tokens refusal → AreTokensRefused tokens other → refusal ≡ other
-one_refusal tokens refusal other r s =
-    let kind = one_kind tokens refusal.kind other.kind refusal.at other.at r s in
-    let at = one_place tokens refusal.at other.at (stop_of tokens refusal.kind refusal.at r) (stop_of tokens other.kind other.at s) in
-    ap (λ d. record { kind = d; at = refusal.at }) kind ∙ ap (λ place. record { kind = other.kind; at = place }) at
+  one_stop : (r.before ≡ s.before) × (r.token ≡ s.token)
+  one_stop = by_order (order r.before r.token r.after s.before s.token s.after (sym r.tokens_are ∙ s.tokens_are))
+
+  pub one_refusal : refusal ≡ other
+  one_refusal =
+      let kind = one_kind refusal.kind other.kind (up_to r.before r.token) (up_to s.before s.token)
+      (same_front r.before s.before r.token s.token one_stop.0 one_stop.1) r.stops s.stops in
+      let at : refusal.at ≡ other.at = r.place ∙ (ap (λ (token : Terminal). token.start) one_stop.1 ∙ sym s.place) in
+      ap (λ d. record { kind = d; at = refusal.at }) kind ∙ ap (λ place. record { kind = other.kind; at = place }) at
 
 pub spelled_not_refused : (tokens : List Terminal) (tree : ProgramTree) (refusal : ParseRefusal) → SpellsProgram tokens tree → AreTokensRefused tokens refusal → ⊥
 spelled_not_refused tokens tree refusal spelled r =
-    let stop = stop_of tokens refusal.kind refusal.at r in
-    stop.stopped (spelled_front (stop.front ++ stop.token ∷ []) stop.after tree (subst (λ list. SpellsProgram list tree) (stop.split ∙ sym (append_assoc stop.front (stop.token ∷ []) stop.after)) spelled))
+    none_within refusal.kind (up_to r.before r.token) r.stops (spelled_front (up_to r.before r.token) r.after tree (subst (λ list. SpellsProgram list tree) (r.tokens_are ∙ sym (append_assoc r.before (r.token ∷ []) r.after)) spelled))
 
 decided : (tokens : List Terminal) (found : Result (ProgramTree × List Terminal) ParseRefusal) → Verdict tokens found → ((tree : ProgramTree) × SpellsProgram tokens tree) ⊎ ((refusal : ParseRefusal) × AreTokensRefused tokens refusal)
 decided tokens (Ok found) v = inl (found.0, v.0)

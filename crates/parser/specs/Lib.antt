@@ -5,5 +5,6 @@ pub use Rattle.syntax.specs.Symbol
 pub use Rattle.syntax.specs.Tree
 pub mod RefusalKinds
 pub mod Laws
+pub mod Factored
 pub mod Reading
 pub mod Refusal

@@ -3,7 +3,8 @@ ghost use Rattle.lexer.specs.Terminal.{terminals_of};
 ghost use Rattle.lexer.specs.declared.token.Kind.TheVariants.{Comma, Else, Assign, OpenParenthesis};
 ghost use Rattle.syntax.specs.Form.{many, ◌·◌, ◌gives◌};
 ghost use Rattle.syntax.specs.Grammar.{expression, expressions, arguments, integer, condition, size, receive, send, conditional, while_statement, break_statement, continue_statement, throw_statement, return_statement, returned, attempt, nested, block, otherwise, catch, catches, index, separated, ◌▸◌, ◌◂◌};
-ghost use Rattle.syntax.specs.Tree.{name_tree, optional_label_tree, expression_tree, optional_expression_tree, right_tree, size_tree, statement_tree, block_tree, optional_block_tree, catch_tree, AtIndexTree};
+ghost use Rattle.syntax.specs.Tree.{name_tree, optional_label_tree, expression_tree, optional_expression_tree, right_tree, size_tree, statement_tree, block_tree, optional_block_tree, catch_tree};
+ghost use Rattle.parser.specs.Factored.{AtIndexTree};
 ghost use Rattle.parser.specs.Reading.{IsRead, read, maps, right_read, right_after, is_at, first_read, first_tree, after_read, after_tree, declare_read, named_read, statement_read, begins_statement, begins_expression, kind_at};
 
 use crate::cursor::Parser;

@@ -1,27 +1,25 @@
 -- The exceptions of a well-formed program are below their count: which pieces of a piece that fits fit too.
-use Rattle.std.proofs.Common.{◌≡◌, sym, ap, ◌∙◌, subst, ℕ, zero, suc, ◌+◌, ◌<◌, ◌≤◌, List, [], ◌∷◌, map, get_or, length, arith, true, ◌&&◌}
+use Rattle.std.proofs.Common.{◌≡◌, sym, ap, ◌∙◌, subst, ℕ, zero, suc, ◌+◌, ◌<◌, List, [], ◌∷◌, map, get_or, length, arith, true, ◌&&◌}
 use Rattle.std.specs.Prelude.{IsTrue, not, ◌==◌, string_bytes}
 use Rattle.std.specs.List.{list_all, list_any}
-use Rattle.std.proofs.lemmas.Bool.{and_parts, ltb-true, leb-true}
+use Rattle.std.proofs.lemmas.Bool.{and_parts, ltb-true}
 use Rattle.std.proofs.lemmas.List.{length-map}
 use Rattle.std.proofs.lemmas.List.Elements.{All-cons, All-nil}
 use Rattle.common.specs.declared.exceptions.TheConstants.{BUILT_IN}
-use Rattle.common.specs.declared.limits.TheConstants.{MAX_TEXT}
 use Rattle.labels.specs.Label.{Label}
 use Rattle.labels.specs.LabelTable.{label_at}
 use Rattle.resolved.specs.CoreOf.{program_of}
 use Rattle.resolved.specs.declared.program.Core.{Core}
 use Rattle.resolved.specs.declared.statement.Handler.{Handler}
 use Rattle.resolved.specs.declared.statement.Statement as S
-use Rattle.resolved.specs.declared.statement.Exit.TheVariants.{Throw}
 use Rattle.resolved.specs.declared.tables.Procedure.{Procedure}
 use Rattle.resolved.specs.declared.tables.Thrown.{Thrown}
 use Rattle.resolved.specs.declared.expression.Base.TheVariants.{Boolean}
 use Rattle.resolved.specs.Program.{ProcedureEntry, Program, ThrownEntry}
 use Rattle.resolved.specs.ProgramOf.{procedure_entry, thrown_entry}
-use Rattle.resolved.specs.Tree.{Expression, Statement, If, While, Leave, Try, Nested, Block, Handlers}
+use Rattle.resolved.specs.Tree.{Expression, Statement, If, While, Try, Nested, Block, Handlers}
 use Rattle.resolved.specs.TreeOf.{block_of, handlers_of, statement_of}
-use Rattle.resolved.specs.WellFormed.{block_fits, handlers_fit, has_base, is_exception, label_fits, procedure_fits, program_nodes, statement_fits, throws_fit}
+use Rattle.resolved.specs.WellFormed.{block_fits, handlers_fit, has_base, is_exception, label_fits, procedure_fits, statement_fits, throws_fit}
 use Rattle.resolved.proofs.WellFormedParts.{procedure_parts, program_parts}
 use Rattle.path_map.specs.Walks.{AreThrownInside, BlockFits, FitsSome, exception_count}
 

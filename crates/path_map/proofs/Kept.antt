@@ -3,7 +3,7 @@ use Rattle.std.proofs.Common.{◌≡◌, ◌≢◌, refl, sym, ap, ◌∙◌, su
 use Rattle.std.specs.Prelude.{◌==◌, slice_index_or}
 use Rattle.std.proofs.lemmas.Bool.{eqb-true, eqb-false, ne_eqb, ltb-true, ltb-false}
 use Rattle.std.proofs.Math.Bool.{or-false, and-true, and-false}
-use Rattle.std.proofs.lemmas.List.{get_or_past, length-append, length-map}
+use Rattle.std.proofs.lemmas.List.{get_or_past, length-map}
 use Rattle.resolved.specs.declared.statement.Exit.{Exit}
 use Rattle.resolved.specs.declared.statement.Exit.TheVariants.{Normal, Return, Break, Continue, Throw}
 use Rattle.resolved.specs.Ends.{same_exit, has_end, thrown_ends}
@@ -11,9 +11,12 @@ use Rattle.path_map.specs.declared.exits.Raised.{Raised}
 use Rattle.path_map.specs.declared.exits.Raised.TheVariants.{Nothing, One, Several}
 use Rattle.path_map.specs.Exits.{Exits}
 use Rattle.path_map.specs.declared.members.ExceptionSet.{ExceptionSet}
+use Rattle.path_map.specs.declared.keeping.KeptRow.{KeptRow}
 use Rattle.path_map.specs.declared.table.EndsEntry.{EndsEntry}
 use Rattle.path_map.specs.Exits.{exits_of, raised_by, thrown_in}
-use Rattle.path_map.specs.Entries.{below, listed, row_at, exceptions_at, end_if, entry_ends, IsKept, AreKept, RowsGrow, IsRowFor, IsRowOf, HasExits, IsPut}
+use Rattle.path_map.specs.Entries.{exceptions_at, end_if, entry_ends, IsKept, AreKept, RowsGrow, IsRowFor, HasExits, IsPut}
+use Rattle.path_map.specs.Listed.{below, listed}
+use Rattle.path_map.specs.RowLists.{row_at}
 use Rattle.path_map.specs.Joins.{only_raised}
 use Rattle.path_map.specs.PathMaps.{value_at}
 use Rattle.path_map.specs.ThrownEnds.{is_raised}
@@ -70,7 +73,7 @@ if-has : (test : Bool) (x : Exit) (rest : List Exit) (exit : Exit)
 if-has true x rest exit = refl
 if-has false x rest exit = refl
 
-module _ (rows : List ExceptionSet) (entry : EndsEntry) where
+module _ (rows : List KeptRow) (entry : EndsEntry) where
   raised : List ℕ
   raised = exceptions_at rows entry.row entry.exits.raised
 
@@ -129,13 +132,13 @@ module _ (rows : List ExceptionSet) (entry : EndsEntry) where
       ∙ throws-thrown raised e)
 
 -- more rows
-exceptions-same : (old new : List ExceptionSet) (row : ℕ) (raised : Raised) → row_at new row ≡ row_at old row
+exceptions-same : (old new : List KeptRow) (row : ℕ) (raised : Raised) → row_at new row ≡ row_at old row
     → exceptions_at new row raised ≡ exceptions_at old row raised
 exceptions-same old new row Nothing same = refl
 exceptions-same old new row (One e) same = refl
 exceptions-same old new row Several same = same
 
-module _ (old new : List ExceptionSet) (grown : RowsGrow old new) where
+module _ (old new : List KeptRow) (grown : RowsGrow old new) where
   ends-same : (entry : EndsEntry) → IsKept old entry → entry_ends new entry ≡ entry_ends old entry
   ends-same entry kept =
       ap (λ es. end_if entry.exits.normal Normal ++ (end_if entry.exits.returns Return ++ (end_if entry.exits.breaks Break
@@ -156,72 +159,56 @@ module _ (old new : List ExceptionSet) (grown : RowsGrow old new) where
   kept-grown [] kept = tt
   kept-grown (entry ∷ entries) kept = (one-grown entry kept.0, kept-grown entries kept.1)
 
-row-last : (rows : List ExceptionSet) (set : ExceptionSet) → row_at (rows ++ set ∷ []) (length rows) ≡ listed set
-row-last [] set = refl
-row-last (x ∷ rows) set = row-last rows set
-
-pub pushed-row : (rows : List ExceptionSet) (set : ExceptionSet) → IsRowOf (members set) (rows ++ set ∷ []) (length rows)
-pushed-row rows set = record {
-  there = omega (arith, length-append rows (set ∷ []));
-  same = λ e. ap (λ list. is_one_of list e) (row-last rows set) ∙ listed-has set e;
-}
-
-pub row-is : (rows : List ExceptionSet) (row : ℕ) (set none : ExceptionSet) → row < length rows → set ≡ get_or rows row none → row_at rows row ≡ listed set
-row-is [] row set none there is = absurd (omega arith)
-row-is (x ∷ rows) zero set none there is = ap listed (sym is)
-row-is (x ∷ rows) (suc row) set none there is = row-is rows row set none (omega arith) is
-
 -- the ends of an entry, as its path map has them
-raised-among : (rows : List ExceptionSet) (row : ℕ) (set : ExceptionSet) (raised : Raised) (x : ℕ) → row_at rows row ≡ listed set
-    → is_raised raised set x ≡ is_one_of (exceptions_at rows row raised) x
-raised-among rows row set Nothing x is = refl
-raised-among rows row set (One only) x is = sym (or-false (x == only))
-raised-among rows row set Several x is = sym (listed-has set x) ∙ ap (λ list. is_one_of list x) (sym is)
+raised-among : (rows : List KeptRow) (row : ℕ) (raised : Raised) (x : ℕ) → is_raised raised rows row x ≡ is_one_of (exceptions_at rows row raised) x
+raised-among rows row Nothing x = refl
+raised-among rows row (One only) x = sym (or-false (x == only))
+raised-among rows row Several x = refl
 
-pub entry-value : (rows : List ExceptionSet) (entry : EndsEntry) (set : ExceptionSet) → row_at rows entry.row ≡ listed set
-    → (exit : Exit) → value_at (λ (raised : Raised). is_raised entry.exits.raised set) entry.exits exit ≡ has_end (entry_ends rows entry) exit
-entry-value rows entry set is Normal = sym (entry-normal rows entry)
-entry-value rows entry set is Return = sym (entry-returns rows entry)
-entry-value rows entry set is Break = sym (entry-breaks rows entry)
-entry-value rows entry set is Continue = sym (entry-continues rows entry)
-entry-value rows entry set is (Throw x) = raised-among rows entry.row set entry.exits.raised x is ∙ sym (entry-raised rows entry x)
+pub entry-value : (rows : List KeptRow) (entry : EndsEntry) (exit : Exit)
+    → value_at (λ (raised : Raised). is_raised entry.exits.raised rows entry.row) entry.exits exit ≡ has_end (entry_ends rows entry) exit
+entry-value rows entry Normal = sym (entry-normal rows entry)
+entry-value rows entry Return = sym (entry-returns rows entry)
+entry-value rows entry Break = sym (entry-breaks rows entry)
+entry-value rows entry Continue = sym (entry-continues rows entry)
+entry-value rows entry (Throw x) = raised-among rows entry.row entry.exits.raised x ∙ sym (entry-raised rows entry x)
 
 -- more entries
-pub kept-append : (rows : List ExceptionSet) (entries : List EndsEntry) (entry : EndsEntry) → AreKept rows entries → IsKept rows entry → AreKept rows (entries ++ entry ∷ [])
+pub kept-append : (rows : List KeptRow) (entries : List EndsEntry) (entry : EndsEntry) → AreKept rows entries → IsKept rows entry → AreKept rows (entries ++ entry ∷ [])
 kept-append rows [] entry kept one = (one, tt)
 kept-append rows (x ∷ entries) entry kept one = (kept.0, kept-append rows entries entry kept.1 one)
 
-kept-set : (rows : List ExceptionSet) (entries : List EndsEntry) (at : ℕ) (entry : EndsEntry) → AreKept rows entries → IsKept rows entry → AreKept rows (set entries at entry)
+kept-set : (rows : List KeptRow) (entries : List EndsEntry) (at : ℕ) (entry : EndsEntry) → AreKept rows entries → IsKept rows entry → AreKept rows (set entries at entry)
 kept-set rows [] at entry kept one = tt
 kept-set rows (x ∷ entries) zero entry kept one = (one, kept.1)
 kept-set rows (x ∷ entries) (suc at) entry kept one = (kept.0, kept-set rows entries at entry kept.1 one)
 
-view-set : (rows : List ExceptionSet) (entries : List EndsEntry) (at : ℕ) (entry : EndsEntry)
+view-set : (rows : List KeptRow) (entries : List EndsEntry) (at : ℕ) (entry : EndsEntry)
     → map (entry_ends rows) (set entries at entry) ≡ set (map (entry_ends rows) entries) at (entry_ends rows entry)
 view-set rows [] at entry = refl
 view-set rows (x ∷ entries) zero entry = refl
 view-set rows (x ∷ entries) (suc at) entry = ap (λ xs. entry_ends rows x ∷ xs) (view-set rows entries at entry)
 
-pub exits-at : (rows : List ExceptionSet) (entries : List EndsEntry) (number : ℕ) (none : EndsEntry) → AreKept rows entries → number < length entries
+pub exits-at : (rows : List KeptRow) (entries : List EndsEntry) (number : ℕ) (none : EndsEntry) → AreKept rows entries → number < length entries
     → (get_or entries number none).exits ≡ exits_of (slice_index_or (map (entry_ends rows) entries) number [])
 exits-at rows [] number none kept there = absurd (omega arith)
 exits-at rows (x ∷ entries) zero none kept there = kept.0.summary
 exits-at rows (x ∷ entries) (suc number) none kept there = exits-at rows entries number none kept.1 (omega arith)
 
 -- an entry that is read
-kept-at : (rows : List ExceptionSet) (entries : List EndsEntry) (number : ℕ) (none : EndsEntry) → AreKept rows entries → number < length entries
+kept-at : (rows : List KeptRow) (entries : List EndsEntry) (number : ℕ) (none : EndsEntry) → AreKept rows entries → number < length entries
     → (get_or entries number none).row < length rows
 kept-at rows [] number none kept there = absurd (omega arith)
 kept-at rows (x ∷ entries) zero none kept there = kept.0.there
 kept-at rows (x ∷ entries) (suc number) none kept there = kept-at rows entries number none kept.1 (omega arith)
 
-ends-at : (rows : List ExceptionSet) (entries : List EndsEntry) (number : ℕ) (none : EndsEntry) → number < length entries
+ends-at : (rows : List KeptRow) (entries : List EndsEntry) (number : ℕ) (none : EndsEntry) → number < length entries
     → entry_ends rows (get_or entries number none) ≡ slice_index_or (map (entry_ends rows) entries) number []
 ends-at rows [] number none there = absurd (omega arith)
 ends-at rows (x ∷ entries) zero none there = refl
 ends-at rows (x ∷ entries) (suc number) none there = ends-at rows entries number none (omega arith)
 
-module _ (rows : List ExceptionSet) (entries : List EndsEntry) (found : List (List Exit)) (number : ℕ) (entry none : EndsEntry)
+module _ (rows : List KeptRow) (entries : List EndsEntry) (found : List (List Exit)) (number : ℕ) (entry none : EndsEntry)
     (is : entry ≡ get_or entries number none) (view : map (entry_ends rows) entries ≡ found) (there : number < length found) where
   inside : number < length entries
   inside = omega (arith, there, ap length view, length-map entries (entry_ends rows))
@@ -244,7 +231,7 @@ one-exception set x e only = go (e == x) refl (set e) refl
     go false f false g = rw (f, g) refl
     go false f true g = absurd (eqb-false e x f (only.only e g))
 
-module _ (rows : List ExceptionSet) (exits : Exits) (set : ℕ → Bool) (row : ℕ) (raised : Raised) (there : row < length rows) (sum : IsSummaryOf set raised)
+module _ (rows : List KeptRow) (exits : Exits) (set : ℕ → Bool) (row : ℕ) (raised : Raised) (there : row < length rows) (sum : IsSummaryOf set raised)
     (of : raised ≡ Several → (e : ℕ) → is_one_of (row_at rows row) e ≡ set e) where
   written : EndsEntry
   written = record { exits = record exits { raised = raised }; row = row }
@@ -276,7 +263,7 @@ module _ (rows : List ExceptionSet) (exits : Exits) (set : ℕ → Bool) (row : 
             rw (written-has.normal, written-has.returns, written-has.breaks, written-has.continues, sym is) refl;
       }
 
-module _ (old new : List ExceptionSet) (entries : List EndsEntry) (at : ℕ) (exits given : Exits) (raises : ℕ → Bool) (row : ℕ) (raised : Raised)
+module _ (old new : List KeptRow) (entries : List EndsEntry) (at : ℕ) (exits given : Exits) (raises : ℕ → Bool) (row : ℕ) (raised : Raised)
     (grown : RowsGrow old new) (kept : AreKept old entries) (of : IsRowFor raises raised new row) (sum : IsSummaryOf raises raised)
     (is : given ≡ record exits { raised = raised }) where
   pub put-is : IsPut at exits raises (map (entry_ends old) entries) (map (entry_ends new) (set entries at (record { exits = given; row = row })))
@@ -298,8 +285,8 @@ module _ (old new : List ExceptionSet) (entries : List EndsEntry) (at : ℕ) (ex
       (written-kept new exits raises row raised of.there sum of.same))
 
 -- an entry for which room is made
-pub room-kept : (rows : List ExceptionSet) (given : Exits) → given ≡ only_raised Nothing → 0 < length rows → IsKept rows (record { exits = given; row = 0 })
+pub room-kept : (rows : List KeptRow) (given : Exits) → given ≡ only_raised Nothing → 0 < length rows → IsKept rows (record { exits = given; row = 0 })
 room-kept rows given is some = rw is (record { there = some; summary = refl })
 
-pub no-row : (rows : List ExceptionSet) (set : ℕ → Bool) (summary : Raised) → 0 < length rows → (summary ≡ Several → ⊥) → IsRowFor set summary rows 0
+pub no-row : (rows : List KeptRow) (set : ℕ → Bool) (summary : Raised) → 0 < length rows → (summary ≡ Several → ⊥) → IsRowFor set summary rows 0
 no-row rows set summary some none = record { there = some; same = λ several. absurd (none several) }

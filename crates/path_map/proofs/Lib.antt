@@ -7,6 +7,7 @@ pub mod Single
 pub mod Alike
 pub mod Pieces
 pub mod Kept
+pub mod RowLists
 pub mod Walking
 pub mod Forms
 pub mod Procedures

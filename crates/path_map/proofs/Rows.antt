@@ -1,16 +1,14 @@
 -- Rows of truth values: one number added or taken out, two rows put together, and the summary of a row; and literals.
-use Rattle.std.proofs.Common.{◌≡◌, ◌≢◌, refl, sym, ap, ◌∙◌, ℕ, zero, suc, ◌+◌, ◌-◌, ◌%◌, ◌<◌, ◌≤◌, List, [], ◌∷◌, replicate, Bool, true, false, not, ◌&&◌, ◌||◌, length, set, get_or, get_or-set_other, get_or-set_same, nat_eq, arith, rules, ⊎_elim}
-use Rattle.std.specs.Prelude.{◌==◌, pos, negsuc, IsTrue, None}
+use Rattle.std.proofs.Common.{◌≡◌, refl, sym, ap, ◌∙◌, ℕ, zero, suc, ◌-◌, ◌%◌, ◌<◌, ◌≤◌, List, [], ◌∷◌, replicate, Bool, true, false, not, ◌&&◌, ◌||◌, length, set, get_or, get_or-set_other, get_or-set_same, nat_eq, arith, rules}
+use Rattle.std.specs.Prelude.{◌==◌, pos, negsuc}
 use Rattle.std.specs.Int.{int_wrap}
 use mir.Val.{to_z}
 use Rattle.std.proofs.Math.Facts.{to_z-neg}
 use Rattle.std.proofs.lemmas.Int.{int_wrap_fits}
-use Rattle.std.proofs.lemmas.Bool.{eqb-true, eqb-false, cases_lt, cases_eq}
-use Rattle.std.proofs.lemmas.List.{get_or_past}
-use Rattle.std.proofs.Math.Bool.{or-true, or-false, and-true, and-false}
+use Rattle.std.proofs.lemmas.Bool.{eqb-true, eqb-false}
+use Rattle.std.proofs.Math.Bool.{or-true, or-false}
 use mir.Syntax.{w32}
-use Rattle.labels.specs.Row.{FirstBeyond, Includes, IsFirstBeyond, has, union}
-use Rattle.path_map.specs.Sets.{HasTwo, HasOnly}
+use Rattle.labels.specs.Row.{Includes, has, union}
 
 pub has-none : (n e : ℕ) → has (replicate n false) e ≡ false
 has-none zero e = refl

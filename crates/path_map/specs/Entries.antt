@@ -1,34 +1,22 @@
 -- What is kept of the ends of statements and blocks: a summary, and the number of a row of exceptions, where they are
 -- several.
 -- Source: our own.
-use Rattle.std.specs.Prelude.{◌≡◌, ℕ, zero, suc, ◌<◌, ◌≤◌, List, [], ◌∷◌, ◌++◌, Bool, length, map, filter, set, if◌then◌else◌, slice_index_or, ⊤}
+use Rattle.std.specs.Prelude.{◌≡◌, ℕ, ◌<◌, ◌≤◌, List, [], ◌∷◌, ◌++◌, Bool, length, set, if◌then◌else◌, Option, Some, None, ⊤}
 use Rattle.resolved.specs.declared.statement.Exit.{Exit}
 use Rattle.resolved.specs.declared.statement.Exit.TheVariants.{Normal, Return, Break, Continue}
 use Rattle.resolved.specs.Ends.{has_end, thrown_ends}
 use Rattle.path_map.specs.declared.exits.Raised.{Raised}
 use Rattle.path_map.specs.declared.exits.Raised.TheVariants.{Nothing, One, Several}
 use Rattle.path_map.specs.Exits.{Exits}
-use Rattle.path_map.specs.declared.members.ExceptionSet.{ExceptionSet}
+use Rattle.path_map.specs.declared.keeping.KeptRow.{KeptRow}
 use Rattle.path_map.specs.declared.table.EndsEntry.{EndsEntry}
 use Rattle.path_map.specs.Exits.{exits_of}
 use Rattle.path_map.specs.Exceptions.{is_one_of}
-use Rattle.path_map.specs.Sets.{members, throws}
-
--- the numbers below n
-abbrev pub below : ℕ → List ℕ
-below zero = []
-below (suc n) = n ∷ below n
-
--- the exceptions of a set
-abbrev pub listed : ExceptionSet → List ℕ
-listed set = filter (members set) (below set.bound)
-
--- the exceptions of a row of a table
-abbrev pub row_at : List ExceptionSet → (row : ℕ) → List ℕ
-row_at rows row = slice_index_or (map listed rows) row []
+use Rattle.path_map.specs.RowLists.{row_at}
+use Rattle.path_map.specs.Sets.{throws}
 
 -- the exceptions of a summary, where those that are several are in a row
-abbrev pub exceptions_at : List ExceptionSet → (row : ℕ) → Raised → List ℕ
+abbrev pub exceptions_at : List KeptRow → (row : ℕ) → Raised → List ℕ
 exceptions_at rows row Nothing = []
 exceptions_at rows row (One exception) = exception ∷ []
 exceptions_at rows row Several = row_at rows row
@@ -37,33 +25,38 @@ exceptions_at rows row Several = row_at rows row
 abbrev pub end_if : Bool → Exit → List Exit
 end_if test exit = if test then exit ∷ [] else []
 
-abbrev pub entry_ends : List ExceptionSet → EndsEntry → List Exit
+abbrev pub entry_ends : List KeptRow → EndsEntry → List Exit
 entry_ends rows entry =
     end_if entry.exits.normal Normal ++ (end_if entry.exits.returns Return
     ++ (end_if entry.exits.breaks Break ++ (end_if entry.exits.continues Continue
     ++ thrown_ends (exceptions_at rows entry.row entry.exits.raised))))
 
 -- an entry whose row is there, and whose summary is that of its ends
-pub record IsKept (rows : List ExceptionSet) (entry : EndsEntry) : Type 0 where
+pub record IsKept (rows : List KeptRow) (entry : EndsEntry) : Type 0 where
   pub there : entry.row < length rows
   pub summary : entry.exits ≡ exits_of (entry_ends rows entry)
 
-abbrev pub AreKept : List ExceptionSet → List EndsEntry → Type 0
+abbrev pub AreKept : List KeptRow → List EndsEntry → Type 0
 AreKept rows [] = ⊤
 AreKept rows (entry ∷ rest) = IsKept rows entry × AreKept rows rest
 
 -- rows after which others may have come
-pub record RowsGrow (old new : List ExceptionSet) : Type 0 where
+pub record RowsGrow (old new : List KeptRow) : Type 0 where
   pub more : length old ≤ length new
   pub same : (row : ℕ) → row < length old → row_at new row ≡ row_at old row
 
 -- a row of a table with these exceptions
-pub record IsRowOf (set : ℕ → Bool) (rows : List ExceptionSet) (row : ℕ) : Type 0 where
+pub record IsRowOf (set : ℕ → Bool) (rows : List KeptRow) (row : ℕ) : Type 0 where
   pub there : row < length rows
   pub same : (exception : ℕ) → is_one_of (row_at rows row) exception ≡ set exception
 
+-- the same, where there is one
+abbrev pub MayBeRowOf : (set : ℕ → Bool) → List KeptRow → Option ℕ → Type 0
+MayBeRowOf set rows None = ⊤
+MayBeRowOf set rows (Some row) = IsRowOf set rows row
+
 -- a row for a set with these exceptions and this summary: it has them, if they are several
-pub record IsRowFor (set : ℕ → Bool) (summary : Raised) (rows : List ExceptionSet) (row : ℕ) : Type 0 where
+pub record IsRowFor (set : ℕ → Bool) (summary : Raised) (rows : List KeptRow) (row : ℕ) : Type 0 where
   pub there : row < length rows
   pub same : summary ≡ Several → (exception : ℕ) → is_one_of (row_at rows row) exception ≡ set exception
 

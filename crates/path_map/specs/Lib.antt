@@ -9,6 +9,8 @@ pub mod Joins
 pub mod Kept
 pub mod Sets
 pub mod Rows
+pub mod Listed
+pub mod RowLists
 pub mod Entries
 pub mod ThrownEnds
 pub mod Walks

@@ -1,6 +1,6 @@
 -- Sets of exceptions, and the summary of such a set.
 -- Source: our own.
-use Rattle.std.specs.Prelude.{◌≡◌, ◌≢◌, ℕ, List, Bool, true, false, ◌||◌}
+use Rattle.std.specs.Prelude.{◌≡◌, ◌≢◌, ℕ, List, Bool, true, false, ◌||◌, Option, Some, None, ⊤}
 use Rattle.resolved.specs.declared.statement.Exit.{Exit}
 use Rattle.resolved.specs.declared.statement.Exit.TheVariants.{Throw}
 use Rattle.resolved.specs.Ends.{has_end}
@@ -47,6 +47,15 @@ AreDeclared set declared false = HasUndeclared set declared
 -- a set to which those of another one were added
 pub record IsSum (old added new : ℕ → Bool) : Type 0 where
   pub has : (exception : ℕ) → new exception ≡ (old exception || added exception)
+
+-- the same set with a bound, where there is one
+pub record IsCopy (old : ExceptionSet) (bound : ℕ) (new : ExceptionSet) : Type 0 where
+  pub bound_is : new.bound ≡ bound
+  pub same : (exception : ℕ) → members new exception ≡ members old exception
+
+abbrev pub MayBeCopy : ExceptionSet → (bound : ℕ) → Option ExceptionSet → Type 0
+MayBeCopy old bound None = ⊤
+MayBeCopy old bound (Some new) = IsCopy old bound new
 
 -- the exceptions among ends, as a set
 abbrev pub throws : List Exit → ℕ → Bool

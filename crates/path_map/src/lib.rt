@@ -4,10 +4,13 @@
 mod calls;
 pub mod exits;
 pub mod fault;
+mod keeping;
 pub mod map;
 mod members;
 pub mod raises;
+mod recent;
 mod set;
+mod sharing;
 pub mod table;
 mod walk;
 

@@ -35,7 +35,7 @@ pub fn ends(alloc: Global, core: &Core) -> Result<Ends, EndFault>
         (IsFirstEndFault (end_faults (program_of core.now)))) }
 {
     let walk = EndsWalk::along(alloc, core)?;
-    let mut table = Ends::new(alloc, core.procedures.len())?;
+    let mut table = Ends::new(alloc, walk.bound, core.procedures.len())?;
     for procedure in &core.procedures {
         walk_procedure(&walk, procedure, &mut table)?;
     }

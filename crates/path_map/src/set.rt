@@ -1,7 +1,7 @@
 //! Sets of exceptions.
 ghost use Rattle.labels.specs.Row.{has};
 ghost use Rattle.path_map.specs.Kept.{kept_has};
-ghost use Rattle.path_map.specs.Sets.{IsSummaryOf, IsSum, members};
+ghost use Rattle.path_map.specs.Sets.{IsSummaryOf, IsSum, MayBeCopy, members};
 ghost use Rattle.path_map.specs.declared.members.SetForm.TheVariants.{Single};
 ghost use Rattle.std.specs.Prelude.{IfOk, IsTrue, OnOk, false, length, not, ℕ, ◌&&◌, ◌^◌, ◌<◌, ◌==◌, ◌≡◌};
 
@@ -106,6 +106,27 @@ impl ExceptionSet {
         Ok(())
     }
 
+    // The same set once more, if it has this bound.
+    pub(crate) fn copy(&self, alloc: Global, bound: u32) -> Result<Option<ExceptionSet>, AllocError>
+        ensures { IfOk result (MayBeCopy self.now bound) }
+    {
+        if self.bound != bound {
+            return Ok(None);
+        }
+        let mut copied = ExceptionSet::new(alloc, bound);
+        copied.unite(self)?;
+        Ok(Some(copied))
+    }
+
+    // The first exception from a number on that this row has and another one has not.
+    pub(crate) fn first_beyond(&self, other: &ExceptionSet, from: usize) -> Option<u32> {
+        match (&self.kept, &other.kept) {
+            (SetForm::Many(row), SetForm::Many(others)) => first_of_row(row, others, from),
+            (SetForm::Many(row), SetForm::Empty) => first_of_all(row, from),
+            _ => None,
+        }
+    }
+
     // Whether both are rows of the same exceptions.
     pub(crate) fn is_same(&self, other: &ExceptionSet) -> bool
         ensures { IsTrue result → (exception : ℕ) →
@@ -129,6 +150,22 @@ impl ExceptionSet {
             SetForm::Many(row) => summary_of_row(row),
         }
     }
+}
+
+// The first exception from a number on that a row has and another one has not.
+fn first_of_row(row: &Row, others: &Row, from: usize) -> Option<u32>
+    requires { length row.now < 2 ^ 32 }
+{
+    let first = row.first_beyond(others, from)?;
+    Some(first as u32)
+}
+
+// The first exception from a number on that a row has.
+fn first_of_all(row: &Row, from: usize) -> Option<u32>
+    requires { length row.now < 2 ^ 32 }
+{
+    let first = row.first_from(from)?;
+    Some(first as u32)
 }
 
 // The row of two exceptions.

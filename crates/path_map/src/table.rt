@@ -9,8 +9,11 @@ ghost use Rattle.resolved.specs.declared.statement.Exit.{Exit};
 ghost use Rattle.std.specs.Prelude.{IfOk, OnOk, IsTrue, [], length, slice_index_or, ◌++◌, ◌<◌, ◌∷◌, ◌≡◌};
 
 use crate::exits::{ExceptionMap, Exits, PathMap, Raised};
+use crate::keeping::{KeptRow, RowForm, row_has};
 use crate::members::ExceptionSet;
 use crate::raises::Raises;
+use crate::recent::RecentRows;
+use crate::sharing::{Nearby, keep};
 use resolved::statement::Exit;
 use std::alloc::{AllocError, Global};
 use std::marker::Model;
@@ -26,8 +29,9 @@ struct EndsEntry {
 #[derive(Clone, Copy)]
 pub struct Exceptions<'a> {
     raised: Raised,
-    // Where they are several, these.
-    row: &'a ExceptionSet,
+    // Where they are several, those of the row with this number.
+    rows: &'a [KeptRow],
+    row: usize,
 }
 
 impl<'a> ExceptionMap<bool> for Exceptions<'a> {
@@ -37,7 +41,7 @@ impl<'a> ExceptionMap<bool> for Exceptions<'a> {
         match self.raised {
             Raised::Nothing => false,
             Raised::One(only) => exception == only,
-            Raised::Several => self.row.has(exception),
+            Raised::Several => row_has(self.rows, self.row, exception),
         }
     }
 }
@@ -45,14 +49,14 @@ impl<'a> ExceptionMap<bool> for Exceptions<'a> {
 /// The possible ends of each statement and block of a program, by their numbers: a block comes before its statements, and a statement
 /// before the blocks in it.
 ///
-/// Statements and blocks with the same exceptions share a row of them where they are one in the other, or calls of one procedure.
+/// Statements and blocks share rows of exceptions where they are one in the other, or calls of one procedure: the row of a statement that
+/// has few exceptions more or fewer than those in it takes memory for these alone.
 #[derive(Drop)]
 pub struct Ends {
     entries: Vec<EndsEntry>,
     // The first row is empty, and stands for those that are not several.
-    rows: Vec<ExceptionSet>,
-    // The last rows of calls, four for each procedure.
-    calls: Vec<usize>,
+    rows: Vec<KeptRow>,
+    recent: RecentRows,
 }
 
 impl Model for Ends {
@@ -69,21 +73,19 @@ impl Model for Ends {
 }
 
 impl Ends {
-    pub(crate) fn new(alloc: Global, procedures: usize) -> Result<Ends, AllocError>
+    // No ends, of a program with so many exceptions and procedures.
+    pub(crate) fn new(alloc: Global, bound: u32, procedures: usize) -> Result<Ends, AllocError>
         ensures { IfOk result (λ ends. ends ≡ []) }
     {
         let mut rows = Vec::new(alloc);
-        rows.push(ExceptionSet::new(alloc, 0))?;
-        let mut calls = Vec::new(alloc);
-        for _ in 0..procedures {
-            for _ in 0..4 {
-                calls.push(0)?;
-            }
-        }
+        rows.push(KeptRow {
+            steps: 0,
+            form: RowForm::Whole(ExceptionSet::new(alloc, bound)),
+        })?;
         Ok(Ends {
             entries: Vec::new(alloc),
             rows,
-            calls,
+            recent: RecentRows::new(alloc, bound, procedures)?,
         })
     }
 
@@ -112,13 +114,13 @@ impl Ends {
         ensures { OnOk result (IsPut at exits (members raised) self.old self.new) }
     {
         let summary = raised.summary();
-        let like = likely(self.calls.as_slice(), call, self.rows.len());
-        let row = row_of(&mut self.rows, raised, summary, like)?;
-        remember(&mut self.calls, call, row);
+        let nearby = self.recent.nearby(raised.alloc, at, call)?;
+        let row = row_of(&mut self.rows, raised, summary, &nearby)?;
         self.entries[at] = EndsEntry {
             exits: exits.with(summary),
             row,
         };
+        self.recent.note(at, call, row)?;
         Ok(())
     }
 
@@ -157,23 +159,23 @@ impl Ends {
 }
 
 // The ends of an entry.
-fn path_map_of<'a>(rows: &'a [ExceptionSet], entry: EndsEntry) -> PathMap<bool, Exceptions<'a>>
-    requires { entry.row < length rows.now }
+fn path_map_of<'a>(rows: &'a [KeptRow], entry: EndsEntry) -> PathMap<bool, Exceptions<'a>>
     ensures { (exit : Exit) → value_at has_exception result exit
         ≡ has_end (entry_ends rows.now entry) exit }
 {
     entry.exits.with_raised(Exceptions {
         raised: entry.exits.raised,
-        row: &rows[entry.row],
+        rows,
+        row: entry.row,
     })
 }
 
 // The number of a row for a set with this summary: of one of its exceptions, if they are several.
 fn row_of(
-    rows: &mut Vec<ExceptionSet>,
+    rows: &mut Vec<KeptRow>,
     set: ExceptionSet,
     summary: Raised,
-    like: usize,
+    nearby: &Nearby,
 ) -> Result<usize, AllocError>
     requires { 0 < length rows.old.items }
     ensures row { IfOk result (IsRowFor (members set) summary rows.new.items) }
@@ -182,57 +184,6 @@ fn row_of(
     match summary {
         Raised::Nothing => Ok(0),
         Raised::One(_) => Ok(0),
-        Raised::Several => keep(rows, set, like),
+        Raised::Several => keep(set.alloc, rows, set, nearby),
     }
-}
-
-// Keeps a set as a row, and gives its number. It stands for another set with the same exceptions, if that row is like it.
-fn keep(rows: &mut Vec<ExceptionSet>, set: ExceptionSet, like: usize) -> Result<usize, AllocError>
-    ensures kept { IfOk result (IsRowOf (members set) rows.new.items) }
-    ensures grown { RowsGrow rows.old.items rows.new.items }
-{
-    if is_like(rows, like, &set) {
-        return Ok(like);
-    }
-    let number = rows.len();
-    rows.push(set)?;
-    Ok(number)
-}
-
-// Whether a row has the exceptions of a set.
-fn is_like(rows: &[ExceptionSet], number: usize, set: &ExceptionSet) -> bool
-    ensures { IsTrue result → IsRowOf (members set.now) rows.now number }
-{
-    match rows.get(number) {
-        None => false,
-        Some(row) => row.is_same(set),
-    }
-}
-
-// The number of the row that is likely to have the exceptions of a statement or block: that of the last such call, or the last of so
-// many rows.
-fn likely(calls: &[usize], call: Option<(u32, Raises)>, rows: usize) -> usize {
-    match call {
-        None => rows.saturating_sub(1),
-        Some((callee, raised)) => match calls.get(place_of(callee, raised)) {
-            None => 0,
-            Some(row) => *row,
-        },
-    }
-}
-
-// Remembers the row of a call.
-fn remember(calls: &mut [usize], call: Option<(u32, Raises)>, row: usize) {
-    if let Some((callee, raised)) = call {
-        if let Some(index) = calls.get_mut(place_of(callee, raised)) {
-            *index = row;
-        }
-    }
-}
-
-// The index of the last row of a call of a procedure, with arguments that can raise these exceptions.
-fn place_of(callee: u32, raised: Raises) -> usize {
-    let arith = if raised.arith { 2 } else { 0 };
-    let bounds = if raised.bounds { 1 } else { 0 };
-    callee as usize * 4 + arith + bounds
 }

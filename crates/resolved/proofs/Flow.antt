@@ -1,11 +1,9 @@
 -- Every program is labelled or refused, and not both.
-use Rattle.std.proofs.Common.{◌≡◌, refl, sym, ap, ◌∙◌, subst, ℕ, Bool, true, false, not, ◌&&◌, ◌==◌, ◌||◌, List, [], ◌∷◌, ◌++◌, ◌⊎◌, inl, inr, ⊎_elim, ◌↔◌, arith}
-use Rattle.std.specs.Prelude.{IsTrue, IsFalse, Contains, Some, None, find}
-use Rattle.std.specs.List.{list_all}
+use Rattle.std.proofs.Common.{◌≡◌, refl, sym, ap, ◌∙◌, subst, ℕ, Bool, true, false, not, ◌&&◌, ◌==◌, List, [], ◌∷◌, ◌++◌, ◌⊎◌, inl, inr, ⊎_elim, ◌↔◌, arith}
+use Rattle.std.specs.Prelude.{IsTrue, IsFalse, Contains, Some}
 use Rattle.std.proofs.lemmas.Bool.{and_parts, not-false, not-true}
 use Rattle.principals.specs.ActsFor.{PrincipalHierarchy}
 use Rattle.std.proofs.lemmas.List.Elements.{Contains-append_cases}
-use Rattle.std.proofs.Math.Bool.{and-false, or-false}
 use Rattle.common.proofs.Elements.{Contains-later, Contains-first, none_in_nil}
 use Rattle.labels.specs.Label.{ReaderPolicy, Label, Covers, covers, flows}
 use Rattle.lattices.specs.Constraints.{Written, Unknown, Atom, is_written, value, join_of, holds, FitsAll, first_unmet, IsRefusedAt, StandsFor, OneByOne, outer, Linked, ends, renamed, reported_steps, reported_gathered}
@@ -16,7 +14,7 @@ use Rattle.labels.proofs.FlowTests.{IsLattice-flows}
 use Rattle.labels.proofs.Tests.{flows-decides, covers-decides}
 use Rattle.labels.proofs.Elements.{each_from_All}
 use Rattle.resolved.specs.Program.{Program}
-use Rattle.resolved.specs.Labelled.{Unwritten, OfLocal, OfLoop, Demand, chosen, Labelled, program_demands}
+use Rattle.resolved.specs.Labelled.{Unwritten, OfLocal, OfLoop, Demand, Labelled, program_demands}
 use Rattle.resolved.specs.Flow.{IsFlowChain, IsProgramRefused, AreLeast, Gathered, AreGathered, IsUncovered, reported_step}
 
 pub same_unwritten : Unwritten → Unwritten → Bool
@@ -54,7 +52,7 @@ pub chain-refuses : (program : Program) (policy : ReaderPolicy) (chain : List De
 chain-refuses program policy chain last is labelled =
     chain-rules_out (label_lattice program.hierarchy) (IsLattice-flows program.hierarchy) (program_demands program) is.from chain last
     (record { linked = is.linked; to = is.to; right_is = is.right_is; not_below = not_below (flows program.hierarchy is.from is.to) refl })
-    (chosen (record { locals = labelled.0; loops = labelled.1.0 })) labelled.1.1
+    labelled.0 labelled.1
   where
     not_below : (b : Bool) → flows program.hierarchy is.from is.to ≡ b → b ≡ false
     not_below false e = refl
@@ -73,24 +71,14 @@ uncovered h (policy ∷ rest) to e = go (covers h to policy) refl (uncovered h r
 
 -- labels for what has no written one make a labelling
 pub labelled-from : (program : Program) (labels : Unwritten → Label) → FitsAll (label_lattice program.hierarchy) (program_demands program) labels → Labelled program
-labelled-from program labels fits = (
-  λ f n. labels (OfLocal f n),
-  (
-    λ f n. labels (OfLoop f n),
-    subst (λ (l : Unwritten → Label). FitsAll (label_lattice program.hierarchy) (program_demands program) l) (λ i u. same u i) fits,
-  ),
-)
-  where
-    same : (u : Unwritten) → labels u ≡ chosen (record { locals = λ f n. labels (OfLocal f n); loops = λ f n. labels (OfLoop f n) }) u
-    same (OfLocal f n) = refl
-    same (OfLoop f n) = refl
+labelled-from program labels fits = (labels, fits)
 
 -- the least labels decide
 pub least-decide : (program : Program) (labels : Unwritten → Label) → AreLeast program labels →
     Labelled program ↔ FitsAll (label_lattice program.hierarchy) (program_demands program) labels
 least-decide program labels least = (
   λ labelled. least-fits (label_lattice program.hierarchy) (IsLattice-flows program.hierarchy) (program_demands program) labels least
-      (chosen (record { locals = labelled.0; loops = labelled.1.0 })) labelled.1.1,
+      labelled.0 labelled.1,
   λ fits. labelled-from program labels fits,
 )
 
@@ -197,7 +185,7 @@ module _ (program : Program) (cs : List Gathered) (gathered : AreGathered progra
   gathered-labelled = (
     λ labelled.
         let up = fits-up (program_demands program) cs gathered (label_lattice program.hierarchy) (IsLattice-flows program.hierarchy)
-        (λ (a b : ℕ). a == b) (λ a b e. grind (arith, e)) (λ a. grind arith) (chosen (record { locals = labelled.0; loops = labelled.1.0 })) labelled.1.1 in
+        (λ (a b : ℕ). a == b) (λ a b e. grind (arith, e)) (λ a. grind arith) labelled.0 labelled.1 in
         (up.0, up.1),
     λ found. labelled-from program (λ u. found.0 (gathered.number u))
         (fits-down (program_demands program) cs gathered (label_lattice program.hierarchy) (IsLattice-flows program.hierarchy) found.0 found.1),

@@ -1,6 +1,6 @@
 -- What fits a program and a procedure still fits others that have as much: the same channels, exceptions and signatures, and at least
 -- the variables. So a body that was built while the tables still grew fits the whole program.
-use Rattle.std.proofs.Common.{◌≡◌, refl, sym, ◌∙◌, ap, subst, ℕ, suc, ◌+◌, List, [], ◌∷◌, ◌++◌, length, Bool, true, false, ◌&&◌, ◌==◌, arith, add-zero}
+use Rattle.std.proofs.Common.{◌≡◌, refl, sym, ◌∙◌, ap, subst, ℕ, List, [], ◌∷◌, length, Bool, true, ◌&&◌}
 use Rattle.std.proofs.lemmas.Bool.{and_from, and_parts}
 use Rattle.std.specs.Prelude.{Option, Some, None, is_none, slice_get}
 use Rattle.resolved.specs.declared.expression.Base.{Base}
@@ -13,7 +13,7 @@ use Rattle.resolved.specs.declared.statement.Exit.{Exit}
 use Rattle.resolved.specs.declared.statement.Exit.TheVariants.{Normal, Return, Break, Continue, Throw}
 use Rattle.resolved.specs.Tree.{Expression, Integer, Logical, Read, Element, Unary, Binary, Short, Statement, Assign, Clear, Store, Receive, Send, Call, If, While, Leave, ReturnWith, Try, Nested, Block, Empty, Then, Handlers, NoMore, Catch}
 use Rattle.resolved.specs.Program.{Program, ProcedureEntry, ResultEntry, SlotEntry}
-use Rattle.resolved.specs.WellFormed.{VariableType, variable_type, scalar_by, has_length, array_by, is_array, same_base, prefix_base, operand_base, result_base, has_base, has_result, target_by, channel_is, arguments_match, parameters_of, call_matches, is_exception, may_leave_by, statement_fits, block_fits, handlers_fit, counts_from}
+use Rattle.resolved.specs.WellFormed.{VariableType, variable_type, scalar_by, has_length, array_by, is_array, same_base, prefix_base, operand_base, result_base, has_base, has_result, target_by, channel_is, arguments_match, parameters_of, call_matches, is_exception, may_leave_by, statement_fits, block_fits, handlers_fit}
 
 -- a program and a procedure that have as much as others
 pub record HasAsMuch (program : Program) (procedure : ProcedureEntry) (more : Program) (whole : ProcedureEntry) : Type 0 where

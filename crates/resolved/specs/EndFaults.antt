@@ -15,27 +15,11 @@ use Rattle.resolved.specs.Ends.{same_exit, has_end, thrown_ends, declared_by, st
 abbrev pub fault_unless : Bool → EndRefusalKind → (at : ℕ) → List EndRefusal
 fault_unless test kind at = if test then [] else (record { kind = kind; at = at } ∷ [])
 
--- whether a statement may stand here, in a loop or not
-abbrev pub may_leave : (in_loop : Bool) → Exit → Bool
-may_leave in_loop Normal = true
-may_leave in_loop Return = true
-may_leave in_loop Break = in_loop
-may_leave in_loop Continue = in_loop
-may_leave in_loop (Throw exception) = true
-
+-- whether a statement may stand here: `break` and `continue` in a loop, and every other statement anywhere
 abbrev pub may_stand : (in_loop : Bool) → Statement → Bool
-may_stand in_loop (Assign at x e) = true
-may_stand in_loop (Clear at slot) = true
-may_stand in_loop (Store at array length index e) = true
-may_stand in_loop (Receive at channel target) = true
-may_stand in_loop (Send at channel e) = true
-may_stand in_loop (Call at procedure arguments target) = true
-may_stand in_loop (If at e then_block else_block) = true
-may_stand in_loop (While at loop e body) = true
-may_stand in_loop (Leave at exit) = may_leave in_loop exit
-may_stand in_loop (ReturnWith at value) = true
-may_stand in_loop (Try at block handlers) = true
-may_stand in_loop (Nested at block) = true
+may_stand in_loop (Leave at Break) = in_loop
+may_stand in_loop (Leave at Continue) = in_loop
+may_stand in_loop other = true
 
 -- the faults of blocks, statements and handlers. A statement is reached where the one before it can end normally; the ends are
 -- those that the handlers before have not taken
@@ -75,9 +59,8 @@ abbrev mutual
 abbrev pub may_end : ProcedureEntry → Exit → Bool
 may_end procedure Normal = true
 may_end procedure Return = true
-may_end procedure Break = false
-may_end procedure Continue = false
 may_end procedure (Throw exception) = has_end (thrown_ends (declared_by procedure.throws)) (Throw exception)
+may_end procedure other = false
 
 -- the faults of a procedure: those of its body and then those of its own ends, which stand at its name
 abbrev pub procedure_faults : Program → ProcedureEntry → List EndRefusal

@@ -7,6 +7,7 @@ use Rattle.resolved.specs.declared.expression.Operator.{Operator}
 use Rattle.resolved.specs.declared.expression.Operator.TheVariants.{Compute, Divide, Bits, Compare, Match}
 use Rattle.resolved.specs.declared.statement.Exit.{Exit}
 use Rattle.resolved.specs.declared.statement.Exit.TheVariants.{Normal, Return, Break, Continue, Throw}
+use Rattle.resolved.specs.contracts.statement.ExitPartialEq.TheImpl.{eq-value}
 use Rattle.resolved.specs.Tree.{Expression, Integer, Logical, Read, Element, Unary, Binary, Short, Statement, Assign, Clear, Store, Receive, Send, Call, If, While, Leave, ReturnWith, Try, Nested, Block, Empty, Then, Handlers, NoMore, Catch}
 use Rattle.resolved.specs.Program.{Program, ThrownEntry, procedure_at}
 use Rattle.resolved.specs.Value.{literal_number, in_range}
@@ -15,31 +16,7 @@ use Rattle.common.specs.declared.exceptions.TheConstants.{ARITH, BOUNDS, END}
 
 -- whether two exits are the same
 abbrev pub same_exit : Exit → Exit → Bool
-same_exit Normal Normal = true
-same_exit Normal Return = false
-same_exit Normal Break = false
-same_exit Normal Continue = false
-same_exit Normal (Throw b) = false
-same_exit Return Normal = false
-same_exit Return Return = true
-same_exit Return Break = false
-same_exit Return Continue = false
-same_exit Return (Throw b) = false
-same_exit Break Normal = false
-same_exit Break Return = false
-same_exit Break Break = true
-same_exit Break Continue = false
-same_exit Break (Throw b) = false
-same_exit Continue Normal = false
-same_exit Continue Return = false
-same_exit Continue Break = false
-same_exit Continue Continue = true
-same_exit Continue (Throw b) = false
-same_exit (Throw a) Normal = false
-same_exit (Throw a) Return = false
-same_exit (Throw a) Break = false
-same_exit (Throw a) Continue = false
-same_exit (Throw a) (Throw b) = a == b
+same_exit one other = eq-value.it one other
 
 -- whether an exit is among these
 abbrev pub has_end : List Exit → Exit → Bool
@@ -50,26 +27,16 @@ abbrev pub one_end : List Exit → Bool
 one_end [] = false
 one_end (exit ∷ rest) = list_all (same_exit exit) rest
 
--- whether an index may be out of range: not if it is a literal in range
+-- whether an index may be out of range: a literal is where it is not in range, and every other index may be
 abbrev pub index_can_raise : Expression → (length : ℕ) → Bool
 index_can_raise (Integer n) length = not (in_range (literal_number n) length)
-index_can_raise (Logical b) length = true
-index_can_raise (Read x) length = true
-index_can_raise (Element array size index) length = true
-index_can_raise (Unary prefix e) length = true
-index_can_raise (Binary operator d e) length = true
-index_can_raise (Short connective d e) length = true
+index_can_raise other length = true
 
--- whether a divisor may be 0: not if it is a nonzero literal, or a minus sign before one
+-- whether a divisor may be 0: a literal, or a minus sign before one, where it is 0, and every other divisor
 abbrev pub divisor_can_raise : Expression → Bool
 divisor_can_raise (Integer n) = is_zero (literal_number n)
 divisor_can_raise (Unary Negate (Integer n)) = is_zero (literal_number n)
-divisor_can_raise (Logical b) = true
-divisor_can_raise (Read x) = true
-divisor_can_raise (Element array length index) = true
-divisor_can_raise (Unary prefix e) = true
-divisor_can_raise (Binary operator d e) = true
-divisor_can_raise (Short connective d e) = true
+divisor_can_raise other = true
 
 -- whether an operator divides
 abbrev pub is_division : Operator → Bool
@@ -120,13 +87,10 @@ abbrev pub handles : Handlers → (exception : ℕ) → Bool
 handles NoMore exception = false
 handles (Catch at handled body rest) exception = exception == handled || handles rest exception
 
--- whether an exit of the block of a `try` passes its handlers
+-- whether an exit of the block of a `try` passes its handlers: every end does but an exception that one of them takes
 abbrev pub passes : Handlers → Exit → Bool
-passes handlers Normal = true
-passes handlers Return = true
-passes handlers Break = true
-passes handlers Continue = true
 passes handlers (Throw exception) = not (handles handlers exception)
+passes handlers other = true
 
 -- the ends of a first part, its normal end replaced by the ends of what follows
 abbrev pub then_ends : List Exit → List Exit → List Exit

@@ -3,7 +3,7 @@
 -- and a labelling says what the latter are. V is the label of an expression's value, R that of whether it raises an exception, q
 -- that at which a statement has evaluated its expressions, and X gives each end of a statement its label. The rules are numbered:
 -- 1 assignment, 2 declaration of an array, 3 store, 4 receive, 5 send, 6 call, 7 if, 8 while, 9 leave, 10 return, 11 try, 12 block
--- (in braces), and 13 the ends of a procedure. Each of q, X and the demands has a clause for each rule, in this order.
+-- (in braces), and 13 the ends of a procedure.
 -- Source: our own rules; a label for each end as in JFlow (Myers 1999), simple security and confinement after Volpano,
 -- Smith and Irvine 1996.
 use Rattle.std.specs.Prelude.{ℕ, suc, List, [], ◌∷◌, ◌++◌, Bool, true, false, not, map, flat_map, ◌==◌, ◌&&◌, if◌then◌else◌, Option, Some, None}
@@ -129,25 +129,6 @@ ExitLabels = Exit → Join
 abbrev pub at_ends : (ends : List Exit) → (pc : Join) → ExitLabels → ExitLabels
 at_ends ends pc x exit = label_if (has_end ends exit) (if one_end ends then pc else x exit)
 
--- q: the label at which a statement has evaluated its own expressions, and at which these raise exceptions. That of a loop has the
--- loop's own label in place of pc
-abbrev pub own_label : Scope → (pc : Join) → Statement → Join
-own_label scope pc (Assign at x e) = pc ++ raise_label scope e
-own_label scope pc (Clear at slot) = pc
-own_label scope pc (Store at array length index e) =
-    pc ++ raise_label scope index ++ raise_label scope e ++ label_if (index_can_raise index length) (value_label scope index)
-own_label scope pc (Receive at channel target) = pc ++ one (label_of scope.program (ToChannel channel))
-own_label scope pc (Send at channel e) = pc ++ raise_label scope e
-own_label scope pc (Call at procedure arguments target) = pc ++ raise_labels scope arguments
-own_label scope pc (If at e then_block else_block) = pc ++ raise_label scope e
-own_label scope pc (While at loop e body) =
-    one (label_of scope.program (ToLoop scope.number loop)) ++ raise_label scope e
-own_label scope pc (Leave at exit) = pc
-own_label scope pc (ReturnWith at (Some e)) = pc ++ raise_label scope e
-own_label scope pc (ReturnWith at None) = pc
-own_label scope pc (Try at block handlers) = pc
-own_label scope pc (Nested at block) = pc
-
 -- X of what an expression raises at q
 abbrev pub raised_exits : Expression → (q : Join) → ExitLabels
 raised_exits e q exit = label_if (has_end (thrown_ends (raises e)) exit) q
@@ -169,55 +150,6 @@ loop_exits b body Break = []
 loop_exits b body Continue = []
 loop_exits b body (Throw exception) = body (Throw exception)
 
--- what the rule of each form says of X, of statements, blocks and handlers. A handler is reached at the label of its exception
-abbrev mutual
-  pub statement_rule : Scope → (pc : Join) → Statement → ExitLabels
-  statement_rule scope pc (Assign at x e) exit = own_label scope pc (Assign at x e)
-  statement_rule scope pc (Clear at slot) exit = own_label scope pc (Clear at slot)
-  statement_rule scope pc (Store at array length index e) exit = own_label scope pc (Store at array length index e)
-  statement_rule scope pc (Receive at channel target) exit = own_label scope pc (Receive at channel target)
-  statement_rule scope pc (Send at channel e) exit = own_label scope pc (Send at channel e)
-  statement_rule scope pc (Call at procedure arguments target) exit =
-      call_exits scope.program procedure (own_label scope pc (Call at procedure arguments target)) exit
-  statement_rule scope pc (If at e then_block else_block) exit =
-      let q : Join = own_label scope pc (If at e then_block else_block) in
-      let branch : Join = q ++ value_label scope e in
-      raised_exits e q exit
-      ++ at_ends (block_ends scope.program then_block) branch (block_rule scope branch then_block) exit
-      ++ at_ends (block_ends scope.program else_block) branch (block_rule scope branch else_block) exit
-  statement_rule scope pc (While at loop e body) exit =
-      let q : Join = own_label scope pc (While at loop e body) in
-      let b : Join = q ++ value_label scope e in
-      raised_exits e q exit
-      ++ loop_exits b (at_ends (block_ends scope.program body) b (block_rule scope b body)) exit
-  statement_rule scope pc (Leave at taken) exit = own_label scope pc (Leave at taken)
-  statement_rule scope pc (ReturnWith at value) exit = own_label scope pc (ReturnWith at value)
-  statement_rule scope pc (Try at block handlers) exit =
-      let x : ExitLabels = at_ends (block_ends scope.program block) pc (block_rule scope pc block) in
-      label_if (passes handlers exit) (x exit) ++ handlers_rule scope x handlers exit
-  statement_rule scope pc (Nested at block) exit =
-      at_ends (block_ends scope.program block) pc (block_rule scope pc block) exit
-
-  pub block_rule : Scope → (pc : Join) → Block → ExitLabels
-  block_rule scope pc Empty exit = label_if (same_exit Normal exit) pc
-  block_rule scope pc (Then statement rest) exit =
-      let x : ExitLabels = at_ends (statement_ends scope.program statement) pc (statement_rule scope pc statement) in
-      label_if (not (same_exit Normal exit)) (x exit) ++ block_rule scope (x Normal) rest exit
-
-  pub handlers_rule : Scope → ExitLabels → Handlers → ExitLabels
-  handlers_rule scope x NoMore exit = []
-  handlers_rule scope x (Catch at handled body rest) exit =
-      at_ends (block_ends scope.program body) (x (Throw handled)) (block_rule scope (x (Throw handled)) body) exit
-      ++ handlers_rule scope x rest exit
-
--- X of a statement and of a block that are reached at pc
-abbrev pub statement_exits : Scope → (pc : Join) → Statement → ExitLabels
-statement_exits scope pc statement =
-    at_ends (statement_ends scope.program statement) pc (statement_rule scope pc statement)
-
-abbrev pub block_exits : Scope → (pc : Join) → Block → ExitLabels
-block_exits scope pc block = at_ends (block_ends scope.program block) pc (block_rule scope pc block)
-
 -- a demand: what is on the left flows to the label of its target; with the first byte of its statement, and its rule
 abbrev pub Demand : Type 0
 Demand = Constraint Target Unwritten Label
@@ -238,54 +170,98 @@ argument_demands scope at q callee i (e ∷ rest) =
     demand scope.program at 6 (q ++ value_label scope e) (ToParameter callee i)
     ++ argument_demands scope at q callee (suc i) rest
 
--- what statements, blocks and handlers demand that are reached at pc, in the order in which each rule lists it
+-- the judgement on what is reached at pc: X, and the demands in the order in which its rule lists them
+pub record Judgement : Type 0 where
+  pub exits : ExitLabels
+  pub demands : List Demand
+
+-- the judgement of a whole block, by that of its statements
+abbrev pub whole : Scope → (pc : Join) → Block → Judgement → Judgement
+whole scope pc block inner = record inner { exits = at_ends (block_ends scope.program block) pc inner.exits }
+
+-- the rules of statements, blocks and handlers, each in one clause. q is the label at which a statement has evaluated its own
+-- expressions, and at which these raise exceptions; that of a loop has the loop's own label in place of pc. A handler is reached at
+-- the label of its exception
 abbrev mutual
-  pub statement_demands : Scope → (pc : Join) → Statement → List Demand
-  statement_demands scope pc (Assign at x e) =
-      let q : Join = own_label scope pc (Assign at x e) in
-      demand scope.program at 1 (q ++ value_label scope e) (ToVariable scope.number x)
-  statement_demands scope pc (Clear at slot) = demand scope.program at 2 pc (ToVariable scope.number (Local slot))
-  statement_demands scope pc (Store at array length index e) =
-      let q : Join = own_label scope pc (Store at array length index e) in
-      demand scope.program at 3 (q ++ value_label scope index ++ value_label scope e) (ToVariable scope.number array)
-  statement_demands scope pc (Receive at channel target) =
-      let q : Join = own_label scope pc (Receive at channel target) in
-      demand scope.program at 4 pc (ToChannel channel) ++ target_demand scope at 4 q target
-  statement_demands scope pc (Send at channel e) =
-      let q : Join = own_label scope pc (Send at channel e) in
-      demand scope.program at 5 (q ++ value_label scope e) (ToChannel channel)
-  statement_demands scope pc (Call at procedure arguments target) =
-      let q : Join = own_label scope pc (Call at procedure arguments target) in
-      demand scope.program at 6 q (ToBegin procedure)
-      ++ argument_demands scope at q procedure 0 arguments
-      ++ target_demand scope at 6 (call_exits scope.program procedure q Normal ++ one (label_of scope.program (ToValue procedure))) target
-  statement_demands scope pc (If at e then_block else_block) =
-      let branch : Join = own_label scope pc (If at e then_block else_block) ++ value_label scope e in
-      block_demands scope branch then_block ++ block_demands scope branch else_block
-  statement_demands scope pc (While at loop e body) =
-      let b : Join = own_label scope pc (While at loop e body) ++ value_label scope e in
-      let x : ExitLabels = block_exits scope b body in
-      demand scope.program at 8 pc (ToLoop scope.number loop)
-      ++ block_demands scope b body
-      ++ demand scope.program at 8 (x Normal ++ x Continue) (ToLoop scope.number loop)
-  statement_demands scope pc (Leave at exit) = []
-  statement_demands scope pc (ReturnWith at (Some e)) =
-      let q : Join = own_label scope pc (ReturnWith at (Some e)) in
-      demand scope.program at 10 (q ++ value_label scope e) (ToValue scope.number)
-  statement_demands scope pc (ReturnWith at None) = []
-  statement_demands scope pc (Try at block handlers) =
-      block_demands scope pc block ++ handlers_demands scope (block_exits scope pc block) handlers
-  statement_demands scope pc (Nested at block) = block_demands scope pc block
+  pub rule_of : Scope → (pc : Join) → Statement → Judgement
+  rule_of scope pc (Assign at x e) =
+      let q : Join = pc ++ raise_label scope e in
+      record { exits = λ exit. q; demands = demand scope.program at 1 (q ++ value_label scope e) (ToVariable scope.number x) }
+  rule_of scope pc (Clear at slot) =
+      record { exits = λ exit. pc; demands = demand scope.program at 2 pc (ToVariable scope.number (Local slot)) }
+  rule_of scope pc (Store at array length index e) =
+      let out_of_range : Join = label_if (index_can_raise index length) (value_label scope index) in
+      let q : Join = pc ++ raise_label scope index ++ raise_label scope e ++ out_of_range in
+      let left : Join = q ++ value_label scope index ++ value_label scope e in
+      record { exits = λ exit. q; demands = demand scope.program at 3 left (ToVariable scope.number array) }
+  rule_of scope pc (Receive at channel target) =
+      let q : Join = pc ++ one (label_of scope.program (ToChannel channel)) in
+      record { exits = λ exit. q; demands = demand scope.program at 4 pc (ToChannel channel) ++ target_demand scope at 4 q target }
+  rule_of scope pc (Send at channel e) =
+      let q : Join = pc ++ raise_label scope e in
+      record { exits = λ exit. q; demands = demand scope.program at 5 (q ++ value_label scope e) (ToChannel channel) }
+  rule_of scope pc (Call at procedure arguments target) =
+      let q : Join = pc ++ raise_labels scope arguments in
+      let x : ExitLabels = call_exits scope.program procedure q in
+      let given : Join = x Normal ++ one (label_of scope.program (ToValue procedure)) in
+      record {
+        exits = x;
+        demands = demand scope.program at 6 q (ToBegin procedure)
+            ++ argument_demands scope at q procedure 0 arguments
+            ++ target_demand scope at 6 given target;
+      }
+  rule_of scope pc (If at e then_block else_block) =
+      let q : Join = pc ++ raise_label scope e in
+      let branch : Join = q ++ value_label scope e in
+      let first : Judgement = whole scope branch then_block (rule_of_block scope branch then_block) in
+      let second : Judgement = whole scope branch else_block (rule_of_block scope branch else_block) in
+      record {
+        exits = λ exit. raised_exits e q exit ++ first.exits exit ++ second.exits exit;
+        demands = first.demands ++ second.demands;
+      }
+  rule_of scope pc (While at loop e body) =
+      let q : Join = one (label_of scope.program (ToLoop scope.number loop)) ++ raise_label scope e in
+      let b : Join = q ++ value_label scope e in
+      let inner : Judgement = whole scope b body (rule_of_block scope b body) in
+      let again : Join = inner.exits Normal ++ inner.exits Continue in
+      record {
+        exits = λ exit. raised_exits e q exit ++ loop_exits b inner.exits exit;
+        demands = demand scope.program at 8 pc (ToLoop scope.number loop)
+            ++ inner.demands
+            ++ demand scope.program at 8 again (ToLoop scope.number loop);
+      }
+  rule_of scope pc (Leave at taken) = record { exits = λ exit. pc; demands = [] }
+  rule_of scope pc (ReturnWith at (Some e)) =
+      let q : Join = pc ++ raise_label scope e in
+      record { exits = λ exit. q; demands = demand scope.program at 10 (q ++ value_label scope e) (ToValue scope.number) }
+  rule_of scope pc (ReturnWith at None) = record { exits = λ exit. pc; demands = [] }
+  rule_of scope pc (Try at block handlers) =
+      let inner : Judgement = whole scope pc block (rule_of_block scope pc block) in
+      let handled : Judgement = rule_of_handlers scope inner.exits handlers in
+      record {
+        exits = λ exit. label_if (passes handlers exit) (inner.exits exit) ++ handled.exits exit;
+        demands = inner.demands ++ handled.demands;
+      }
+  rule_of scope pc (Nested at block) = whole scope pc block (rule_of_block scope pc block)
 
-  pub block_demands : Scope → (pc : Join) → Block → List Demand
-  block_demands scope pc Empty = []
-  block_demands scope pc (Then statement rest) =
-      statement_demands scope pc statement ++ block_demands scope (statement_exits scope pc statement Normal) rest
+  pub rule_of_block : Scope → (pc : Join) → Block → Judgement
+  rule_of_block scope pc Empty = record { exits = λ exit. label_if (same_exit Normal exit) pc; demands = [] }
+  rule_of_block scope pc (Then statement rest) =
+      let first : Judgement = rule_of scope pc statement in
+      let x : ExitLabels = at_ends (statement_ends scope.program statement) pc first.exits in
+      let others : Judgement = rule_of_block scope (x Normal) rest in
+      record {
+        exits = λ exit. label_if (not (same_exit Normal exit)) (x exit) ++ others.exits exit;
+        demands = first.demands ++ others.demands;
+      }
 
-  pub handlers_demands : Scope → ExitLabels → Handlers → List Demand
-  handlers_demands scope x NoMore = []
-  handlers_demands scope x (Catch at handled body rest) =
-      block_demands scope (x (Throw handled)) body ++ handlers_demands scope x rest
+  pub rule_of_handlers : Scope → ExitLabels → Handlers → Judgement
+  rule_of_handlers scope x NoMore = record { exits = λ exit. []; demands = [] }
+  rule_of_handlers scope x (Catch at handled body rest) =
+      let pc : Join = x (Throw handled) in
+      let inner : Judgement = whole scope pc body (rule_of_block scope pc body) in
+      let others : Judgement = rule_of_handlers scope x rest in
+      record { exits = λ exit. inner.exits exit ++ others.exits exit; demands = inner.demands ++ others.demands }
 
 -- for a procedure, normal and return are one end
 abbrev pub as_one_end : Exit → Exit
@@ -308,8 +284,9 @@ end_demands scope ends x =
 abbrev pub procedure_demands : Scope → List Demand
 procedure_demands scope =
     let begin : Join = one (label_of scope.program (ToBegin scope.number)) in
-    block_demands scope begin (here scope).body
-    ++ end_demands scope (block_ends scope.program (here scope).body) (block_exits scope begin (here scope).body)
+    let body : Block = (here scope).body in
+    let inner : Judgement = whole scope begin body (rule_of_block scope begin body) in
+    inner.demands ++ end_demands scope (block_ends scope.program body) inner.exits
 
 -- the demands of a program's procedures from number f on
 abbrev pub demands_from : Program → (f : ℕ) → List ProcedureEntry → List Demand
@@ -320,37 +297,50 @@ demands_from program f (procedure ∷ rest) =
 abbrev pub program_demands : Program → List Demand
 program_demands program = demands_from program 0 program.procedures
 
--- labels for what has no written one: for locals, and for loops, each by the number of its procedure and its own
-abbrev pub Locals : Type 0
-Locals = (procedure local : ℕ) → Label
-
-abbrev pub Loops : Type 0
-Loops = (procedure loop : ℕ) → Label
-
-pub record Labelling : Type 0 where
-  pub locals : Locals
-  pub loops : Loops
-
-abbrev pub chosen : Labelling → Unwritten → Label
-chosen labelling (OfLocal procedure local) = labelling.locals procedure local
-chosen labelling (OfLoop procedure loop) = labelling.loops procedure loop
+-- a labelling: a label for each that is not written
+abbrev pub Labelling : Type 0
+Labelling = Unwritten → Label
 
 -- what a label and a join are under a labelling
 abbrev pub label_under : Labelling → LabelAtom → Label
-label_under labelling atom = value (chosen labelling) atom
+label_under labelling atom = value labelling atom
 
 abbrev pub join_under : Labelling → Join → Label
-join_under labelling join = join_of (λ a b. a ++ b) [] (chosen labelling) join
+join_under labelling join = join_of (λ a b. a ++ b) [] labelling join
 
 -- demands that hold under a labelling
 abbrev pub FitsDemands : PrincipalHierarchy → Labelling → List Demand → Type 0
-FitsDemands h labelling demands = FitsAll (label_lattice h) demands (chosen labelling)
+FitsDemands h labelling demands = FitsAll (label_lattice h) demands labelling
 
--- labels of the locals make every procedure labelled: there are labels for the loops with which all demands hold
-abbrev pub MakeLabelled : Program → Locals → Type 0
-MakeLabelled program locals =
-    (loops : Loops) × FitsDemands program.hierarchy (record { locals = locals; loops = loops }) (program_demands program)
-
--- a labelled program: some labels of the locals make every procedure labelled
+-- a labelled program: all that it demands holds under some labelling
 abbrev pub Labelled : Program → Type 0
-Labelled program = (locals : Locals) × MakeLabelled program locals
+Labelled program = (labelling : Labelling) × FitsDemands program.hierarchy labelling (program_demands program)
+
+-- ---- the parts of the rules, by which proofs speak of them
+
+-- X as a rule says it, of statements, of what is left of a block, and of handlers; and X of statements and blocks by their possible ends
+abbrev pub statement_rule : Scope → (pc : Join) → Statement → ExitLabels
+statement_rule scope pc statement = (rule_of scope pc statement).exits
+
+abbrev pub block_rule : Scope → (pc : Join) → Block → ExitLabels
+block_rule scope pc block = (rule_of_block scope pc block).exits
+
+abbrev pub handlers_rule : Scope → ExitLabels → Handlers → ExitLabels
+handlers_rule scope x handlers = (rule_of_handlers scope x handlers).exits
+
+abbrev pub statement_exits : Scope → (pc : Join) → Statement → ExitLabels
+statement_exits scope pc statement =
+    at_ends (statement_ends scope.program statement) pc (statement_rule scope pc statement)
+
+abbrev pub block_exits : Scope → (pc : Join) → Block → ExitLabels
+block_exits scope pc block = (whole scope pc block (rule_of_block scope pc block)).exits
+
+-- what statements, blocks and handlers demand that are reached at pc
+abbrev pub statement_demands : Scope → (pc : Join) → Statement → List Demand
+statement_demands scope pc statement = (rule_of scope pc statement).demands
+
+abbrev pub block_demands : Scope → (pc : Join) → Block → List Demand
+block_demands scope pc block = (rule_of_block scope pc block).demands
+
+abbrev pub handlers_demands : Scope → ExitLabels → Handlers → List Demand
+handlers_demands scope x handlers = (rule_of_handlers scope x handlers).demands

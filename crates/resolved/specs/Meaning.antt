@@ -39,25 +39,20 @@ thrown exception s = Ended (Throw exception) None s
 -- goes on after a normal end; every other end stays
 abbrev pub after : Outcome → (SourceState → Outcome) → Outcome
 after (Ended Normal returned s) next = next s
-after (Ended Return returned s) next = Ended Return returned s
-after (Ended Break returned s) next = Ended Break returned s
-after (Ended Continue returned s) next = Ended Continue returned s
-after (Ended (Throw exception) returned s) next = Ended (Throw exception) returned s
-after (Stopped stop s) next = Stopped stop s
+after other next = other
 
 -- goes on with what was evaluated; an exception is the end
 abbrev pub evaluated : {A : Type 0} → Evaluated A → SourceState → (A → Outcome) → Outcome
 evaluated (Yields v) s next = next v
 evaluated (Raises exception) s next = thrown exception s
 
--- goes on after the body of a loop where that ended normally or by `continue`; `break` is the normal end of the loop
+-- goes on after the body of a loop where that ended normally or by `continue`; `break` is the normal end of the loop, and every
+-- other end stays
 abbrev pub looped : Outcome → (SourceState → Outcome) → Outcome
 looped (Ended Normal returned s) again = again s
-looped (Ended Return returned s) again = Ended Return returned s
-looped (Ended Break returned s) again = normally s
 looped (Ended Continue returned s) again = again s
-looped (Ended (Throw exception) returned s) again = Ended (Throw exception) returned s
-looped (Stopped stop s) again = Stopped stop s
+looped (Ended Break returned s) again = normally s
+looped other again = other
 
 -- a loop of at most k rounds, by the value of its condition and by what its body does; where the condition is true once more,
 -- the run is out of fuel
@@ -69,12 +64,8 @@ fuel (suc k) condition body s =
 
 -- hands an exception to the handlers; every other end stays
 abbrev pub caught : Outcome → (ℕ → SourceState → Outcome) → Outcome
-caught (Ended Normal returned s) handle = Ended Normal returned s
-caught (Ended Return returned s) handle = Ended Return returned s
-caught (Ended Break returned s) handle = Ended Break returned s
-caught (Ended Continue returned s) handle = Ended Continue returned s
 caught (Ended (Throw exception) returned s) handle = handle exception s
-caught (Stopped stop s) handle = Stopped stop s
+caught other handle = other
 
 -- the state in which a target, if there is one, has a value
 abbrev pub kept_in : Option Variable → Value → SourceState → SourceState
@@ -93,11 +84,8 @@ sending channel v s = record s { sent = s.sent ++ (record { channel = channel; n
 
 -- what a call comes to by what the procedure's body does: a return is the normal end of the call, and the caller has its frame again
 abbrev pub leaving : (SourceState → SourceState) → Outcome → Outcome
-leaving back (Ended Normal returned s) = Ended Normal returned (back s)
 leaving back (Ended Return returned s) = Ended Normal returned (back s)
-leaving back (Ended Break returned s) = Ended Break returned (back s)
-leaving back (Ended Continue returned s) = Ended Continue returned (back s)
-leaving back (Ended (Throw exception) returned s) = Ended (Throw exception) returned (back s)
+leaving back (Ended exit returned s) = Ended exit returned (back s)
 leaving back (Stopped stop s) = Stopped stop (back s)
 
 -- the state in which a target, if there is one, has the value that was returned. In a well-formed program without a fault of its ends
@@ -107,14 +95,10 @@ given_to None returned s = s
 given_to (Some x) None s = s
 given_to (Some x) (Some v) s = assigned s x v
 
--- the value of a call goes to its target
+-- the value of a call goes to its target; every other end than the normal one stays
 abbrev pub returned_to : Option Variable → Outcome → Outcome
 returned_to target (Ended Normal returned s) = normally (given_to target returned s)
-returned_to target (Ended Return returned s) = Ended Return returned s
-returned_to target (Ended Break returned s) = Ended Break returned s
-returned_to target (Ended Continue returned s) = Ended Continue returned s
-returned_to target (Ended (Throw exception) returned s) = Ended (Throw exception) returned s
-returned_to target (Stopped stop s) = Stopped stop s
+returned_to target other = other
 
 -- what the call of a procedure with these arguments does
 abbrev pub Calls : Type 0

@@ -10,6 +10,7 @@ use Rattle.principals.specs.ActsFor.{PrincipalHierarchy}
 use Rattle.labels.specs.Label.{Label, ReaderPolicy}
 use Rattle.resolved.specs.declared.expression.Base.{Base}
 use Rattle.resolved.specs.declared.expression.Base.TheVariants.{Int, Boolean}
+use Rattle.resolved.specs.contracts.expression.BasePartialEq.TheImpl.{eq-value}
 use Rattle.resolved.specs.declared.expression.Value.{Value}
 use Rattle.resolved.specs.declared.expression.Value.TheVariants.{Number, Truth}
 use Rattle.resolved.specs.declared.expression.Variable.{Variable}
@@ -29,10 +30,7 @@ use Rattle.common.specs.Integers.{is_zero}
 
 -- ---- types
 abbrev pub same_base : Base → Base → Bool
-same_base Int Int = true
-same_base Int Boolean = false
-same_base Boolean Int = false
-same_base Boolean Boolean = true
+same_base one other = eq-value.it one other
 
 -- the base types of operands and results
 abbrev pub prefix_base : Prefix → Base

@@ -5,8 +5,8 @@ use Rattle.std.proofs.lemmas.List.{get_or_append_left, get_or_push, length-set, 
 use Rattle.labels.specs.Row.{has, union}
 use Rattle.solver.specs.Rows.{has_at}
 use Rattle.solver.specs.Sharing.{AreForms, IsForm, bits_after, bits_of, form_bits, kept_at, nothing_kept, with_numbers}
-use Rattle.solver.specs.declared.sharing.Form.{Form}
-use Rattle.solver.specs.declared.sharing.Form.TheVariants.{Whole, Beyond}
+use Rattle.solver.specs.declared.sharing.RowForm.{RowForm}
+use Rattle.solver.specs.declared.sharing.RowForm.TheVariants.{Whole, Beyond}
 use Rattle.solver.specs.declared.sharing.Kept.{Kept}
 
 pub union-none : (row : List Bool) → union (replicate (length row) false) row ≡ row
@@ -51,10 +51,10 @@ has_at-none (suc count) zero n = refl
 has_at-none (suc count) (suc u) n = has_at-none count u n
 
 -- ---- the row with a number, by the form in which it is kept
-pub form-at : (kept : List Kept) → AreForms kept → (k : ℕ) → k < length kept → (form : Form) → (kept_at kept k).form ≡ form → IsForm kept (kept_at kept k).steps form
+pub form-at : (kept : List Kept) → AreForms kept → (k : ℕ) → k < length kept → (form : RowForm) → (kept_at kept k).form ≡ form → IsForm kept (kept_at kept k).steps form
 form-at kept forms k h form e = subst (IsForm kept (kept_at kept k).steps) e (forms k h)
 
-after-form : (kept : List Kept) (k steps : ℕ) (form : Form) → IsForm kept steps form → (kept_at kept k).form ≡ form → bits_after kept steps k ≡ form_bits (bits_of kept) form
+after-form : (kept : List Kept) (k steps : ℕ) (form : RowForm) → IsForm kept steps form → (kept_at kept k).form ≡ form → bits_after kept steps k ≡ form_bits (bits_of kept) form
 after-form kept k zero (Whole row) fits e = ap (form_bits (λ base. [])) e
 after-form kept k zero (Beyond base more) fits e = absurd (omega (arith, fits.steps_is))
 after-form kept k (suc steps) (Whole row) fits e = ap (form_bits (bits_after kept steps)) e
@@ -62,11 +62,11 @@ after-form kept k (suc steps) (Beyond base more) fits e =
     let fewer : steps ≡ (kept_at kept base).steps = omega (arith, fits.steps_is) in
     ap (form_bits (bits_after kept steps)) e ∙ ap (λ n. with_numbers (bits_after kept n base) more.items) fewer
 
-pub bits-form : (kept : List Kept) → AreForms kept → (k : ℕ) → k < length kept → (form : Form) → (kept_at kept k).form ≡ form → bits_of kept k ≡ form_bits (bits_of kept) form
+pub bits-form : (kept : List Kept) → AreForms kept → (k : ℕ) → k < length kept → (form : RowForm) → (kept_at kept k).form ≡ form → bits_of kept k ≡ form_bits (bits_of kept) form
 bits-form kept forms k h form e = after-form kept k (kept_at kept k).steps form (form-at kept forms k h form e) e
 
 -- ---- one more row
-pub form-by : (kept : List Kept) (one other : ℕ → List Bool) (steps : ℕ) (form : Form) → IsForm kept steps form →
+pub form-by : (kept : List Kept) (one other : ℕ → List Bool) (steps : ℕ) (form : RowForm) → IsForm kept steps form →
     ((base : ℕ) → base < length kept → one base ≡ other base) → form_bits one form ≡ form_bits other form
 form-by kept one other steps (Whole row) fits same = refl
 form-by kept one other steps (Beyond base more) fits same = ap (λ (r : List Bool). with_numbers r more.items) (same base fits.there)
@@ -90,7 +90,7 @@ module _ (kept : List Kept) (forms : AreForms kept) (last : Kept) where
   pub bits-same : (k : ℕ) → k < length kept → bits_of more_kept k ≡ bits_of kept k
   bits-same k h = ap (λ (x : Kept). bits_after more_kept x.steps k) (kept-same k h) ∙ after-same (kept_at kept k).steps k h
 
-  last-after : (steps : ℕ) (form : Form) → IsForm kept steps form → last.form ≡ form → bits_after more_kept steps (length kept) ≡ form_bits (bits_of kept) form
+  last-after : (steps : ℕ) (form : RowForm) → IsForm kept steps form → last.form ≡ form → bits_after more_kept steps (length kept) ≡ form_bits (bits_of kept) form
   last-after zero (Whole row) fits e = ap (λ (x : Kept). form_bits (λ base. []) x.form) kept-last ∙ ap (form_bits (λ base. [])) e
   last-after zero (Beyond base more) fits e = absurd (omega (arith, fits.steps_is))
   last-after (suc steps) (Whole row) fits e = ap (λ (x : Kept). form_bits (bits_after more_kept steps) x.form) kept-last ∙ ap (form_bits (bits_after more_kept steps)) e
@@ -103,7 +103,7 @@ module _ (kept : List Kept) (forms : AreForms kept) (last : Kept) where
   pub bits-last : IsForm kept last.steps last.form → bits_of more_kept (length kept) ≡ form_bits (bits_of kept) last.form
   bits-last fits = ap (λ (x : Kept). bits_after more_kept x.steps (length kept)) kept-last ∙ last-after last.steps last.form fits refl
 
-  form-more : (steps : ℕ) (form : Form) → IsForm kept steps form → IsForm more_kept steps form
+  form-more : (steps : ℕ) (form : RowForm) → IsForm kept steps form → IsForm more_kept steps form
   form-more steps (Whole row) fits = fits
   form-more steps (Beyond base more) fits =
       let there = fits.there in

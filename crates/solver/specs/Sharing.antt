@@ -1,8 +1,8 @@
 -- Rows of bits that stand on other ones: what each row is, and what is asked of how it is kept.
 -- Source: our own.
 use Rattle.std.specs.Prelude.{◌≡◌, ◌<◌, ℕ, zero, suc, List, [], ◌∷◌, length, set, Bool, true, Option, Some, None, slice_index_or, All}
-use Rattle.solver.specs.declared.sharing.Form.{Form}
-use Rattle.solver.specs.declared.sharing.Form.TheVariants.{Whole, Beyond}
+use Rattle.solver.specs.declared.sharing.RowForm.{RowForm}
+use Rattle.solver.specs.declared.sharing.RowForm.TheVariants.{Whole, Beyond}
 use Rattle.solver.specs.declared.sharing.Kept.{Kept}
 
 -- a row with some numbers more
@@ -11,7 +11,7 @@ with_numbers row [] = row
 with_numbers row (n ∷ ns) = with_numbers (set row n true) ns
 
 -- the row that a form stands for, by the rows of the others
-abbrev pub form_bits : (bits : ℕ → List Bool) → Form → List Bool
+abbrev pub form_bits : (bits : ℕ → List Bool) → RowForm → List Bool
 form_bits bits (Whole row) = row
 form_bits bits (Beyond base more) = with_numbers (bits base) more.items
 
@@ -35,7 +35,7 @@ pub record IsBeyond (kept : List Kept) (steps base : ℕ) (more : List ℕ) : Ty
   pub steps_is : steps ≡ suc (kept_at kept base).steps
   pub inside : All (λ n. n < length (bits_of kept base)) more
 
-abbrev pub IsForm : List Kept → (steps : ℕ) → Form → Type 0
+abbrev pub IsForm : List Kept → (steps : ℕ) → RowForm → Type 0
 IsForm kept steps (Whole row) = Unit {0}
 IsForm kept steps (Beyond base more) = IsBeyond kept steps base more.items
 

@@ -49,12 +49,12 @@ pub fn edges_of<T>(
 
 // How many edges there will be from each part. Rows have just this room: most have few edges.
 #[derive(Drop)]
-struct Counts {
+struct EdgeCounts {
     written: Vec<usize>,
     unknown: Vec<usize>,
 }
 
-// Counts one more, if there is a count.
+// EdgeCounts one more, if there is a count.
 fn count_one(counts: &mut Vec<usize>, at: usize)
     ensures { length counts.new.items ≡ length counts.old.items }
 {
@@ -63,8 +63,8 @@ fn count_one(counts: &mut Vec<usize>, at: usize)
     }
 }
 
-// Counts the parts of a left side.
-fn count_left(left: &[Atom], counts: &mut Counts)
+// EdgeCounts the parts of a left side.
+fn count_left(left: &[Atom], counts: &mut EdgeCounts)
     ensures written { length counts.new.written.items ≡ length counts.old.written.items }
     ensures unknown { length counts.new.unknown.items ≡ length counts.old.unknown.items }
 {
@@ -82,11 +82,11 @@ fn counts_of<T>(
     constraints: &[Constraint<T>],
     written: usize,
     unknowns: usize,
-) -> Result<Counts, AllocError>
+) -> Result<EdgeCounts, AllocError>
     ensures written { IfOk result (λ counts. length counts.written.items ≡ written) }
     ensures unknown { IfOk result (λ counts. length counts.unknown.items ≡ unknowns) }
 {
-    let mut counts = Counts {
+    let mut counts = EdgeCounts {
         written: vec![in alloc; 0; written]?,
         unknown: vec![in alloc; 0; unknowns]?,
     };

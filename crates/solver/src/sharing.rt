@@ -12,6 +12,10 @@ use std::marker::Model;
 // A row has at most this many numbers beyond the one on which it stands.
 const MOST_BEYOND: usize = 4;
 
+// A row that stands on the one that an unknown had before has at most this part of all numbers beyond it, so that it takes less memory
+// than a whole one however often it grows.
+const PART_BEYOND: usize = 128;
+
 // A row stands on this many others at most.
 const MOST_STEPS: u32 = 32;
 
@@ -20,7 +24,7 @@ const SHORT: usize = 512;
 
 /// How a row is kept: whole, or as the one with a number and some numbers beyond that.
 #[derive(Debug, Drop)]
-pub(crate) enum Form {
+pub(crate) enum RowForm {
     Whole(Row),
     Beyond(usize, SmallVec<usize, 2>),
 }
@@ -29,7 +33,7 @@ pub(crate) enum Form {
 #[derive(Debug, Drop)]
 pub(crate) struct Kept {
     pub steps: u32,
-    pub form: Form,
+    pub form: RowForm,
 }
 
 /// For each unknown a row of numbers. Rows of unknowns along a flow differ by few numbers, and take memory for these alone. A contract
@@ -109,16 +113,16 @@ fn whole(alloc: Global, kept: &[Kept], number: usize) -> Result<Row, AllocError>
     ensures { IfOk result (λ row. row ≡ bits_of kept.now number) }
 {
     match &kept[number].form {
-        Form::Whole(row) => copy(alloc, row),
-        Form::Beyond(base, more) => {
+        RowForm::Whole(row) => copy(alloc, row),
+        RowForm::Beyond(base, more) => {
             let below = whole(alloc, kept, *base)?;
             Ok(with_all(below, more.as_slice()))
         }
     }
 }
 
-// A row with the first numbers of another one that it lacks.
-fn come_near(alloc: Global, base: Row, row: &Row) -> Result<Near, AllocError>
+// A row with the first numbers of another one that it lacks, at most so many.
+fn come_near(alloc: Global, base: Row, row: &Row, most: usize) -> Result<Near, AllocError>
     requires { length row.now ≡ length base }
     ensures row { IfOk result (λ near. near.row ≡ with_numbers base near.more.items) }
     ensures inside { IfOk result (λ near. All (λ n. n < length base) near.more.items) }
@@ -126,7 +130,7 @@ fn come_near(alloc: Global, base: Row, row: &Row) -> Result<Near, AllocError>
     let mut near = base;
     let mut more = SmallVec::new(alloc);
     let mut from = 0;
-    for _i in 0..MOST_BEYOND {
+    for _i in 0..most {
         let Some(number) = row.first_beyond(&near, from) else {
             return Ok(Near { row: near, more });
         };
@@ -137,8 +141,14 @@ fn come_near(alloc: Global, base: Row, row: &Row) -> Result<Near, AllocError>
     Ok(Near { row: near, more })
 }
 
-// How a row is kept beyond that with a number, if it has few numbers more.
-fn beyond(alloc: Global, kept: &[Kept], base: usize, row: &Row) -> Result<Option<Kept>, AllocError>
+// How a row is kept beyond that with a number, if it has at most so many numbers more.
+fn beyond(
+    alloc: Global,
+    kept: &[Kept],
+    base: usize,
+    row: &Row,
+    most: usize,
+) -> Result<Option<Kept>, AllocError>
     requires forms { AreForms kept.now }
     requires base { base < length kept.now }
     ensures { IfOk result (MayBeKeptAs kept.now row.now) }
@@ -151,23 +161,24 @@ fn beyond(alloc: Global, kept: &[Kept], base: usize, row: &Row) -> Result<Option
     if below.bound() != row.bound() {
         return Ok(None);
     }
-    let near = come_near(alloc, below, row)?;
+    let near = come_near(alloc, below, row, most)?;
     if !near.row.is_same(row) {
         return Ok(None);
     }
     Ok(Some(Kept {
         steps: steps + 1,
-        form: Form::Beyond(base, near.more),
+        form: RowForm::Beyond(base, near.more),
     }))
 }
 
-// How a row is kept beyond that of an unknown, if there is one and it has few numbers more.
+// How a row is kept beyond that of an unknown, if there is one and it has at most so many numbers more.
 fn beyond_unknown(
     alloc: Global,
     kept: &[Kept],
     of: &[usize],
     unknown: Option<usize>,
     row: &Row,
+    most: usize,
 ) -> Result<Option<Kept>, AllocError>
     requires { AreShared kept.now of.now }
     ensures { IfOk result (MayBeKeptAs kept.now row.now) }
@@ -178,7 +189,7 @@ fn beyond_unknown(
     if unknown >= of.len() {
         return Ok(None);
     }
-    beyond(alloc, kept, of[unknown], row)
+    beyond(alloc, kept, of[unknown], row, most)
 }
 
 // How a row is kept beyond one that it may be near to: that without numbers, or those of the last and the first unknown of a left side.
@@ -192,13 +203,13 @@ fn beyond_some(
     requires { AreShared kept.now of.now }
     ensures { IfOk result (MayBeKeptAs kept.now row.now) }
 {
-    if let Some(form) = beyond(alloc, kept, 1, row)? {
+    if let Some(form) = beyond(alloc, kept, 1, row, MOST_BEYOND)? {
         return Ok(Some(form));
     }
-    if let Some(form) = beyond_unknown(alloc, kept, of, last_unknown(left), row)? {
+    if let Some(form) = beyond_unknown(alloc, kept, of, last_unknown(left), row, MOST_BEYOND)? {
         return Ok(Some(form));
     }
-    beyond_unknown(alloc, kept, of, first_unknown(left), row)
+    beyond_unknown(alloc, kept, of, first_unknown(left), row, MOST_BEYOND)
 }
 
 // How a new row of an unknown is kept: beyond another one, if it is long and near to one, or else whole.
@@ -217,13 +228,14 @@ fn kept_as(
         if let Some(form) = beyond_some(alloc, kept, of, left, &row)? {
             return Ok(form);
         }
-        if let Some(form) = beyond_unknown(alloc, kept, of, Some(unknown), &row)? {
+        let most = MOST_BEYOND.max(row.bound() / PART_BEYOND);
+        if let Some(form) = beyond_unknown(alloc, kept, of, Some(unknown), &row, most)? {
             return Ok(form);
         }
     }
     Ok(Kept {
         steps: 0,
-        form: Form::Whole(row),
+        form: RowForm::Whole(row),
     })
 }
 
@@ -240,12 +252,12 @@ impl SharedRows {
         let nothing = Row::new(alloc, 0)?;
         kept.push(Kept {
             steps: 0,
-            form: Form::Whole(nothing),
+            form: RowForm::Whole(nothing),
         })?;
         let none = Row::new(alloc, count)?;
         kept.push(Kept {
             steps: 0,
-            form: Form::Whole(none),
+            form: RowForm::Whole(none),
         })?;
         let of = vec![in alloc; 0usize; unknowns]?;
         Ok(SharedRows { kept, of })
@@ -274,7 +286,7 @@ impl SharedRows {
             ≡ (has row.old n || has (slice_index_or self.now unknown []) n)) }
     {
         if unknown < self.of.len() {
-            if let Form::Whole(own) = &self.kept[self.of[unknown]].form {
+            if let RowForm::Whole(own) = &self.kept[self.of[unknown]].form {
                 row.include(own);
                 return Ok(());
             }

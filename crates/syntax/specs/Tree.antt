@@ -105,25 +105,6 @@ mutual
     NoCatch : CatchTrees
     CatchThen : (at : ℕ) → NameTree → BlockTree → CatchTrees → CatchTrees
 
--- what stands after the name of a local, and after the name that a statement begins with
-pub data FirstTree : Type 0 where
-  FirstValue : RightTree → FirstTree
-  FirstSize : SizeTree → FirstTree
-
-pub data AfterTree : Type 0 where
-  AssignedTree : RightTree → AfterTree
-  AtIndexTree : (index value : ExpressionTree) → AfterTree
-  ArgumentsTree : List ExpressionTree → AfterTree
-
-abbrev pub local_tree : (at : ℕ) → BaseType → Option LabelTree → NameTree → FirstTree → StatementTree
-local_tree at base label name (FirstValue value) = DeclareTree at base label name value
-local_tree at base label name (FirstSize size) = DeclareArrayTree at base label name size
-
-abbrev pub named_tree : NameTree → AfterTree → StatementTree
-named_tree name (AssignedTree value) = AssignTree name value
-named_tree name (AtIndexTree index value) = AssignElementTree name index value
-named_tree name (ArgumentsTree arguments) = CallTree' (record { procedure = name; arguments = arguments })
-
 -- lists of statements, and of handlers, as these types
 abbrev pub statements_of : List StatementTree → StatementTrees
 statements_of [] = NoStatement

@@ -32,11 +32,7 @@ pub record ScalarUse : Type 0 where
 unfoldable pub scalar_finding : Option Meaning → (at : ℕ) → Finding ScalarUse
 scalar_finding None at = refuse refusals.UnknownName at
 scalar_finding (Some (Scalar variable base)) at = give (record { variable = variable; base = base })
-scalar_finding (Some (Array variable base size)) at = refuse refusals.WrongUse at
-scalar_finding (Some (Input channel)) at = refuse refusals.WrongUse at
-scalar_finding (Some (Output channel)) at = refuse refusals.WrongUse at
-scalar_finding (Some (Exception number)) at = refuse refusals.WrongUse at
-scalar_finding (Some (Procedure number)) at = refuse refusals.WrongUse at
+scalar_finding (Some other) at = refuse refusals.WrongUse at
 
 -- an array, with the type of its elements and its length
 pub record ArrayUse : Type 0 where
@@ -47,55 +43,32 @@ pub record ArrayUse : Type 0 where
 unfoldable pub array_finding : Option Meaning → (at : ℕ) → Finding ArrayUse
 array_finding None at = refuse refusals.UnknownName at
 array_finding (Some (Array variable base size)) at = give (record { variable = variable; base = base; size = size })
-array_finding (Some (Scalar variable base)) at = refuse refusals.WrongUse at
-array_finding (Some (Input channel)) at = refuse refusals.WrongUse at
-array_finding (Some (Output channel)) at = refuse refusals.WrongUse at
-array_finding (Some (Exception number)) at = refuse refusals.WrongUse at
-array_finding (Some (Procedure number)) at = refuse refusals.WrongUse at
+array_finding (Some other) at = refuse refusals.WrongUse at
 
 -- a variable, scalar or array
 unfoldable pub variable_finding : Option Meaning → (at : ℕ) → Finding Variable
 variable_finding None at = refuse refusals.UnknownName at
 variable_finding (Some (Scalar variable base)) at = give variable
 variable_finding (Some (Array variable base size)) at = give variable
-variable_finding (Some (Input channel)) at = refuse refusals.WrongUse at
-variable_finding (Some (Output channel)) at = refuse refusals.WrongUse at
-variable_finding (Some (Exception number)) at = refuse refusals.WrongUse at
-variable_finding (Some (Procedure number)) at = refuse refusals.WrongUse at
+variable_finding (Some other) at = refuse refusals.WrongUse at
 
 -- an input, an output, an exception and a procedure, by their numbers
 unfoldable pub input_finding : Option Meaning → (at : ℕ) → Finding ℕ
 input_finding None at = refuse refusals.UnknownName at
 input_finding (Some (Input channel)) at = give channel
-input_finding (Some (Output channel)) at = refuse refusals.WrongUse at
-input_finding (Some (Exception number)) at = refuse refusals.WrongUse at
-input_finding (Some (Procedure number)) at = refuse refusals.WrongUse at
-input_finding (Some (Scalar variable base)) at = refuse refusals.WrongUse at
-input_finding (Some (Array variable base size)) at = refuse refusals.WrongUse at
+input_finding (Some other) at = refuse refusals.WrongUse at
 
 unfoldable pub output_finding : Option Meaning → (at : ℕ) → Finding ℕ
 output_finding None at = refuse refusals.UnknownName at
 output_finding (Some (Output channel)) at = give channel
-output_finding (Some (Input channel)) at = refuse refusals.WrongUse at
-output_finding (Some (Exception number)) at = refuse refusals.WrongUse at
-output_finding (Some (Procedure number)) at = refuse refusals.WrongUse at
-output_finding (Some (Scalar variable base)) at = refuse refusals.WrongUse at
-output_finding (Some (Array variable base size)) at = refuse refusals.WrongUse at
+output_finding (Some other) at = refuse refusals.WrongUse at
 
 unfoldable pub exception_finding : Option Meaning → (at : ℕ) → Finding ℕ
 exception_finding None at = refuse refusals.UnknownName at
 exception_finding (Some (Exception number)) at = give number
-exception_finding (Some (Input channel)) at = refuse refusals.WrongUse at
-exception_finding (Some (Output channel)) at = refuse refusals.WrongUse at
-exception_finding (Some (Procedure number)) at = refuse refusals.WrongUse at
-exception_finding (Some (Scalar variable base)) at = refuse refusals.WrongUse at
-exception_finding (Some (Array variable base size)) at = refuse refusals.WrongUse at
+exception_finding (Some other) at = refuse refusals.WrongUse at
 
 unfoldable pub procedure_finding : Option Meaning → (at : ℕ) → Finding ℕ
 procedure_finding None at = refuse refusals.UnknownName at
 procedure_finding (Some (Procedure number)) at = give number
-procedure_finding (Some (Input channel)) at = refuse refusals.WrongUse at
-procedure_finding (Some (Output channel)) at = refuse refusals.WrongUse at
-procedure_finding (Some (Exception number)) at = refuse refusals.WrongUse at
-procedure_finding (Some (Scalar variable base)) at = refuse refusals.WrongUse at
-procedure_finding (Some (Array variable base size)) at = refuse refusals.WrongUse at
+procedure_finding (Some other) at = refuse refusals.WrongUse at

@@ -267,13 +267,8 @@ main_entry_finding number (Some procedure) =
     give_if (procedure.parameters == 0 && is_none procedure.result) number refusals.NoProperMain procedure.at
 
 unfoldable pub main_finding : Option Meaning → List ProcedureEntry → Finding ℕ
-main_finding None procedures = refuse refusals.NoProperMain 0
 main_finding (Some (meanings.Procedure number)) procedures = main_entry_finding number (slice_get procedures number)
-main_finding (Some (meanings.Input channel)) procedures = refuse refusals.NoProperMain 0
-main_finding (Some (meanings.Output channel)) procedures = refuse refusals.NoProperMain 0
-main_finding (Some (meanings.Exception number)) procedures = refuse refusals.NoProperMain 0
-main_finding (Some (meanings.Scalar variable base)) procedures = refuse refusals.NoProperMain 0
-main_finding (Some (meanings.Array variable base size)) procedures = refuse refusals.NoProperMain 0
+main_finding other procedures = refuse refusals.NoProperMain 0
 
 -- the cells of the globals so far, with those of the next item
 abbrev pub global_cells : GlobalValueTree → ℕ

@@ -9,7 +9,7 @@ ghost use Rattle.syntax.specs.Tree.{name_tree};
 
 use crate::fault::TypeFault;
 use crate::label::{ItemContext, LabelContext};
-use crate::scope::{Meaning, Names, find, insert};
+use crate::scope::{Meaning, Names, find_in_either, insert};
 use crate::top::TopNames;
 use crate::variables::{DeclaredVariables, NewSlot};
 use principals::Hierarchy;
@@ -68,8 +68,7 @@ impl<'a, 'n> BodyScope<'a, 'n> {
     pub fn look_up(&self, name: &Name<'_>) -> Option<Meaning>
         ensures { result ≡ names_of self.now (name_tree name.now).text }
     {
-        let text = name.text;
-        find(&self.locals, text).or_else(|| find(&self.top.names, text))
+        find_in_either(&self.locals, &self.top.names, name.text)
     }
 
     /// What the label of a local may name here.

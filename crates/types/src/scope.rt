@@ -2,7 +2,7 @@
 
 ghost use Rattle.types.specs.Environment.{array_finding, declaring, exception_finding, fresh_finding, input_finding, output_finding, procedure_finding, scalar_finding, variable_finding};
 ghost use Rattle.types.specs.Finding.{give};
-ghost use Rattle.types.specs.Views.{Resolves, array_use, found_in, itself, scalar_use, texts_of, without};
+ghost use Rattle.types.specs.Views.{Resolves, array_use, found_in, itself, or_else, scalar_use, texts_of, without};
 ghost use Rattle.types.specs.Resolution.{nothing_declared};
 ghost use Rattle.types.specs.ShortNames as spec;
 ghost use Rattle.std.specs.Prelude.{OnOk, List, [], ◌∷◌, ◌≡◌, ◌≤◌, None, length, true, ℕ};
@@ -110,6 +110,22 @@ pub fn find(table: &Names, name: &str) -> Option<Meaning>
     match number_of(name.as_bytes()) {
         Some(number) => table.short.find(number),
         None => table.long.get(name).copied(),
+    }
+}
+
+/// What a name stands for by a table, or else by another one. The number of a short name is made once.
+pub fn find_in_either(first: &Names, second: &Names, name: &str) -> Option<Meaning>
+    ensures { result ≡ or_else (found_in first.now name.now) (found_in second.now name.now) }
+{
+    match number_of(name.as_bytes()) {
+        Some(number) => match first.short.find(number) {
+            Some(meaning) => Some(meaning),
+            None => second.short.find(number),
+        },
+        None => match first.long.get(name).copied() {
+            Some(meaning) => Some(meaning),
+            None => second.long.get(name).copied(),
+        },
     }
 }
 

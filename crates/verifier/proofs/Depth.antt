@@ -13,12 +13,13 @@ use Rattle.verifier.specs.Flow.{Effect, Leaves, Misses, all_popped, and_then, ex
 use Rattle.verifier.specs.Signatures.{Signature, signature}
 use Rattle.modules.specs.Targets.{goes_on}
 use Rattle.verifier.specs.Operands.{greatest, list_of, IsShared}
-use Rattle.verifier.specs.Search.{list_for, table, IsSearching, HaveLongest}
+use Rattle.verifier.specs.Index.{index_of}
+use Rattle.verifier.specs.Search.{list_for, shape_at, table, IsSearching, HaveLongest}
 use Rattle.verifier.specs.declared.fault.CodeRefusalKind.TheVariants.{OperandKind}
 use Rattle.verifier.specs.declared.operands.Link.{Link}
 use Rattle.verifier.specs.declared.search.ReachedOffsets.{ReachedOffsets}
 use Rattle.verifier.proofs.Laws.{flow_within}
-use Rattle.verifier.proofs.Reaching.{table_finished, no_items}
+use Rattle.verifier.proofs.Reaching.{table_finished, no_items, shape_known}
 use Rattle.verifier.proofs.Runs.{leaves_same}
 
 -- ---- the greatest depth of links
@@ -116,14 +117,14 @@ transition_there lists (Some n) kinds e h = let some : Some (list_of lists n) �
 pub run_longest : (m : ModuleContents) (p : ProcedureContents) (s : ReachedOffsets) → IsSearching m p s [] → length s.work ≡ 0 → HaveLongest m p s.operands
 run_longest m p s g empty = record { met = g.met; longest = along }
   where
-    in_table : (at : ℕ) (kinds : List ValueKind) → table s at ≡ Some kinds → (k : ℕ) × ((k < length s.operands) × (length kinds ≤ length (list_of s.operands k)))
-    in_table at kinds has = transition_there s.operands (get_or s.shapes at None) kinds has (g.numbers at)
+    in_table : (at : ℕ) (kinds : List ValueKind) → table p s at ≡ Some kinds → (k : ℕ) × ((k < length s.operands) × (length kinds ≤ length (list_of s.operands k)))
+    in_table at kinds has = transition_there s.operands (shape_at p s at) kinds has (shape_known s.shapes (length s.operands) g.numbers (get_or (index_of p.code) at None))
 
     along : (kinds : List ValueKind) → IsMet m p kinds → (k : ℕ) × ((k < length s.operands) × (length kinds ≤ length (list_of s.operands k)))
-    along _ (found flowing at kinds f has) = in_table at kinds (flow_within m p (table s) flowing (table_finished m p s g (no_items s.work empty)) f at kinds has)
+    along _ (found flowing at kinds f has) = in_table at kinds (flow_within m p (table p s) flowing (table_finished m p s g (no_items s.work empty)) f at kinds has)
     along _ (left flowing at kinds i after f has is e) =
         let finished = table_finished m p s g (no_items s.work empty) in
-        let here = flow_within m p (table s) flowing finished f at kinds has in
+        let here = flow_within m p (table p s) flowing finished f at kinds has in
         elim (settles m p i) [
           | inl goes ↦ in_table (at + width_of i) after (finished.keeps at kinds (at + width_of i) after here (next i (at + width_of i) after is e goes refl))
           | inr none ↦ let r = in_table at kinds here in (r.0, (r.1.0, omega (arith, r.1.1, left_less (signature m p i).own (signature m p i) kinds after e none)))

@@ -1,6 +1,6 @@
 -- Control goes from a offset to another one.
 use Rattle.common.specs.Functions.{updated}
-use Rattle.std.proofs.Common.{replicate, ◌≡◌, ◌≢◌, ◌⊎◌, inl, inr, ℕ, suc, zero, ◌+◌, ◌<◌, ◌≤◌, ◌==◌, Bool, true, false, if◌then◌else◌, List, [], ◌∷◌, ◌++◌, length, get_or, set, take, Option, Some, None, refl, sym, ap, ◌∙◌, subst, arith, length-append}
+use Rattle.std.proofs.Common.{replicate, ◌≡◌, ◌≢◌, ◌⊎◌, inl, inr, ℕ, suc, zero, ◌+◌, ◌<◌, ◌≤◌, ◌==◌, Bool, true, false, if◌then◌else◌, List, [], ◌∷◌, ◌++◌, length, get_or, set, take, Option, Some, None, pos, refl, sym, ap, ◌∙◌, subst, arith, length-append}
 use Rattle.std.specs.List.{Contains}
 use Rattle.std.proofs.lemmas.Bool.Decides.{nat_tests}
 use Rattle.std.proofs.lemmas.List.{length-replicate, get_or-set_same, get_or-set_other, get_or_append_left}
@@ -8,7 +8,10 @@ use Rattle.std.proofs.lemmas.List.Elements.{Contains-append_left, Contains-push,
 use Rattle.std.proofs.Math.ListN.{length-set}
 use Rattle.std.proofs.lemmas.Bool.{cases_lt, eqb-true, cases_eq}
 use Rattle.modules.specs.Contents.{ProcedureContents, ModuleContents}
-use Rattle.modules.specs.Code.{width_of, code_length, instruction_at}
+use Rattle.modules.specs.Code.{width_of, code_length, instruction_at, offset_at}
+use Rattle.modules.specs.declared.instruction.Instruction.TheVariants.{Push}
+use Rattle.std.proofs.lemmas.Option.{slice_get-get_or}
+use Rattle.verifier.specs.Index.{index_of}
 use Rattle.modules.specs.declared.value.ValueKind.{ValueKind}
 use Rattle.modules.specs.declared.declaration.Handler.{Handler}
 use Rattle.modules.specs.declared.instruction.Instruction.{Instruction}
@@ -21,11 +24,12 @@ use Rattle.verifier.specs.Boundaries.{IsBoundary, KeepsBoundaries}
 use Rattle.verifier.specs.Coverage.{IsCoverage, Waits}
 use Rattle.verifier.specs.Depth as Depth
 use Rattle.verifier.specs.Depth.{IsMet, found}
-use Rattle.verifier.specs.Search.{list_for, table, AreMet, IsWaiting, IsFollowed, IsSearching, IsAtEdge, Flowed, KeepsSearching, IsApplied, HasEffect, HasInstruction, StartsWithEmpty, left, unset}
+use Rattle.verifier.specs.Search.{list_for, shape_at, shape_for, table, AreMet, IsWaiting, StandsAt, IsFollowed, IsSearching, IsAtEdge, Flowed, KeepsSearching, IsApplied, HasEffect, HasInstruction, StartsWithEmpty, left, unset}
 use Rattle.verifier.specs.declared.fault.CodeRefusalKind.TheVariants.{OperandKind, FallsOffEnd}
 use Rattle.verifier.specs.declared.coverage.Coverage.{Coverage}
 use Rattle.verifier.specs.declared.search.ReachedOffsets.{ReachedOffsets}
-use Rattle.verifier.proofs.Offsets.{start_inside}
+use Rattle.verifier.proofs.Offsets.{code_length_least, start_inside}
+use Rattle.verifier.proofs.Indices.{begins_at, by_index, first_offset, last_offset, length-indices, number_found, numbered_at}
 use Rattle.verifier.proofs.Laws.{IsFinished, flows_well, changed_at}
 
 fun_ext : {f g : ℕ → Option (List ValueKind)} → ((x : ℕ) → f x ≡ g x) → f ≡ g
@@ -44,55 +48,92 @@ unset_set (None ∷ shapes) (suc k) list h e = let i : unset (set shapes k (Some
 unset_set (Some other ∷ shapes) (suc k) list h e = unset_set shapes k list (omega arith) e
 
 -- nothing is at the end
-pub none_at_end : (m : ModuleContents) (p : ProcedureContents) (s : ReachedOffsets) (busy : List ℕ) → IsSearching m p s busy → table s (code_length p.code) ≡ None
-none_at_end m p s busy g = ap (list_for s.operands) (past_end s.shapes (code_length p.code) None (omega (arith, g.sized)))
+pub none_at_end : (m : ModuleContents) (p : ProcedureContents) (s : ReachedOffsets) (busy : List ℕ) → IsSearching m p s busy → table p s (code_length p.code) ≡ None
+none_at_end m p s busy g = ap (λ o. list_for s.operands (shape_for s.shapes o)) (past_end (index_of p.code) (code_length p.code) None (omega (arith, length-indices 0 p.code)))
+
+-- an instruction begins where one stands
+pub stands_there : (p : ProcedureContents) (number to : ℕ) → StandsAt p number to → number < length p.code → (i : Instruction) × (instruction_at p.code to ≡ Some i)
+stands_there p number to place inside =
+    (get_or p.code number (Push (pos 0)), ap (instruction_at p.code) (sym place.there) ∙ numbered_at p.code number ∙ slice_get-get_or p.code number (Push (pos 0)) inside)
+
+-- and what stands for it is that of its number
+pub stands_for : (p : ProcedureContents) (s : ReachedOffsets) (number to : ℕ) → StandsAt p number to → number < length p.code → shape_at p s to ≡ get_or s.shapes number None
+stands_for p s number to place inside = ap (shape_for s.shapes) (number_found p.code number to inside place.there)
+
+pub stands_found : (p : ProcedureContents) (index : List (Option ℕ)) (to number : ℕ) → index ≡ index_of p.code → get_or index to None ≡ Some number → StandsAt p number to
+stands_found p index to number is e =
+    let found = begins_at p.code to number (ap (λ l. get_or l to None) (sym is) ∙ e) in
+    record { inside = omega (arith, found.0); there = found.1 }
+
+pub stands_last : (p : ProcedureContents) (index : List (Option ℕ)) (to number : ℕ) → index ≡ index_of p.code → None ≡ get_or index to None → IsBoundary p to → number ≡ length p.code → StandsAt p number to
+stands_last p index to number is e boundary last =
+    elim boundary [
+      | inl ends ↦ record { inside = omega (arith, last); there = ap (offset_at p.code) last ∙ last_offset p.code ∙ sym ends }
+      | inr begins ↦ absurd (let no : Some begins.0 ≡ None = sym begins.1 ∙ by_index p.code index to None is e in cc)
+    ]
+
+pub not_last : (number count : ℕ) → number ≤ count → number ≢ count → number < count
+not_last number count most ne = elim (cases_lt number count) [ inl less ↦ less | inr more ↦ absurd (ne (omega (arith, most, more))) ]
 
 -- an edge to the end is refused
 pub falls_at : (m : ModuleContents) (p : ProcedureContents) (s : ReachedOffsets) (busy : List ℕ) (at to : ℕ) (after : List ValueKind) → IsSearching m p s busy → IsAtEdge m p s at to after → to ≡ code_length p.code → IsRefusedForOperands m p to FallsOffEnd
 falls_at m p s busy at to after g e is =
     subst (λ t. IsRefusedForOperands m p t FallsOffEnd) (sym is)
-    (falls (updated (table s) (code_length p.code) (Some after)) after (grows (table s) at e.kinds (code_length p.code) after g.flow e.has (subst (λ t. Edge m p at e.kinds t after) is e.edge) (none_at_end m p s busy g)) (changed_at (table s) (code_length p.code) after))
+    (falls (updated (table p s) (code_length p.code) (Some after)) after (grows (table p s) at e.kinds (code_length p.code) after g.flow e.has (subst (λ t. Edge m p at e.kinds t after) is e.edge) (none_at_end m p s busy g)) (changed_at (table p s) (code_length p.code) after))
 
 -- an edge that brings another list is refused
-pub meets_at : (m : ModuleContents) (p : ProcedureContents) (s : ReachedOffsets) (busy : List ℕ) (at to : ℕ) (after others : List ValueKind) (kind : CodeRefusalKind) → IsSearching m p s busy → IsAtEdge m p s at to after → to ≢ code_length p.code → table s to ≡ Some others → after ≢ others → kind ≡ between after others → IsRefusedForOperands m p to kind
+pub meets_at : (m : ModuleContents) (p : ProcedureContents) (s : ReachedOffsets) (busy : List ℕ) (at to : ℕ) (after others : List ValueKind) (kind : CodeRefusalKind) → IsSearching m p s busy → IsAtEdge m p s at to after → to ≢ code_length p.code → table p s to ≡ Some others → after ≢ others → kind ≡ between after others → IsRefusedForOperands m p to kind
 meets_at m p s busy at to after others kind g e inside there ne is =
-    subst (IsRefusedForOperands m p to) (sym is) (meets (table s) at e.kinds to after others g.flow e.has e.edge inside there ne)
+    subst (IsRefusedForOperands m p to) (sym is) (meets (table p s) at e.kinds to after others g.flow e.has e.edge inside there ne)
 
 -- the search with one more list
-module _ (m : ModuleContents) (p : ProcedureContents) (s new : ReachedOffsets) (at to list : ℕ) (g : IsSearching m p s (at ∷ [])) (e : IsAtEdge m p s at to (list_of s.operands list)) (number : list < length s.operands) (is_boundary : IsBoundary p to) (inside : to < length s.shapes) (unset_there : get_or s.shapes to None ≡ None) (lists : new.operands ≡ s.operands) (shapes : new.shapes ≡ set s.shapes to (Some list)) (work : new.work ≡ s.work ++ to ∷ []) where
-  at_to : get_or new.shapes to None ≡ Some list
-  at_to = ap (λ l. get_or l to None) shapes ∙ get_or-set_same s.shapes to (Some list) None inside
+module _ (m : ModuleContents) (p : ProcedureContents) (s new : ReachedOffsets) (at to number list : ℕ) (g : IsSearching m p s (at ∷ [])) (e : IsAtEdge m p s at to (list_of s.operands list)) (known : list < length s.operands) (place : StandsAt p number to) (inside : number < length s.shapes) (unset_there : get_or s.shapes number None ≡ None) (lists : new.operands ≡ s.operands) (shapes : new.shapes ≡ set s.shapes number (Some list)) (work : new.work ≡ s.work ++ to ∷ []) where
+  within : number < length p.code
+  within = omega (arith, inside, g.sized)
 
-  at_other : (offset : ℕ) → offset ≢ to → get_or new.shapes offset None ≡ get_or s.shapes offset None
-  at_other offset ne = ap (λ l. get_or l offset None) shapes ∙ get_or-set_other s.shapes to offset (Some list) None ne
+  set_there : get_or new.shapes number None ≡ Some list
+  set_there = ap (λ l. get_or l number None) shapes ∙ get_or-set_same s.shapes number (Some list) None inside
 
-  arrives : table new to ≡ Some (list_of s.operands list)
+  set_elsewhere : (k : ℕ) → k ≢ number → get_or new.shapes k None ≡ get_or s.shapes k None
+  set_elsewhere k ne = ap (λ l. get_or l k None) shapes ∙ get_or-set_other s.shapes number k (Some list) None ne
+
+  at_to : shape_at p new to ≡ Some list
+  at_to = stands_for p new number to place within ∙ set_there
+
+  at_number : (o : Option ℕ) → o ≢ Some number → shape_for new.shapes o ≡ shape_for s.shapes o
+  at_number None ne = refl
+  at_number (Some k) ne = set_elsewhere k (λ same. ne (ap Some same))
+
+  at_other : (offset : ℕ) → offset ≢ to → shape_at p new offset ≡ shape_at p s offset
+  at_other offset ne = at_number (get_or (index_of p.code) offset None) (λ is. ne (sym (begins_at p.code offset number is).1 ∙ place.there))
+
+  arrives : table p new to ≡ Some (list_of s.operands list)
   arrives = ap (list_for new.operands) at_to ∙ ap (λ l. Some (list_of l list)) lists
 
-  others : (offset : ℕ) → offset ≢ to → table new offset ≡ table s offset
-  others offset ne = ap (list_for new.operands) (at_other offset ne) ∙ ap (λ l. list_for l (get_or s.shapes offset None)) lists
+  others : (offset : ℕ) → offset ≢ to → table p new offset ≡ table p s offset
+  others offset ne = ap (list_for new.operands) (at_other offset ne) ∙ ap (λ l. list_for l (shape_at p s offset)) lists
 
-  is_changed : (offset : ℕ) → table new offset ≡ updated (table s) to (Some (list_of s.operands list)) offset
+  is_changed : (offset : ℕ) → table p new offset ≡ updated (table p s) to (Some (list_of s.operands list)) offset
   is_changed offset =
       elim (cases_eq offset to) [
-        | inl same ↦ ap (table new) same ∙ arrives ∙ sym (changed_at (table s) to (list_of s.operands list)) ∙ ap (updated (table s) to (Some (list_of s.operands list))) (sym same)
+        | inl same ↦ ap (table p new) same ∙ arrives ∙ sym (changed_at (table p s) to (list_of s.operands list)) ∙ ap (updated (table p s) to (Some (list_of s.operands list))) (sym same)
         | inr ne ↦ others offset ne ∙ not_at offset ne
       ]
     where
-      not_at : (offset : ℕ) → offset ≢ to → table s offset ≡ updated (table s) to (Some (list_of s.operands list)) offset
+      not_at : (offset : ℕ) → offset ≢ to → table p s offset ≡ updated (table p s) to (Some (list_of s.operands list)) offset
       not_at offset ne = split (offset == to) refl
         where
-          split : (b : Bool) → offset == to ≡ b → table s offset ≡ (if b then Some (list_of s.operands list) else table s offset)
+          split : (b : Bool) → offset == to ≡ b → table p s offset ≡ (if b then Some (list_of s.operands list) else table p s offset)
           split true t = absurd (ne (eqb-true offset to t))
           split false f = refl
 
-  was_none : table s to ≡ None
-  was_none = ap (list_for s.operands) unset_there
+  was_none : table p s to ≡ None
+  was_none = ap (list_for s.operands) (stands_for p s number to place within ∙ unset_there)
 
-  keeps : (offset : ℕ) (kinds : List ValueKind) → table s offset ≡ Some kinds → table new offset ≡ Some kinds
+  keeps : (offset : ℕ) (kinds : List ValueKind) → table p s offset ≡ Some kinds → table p new offset ≡ Some kinds
   keeps offset kinds h =
       elim (cases_eq offset to) [
-        | inl same ↦ absurd (let f : None ≡ Some kinds = sym was_none ∙ ap (table s) (sym same) ∙ h in cc)
+        | inl same ↦ absurd (let f : None ≡ Some kinds = sym was_none ∙ ap (table p s) (sym same) ∙ h in cc)
         | inr ne ↦ others offset ne ∙ h
       ]
 
@@ -107,25 +148,22 @@ module _ (m : ModuleContents) (p : ProcedureContents) (s new : ReachedOffsets) (
     caught = λ h c l m. keeps h.target [] (k.caught h c l m);
   }
 
-  begins_at : IsBoundary p to → (i : Instruction) × (instruction_at p.code to ≡ Some i)
-  begins_at offset = elim offset [ inl e ↦ absurd (omega (arith, e, g.sized)) | inr h ↦ h ]
-
   pub flowed : Flowed m p s new at to list
   flowed = record {
     searching = record {
       root = subst StartsWithEmpty (sym lists) g.root;
-      sized = ap length shapes ∙ length-set s.shapes to (Some list) ∙ g.sized;
-      numbers = λ offset n h. elim (cases_eq offset to) [
-        | inl same ↦ let f : Some list ≡ Some n = sym at_to ∙ ap (λ k. get_or new.shapes k None) (sym same) ∙ h in let n_is : list ≡ n = cc in omega (arith, ap length lists)
-        | inr ne ↦ omega (arith, ap length lists, g.numbers offset n (sym (at_other offset ne) ∙ h))
+      sized = ap length shapes ∙ length-set s.shapes number (Some list) ∙ g.sized;
+      numbers = λ k n h. elim (cases_eq k number) [
+        | inl same ↦ let f : Some list ≡ Some n = sym set_there ∙ ap (λ j. get_or new.shapes j None) (sym same) ∙ h in let n_is : list ≡ n = cc in omega (arith, ap length lists)
+        | inr ne ↦ omega (arith, ap length lists, g.numbers k n (sym (set_elsewhere k ne) ∙ h))
       ];
       begins = λ offset kinds h. elim (cases_eq offset to) [
-        | inl same ↦ subst (λ q. (i : Instruction) × (instruction_at p.code q ≡ Some i)) (sym same) (begins_at is_boundary)
+        | inl same ↦ subst (λ q. (i : Instruction) × (instruction_at p.code q ≡ Some i)) (sym same) (stands_there p number to place within)
         | inr ne ↦ g.begins offset kinds (sym (others offset ne) ∙ h)
       ];
       first = keeps 0 [] g.first;
       met = subst (AreMet m p) (sym lists) g.met;
-      flow = subst (Flow m p) (sym (fun_ext is_changed)) (grows (table s) at e.kinds to (list_of s.operands list) g.flow e.has e.edge was_none);
+      flow = subst (Flow m p) (sym (fun_ext is_changed)) (grows (table p s) at e.kinds to (list_of s.operands list) g.flow e.has e.edge was_none);
       pending = λ offset kinds h. elim (cases_eq offset to) [
         | inl same ↦ inl (subst (λ w. Contains w offset) (sym work) (subst (Contains (s.work ++ to ∷ [])) (sym same) (Contains-push s.work to)))
         | inr ne ↦ elim (g.pending offset kinds (sym (others offset ne) ∙ h)) [
@@ -135,17 +173,17 @@ module _ (m : ModuleContents) (p : ProcedureContents) (s new : ReachedOffsets) (
       ];
       waits = λ offset w. elim (Contains-push_cases s.work to offset (subst (λ l. Contains l offset) work w)) [
         | inl old ↦ let h = g.waits offset old in (h.0, keeps offset h.0 h.1)
-        | inr same ↦ (list_of s.operands list, ap (table new) (sym same) ∙ arrives)
+        | inr same ↦ (list_of s.operands list, ap (table p new) (sym same) ∙ arrives)
       ];
     };
     keeps = keeps;
     arrives = arrives;
     same = lists;
-    left = omega (arith, ap unset shapes, unset_set s.shapes to list inside unset_there, ap length work, length-append s.work (to ∷ []));
+    left = omega (arith, ap unset shapes, unset_set s.shapes number list inside unset_there, ap length work, length-append s.work (to ∷ []));
   }
 
 -- the list was there
-pub flowed_there : (m : ModuleContents) (p : ProcedureContents) (s new : ReachedOffsets) (at to list other : ℕ) → IsSearching m p s (at ∷ []) → get_or s.shapes to None ≡ Some other → list_of s.operands list ≡ list_of s.operands other → new ≡ s → Flowed m p s new at to list
+pub flowed_there : (m : ModuleContents) (p : ProcedureContents) (s new : ReachedOffsets) (at to list other : ℕ) → IsSearching m p s (at ∷ []) → shape_at p s to ≡ Some other → list_of s.operands list ≡ list_of s.operands other → new ≡ s → Flowed m p s new at to list
 flowed_there m p s new at to list other g there same is =
     subst (λ n. Flowed m p s n at to list) (sym is) (record {
       searching = g;
@@ -155,18 +193,10 @@ flowed_there m p s new at to list other g there same is =
       left = omega arith;
     })
 
--- a offset that control may go to, and that is not the end, has an index
-pub boundary_inside : (m : ModuleContents) (p : ProcedureContents) (s : ReachedOffsets) (busy : List ℕ) (to : ℕ) → IsSearching m p s busy → IsBoundary p to → to ≢ length s.shapes → to < length s.shapes
-boundary_inside m p s busy to g offset ne =
-    elim offset [
-      | inl e ↦ absurd (ne (e ∙ sym g.sized))
-      | inr i ↦ omega (arith, g.sized, start_inside p.code to i.0 i.1)
-    ]
-
 -- ---- the end of the search
 
 -- with nothing to look at, the table is finished
-pub table_finished : (m : ModuleContents) (p : ProcedureContents) (s : ReachedOffsets) → IsSearching m p s [] → s.work ≡ [] → IsFinished m p (table s)
+pub table_finished : (m : ModuleContents) (p : ProcedureContents) (s : ReachedOffsets) → IsSearching m p s [] → s.work ≡ [] → IsFinished m p (table p s)
 table_finished m p s g empty = record {
   first = g.first;
   finds = λ at kinds i wrong h is e. let k = every at kinds h in
@@ -175,7 +205,7 @@ table_finished m p s g empty = record {
   none_at_end = none_at_end m p s [] g;
 }
   where
-    every : (at : ℕ) (kinds : List ValueKind) → table s at ≡ Some kinds → IsFollowed m p s at kinds
+    every : (at : ℕ) (kinds : List ValueKind) → table p s at ≡ Some kinds → IsFollowed m p s at kinds
     every at kinds h =
         elim (g.pending at kinds h) [
           | inl w ↦ absurd (nothing at (subst (λ l. Contains l at) empty w))
@@ -185,11 +215,11 @@ table_finished m p s g empty = record {
         nothing : (at : ℕ) → Contains [] at → ⊥
         nothing at c = omega (arith, c.1)
 
-    along : (at : ℕ) (kinds : List ValueKind) → IsFollowed m p s at kinds → (to : ℕ) (after : List ValueKind) → Edge m p at kinds to after → table s to ≡ Some after
+    along : (at : ℕ) (kinds : List ValueKind) → IsFollowed m p s at kinds → (to : ℕ) (after : List ValueKind) → Edge m p at kinds to after → table p s to ≡ Some after
     along at kinds k _ _ (next i to after is e goes to_is) =
         let f : Some k.instruction ≡ Some i = sym k.there ∙ is in let same : k.instruction ≡ i = cc in
         let t : Leaves k.after ≡ Leaves after = sym k.finds ∙ ap (λ j. effect m p j kinds) same ∙ e in let after_is : k.after ≡ after = cc in
-        ap (table s) (to_is ∙ ap (λ j. at + width_of j) (sym same)) ∙ k.next (ap goes_on same ∙ goes) ∙ ap Some after_is
+        ap (table p s) (to_is ∙ ap (λ j. at + width_of j) (sym same)) ∙ k.next (ap goes_on same ∙ goes) ∙ ap Some after_is
     along at kinds k _ _ (jumps i to after is e jumps_to) =
         let f : Some k.instruction ≡ Some i = sym k.there ∙ is in let same : k.instruction ≡ i = cc in
         let t : Leaves k.after ≡ Leaves after = sym k.finds ∙ ap (λ j. effect m p j kinds) same ∙ e in let after_is : k.after ≡ after = cc in
@@ -197,12 +227,12 @@ table_finished m p s g empty = record {
     along at kinds k _ _ (caught i h is c l m) = k.caught h c l m
 
 pub search_finished : (m : ModuleContents) (p : ProcedureContents) (s : ReachedOffsets) → IsSearching m p s [] → s.work ≡ [] → FlowsWell m p
-search_finished m p s g empty = flows_well m p (table s) (table_finished m p s g empty)
+search_finished m p s g empty = flows_well m p (table p s) (table_finished m p s g empty)
 
 -- ---- a offset is looked at
 
 -- what was looked at is kept
-pub looked_at : (m : ModuleContents) (p : ProcedureContents) (s : ReachedOffsets) (at : ℕ) → IsSearching m p s (at ∷ []) → ((kinds : List ValueKind) → table s at ≡ Some kinds → IsFollowed m p s at kinds) → IsSearching m p s []
+pub looked_at : (m : ModuleContents) (p : ProcedureContents) (s : ReachedOffsets) (at : ℕ) → IsSearching m p s (at ∷ []) → ((kinds : List ValueKind) → table p s at ≡ Some kinds → IsFollowed m p s at kinds) → IsSearching m p s []
 looked_at m p s at g kept = record {
   root = g.root;
   sized = g.sized;
@@ -225,8 +255,8 @@ looked_at m p s at g kept = record {
         single zero h e = e
         single (suc k) h e = absurd (omega arith)
 
-    here : (offset : ℕ) (kinds : List ValueKind) → table s offset ≡ Some kinds → at ≡ offset → IsFollowed m p s offset kinds
-    here offset kinds h e = subst (λ a. IsFollowed m p s a kinds) e (kept kinds (ap (table s) e ∙ h))
+    here : (offset : ℕ) (kinds : List ValueKind) → table p s offset ≡ Some kinds → at ≡ offset → IsFollowed m p s offset kinds
+    here offset kinds h e = subst (λ a. IsFollowed m p s a kinds) e (kept kinds (ap (table p s) e ∙ h))
 
 -- ---- more lists
 
@@ -234,9 +264,14 @@ longer_list : (lists more : List (List ValueKind)) (o : Option ℕ) → ((n : �
 longer_list lists more None h l = refl
 longer_list lists more (Some n) h l = ap Some (ap (λ ls. get_or ls n []) l.1 ∙ get_or_append_left lists l.0 [] n (h n refl))
 
+-- what stands for an instruction is one of the lists
+pub shape_known : (shapes : List (Option ℕ)) (count : ℕ) → ((number list : ℕ) → get_or shapes number None ≡ Some list → list < count) → (o : Option ℕ) (list : ℕ) → shape_for shapes o ≡ Some list → list < count
+shape_known shapes count known None list e = absurd (let no : None ≡ Some list = e in cc)
+shape_known shapes count known (Some number) list e = known number list e
+
 module _ (m : ModuleContents) (p : ProcedureContents) (s new : ReachedOffsets) (busy : List ℕ) (g : IsSearching m p s busy) (longer : IsLonger s.operands new.operands) (shapes : new.shapes ≡ s.shapes) (work : new.work ≡ s.work) (met : (k : ℕ) → length s.operands ≤ k → k < length new.operands → IsMet m p (list_of new.operands k)) where
-  pub same_table : (offset : ℕ) → table new offset ≡ table s offset
-  same_table offset = ap (λ (v : List (Option ℕ)). list_for new.operands (get_or v offset None)) shapes ∙ longer_list s.operands new.operands (get_or s.shapes offset None) (g.numbers offset) longer
+  pub same_table : (offset : ℕ) → table p new offset ≡ table p s offset
+  same_table offset = ap (λ (v : List (Option ℕ)). list_for new.operands (shape_for v (get_or (index_of p.code) offset None))) shapes ∙ longer_list s.operands new.operands (shape_at p s offset) (shape_known s.shapes (length s.operands) g.numbers (get_or (index_of p.code) offset None)) longer
 
   pub going_longer : IsSearching m p new busy
   going_longer = record {
@@ -286,26 +321,26 @@ edge_next m p s at to i after h goes is = record { kinds = h.kinds; has = h.has;
 pub edge_jump : (m : ModuleContents) (p : ProcedureContents) (s : ReachedOffsets) (at to : ℕ) (i : Instruction) (after : List ValueKind) → HasEffect m p s at i after → target_of i ≡ Some to → IsAtEdge m p s at to after
 edge_jump m p s at to i after h is = record { kinds = h.kinds; has = h.has; edge = jumps i to after h.there h.effect is }
 
-pub edge_caught : (m : ModuleContents) (p : ProcedureContents) (s : ReachedOffsets) (at : ℕ) (kinds : List ValueKind) (i : Instruction) (h : Handler) → table s at ≡ Some kinds → instruction_at p.code at ≡ Some i → Contains p.handlers h → h.start ≤ at → at < h.end → IsAtEdge m p s at h.target []
+pub edge_caught : (m : ModuleContents) (p : ProcedureContents) (s : ReachedOffsets) (at : ℕ) (kinds : List ValueKind) (i : Instruction) (h : Handler) → table p s at ≡ Some kinds → instruction_at p.code at ≡ Some i → Contains p.handlers h → h.start ≤ at → at < h.end → IsAtEdge m p s at h.target []
 edge_caught m p s at kinds i h has is inside low high = record { kinds = kinds; has = has; edge = caught i h is inside low high }
 
 -- what an instruction of this procedure makes of kinds
 effect_own : (m : ModuleContents) (p : ProcedureContents) (i : Instruction) (kinds : List ValueKind) → (signature m p i).own ≡ true → effect m p i kinds ≡ exchanged (signature m p i) kinds
 effect_own m p i kinds own = ap (λ (b : Bool). if b then exchanged (signature m p i) kinds else Misses OperandKind) own
 
-pub misses_at : (m : ModuleContents) (p : ProcedureContents) (s : ReachedOffsets) (busy : List ℕ) (at : ℕ) (kinds : List ValueKind) (i : Instruction) (wrong : CodeRefusalKind) → IsSearching m p s busy → table s at ≡ Some kinds → instruction_at p.code at ≡ Some i → (signature m p i).own ≡ true → all_popped (signature m p i).pops kinds ≡ Misses wrong → IsRefusedForOperands m p at wrong
+pub misses_at : (m : ModuleContents) (p : ProcedureContents) (s : ReachedOffsets) (busy : List ℕ) (at : ℕ) (kinds : List ValueKind) (i : Instruction) (wrong : CodeRefusalKind) → IsSearching m p s busy → table p s at ≡ Some kinds → instruction_at p.code at ≡ Some i → (signature m p i).own ≡ true → all_popped (signature m p i).pops kinds ≡ Misses wrong → IsRefusedForOperands m p at wrong
 misses_at m p s busy at kinds i wrong g has is own e =
-    misses (table s) at kinds i wrong g.flow has is (effect_own m p i kinds own ∙ ap (λ o. and_then o (λ rest. Leaves (pushed (signature m p i).pushes rest))) e)
+    misses (table p s) at kinds i wrong g.flow has is (effect_own m p i kinds own ∙ ap (λ o. and_then o (λ rest. Leaves (pushed (signature m p i).pushes rest))) e)
 
-pub misses_own : (m : ModuleContents) (p : ProcedureContents) (s : ReachedOffsets) (busy : List ℕ) (at : ℕ) (kinds : List ValueKind) (i : Instruction) → IsSearching m p s busy → table s at ≡ Some kinds → instruction_at p.code at ≡ Some i → (signature m p i).own ≡ false → IsRefusedForOperands m p at OperandKind
+pub misses_own : (m : ModuleContents) (p : ProcedureContents) (s : ReachedOffsets) (busy : List ℕ) (at : ℕ) (kinds : List ValueKind) (i : Instruction) → IsSearching m p s busy → table p s at ≡ Some kinds → instruction_at p.code at ≡ Some i → (signature m p i).own ≡ false → IsRefusedForOperands m p at OperandKind
 misses_own m p s busy at kinds i g has is own =
-    misses (table s) at kinds i OperandKind g.flow has is (ap (λ (b : Bool). if b then exchanged (signature m p i) kinds else Misses OperandKind) own)
+    misses (table p s) at kinds i OperandKind g.flow has is (ap (λ (b : Bool). if b then exchanged (signature m p i) kinds else Misses OperandKind) own)
 
 -- what an instruction pushes is met, and where it pushes nothing there is no new list
-pub pushed_met : (m : ModuleContents) (p : ProcedureContents) (s : ReachedOffsets) (busy : List ℕ) (more : List (List ValueKind)) (at : ℕ) (kinds rest after : List ValueKind) (i : Instruction) → IsSearching m p s busy → table s at ≡ Some kinds → instruction_at p.code at ≡ Some i → (signature m p i).own ≡ true → all_popped (signature m p i).pops kinds ≡ Leaves rest → pushed (signature m p i).pushes rest ≡ after → ((k : ℕ) → length s.operands ≤ k → k < length more → list_of more k ≡ after) → (k : ℕ) → length s.operands ≤ k → k < length more → IsMet m p (list_of more k)
+pub pushed_met : (m : ModuleContents) (p : ProcedureContents) (s : ReachedOffsets) (busy : List ℕ) (more : List (List ValueKind)) (at : ℕ) (kinds rest after : List ValueKind) (i : Instruction) → IsSearching m p s busy → table p s at ≡ Some kinds → instruction_at p.code at ≡ Some i → (signature m p i).own ≡ true → all_popped (signature m p i).pops kinds ≡ Leaves rest → pushed (signature m p i).pushes rest ≡ after → ((k : ℕ) → length s.operands ≤ k → k < length more → list_of more k ≡ after) → (k : ℕ) → length s.operands ≤ k → k < length more → IsMet m p (list_of more k)
 pushed_met m p s busy more at kinds rest after i g has is own e is_after new k low high =
     subst (IsMet m p) (sym (new k low high))
-    (Depth.left (table s) at kinds i after g.flow has is (effect_own m p i kinds own ∙ ap (λ o. and_then o (λ rest. Leaves (pushed (signature m p i).pushes rest))) e ∙ ap Leaves is_after))
+    (Depth.left (table p s) at kinds i after g.flow has is (effect_own m p i kinds own ∙ ap (λ o. and_then o (λ rest. Leaves (pushed (signature m p i).pushes rest))) e ∙ ap Leaves is_after))
 
 -- the list that an instruction leaves, where the lists grew
 pub applied : (m : ModuleContents) (p : ProcedureContents) (s new : ReachedOffsets) (at : ℕ) → IsSearching m p s (at ∷ []) → IsLonger s.operands new.operands → length new.operands ≤ length s.operands + 1 → new.shapes ≡ s.shapes → new.work ≡ s.work → ((k : ℕ) → length s.operands ≤ k → k < length new.operands → IsMet m p (list_of new.operands k)) → IsApplied m p s new at
@@ -316,7 +351,7 @@ applied m p s new at g longer few shapes work met = record {
   left = omega (arith, same_left m p s new (at ∷ []) g longer shapes work met);
 }
 
-pub has_effect : (m : ModuleContents) (p : ProcedureContents) (s new : ReachedOffsets) (at : ℕ) (kinds rest after : List ValueKind) (i : Instruction) → IsApplied m p s new at → table s at ≡ Some kinds → instruction_at p.code at ≡ Some i → (signature m p i).own ≡ true → all_popped (signature m p i).pops kinds ≡ Leaves rest → pushed (signature m p i).pushes rest ≡ after → HasEffect m p new at i after
+pub has_effect : (m : ModuleContents) (p : ProcedureContents) (s new : ReachedOffsets) (at : ℕ) (kinds rest after : List ValueKind) (i : Instruction) → IsApplied m p s new at → table p s at ≡ Some kinds → instruction_at p.code at ≡ Some i → (signature m p i).own ≡ true → all_popped (signature m p i).pops kinds ≡ Leaves rest → pushed (signature m p i).pushes rest ≡ after → HasEffect m p new at i after
 has_effect m p s new at kinds rest after i a has is own e is_after = record {
   there = is;
   kinds = kinds;
@@ -325,7 +360,7 @@ has_effect m p s new at kinds rest after i a has is own e is_after = record {
 }
 
 -- an offset from which each edge was followed is kept
-pub all_followed : (m : ModuleContents) (p : ProcedureContents) (s new : ReachedOffsets) (at : ℕ) (i : Instruction) (after : List ValueKind) → HasEffect m p s at i after → ((to : ℕ) → target_of i ≡ Some to → table s to ≡ Some after) → ((h : Handler) → Contains p.handlers h → h.start ≤ at → at < h.end → table s h.target ≡ Some []) → ((offset : ℕ) (kinds : List ValueKind) → table s offset ≡ Some kinds → table new offset ≡ Some kinds) → (goes_on i ≡ true → table new (at + width_of i) ≡ Some after) → IsSearching m p new (at ∷ []) → IsSearching m p new []
+pub all_followed : (m : ModuleContents) (p : ProcedureContents) (s new : ReachedOffsets) (at : ℕ) (i : Instruction) (after : List ValueKind) → HasEffect m p s at i after → ((to : ℕ) → target_of i ≡ Some to → table p s to ≡ Some after) → ((h : Handler) → Contains p.handlers h → h.start ≤ at → at < h.end → table p s h.target ≡ Some []) → ((offset : ℕ) (kinds : List ValueKind) → table p s offset ≡ Some kinds → table p new offset ≡ Some kinds) → (goes_on i ≡ true → table p new (at + width_of i) ≡ Some after) → IsSearching m p new (at ∷ []) → IsSearching m p new []
 all_followed m p s new at i after e to_targets to_handlers still to_next g =
     looked_at m p new at g (λ kinds has.
     let some : Some e.kinds ≡ Some kinds = sym (still at e.kinds e.has) ∙ has in
@@ -349,7 +384,7 @@ steps_more m p old between new at to list f h = record {
 }
 
 -- handlers that wait still do where lists were kept
-pub waiting_kept : (p : ProcedureContents) (c : Coverage) (s new : ReachedOffsets) → ((offset : ℕ) (kinds : List ValueKind) → table s offset ≡ Some kinds → table new offset ≡ Some kinds) → IsWaiting p c s → IsWaiting p c new
+pub waiting_kept : (p : ProcedureContents) (c : Coverage) (s new : ReachedOffsets) → ((offset : ℕ) (kinds : List ValueKind) → table p s offset ≡ Some kinds → table p new offset ≡ Some kinds) → IsWaiting p c s → IsWaiting p c new
 waiting_kept p c s new keeps w = record {
   coverage = w.coverage;
   real = w.real;
@@ -357,13 +392,13 @@ waiting_kept p c s new keeps w = record {
 }
 
 -- control went to one that waited, and that waits no more
-pub waiting_less : (p : ProcedureContents) (c rest : Coverage) (s new : ReachedOffsets) (h : Handler) → IsWaiting p c s → IsCoverage rest → ((x : Handler) → Waits rest x → Waits c x) → ((x : Handler) → Waits c x → (x ≡ h) ⊎ Waits rest x) → ((offset : ℕ) (kinds : List ValueKind) → table s offset ≡ Some kinds → table new offset ≡ Some kinds) → table new h.target ≡ Some [] → IsWaiting p rest new
+pub waiting_less : (p : ProcedureContents) (c rest : Coverage) (s new : ReachedOffsets) (h : Handler) → IsWaiting p c s → IsCoverage rest → ((x : Handler) → Waits rest x → Waits c x) → ((x : Handler) → Waits c x → (x ≡ h) ⊎ Waits rest x) → ((offset : ℕ) (kinds : List ValueKind) → table p s offset ≡ Some kinds → table p new offset ≡ Some kinds) → table p new h.target ≡ Some [] → IsWaiting p rest new
 waiting_less p c rest s new h w good within others keeps arrives = record {
   coverage = good;
   real = λ x waits. w.real x (within x waits);
   waits_or_entered = λ x at there low high. elim (w.waits_or_entered x at there low high) [
     | inl waits ↦ elim (others x waits) [
-      | inl same ↦ inr (ap (λ (y : Handler). table new y.target) same ∙ arrives)
+      | inl same ↦ inr (ap (λ (y : Handler). table p new y.target) same ∙ arrives)
       | inr still ↦ inl still
     ]
     | inr has ↦ inr (keeps x.target [] has)
@@ -371,7 +406,7 @@ waiting_less p c rest s new h w good within others keeps arrives = record {
 }
 
 -- none that covers an offset waits any more
-pub all_entered : (p : ProcedureContents) (c : Coverage) (s : ReachedOffsets) (at : ℕ) → IsWaiting p c s → ((x : Handler) → Waits c x → x.start ≤ at → at < x.end → ⊥) → (h : Handler) → Contains p.handlers h → h.start ≤ at → at < h.end → table s h.target ≡ Some []
+pub all_entered : (p : ProcedureContents) (c : Coverage) (s : ReachedOffsets) (at : ℕ) → IsWaiting p c s → ((x : Handler) → Waits c x → x.start ≤ at → at < x.end → ⊥) → (h : Handler) → Contains p.handlers h → h.start ≤ at → at < h.end → table p s h.target ≡ Some []
 all_entered p c s at w none h there low high = elim (w.waits_or_entered h at there low high) [
   | inl waits ↦ absurd (none h waits low high)
   | inr has ↦ has
@@ -397,8 +432,8 @@ no_items (x ∷ xs) e = absurd (omega arith)
 
 -- a offset is taken from those that wait
 module _ (m : ModuleContents) (p : ProcedureContents) (s new : ReachedOffsets) (at : ℕ) (g : IsSearching m p s []) (operands : new.operands ≡ s.operands) (shapes : new.shapes ≡ s.shapes) (work : s.work ≡ new.work ++ at ∷ []) where
-  taken_table : (offset : ℕ) → table new offset ≡ table s offset
-  taken_table offset = ap (λ (v : List (Option ℕ)). list_for new.operands (get_or v offset None)) shapes ∙ ap (λ ls. list_for ls (get_or s.shapes offset None)) operands
+  taken_table : (offset : ℕ) → table p new offset ≡ table p s offset
+  taken_table offset = ap (λ (v : List (Option ℕ)). list_for new.operands (shape_for v (get_or (index_of p.code) offset None))) shapes ∙ ap (λ ls. list_for ls (shape_at p s offset)) operands
 
   taken_kept : (offset : ℕ) (kinds : List ValueKind) → IsFollowed m p s offset kinds → IsFollowed m p new offset kinds
   taken_kept offset kinds k = record {
@@ -456,17 +491,25 @@ all_unset (suc n) = ap suc (all_unset n)
 pub empty_falls : (m : ModuleContents) (p : ProcedureContents) → code_length p.code ≡ 0 → IsRefusedForOperands m p 0 FallsOffEnd
 empty_falls m p e = subst (λ t. IsRefusedForOperands m p t FallsOffEnd) e (falls (updated nowhere 0 (Some [])) [] starts (subst (λ t. updated nowhere 0 (Some []) t ≡ Some []) (sym e) (changed_at nowhere 0 [])))
 
-module _ (m : ModuleContents) (p : ProcedureContents) (s : ReachedOffsets) (n : ℕ) (size : code_length p.code ≡ suc n) (boundaries : KeepsBoundaries p) (operands : s.operands ≡ [] ∷ []) (shapes : s.shapes ≡ set (replicate (suc n) None) 0 (Some 0)) (work : s.work ≡ 0 ∷ []) where
-  start_table : (offset : ℕ) → table s offset ≡ list_for ([] ∷ []) (get_or (Some 0 ∷ replicate n None) offset None)
-  start_table offset = ap (λ v. list_for s.operands (get_or v offset None)) shapes ∙ ap (λ ls. list_for ls (get_or (Some 0 ∷ replicate n None) offset None)) operands
+module _ (m : ModuleContents) (p : ProcedureContents) (s : ReachedOffsets) (n : ℕ) (size : length p.code ≡ suc n) (boundaries : KeepsBoundaries p) (operands : s.operands ≡ [] ∷ []) (shapes : s.shapes ≡ set (replicate (suc n) None) 0 (Some 0)) (work : s.work ≡ 0 ∷ []) where
+  index_first : get_or (index_of p.code) 0 None ≡ Some 0
+  index_first = number_found p.code 0 0 (omega (arith, size)) (first_offset p.code)
 
-  other_none : (offset : ℕ) → list_for ([] ∷ []) (get_or (Some 0 ∷ replicate n None) offset None) ≡ updated nowhere 0 (Some []) offset
-  other_none zero = refl
-  other_none (suc k) = ap (list_for ([] ∷ [])) (all_none n k) ∙ ap (λ (b : Bool). if b then Some [] else None) (sym (not_zero k))
+  start_table : (offset : ℕ) → table p s offset ≡ list_for ([] ∷ []) (shape_for (Some 0 ∷ replicate n None) (get_or (index_of p.code) offset None))
+  start_table offset = ap (λ v. list_for s.operands (shape_for v (get_or (index_of p.code) offset None))) shapes ∙ ap (λ ls. list_for ls (shape_for (Some 0 ∷ replicate n None) (get_or (index_of p.code) offset None))) operands
 
-  only_first : (offset : ℕ) (kinds : List ValueKind) → table s offset ≡ Some kinds → offset ≡ 0
+  none_later : (k : ℕ) (o : Option ℕ) → get_or (index_of p.code) (suc k) None ≡ o → list_for ([] ∷ []) (shape_for (Some 0 ∷ replicate n None) o) ≡ None
+  none_later k None e = refl
+  none_later k (Some zero) e = absurd (omega (arith, (begins_at p.code (suc k) zero e).1, first_offset p.code))
+  none_later k (Some (suc j)) e = ap (list_for ([] ∷ [])) (all_none n j)
+
+  start_shape : (offset : ℕ) → list_for ([] ∷ []) (shape_for (Some 0 ∷ replicate n None) (get_or (index_of p.code) offset None)) ≡ updated nowhere 0 (Some []) offset
+  start_shape zero = ap (λ o. list_for ([] ∷ []) (shape_for (Some 0 ∷ replicate n None) o)) index_first
+  start_shape (suc k) = none_later k (get_or (index_of p.code) (suc k) None) refl ∙ ap (λ (b : Bool). if b then Some [] else None) (sym (not_zero k))
+
+  only_first : (offset : ℕ) (kinds : List ValueKind) → table p s offset ≡ Some kinds → offset ≡ 0
   only_first zero kinds h = refl
-  only_first (suc k) kinds h = absurd (let f : None ≡ Some kinds = sym (start_table (suc k) ∙ ap (list_for ([] ∷ [])) (all_none n k)) ∙ h in cc)
+  only_first (suc k) kinds h = absurd (let f : None ≡ Some kinds = sym (start_table (suc k) ∙ none_later k (get_or (index_of p.code) (suc k) None) refl) ∙ h in cc)
 
   pub start_left : left s ≡ suc n
   start_left = omega (arith, ap unset shapes, ap length work, all_unset n)
@@ -476,12 +519,12 @@ module _ (m : ModuleContents) (p : ProcedureContents) (s : ReachedOffsets) (n : 
     root = (omega (arith, ap length operands), ap (λ ls. list_of ls 0) operands);
     sized = ap length shapes ∙ (ap suc (length-replicate n None)) ∙ sym size;
     numbers = λ offset list h. numbers offset list h;
-    begins = λ offset kinds h. subst (λ q. (i : Instruction) × (instruction_at p.code q ≡ Some i)) (sym (only_first offset kinds h)) (elim boundaries.first [ inl e ↦ absurd (omega (arith, e, size)) | inr i ↦ i ]);
-    first = start_table 0;
-    flow = subst (Flow m p) (sym (fun_ext (λ offset. start_table offset ∙ other_none offset))) starts;
+    begins = λ offset kinds h. subst (λ q. (i : Instruction) × (instruction_at p.code q ≡ Some i)) (sym (only_first offset kinds h)) (elim boundaries.first [ inl e ↦ absurd (omega (arith, e, size, code_length_least p.code)) | inr i ↦ i ]);
+    first = start_table 0 ∙ start_shape 0;
+    flow = subst (Flow m p) (sym (fun_ext (λ offset. start_table offset ∙ start_shape offset))) starts;
     met = subst (AreMet m p) (sym operands) first_met;
     pending = λ offset kinds h. inl (subst (λ l. Contains l offset) (sym work) (subst (Contains (0 ∷ [])) (sym (only_first offset kinds h)) (Contains-push [] 0)));
-    waits = λ offset w. elim (Contains-push_cases [] 0 offset (subst (λ l. Contains l offset) work w)) [ inl none ↦ absurd (omega (arith, none.1)) | inr same ↦ ([], ap (table s) (sym same) ∙ start_table 0) ];
+    waits = λ offset w. elim (Contains-push_cases [] 0 offset (subst (λ l. Contains l offset) work w)) [ inl none ↦ absurd (omega (arith, none.1)) | inr same ↦ ([], ap (table p s) (sym same) ∙ start_table 0 ∙ start_shape 0) ];
   }
     where
       first_met : AreMet m p ([] ∷ [])

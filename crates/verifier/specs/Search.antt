@@ -30,8 +30,17 @@ abbrev pub list_for : List (List ValueKind) → Option ℕ → Option (List Valu
 list_for lists None = None
 list_for lists (Some list) = Some (list_of lists list)
 
-abbrev pub table : ReachedOffsets → ℕ → Option (List ValueKind)
-table s offset = list_for s.operands (slice_index_or s.shapes offset None)
+-- what stands for the number of an instruction, if there is one
+abbrev pub shape_for : List (Option ℕ) → Option ℕ → Option ℕ
+shape_for shapes None = None
+shape_for shapes (Some number) = slice_index_or shapes number None
+
+abbrev pub shape_at : ProcedureContents → ReachedOffsets → ℕ → Option ℕ
+shape_at p s offset = shape_for s.shapes (slice_index_or (index_of p.code) offset None)
+
+-- the list of the offset where an instruction begins
+abbrev pub table : ProcedureContents → ReachedOffsets → ℕ → Option (List ValueKind)
+table p s offset = list_for s.operands (shape_at p s offset)
 
 -- a offset whose instruction finds its operands, and from which each edge was followed
 pub record IsFollowed (m : ModuleContents) (p : ProcedureContents) (s : ReachedOffsets) (at : ℕ) (kinds : List ValueKind) : Type 0 where
@@ -39,17 +48,17 @@ pub record IsFollowed (m : ModuleContents) (p : ProcedureContents) (s : ReachedO
   pub there : instruction_at p.code at ≡ Some instruction
   pub after : List ValueKind
   pub finds : effect m p instruction kinds ≡ Leaves after
-  pub next : goes_on instruction ≡ true → table s (at + width_of instruction) ≡ Some after
-  pub jumps : (to : ℕ) → target_of instruction ≡ Some to → table s to ≡ Some after
-  pub caught : (h : Handler) → Contains p.handlers h → h.start ≤ at → at < h.end → table s h.target ≡ Some []
+  pub next : goes_on instruction ≡ true → table p s (at + width_of instruction) ≡ Some after
+  pub jumps : (to : ℕ) → target_of instruction ≡ Some to → table p s to ≡ Some after
+  pub caught : (h : Handler) → Contains p.handlers h → h.start ≤ at → at < h.end → table p s h.target ≡ Some []
 
--- how many offsets have no list
+-- how many instructions have no list
 abbrev pub unset : List (Option ℕ) → ℕ
 unset [] = 0
 unset (None ∷ shapes) = suc (unset shapes)
 unset (Some list ∷ shapes) = unset shapes
 
--- how many offsets may still be looked at: each without a list, and each that waits
+-- how many instructions may still be looked at: each without a list, and each that waits
 abbrev pub left : ReachedOffsets → ℕ
 left s = unset s.shapes + length s.work
 
@@ -69,14 +78,19 @@ pub record HaveLongest (m : ModuleContents) (p : ProcedureContents) (lists : Lis
 -- is kept
 pub record IsSearching (m : ModuleContents) (p : ProcedureContents) (s : ReachedOffsets) (busy : List ℕ) : Type 0 where
   pub root : StartsWithEmpty s.operands
-  pub sized : length s.shapes ≡ code_length p.code
-  pub numbers : (offset list : ℕ) → slice_index_or s.shapes offset None ≡ Some list → list < length s.operands
-  pub begins : (offset : ℕ) (kinds : List ValueKind) → table s offset ≡ Some kinds → (i : Instruction) × (instruction_at p.code offset ≡ Some i)
-  pub first : table s 0 ≡ Some []
-  pub flow : Flow m p (table s)
+  pub sized : length s.shapes ≡ length p.code
+  pub numbers : (number list : ℕ) → slice_index_or s.shapes number None ≡ Some list → list < length s.operands
+  pub begins : (offset : ℕ) (kinds : List ValueKind) → table p s offset ≡ Some kinds → (i : Instruction) × (instruction_at p.code offset ≡ Some i)
+  pub first : table p s 0 ≡ Some []
+  pub flow : Flow m p (table p s)
   pub met : AreMet m p s.operands
-  pub pending : (at : ℕ) (kinds : List ValueKind) → table s at ≡ Some kinds → Contains s.work at ⊎ (Contains busy at ⊎ IsFollowed m p s at kinds)
-  pub waits : (at : ℕ) → Contains s.work at → (kinds : List ValueKind) × (table s at ≡ Some kinds)
+  pub pending : (at : ℕ) (kinds : List ValueKind) → table p s at ≡ Some kinds → Contains s.work at ⊎ (Contains busy at ⊎ IsFollowed m p s at kinds)
+  pub waits : (at : ℕ) → Contains s.work at → (kinds : List ValueKind) × (table p s at ≡ Some kinds)
+
+-- the instruction of a number stands at an offset; where there is none more, the code ends there
+pub record StandsAt (p : ProcedureContents) (number offset : ℕ) : Type 0 where
+  pub inside : number ≤ length p.code
+  pub there : offset_at p.code number ≡ offset
 
 -- ---- steps
 
@@ -87,28 +101,28 @@ waiting s at = record { operands = s.operands; shapes = s.shapes; work = s.work 
 -- an edge from a offset that has a list
 pub record IsAtEdge (m : ModuleContents) (p : ProcedureContents) (s : ReachedOffsets) (at to : ℕ) (after : List ValueKind) : Type 0 where
   pub kinds : List ValueKind
-  pub has : table s at ≡ Some kinds
+  pub has : table p s at ≡ Some kinds
   pub edge : Edge m p at kinds to after
 
 -- control went to a offset with a list
 pub record Flowed (m : ModuleContents) (p : ProcedureContents) (old new : ReachedOffsets) (at to list : ℕ) : Type 0 where
   pub searching : IsSearching m p new (at ∷ [])
-  pub keeps : (offset : ℕ) (kinds : List ValueKind) → table old offset ≡ Some kinds → table new offset ≡ Some kinds
-  pub arrives : table new to ≡ Some (list_of old.operands list)
+  pub keeps : (offset : ℕ) (kinds : List ValueKind) → table p old offset ≡ Some kinds → table p new offset ≡ Some kinds
+  pub arrives : table p new to ≡ Some (list_of old.operands list)
   pub same : new.operands ≡ old.operands
   pub left : left new ≤ left old
 
 -- control went on from a offset: lists were kept, and none was made
 pub record KeepsSearching (m : ModuleContents) (p : ProcedureContents) (old new : ReachedOffsets) (at : ℕ) : Type 0 where
   pub searching : IsSearching m p new (at ∷ [])
-  pub keeps : (offset : ℕ) (kinds : List ValueKind) → table old offset ≡ Some kinds → table new offset ≡ Some kinds
+  pub keeps : (offset : ℕ) (kinds : List ValueKind) → table p old offset ≡ Some kinds → table p new offset ≡ Some kinds
   pub same : new.operands ≡ old.operands
   pub left : left new ≤ left old
 
 -- an instruction changed the list of its offset
 pub record IsApplied (m : ModuleContents) (p : ProcedureContents) (old new : ReachedOffsets) (at : ℕ) : Type 0 where
   pub searching : IsSearching m p new (at ∷ [])
-  pub keeps : (offset : ℕ) (kinds : List ValueKind) → table old offset ≡ Some kinds → table new offset ≡ Some kinds
+  pub keeps : (offset : ℕ) (kinds : List ValueKind) → table p old offset ≡ Some kinds → table p new offset ≡ Some kinds
   pub few : length new.operands ≤ length old.operands + 1
   pub left : left new ≤ left old
 
@@ -116,7 +130,7 @@ pub record IsApplied (m : ModuleContents) (p : ProcedureContents) (old new : Rea
 pub record HasEffect (m : ModuleContents) (p : ProcedureContents) (s : ReachedOffsets) (at : ℕ) (i : Instruction) (after : List ValueKind) : Type 0 where
   pub there : instruction_at p.code at ≡ Some i
   pub kinds : List ValueKind
-  pub has : table s at ≡ Some kinds
+  pub has : table p s at ≡ Some kinds
   pub effect : effect m p i kinds ≡ Leaves after
 
 -- a offset that has a list and an instruction
@@ -124,12 +138,12 @@ pub record HasInstruction (p : ProcedureContents) (s : ReachedOffsets) (at : ℕ
   pub instruction : Instruction
   pub there : instruction_at p.code at ≡ Some instruction
   pub kinds : List ValueKind
-  pub has : table s at ≡ Some kinds
+  pub has : table p s at ≡ Some kinds
 
 -- a place is that of an offset with its instruction and its list
 pub record IsListed (p : ProcedureContents) (s : ReachedOffsets) (place : ListedOffset) : Type 0 where
   pub number : offset_at p.code place.number ≡ place.at
-  pub list : table s place.at ≡ Some (list_of s.operands place.list)
+  pub list : table p s place.at ≡ Some (list_of s.operands place.list)
   pub inside : place.list < length s.operands
 
 -- a search at work that goes straight on to a place, or to none
@@ -146,7 +160,7 @@ count (Some place) = 1
 pub record IsWaiting (p : ProcedureContents) (c : Coverage) (s : ReachedOffsets) : Type 0 where
   pub coverage : IsCoverage c
   pub real : (h : Handler) → Waits c h → Contains p.handlers h
-  pub waits_or_entered : (h : Handler) (at : ℕ) → Contains p.handlers h → h.start ≤ at → at < h.end → Waits c h ⊎ (table s h.target ≡ Some [])
+  pub waits_or_entered : (h : Handler) (at : ℕ) → Contains p.handlers h → h.start ≤ at → at < h.end → Waits c h ⊎ (table p s h.target ≡ Some [])
 
 -- a refusal of a procedure for its flow
 abbrev pub IsOperandFlowRefusal : ModuleContents → ProcedureContents → FlowRefusal → Type 0

@@ -13,7 +13,7 @@ ghost use Rattle.verifier.specs.Flow.{FlowsWell};
 ghost use Rattle.verifier.specs.Depth.{IsGreatestDepth};
 ghost use Rattle.verifier.specs.Operands.{list_of};
 ghost use Rattle.verifier.specs.Boundaries.{IsBoundary, KeepsBoundaries};
-ghost use Rattle.verifier.specs.Search.{Flowed, HasEffect, HaveLongest, HasInstruction, IsApplied, IsAtEdge, IsSearchableBody, IsListed, IsSearchingNext, IsSearching, IsOperandFlowRefusal, IsWaiting, KeepsSearching, count, left, table, waiting};
+ghost use Rattle.verifier.specs.Search.{Flowed, HasEffect, HaveLongest, HasInstruction, IsApplied, IsAtEdge, IsSearchableBody, IsListed, IsSearchingNext, IsSearching, IsOperandFlowRefusal, IsWaiting, KeepsSearching, StandsAt, count, left, table, waiting};
 
 use crate::body::IndexedProcedure;
 use crate::coverage::Coverage;
@@ -43,6 +43,18 @@ fn refuse(kind: CodeRefusalKind, offset: u32) -> FlowFault
     OrNoMemory::Refused(FlowRefusal { kind, offset })
 }
 
+// The number of the instruction that begins at an offset, and how many there are where the code ends.
+fn number_at(body: &IndexedProcedure, to: u32) -> usize
+    requires body { IsSearchableBody body.now }
+    requires boundary { IsBoundary body.now.procedure.now to }
+    ensures { StandsAt body.now.procedure.now result to }
+{
+    match body.index.number(to as usize) {
+        Some(number) => number as usize,
+        None => body.procedure.code().len(),
+    }
+}
+
 /// An offset that has a list: the numbers of the instruction that begins there and of the list.
 #[derive(Clone, Copy)]
 pub(crate) struct ListedOffset {
@@ -55,7 +67,7 @@ pub(crate) struct ListedOffset {
 #[derive(Drop)]
 pub(crate) struct ReachedOffsets {
     operands: Operands,
-    // The number of the list of each offset that has one.
+    // The number of the list of each instruction that has one.
     shapes: Numbers,
     work: Work,
 }
@@ -75,13 +87,14 @@ impl ReachedOffsets {
         })
     }
 
-    // Control goes from an offset to another one with a list. Answers whether it is the first there; then that offset is
-    // still to be looked at.
+    // Control goes from an offset to another one with a list, to the instruction of a number, or to the end. Answers whether it is the
+    // first there; then that offset is still to be looked at.
     fn arrive(
         &mut self,
         body: &IndexedProcedure,
         at: u32,
         to: u32,
+        number: usize,
         list: u32,
     ) -> Result<bool, FlowFault>
         requires searching { IsSearching body.now.program.now body.now.procedure.now self.old
@@ -89,7 +102,7 @@ impl ReachedOffsets {
         requires edge { IsAtEdge body.now.program.now body.now.procedure.now self.old at to
             (list_of self.old.operands list) }
         requires list { list < length self.old.operands }
-        requires boundary { IsBoundary body.now.procedure.now to }
+        requires place { StandsAt body.now.procedure.now number to }
         requires room { length self.old.operands + left self.old ≤ 2 ^ 32 }
         ensures first { IfOk result (λ first. first ≡ true → Flowed body.now.program.now
             body.now.procedure.now self.old (waiting self.new to) at to list) }
@@ -98,12 +111,12 @@ impl ReachedOffsets {
         ensures rejected { IfErr result (IfRefused
             (IsOperandFlowRefusal body.now.program.now body.now.procedure.now)) }
     {
-        if to as usize == self.shapes.len() {
+        if number == self.shapes.len() {
             return Err(refuse(CodeRefusalKind::FallsOffEnd, to));
         }
-        match self.shapes.at(to as usize) {
+        match self.shapes.at(number) {
             None => {
-                self.shapes.set(to as usize, list);
+                self.shapes.set(number, list);
                 Ok(true)
             }
             Some(other) => match self.operands.meet(list, other) {
@@ -129,13 +142,14 @@ impl ReachedOffsets {
             (list_of self.old.operands list) }
         requires list { list < length self.old.operands }
         requires boundary { IsBoundary body.now.procedure.now to }
+        requires body { IsSearchableBody body.now }
         requires room { length self.old.operands + left self.old ≤ 2 ^ 32 }
         ensures accepted { OnOk result (Flowed body.now.program.now body.now.procedure.now self.old
             self.new at to list) }
         ensures rejected { IfErr result (IfRefused
             (IsOperandFlowRefusal body.now.program.now body.now.procedure.now)) }
     {
-        if !self.arrive(body, at, to, list)? {
+        if !self.arrive(body, at, to, number_at(body, to), list)? {
             return Ok(());
         }
         self.work.push(to)?;
@@ -152,7 +166,7 @@ impl ReachedOffsets {
     ) -> Result<u32, FlowFault>
         requires searching { IsSearching body.now.program.now body.now.procedure.now self.old
             (at ∷ []) }
-        requires shape { table self.old at ≡ Some (list_of self.old.operands list) }
+        requires shape { table body.now.procedure.now self.old at ≡ Some (list_of self.old.operands list) }
         requires list { list < length self.old.operands }
         requires instruction { instruction_at body.now.procedure.now.code at ≡ Some instruction }
         requires room { length self.old.operands < 2 ^ 32 }
@@ -191,11 +205,12 @@ impl ReachedOffsets {
             instruction (list_of self.old.operands list) }
         requires list { list < length self.old.operands }
         requires boundaries { KeepsBoundaries body.now.procedure.now }
+        requires body { IsSearchableBody body.now }
         requires room { length self.old.operands + left self.old ≤ 2 ^ 32 }
         ensures accepted { OnOk result (KeepsSearching body.now.program.now body.now.procedure.now
             self.old self.new at) }
         ensures there { OnOk result ((to : ℕ) → targets.target_of instruction ≡ Some to →
-            table self.new to ≡ Some (list_of self.old.operands list)) }
+            table body.now.procedure.now self.new to ≡ Some (list_of self.old.operands list)) }
         ensures rejected { IfErr result (IfRefused
             (IsOperandFlowRefusal body.now.program.now body.now.procedure.now)) }
     {
@@ -217,12 +232,13 @@ impl ReachedOffsets {
         requires there { HasInstruction body.now.procedure.now self.old at }
         requires boundaries { KeepsBoundaries body.now.procedure.now }
         requires waiting { IsWaiting body.now.procedure.now coverage.old self.old }
+        requires body { IsSearchableBody body.now }
         requires room { length self.old.operands + left self.old ≤ 2 ^ 32 }
         ensures accepted { OnOk result (KeepsSearching body.now.program.now body.now.procedure.now
             self.old self.new at) }
         ensures waiting { OnOk result (IsWaiting body.now.procedure.now coverage.new self.new) }
         ensures there { OnOk result ((h : Handler) → Contains body.now.procedure.now.handlers h →
-            h.start ≤ at → at < h.end → table self.new h.target ≡ Some []) }
+            h.start ≤ at → at < h.end → table body.now.procedure.now self.new h.target ≡ Some []) }
         ensures rejected { IfErr result (IfRefused
             (IsOperandFlowRefusal body.now.program.now body.now.procedure.now)) }
     {
@@ -248,17 +264,17 @@ impl ReachedOffsets {
             instruction (list_of self.old.operands list) }
         requires list { list < length self.old.operands }
         requires number { offset_at body.now.procedure.now.code number ≡ at }
-        requires jumps { (to : ℕ) → targets.target_of instruction ≡ Some to → table self.old to
+        requires jumps { (to : ℕ) → targets.target_of instruction ≡ Some to → table body.now.procedure.now self.old to
             ≡ Some (list_of self.old.operands list) }
         requires caught { (h : Handler) → Contains body.now.procedure.now.handlers h →
-            h.start ≤ at → at < h.end → table self.old h.target ≡ Some [] }
+            h.start ≤ at → at < h.end → table body.now.procedure.now self.old h.target ≡ Some [] }
         requires boundaries { KeepsBoundaries body.now.procedure.now }
         requires short { code_length body.now.procedure.now.code < 2 ^ 32 }
         requires room { length self.old.operands + left self.old ≤ 2 ^ 32 }
         ensures next { IfOk result (IsSearchingNext body.now.program.now body.now.procedure.now
             self.new) }
-        ensures keeps { OnOk result ((offset : ℕ) (kinds : List ValueKind) → table self.old offset
-            ≡ Some kinds → table self.new offset ≡ Some kinds) }
+        ensures keeps { OnOk result ((offset : ℕ) (kinds : List ValueKind) → table body.now.procedure.now self.old offset
+            ≡ Some kinds → table body.now.procedure.now self.new offset ≡ Some kinds) }
         ensures same { OnOk result (self.new.operands ≡ self.old.operands) }
         ensures left { IfOk result (λ next. left self.new + count next ≤ left self.old) }
         ensures rejected { IfErr result (IfRefused
@@ -268,8 +284,8 @@ impl ReachedOffsets {
             return Ok(None);
         }
         let to = at + instruction.width() as u32;
-        if self.arrive(body, at, to, list)? {
-            let number = number + 1;
+        let number = number + 1;
+        if self.arrive(body, at, to, number as usize, list)? {
             Ok(Some(ListedOffset {
                 at: to,
                 number,
@@ -296,7 +312,7 @@ impl ReachedOffsets {
         requires boundaries { KeepsBoundaries body.now.procedure.now }
         requires waiting { IsWaiting body.now.procedure.now coverage.old self.old }
         requires room { length self.old.operands + left self.old < 2 ^ 32 }
-        requires short { code_length body.now.procedure.now.code < 2 ^ 32 }
+        requires body { IsSearchableBody body.now }
         ensures next { IfOk result (IsSearchingNext body.now.program.now body.now.procedure.now
             self.new) }
         ensures waiting { OnOk result (IsWaiting body.now.procedure.now coverage.new self.new) }
@@ -352,7 +368,7 @@ impl ReachedOffsets {
         let Some(number) = body.index.number(at as usize) else {
             unreachable!()
         };
-        let Some(list) = self.shapes.at(at as usize) else {
+        let Some(list) = self.shapes.at(number as usize) else {
             unreachable!()
         };
         ListedOffset { at, number, list }
@@ -426,13 +442,13 @@ pub(crate) fn find_refusal(
     ensures rejected { IfErr result (IfRefused
         (IsOperandFlowRefusal body.now.program.now body.now.procedure.now)) }
 {
-    let size = body.index.len();
-    if size == 0 {
+    let count = body.procedure.code().len();
+    if count == 0 {
         return Err(refuse(CodeRefusalKind::FallsOffEnd, 0));
     }
     let mut coverage = Coverage::new(alloc, body.procedure.handlers())?;
     search.operands.restart();
-    search.shapes.restart(size)?;
+    search.shapes.restart(count)?;
     search.shapes.set(0, 0);
     search.work.restart()?;
     search.run(body, &mut coverage)?;

@@ -19,7 +19,7 @@ use Rattle.resolved.specs.Tree.{Expression, Integer, Unary, Binary, Statement, A
 use Rattle.resolved.specs.Program.{Program, ProcedureEntry, ThrownEntry, GlobalEntry, SlotEntry}
 use Rattle.resolved.specs.SourceState.{World}
 use Rattle.resolved.specs.Meaning.{Outcome, Ended, Stopped, Stop, run_within, state_after}
-use Rattle.resolved.specs.Labelled.{Demand, Labelling, chosen, program_demands}
+use Rattle.resolved.specs.Labelled.{Demand, Labelling, OfLocal, OfLoop, program_demands}
 pub use Rattle.resolved.specs.Precise.{secret as alice, int_slot, oops, local as var}
 
 abbrev pub three_principals : PrincipalHierarchy
@@ -169,20 +169,23 @@ run frames k p world =
 
 -- a labelling in which the locals and the loops of each procedure have these labels
 abbrev pub labels_are : List Label → List Label → Labelling
-labels_are locals loops = record { locals = λ f n. slice_index_or locals n []; loops = λ f n. slice_index_or loops n [] }
+labels_are locals loops (OfLocal f n) = slice_index_or locals n []
+labels_are locals loops (OfLoop f n) = slice_index_or loops n []
 
 -- nothing is left to choose
 abbrev pub all_written : Labelling
-all_written = record { locals = λ f n. []; loops = λ f n. [] }
+all_written unwritten = []
 
 -- a loop's label to choose
 abbrev pub loop_is : Label → Labelling
-loop_is label = record { locals = λ f n. []; loops = λ f n. label }
+loop_is label (OfLocal f n) = []
+loop_is label (OfLoop f n) = label
 
 -- a local's label to choose
 abbrev pub locals_are : Label → Labelling
-locals_are label = record { locals = λ f n. label; loops = λ f n. [] }
+locals_are label (OfLocal f n) = label
+locals_are label (OfLoop f n) = []
 
 -- whether a program fits a labelling
 abbrev pub fits : Program → Labelling → Bool
-fits p labelling = list_all (λ (d : Demand). holds (label_lattice p.hierarchy) (chosen labelling) d) (program_demands p)
+fits p labelling = list_all (λ (d : Demand). holds (label_lattice p.hierarchy) labelling d) (program_demands p)

@@ -1,8 +1,7 @@
 use Rattle.std.proofs.Common.{ap, arith, length, refl, subst, sym, ◌∙◌, ◌+◌, ◌<◌, [], take}
 use Rattle.std.proofs.lemmas.List.{length-map}
 use Rattle.constraints.specs.Merging.{AreSpreadSoFar, row_of, rows_of}
-use Rattle.constraints.specs.Spreading.{AreRowsOf, all_calls}
-use Rattle.constraints.specs.declared.spreading.Made.{Made}
+use Rattle.constraints.specs.Spreading.{AreRowsOf, Declares, all_calls, made_list}
 use Rattle.constraints.proofs.Bodies.{procedures-numbered}
 use Rattle.gathering.specs.Names.{real_unknowns}
 use Rattle.resolved.specs.CoreOf.{program_of}
@@ -13,7 +12,6 @@ use Rattle.constraints.proofs.LaidRows.{shared-all}
 use Rattle.constraints.proofs.PartRows.{so-far-next, taken-none}
 use Rattle.constraints.proofs.Spread.{whole-none}
 use Rattle.constraints.proofs.SpreadRows.{calls-all, calls-next}
-use Rattle.constraints.specs.Spreading.{Declares}
 use Rattle.constraints.proofs.spreading.spread_calls.Goals as goal
 
 pub loop-i-init : goal.loop-i-init
@@ -35,19 +33,19 @@ loop-i-preserved c =
     let rows = c.deref-row-items.result.now in
     let following = c.in_ok-following.following in
     let i = c.loop-i.i in
-    let begun : Made = record { number = c.loop-i.made.number; constraints = c.new.result } in
-    let own : Made = c.spread_row.new.made in
-    let made : Made = record { number = own.number; constraints = c.take_all.new.rest } in
+    let made = c.spread_row.new.made in
     let so_far = c.loop-i.invariant.spread in
+    let taken = c.in_ok-spread_row.ensures.spread in
     record {
       spread =
-          so-far-next (IsOver following) (over-same following) (over-then following) core table journal (all_calls (take i rows)) (all_calls (take (i + 1) rows)) (rows_of c.in_ok-kept.kept.items) (rows_of c.loop-i.kept.items) (rows_of c.take_all.new.kept.items) own.constraints.items
+          so-far-next (IsOver following) (over-same following) (over-then following) core table journal (all_calls (take i rows)) (all_calls (take (i + 1) rows)) (rows_of c.in_ok-kept.kept.items) (rows_of c.loop-i.kept.items) (rows_of c.spread_row.new.kept.items) taken.own
           c.args.made.now c.loop-i.made made so_far
-          (calls-next core table journal rows c.len.result i c.row-item.result c.deref-in-loop-i.result.now c.deref.result.now c.args.made.now.number so_far.spread begun own
+          (calls-next core table journal rows c.len.result i c.row-item.result c.deref-in-loop-i.result.now c.deref.result.now c.args.made.now.number so_far.spread
+          (made_list c.loop-i.made.number []) (made_list made.number taken.own)
           c.loop-i-test.true c.row-item.is c.deref-in-loop-i.ensures.value (subst (AreRowsOf c.len.result c.deref.result.now) (sym c.deref-row-items.ensures.value) c.in_ok-rows.ensures)
-          so_far.are_spread c.in_ok-spread_row.ensures.spread c.new.ensures.items)
-          c.in_ok-take_all.ensures.taken;
-      count = c.in_ok-take_all.ensures.count ∙ c.loop-i.invariant.count;
+          so_far.are_spread taken.holds refl)
+          taken.are_taken;
+      count = c.in_ok-spread_row.ensures.count ∙ c.loop-i.invariant.count;
       few =
           let more = calls-more rows i c.row-item.result c.deref-in-loop-i.result.now c.loop-i-test.true c.row-item.is c.deref-in-loop-i.ensures.value in
           omega (arith, c.loop-i.invariant.few, c.in_ok-spread_row.ensures.few, more);

@@ -11,14 +11,14 @@ pub returns-clause-faultless : goal.returns-clause-faultless
 returns-clause-faultless c = refl
 
 pub returns-clause-labelled : goal.returns-clause-labelled
-returns-clause-labelled c = (λ f n. [], (λ f n. [], refl))
+returns-clause-labelled c = (λ unwritten. [], refl)
 
 pub returns-clause-sent : goal.returns-clause-sent
 unfolding frame_limit
 returns-clause-sent c = refl
 
 pub returns-clause-refused : goal.returns-clause-refused
-returns-clause-refused c labelled = let e : false ≡ true = labelled.1.1 in cc
+returns-clause-refused c labelled = let e : false ≡ true = labelled.1 in cc
 
 -- Bob may not read the one input
 same_for_bob : (first second : ℤ) → Agree two_principals (channel_label (relay [])) (relay []) bob (comes first) (comes second)

@@ -19,7 +19,7 @@ pub returns-clause-faultless : goal.returns-clause-faultless
 returns-clause-faultless c = refl
 
 pub returns-clause-labelled : goal.returns-clause-labelled
-returns-clause-labelled c = (λ f n. [], (λ f n. for_alice, refl))
+returns-clause-labelled c = (λ unwritten. for_alice, refl)
 
 pub returns-clause-agree : goal.returns-clause-agree
 returns-clause-agree c zero within is_input reads = let e : false ≡ true = reads in absurd (cc)

@@ -1,4 +1,4 @@
-use Rattle.std.proofs.Common.{◌≡◌, Option, Some, None, Ok, Err, refl, sym, ap, subst, ◌∙◌, rules}
+use Rattle.std.proofs.Common.{◌≡◌, ◌<◌, ◌≤◌, arith, Option, Some, None, Ok, Err, refl, sym, ap, subst, ◌∙◌, rules}
 use Rattle.std.proofs.lemmas.List.{map-append}
 use Rattle.std.specs.Str.{chars, IsUtf8}
 use Rattle.lexer.specs.declared.token.Kind.{Kind}
@@ -8,17 +8,40 @@ use Rattle.lexer.specs.Cut.{IsCut, IsStuck, IsTextRefused}
 use Rattle.lexer.specs.Listing.{IsRefusedAtCharacter}
 use Rattle.lexer.specs.Scan.{Reads}
 use Rattle.lexer.specs.Terminal.{terminal_of, terminals_of}
-use Rattle.lexer.proofs.Growing.{IsCutSoFar, GrowsBy, begin, gap, token, refused, cut_to_end}
+use Rattle.lexer.specs.Words.{is_white_space}
+use Rattle.lexer.proofs.Runs.{Stops}
+use Rattle.lexer.proofs.Growing.{IsCutSoFar, GrowsBy, begin, blanks, gap, no_longer, shorter_by, token, refused, cut_to_end}
 use Rattle.lexer.proofs.Listed.{Listed, listed, refused_at}
 use Rattle.lexer.proofs.Cutting.{has_one_cut, not_cut_and_refused, has_one_refusal}
 use Rattle.lexer.proofs.lexing.lex.Goals as goal
 
 pub loop-first-init : goal.loop-first-init
-loop-first-init c = (c.utf8.src, subst (λ ts. IsCutSoFar c.args.src.now c.args.src.now (terminals_of ts)) (sym c.in_ok-tokens.ensures.items) (begin c.args.src.now))
+loop-first-init c =
+    let src = c.args.src.now in
+    let whole : IsCutSoFar src src (terminals_of c.in_ok-tokens.tokens.items) =
+    subst (λ ts. IsCutSoFar src src (terminals_of ts)) (sym c.in_ok-tokens.ensures.items) (begin src) in
+    let past = blanks src src c.skip_blanks-rest.result.now _ c.utf8.src c.skip_blanks-rest.utf8 whole c.skip_blanks-rest.ensures in
+    (c.skip_blanks-rest.utf8, (past.so_far, past.dark))
 
--- the cut with the token that was pushed
-pushed : (c : goal.In_ok-push) → GrowsBy c.args.src.now c.loop-first.rest.now c.in_ok-kind.field-0.rest.now (terminals_of c.push.new.self.items)
-pushed c =
+-- the first character that is left is no white space
+pub cut_piece-requires-clause-dark : goal.cut_piece-requires-clause-dark
+cut_piece-requires-clause-dark c = subst (Stops is_white_space) c.in-Some.ensures c.loop-first.invariant.1.1
+
+-- the cut with the token that was pushed, and with the white space after it
+pub loop-first-smaller-in-Continue-branch-3 : goal.loop-first-smaller-in-Continue-branch-3
+loop-first-smaller-in-Continue-branch-3 c =
+    let rest = c.loop-first.rest.now in
+    let left = c.in_ok-kind.field-0.rest.now in
+    let left_ok : IsUtf8 left = search rules in
+    let P : Option Kind → Type 0 = λ k. Reads (chars rest) k (chars left) in
+    let any = refuse-answer (λ p. Reads (chars rest) p.kind (chars p.rest.now)) (IsStuck _ (chars rest)) c.cut_piece.result (Ok c.in_ok-kind.field-0) c.in_ok-kind.ensures.cases c.cut_piece.ensures in
+    let read : Reads (chars rest) (Some c.in-Some-kind.kind) (chars left) = subst P c.in-Some-kind.is any in
+    let taken = shorter_by rest left (Some c.in-Some-kind.kind) c.loop-first.invariant.0 left_ok read in
+    let past = no_longer left c.skip_blanks-rest-in-Some.result.now left_ok c.skip_blanks-rest-in-Some.utf8 c.skip_blanks-rest-in-Some.ensures in
+    omega arith
+
+pub loop-first-preserved-in-Continue-branch-3 : goal.loop-first-preserved-in-Continue-branch-3
+loop-first-preserved-in-Continue-branch-3 c =
     let rest = c.loop-first.rest.now in
     let left = c.in_ok-kind.field-0.rest.now in
     let left_ok : IsUtf8 left = search rules in
@@ -26,14 +49,10 @@ pushed c =
     let any = refuse-answer (λ p. Reads (chars rest) p.kind (chars p.rest.now)) (IsStuck _ (chars rest)) c.cut_piece.result (Ok c.in_ok-kind.field-0) c.in_ok-kind.ensures.cases c.cut_piece.ensures in
     let read : Reads (chars rest) (Some c.in-Some-kind.kind) (chars left) = subst P c.in-Some-kind.is any in
     let tokens = c.loop-first.tokens.items in
-    let t = token c.args.src.now rest left c.take_front-text.result.now (terminals_of tokens) c.in-Some-kind.kind c.loop-first.invariant.0 left_ok c.take_front-text.utf8 c.loop-first.invariant.1 read c.take_front-text.ensures _ refl in
-    subst (GrowsBy c.args.src.now rest left) (sym (ap terminals_of c.in_ok-push.ensures.items ∙ map-append terminal_of tokens _)) t
-
-pub loop-first-smaller-in_ok-push : goal.loop-first-smaller-in_ok-push
-loop-first-smaller-in_ok-push c = (pushed c).shorter
-
-pub loop-first-preserved-in_ok-push : goal.loop-first-preserved-in_ok-push
-loop-first-preserved-in_ok-push c = (search rules, (pushed c).grown)
+    let t = token c.args.src.now rest left c.take_front-text.result.now (terminals_of tokens) c.in-Some-kind.kind c.loop-first.invariant.0 left_ok c.take_front-text.utf8 c.loop-first.invariant.1.0 read c.take_front-text.ensures _ refl in
+    let past = blanks c.args.src.now left c.skip_blanks-rest-in-Some.result.now _ left_ok c.skip_blanks-rest-in-Some.utf8 t.grown c.skip_blanks-rest-in-Some.ensures in
+    let items = sym (ap terminals_of c.in_ok-push.ensures.items ∙ map-append terminal_of tokens _) in
+    (c.skip_blanks-rest-in-Some.utf8, (subst (IsCutSoFar c.args.src.now c.skip_blanks-rest-in-Some.result.now) items past.so_far, past.dark))
 
 -- the cut with the gap that was passed
 passed : (c : goal.In_default-kind) → GrowsBy c.args.src.now c.loop-first.rest.now c.in_ok-kind.field-0.rest.now (terminals_of c.loop-first.tokens.items)
@@ -44,19 +63,26 @@ passed c =
     let P : Option Kind → Type 0 = λ k. Reads (chars rest) k (chars left) in
     let none : c.in_ok-kind.field-0.kind ≡ None = c.in_default-kind.is in
     let any = refuse-answer (λ p. Reads (chars rest) p.kind (chars p.rest.now)) (IsStuck _ (chars rest)) c.cut_piece.result (Ok c.in_ok-kind.field-0) c.in_ok-kind.ensures.cases c.cut_piece.ensures in
-    gap c.args.src.now rest left (terminals_of c.loop-first.tokens.items) c.loop-first.invariant.0 left_ok c.loop-first.invariant.1 (subst P none any)
+    gap c.args.src.now rest left (terminals_of c.loop-first.tokens.items) c.loop-first.invariant.0 left_ok c.loop-first.invariant.1.0 (subst P none any)
 
 pub loop-first-smaller : goal.loop-first-smaller
-loop-first-smaller c = (passed c).shorter
+loop-first-smaller c =
+    let left_ok : IsUtf8 c.in_ok-kind.field-0.rest.now = search rules in
+    let step = (passed c).shorter in
+    let past = no_longer c.in_ok-kind.field-0.rest.now c.skip_blanks-rest-in-Some.result.now left_ok c.skip_blanks-rest-in-Some.utf8 c.skip_blanks-rest-in-Some.ensures in
+    omega arith
 
 pub loop-first-preserved : goal.loop-first-preserved
-loop-first-preserved c = (search rules, (passed c).grown)
+loop-first-preserved c =
+    let left_ok : IsUtf8 c.in_ok-kind.field-0.rest.now = search rules in
+    let past = blanks c.args.src.now c.in_ok-kind.field-0.rest.now c.skip_blanks-rest-in-Some.result.now _ left_ok c.skip_blanks-rest-in-Some.utf8 (passed c).grown c.skip_blanks-rest-in-Some.ensures in
+    (c.skip_blanks-rest-in-Some.utf8, (past.so_far, past.dark))
 
 -- the text is refused for what is reported
 reported : (c : goal.After-drop-tokens) → IfRefused (IsTextRefused c.args.src.now) c.in_err-kind.field-0.0
 reported c =
     refused-weaker (IsStuck _ (chars c.loop-first.rest.now)) (IsTextRefused c.args.src.now)
-    (λ r stuck. refused c.args.src.now c.loop-first.rest.now (terminals_of c.loop-first.tokens.items) r c.loop-first.invariant.1 stuck)
+    (λ r stuck. refused c.args.src.now c.loop-first.rest.now (terminals_of c.loop-first.tokens.items) r c.loop-first.invariant.1.0 stuck)
     c.in_err-kind.field-0.0
     (refuse-answer (λ p. Reads (chars c.loop-first.rest.now) p.kind (chars p.rest.now)) (IsStuck _ (chars c.loop-first.rest.now))
     c.cut_piece.result (Err c.in_err-kind.field-0.0) c.in_err-kind.ensures.cases c.cut_piece.ensures)
@@ -81,7 +107,7 @@ ended : (c : goal.In_ok-push-2) → IsCut c.args.src.now (terminals_of c.push-2.
 ended c =
     let tokens = c.loop-first.tokens.items in
     subst (IsCut c.args.src.now) (sym (ap terminals_of c.in_ok-push-2.ensures.items ∙ map-append terminal_of tokens _))
-    (cut_to_end c.args.src.now c.loop-first.rest.now (terminals_of tokens) _ c.loop-first.invariant.1 c.in_default.ensures refl)
+    (cut_to_end c.args.src.now c.loop-first.rest.now (terminals_of tokens) _ c.loop-first.invariant.1.0 c.in_default.ensures refl)
 
 all : (c : goal.In_ok-push-2) → Listed c.args.src.now (terminals_of c.push-2.new.self.items)
 all c = listed c.args.src.now (terminals_of c.push-2.new.self.items) c.utf8.src (ended c)

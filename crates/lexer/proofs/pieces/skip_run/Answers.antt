@@ -1,20 +1,23 @@
-use Rattle.std.proofs.Common.{sym, ap, ◌∙◌}
+use Rattle.std.proofs.Common.{◌≡◌, ◌<◌, length, get_or, sym, ap, ◌∙◌, arith}
+use Rattle.std.specs.Prelude.{nat_lt}
+use Rattle.std.proofs.lemmas.Bool.{ltb-true}
 use Rattle.lexer.specs.Scan.{holds}
-use Rattle.std.specs.Str.{chars}
-use Rattle.std.specs.Str.Iter.{chars_rest}
-use Rattle.lexer.proofs.Steps.{step, run_on, run_stop, run_end, chars-empty}
+use Rattle.lexer.proofs.Steps.{run_end, chars-empty, stopped_ascii}
 use Rattle.lexer.proofs.pieces.skip_run.Goals as goal
-
-pub loop-character-preserved : goal.loop-character-preserved
-loop-character-preserved c =
-    let h = step _ (chars_rest c.next.new.self) c.in-Some.character c.loop-character.invariant.0 c.in-Some.ensures.steps.0 in
-    (h.utf8, run_on _ _ _ _ h.characters (sym c.holds.ensures ∙ c.if-not-holds.false) ∙ c.loop-character.invariant.1)
 
 pub returns-in_default : goal.returns-in_default
 returns-in_default c =
-    ap chars c.as_str-rest.ensures ∙ (run_end (holds c.args.class) _ (chars-empty _ c.in_default.ensures.steps.0.0) ∙ c.loop-character.invariant.1)
+    let same = ap length c.as_bytes.ensures.value in
+    let rest = c.skip_ascii-rest.result.now in
+    let none : length rest ≡ 0 = omega (arith, same, c.in_default.len_below) in
+    run_end (holds c.args.class) _ (chars-empty rest none) ∙ c.skip_ascii-rest.ensures.run
 
-pub returns-then-not-holds : goal.returns-then-not-holds
-returns-then-not-holds c =
-    let h = step _ (chars_rest c.next.new.self) c.in-Some.character c.loop-character.invariant.0 c.in-Some.ensures.steps.0 in
-    ap chars c.as_str-rest.ensures ∙ (run_stop (holds c.args.class) _ _ _ h.characters (sym c.holds.ensures ∙ c.if-not-holds.true) ∙ c.loop-character.invariant.1)
+pub returns-in_default-2 : goal.returns-in_default-2
+returns-in_default-2 c =
+    let same = ap length c.as_bytes.ensures.value in
+    let rest = c.skip_ascii-rest.result.now in
+    let some : 0 < length rest = omega (arith, same, c.in-len1-up.len_at_least) in
+    let ascii = sym c.is_ascii.ensures ∙ c.if-not-is_ascii.false in
+    let small : get_or rest 0 0 < 128 = ltb-true (get_or rest 0 0) 128
+    (ap (λ bytes. nat_lt (get_or bytes 0 0) 128) (sym c.as_bytes.ensures.value) ∙ ascii) in
+    stopped_ascii c.args.class rest c.skip_ascii-rest.utf8 some small c.skip_ascii-rest.ensures.stops ∙ c.skip_ascii-rest.ensures.run

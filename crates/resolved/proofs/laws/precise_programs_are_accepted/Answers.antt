@@ -4,16 +4,16 @@ use Rattle.resolved.proofs.laws.precise_programs_are_accepted.Goals as goal
 
 pub returns-clause-short_circuit : goal.returns-clause-short_circuit
 unfolding int_wrap
-returns-clause-short_circuit c = record { formed = refl; ended = refl; labelled = (λ f n. [], (λ f n. [], refl)) }
+returns-clause-short_circuit c = record { formed = refl; ended = refl; labelled = (λ unwritten. [], refl) }
 
 pub returns-clause-raising_argument : goal.returns-clause-raising_argument
 unfolding int_wrap
-returns-clause-raising_argument c = record { formed = refl; ended = refl; labelled = (λ f n. [], (λ f n. [], refl)) }
+returns-clause-raising_argument c = record { formed = refl; ended = refl; labelled = (λ unwritten. [], refl) }
 
 pub returns-clause-two_normal_ends : goal.returns-clause-two_normal_ends
 unfolding int_wrap
-returns-clause-two_normal_ends c = record { formed = refl; ended = refl; labelled = (λ f n. [], (λ f n. [], refl)) }
+returns-clause-two_normal_ends c = record { formed = refl; ended = refl; labelled = (λ unwritten. [], refl) }
 
 pub returns-clause-handler_of_one : goal.returns-clause-handler_of_one
 unfolding int_wrap
-returns-clause-handler_of_one c = record { formed = refl; ended = refl; labelled = (λ f n. [], (λ f n. [], refl)) }
+returns-clause-handler_of_one c = record { formed = refl; ended = refl; labelled = (λ unwritten. [], refl) }

@@ -2,7 +2,7 @@ use Rattle.std.proofs.Common.{◌≡◌, ap, sym, ◌∙◌, List, Bool}
 use Rattle.std.proofs.lemmas.List.{get_or_default}
 use Rattle.std.proofs.lemmas.Result.{IfOk-weaker}
 use Rattle.solver.specs.Sharing.{bits_of, nothing_kept}
-use Rattle.solver.specs.declared.sharing.Form.TheVariants.{Whole}
+use Rattle.solver.specs.declared.sharing.RowForm.TheVariants.{Whole}
 use Rattle.solver.specs.declared.sharing.Kept.{Kept}
 use Rattle.solver.proofs.Standing.{bits-form}
 use Rattle.solver.proofs.sharing.+whole.Goals as goal

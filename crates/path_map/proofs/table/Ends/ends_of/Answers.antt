@@ -1,14 +1,8 @@
-use Rattle.std.proofs.Common.{◌<◌, ap, length, subst, sym, ◌∙◌}
+use Rattle.std.proofs.Common.{ap, ◌∙◌}
 use Rattle.resolved.specs.Ends.{has_end}
 use Rattle.path_map.specs.Entries.{entry_ends}
-use Rattle.path_map.proofs.Kept.{end-found, row-inside}
+use Rattle.path_map.proofs.Kept.{end-found}
 use Rattle.path_map.proofs.table.Ends.ends_of.Goals as goal
-
-pub path_map_of-requires : goal.path_map_of-requires
-path_map_of-requires c =
-    subst (λ rows. c.index-entry.result.now.row < length rows) (sym c.deref.ensures.value)
-    (row-inside c.self.inside.rows.items c.self.inside.entries.items c.args.self.now c.args.number c.index-entry.result.now c.index-entry.result.now
-    c.index-entry.ensures c.self.view_is c.requires c.self.invariant.1)
 
 pub returns : goal.returns
 returns c exit =

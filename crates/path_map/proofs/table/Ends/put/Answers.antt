@@ -5,11 +5,19 @@ use Rattle.path_map.specs.Sets.{members}
 use Rattle.path_map.proofs.Kept.{kept-grown, put-is, put-kept}
 use Rattle.path_map.proofs.table.Ends.put.Goals as goal
 
-pub invariant_of-self : goal.invariant_of-self
-invariant_of-self c =
+pub invariant_of-self-in_err-row : goal.invariant_of-self-in_err-row
+invariant_of-self-in_err-row c =
     let grown = c.row_of.ensures.grown in (
       omega (arith, c.self.invariant.0, grown.more),
       kept-grown c.self.inside.rows.items c.row_of.new.rows.items grown c.self.inside.entries.items c.self.invariant.1,
+    )
+
+pub invariant_of-self-in_err-note : goal.invariant_of-self-in_err-note
+invariant_of-self-in_err-note c =
+    let grown = c.row_of.ensures.grown in (
+      omega (arith, c.self.invariant.0, grown.more),
+      put-kept c.self.inside.rows.items c.row_of.new.rows.items c.self.inside.entries.items c.args.at c.args.exits c.with.result (members c.args.raised) c.in_ok-row.row
+          c.summary-summary.result grown c.self.invariant.1 c.in_ok-row.ensures.row c.summary-summary.ensures c.with.ensures,
     )
 
 pub invariant_of-self-2 : goal.invariant_of-self-2

@@ -2,7 +2,7 @@ use Rattle.std.proofs.Common.{◌≡◌, ◌<◌, ◌≤◌, ap, sym, subst, ◌
 use Rattle.std.proofs.lemmas.List.{get_or_default}
 use Rattle.labels.specs.Row.{has}
 use Rattle.solver.specs.Sharing.{bits_of, kept_at, nothing_kept}
-use Rattle.solver.specs.declared.sharing.Form.TheVariants.{Whole}
+use Rattle.solver.specs.declared.sharing.RowForm.TheVariants.{Whole}
 use Rattle.solver.specs.declared.sharing.Kept.{Kept}
 use Rattle.solver.proofs.Standing.{bits-form, map-read}
 use Rattle.solver.proofs.sharing.SharedRows.include_in.Goals as goal

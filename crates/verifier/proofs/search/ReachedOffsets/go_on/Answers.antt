@@ -16,9 +16,14 @@ overflow_add-number c =
     let code = c.args.body.now.procedure.now.code in
     omega (arith, number_inside code c.args.number c.args.at c.args.instruction c.requires.number c.requires.effect.there, code_length_least code, c.requires.short)
 
-pub arrive-requires-clause-boundary : goal.arrive-requires-clause-boundary
-arrive-requires-clause-boundary c =
-    subst (λ (w : ℕ). IsBoundary c.args.body.now.procedure.now (c.args.at + w)) (sym c.width.ensures) (c.requires.boundaries.next c.args.at c.args.instruction c.requires.effect.there)
+pub arrive-requires-clause-place : goal.arrive-requires-clause-place
+arrive-requires-clause-place c =
+    let code = c.args.body.now.procedure.now.code in
+    let is = number_is code c.args.number c.args.at c.args.instruction c.requires.number c.requires.effect.there in
+    record {
+      inside = omega (arith, number_inside code c.args.number c.args.at c.args.instruction c.requires.number c.requires.effect.there);
+      there = next_offset code c.args.number c.args.instruction is ∙ omega (arith, c.requires.number, c.width.ensures);
+    }
 
 pub arrive-requires-clause-edge : goal.arrive-requires-clause-edge
 arrive-requires-clause-edge c =
@@ -35,7 +40,7 @@ returns-then-branch-clause-next c =
     let to = c.args.at + c.width.result in
     let f = c.in_ok-arrive.ensures.first c.if-branch.true in
     let g = all_followed c.args.body.now.program.now c.args.body.now.procedure.now c.args.self.now (waiting c.arrive.new.self to) c.args.at c.args.instruction (list_of c.args.self.now.operands c.args.list) c.requires.effect c.requires.jumps c.requires.caught f.keeps
-    (λ goes. ap (λ w. table c.arrive.new.self (c.args.at + w)) (sym c.width.ensures) ∙ f.arrives) f.searching in
+    (λ goes. ap (λ w. table c.args.body.now.procedure.now c.arrive.new.self (c.args.at + w)) (sym c.width.ensures) ∙ f.arrives) f.searching in
     let code = c.args.body.now.procedure.now.code in
     let is = number_is code c.args.number c.args.at c.args.instruction c.requires.number c.requires.effect.there in (
       taken c.args.body.now.program.now c.args.body.now.procedure.now (waiting c.arrive.new.self to) c.arrive.new.self to g refl refl refl,
@@ -53,4 +58,4 @@ pub returns-else-branch-clause-next : goal.returns-else-branch-clause-next
 returns-else-branch-clause-next c =
     let f = c.in_ok-arrive.ensures.other c.if-branch.false in
     all_followed c.args.body.now.program.now c.args.body.now.procedure.now c.args.self.now c.arrive.new.self c.args.at c.args.instruction (list_of c.args.self.now.operands c.args.list) c.requires.effect c.requires.jumps c.requires.caught f.keeps
-    (λ goes. ap (λ w. table c.arrive.new.self (c.args.at + w)) (sym c.width.ensures) ∙ f.arrives) f.searching
+    (λ goes. ap (λ w. table c.args.body.now.procedure.now c.arrive.new.self (c.args.at + w)) (sym c.width.ensures) ∙ f.arrives) f.searching

@@ -2,7 +2,7 @@ use Rattle.std.proofs.Common.{sym, subst, take}
 use Rattle.std.proofs.lemmas.List.{take_more}
 use Rattle.constraints.specs.Spreading.{AreRowsOf}
 use Rattle.constraints.specs.declared.journal.Called.{Called}
-use Rattle.constraints.proofs.spreading.rows_of.Goals as goal
+use Rattle.constraints.proofs.spreading.rows_of_calls.Goals as goal
 
 pub loop-called-preserved : goal.loop-called-preserved
 loop-called-preserved c =
