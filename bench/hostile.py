@@ -7,8 +7,8 @@ PROGRAM is the built program. For each size (256, 512 and 1024 KiB unless others
 seconds of the processor that `check` takes, how many times those of the benign source of the size they are, how many times those of the
 same shape at half the size, and the most memory, also as bytes for each byte of the source beyond what the benign one takes, and how
 many times that of half the size it is. The least time of three runs counts, and a run is cut off after 120 seconds. Behind a shape that
-takes more than its bound of the benign source's time stands `TOO SLOW`, and behind one that takes more than its bound of memory `TOO
-LARGE`; the status is 1 where there is one.
+takes more than its bound of the benign source's time stands `TOO SLOW`, and behind one that takes more than its bound of memory, or more
+than 2.1 times that of half the size, `TOO LARGE`; the status is 1 where there is one.
 """
 
 import itertools
@@ -22,6 +22,8 @@ from pathlib import Path
 
 ROUNDS = 3
 LIMIT = 120
+# The most memory that a source may take, as a multiple of what one of half the size takes.
+DOUBLED = 2.1
 SIZES = [256, 512, 1024]
 
 
@@ -175,8 +177,8 @@ def sets_of_labels_one_after_another(size):
             "".join(f"t{k} = s{n};" for k in range(12)) + "\n",
         ),
     )
-    takers = "".join(f"int t{k} = 0;\n" for k in range(12))
-    return flat(256), "void main() {\n" + takers + joined(found) + joined(found, 1) + "}\n"
+    locals_between = "".join(f"int t{k} = 0;\n" for k in range(12))
+    return flat(256), "void main() {\n" + locals_between + joined(found) + joined(found, 1) + "}\n"
 
 
 def many_labels_to_one_channel(size):
@@ -257,14 +259,14 @@ def small_policy(number):
     return f"P{number % 255}: P{number // 255}"
 
 
-def to_many_places(size, first, label, place, taker=lambda n: "u"):
-    """Many locals with labels by their number, which are copied to a taker, which is copied to as many others with labels of their own.
+def to_many_places(size, first, label, place, between=lambda n: "u"):
+    """Many locals with labels by their number, which are copied to a local without a label, which is copied to as many others with labels of their own.
     Before them stand first lines."""
     found = pieces(
         size - len(first) - 20,
         lambda n: (
-            f"int{{{label(n)}}} x{n} = 0; {taker(n)} = x{n};\n",
-            f"int{{{place(n)}}} z{n} = {taker(n)};\n",
+            f"int{{{label(n)}}} x{n} = 0; {between(n)} = x{n};\n",
+            f"int{{{place(n)}}} z{n} = {between(n)};\n",
         ),
     )
     return chain(256), first + joined(found) + joined(found, 1) + "}\n"
@@ -289,9 +291,27 @@ def many_labels_to_places_with_many_readers(size):
 
 
 def left_sides_in_turn(size):
-    """The same with two takers, which are copied to the places in turn."""
+    """The same with two such locals, which are copied to the places in turn."""
     first, place = "void main() {\nint u = 0; int v = 0;\n", lambda n: f"P255:; {one_policy(n)}"
     return to_many_places(size, first, small_policy, place, lambda n: "uv"[n % 2])
+
+
+def three_left_sides_in_turn(size):
+    """The same with three of them."""
+    first, place = "void main() {\nint u = 0; int v = 0; int w = 0;\n", lambda n: f"P255:; {one_policy(n)}"
+    return to_many_places(size, first, small_policy, place, lambda n: "uvw"[n % 3])
+
+
+def nearly_equal_left_sides_in_turn(size):
+    """The same with forty of them, which have the same labels but for one each."""
+    locals_between = "".join(f"int u{k} = 0; int{{P{k}: P{255 - k}}} y{k} = 0; u{k} = y{k};\n" for k in range(40))
+    first, place = f"void main() {{\nint u = 0;\n{locals_between}", lambda n: f"P255:; {one_policy(n)}"
+    found = pieces(
+        size - len(first) - 1000,
+        lambda n: (f"int{{{small_policy(n)}}} x{n} = 0; u = x{n};\n", f"int{{{place(n)}}} z{n} = u{n % 40};\n"),
+    )
+    copies = "".join(f"u{k} = u;\n" for k in range(40))
+    return chain(256), first + joined(found) + copies + joined(found, 1) + "}\n"
 
 
 def named_labels_to_many_places(size):
@@ -330,7 +350,7 @@ def labels_along_names_to_many_places(size):
 
 
 def growing_left_sides_to_many_places(size):
-    """The same with a chain of takers, each with a label more than the one before it, and each copied to a place of its own."""
+    """The same with a chain of them, each with a label more than the one before it, and each copied to a place of its own."""
     found = pieces(
         size - 40,
         lambda n: (
@@ -481,7 +501,7 @@ SHAPES = [
     (long_label_named_again, 20, 40),
     (long_label_along_names, 20, 40),
     (long_label_beside_policies, 20, 40),
-    (one_policy_more_each, 20, 400),
+    (one_policy_more_each, 20, 40),
     (long_label_named_everywhere, 20, 40),
     (half_of_a_long_label_flows, 20, 40),
     (halves_of_two_long_labels_flow, 20, 40),
@@ -489,14 +509,16 @@ SHAPES = [
     (pairs_of_policies_to_many_places, 20, 400),
     (many_labels_to_places_with_many_readers, 20, 400),
     (left_sides_in_turn, 20, 400),
+    (three_left_sides_in_turn, 20, 400),
+    (nearly_equal_left_sides_in_turn, 20, 400),
     (named_labels_to_many_places, 20, 400),
     (many_labels_to_places_with_a_long_label, 20, 400),
-    (many_labels_to_places_along_names, 20, 400),
+    (many_labels_to_places_along_names, 20, 40),
     (labels_along_names_to_many_places, 20, 400),
     (growing_left_sides_to_many_places, 20, 400),
     (long_places_in_turn, 20, 400),
     (flows_along_names, 20, 400),
-    (all_names_flow_to_the_last, 20, 400),
+    (all_names_flow_to_the_last, 20, 40),
     (exceptions_of_calls, 20, 400),
     (exceptions_of_calls_at_many_labels, 20, 20),
     (exceptions_of_calls_in_tries, 20, 40),
@@ -505,8 +527,8 @@ SHAPES = [
     (exceptions_of_uneven_callees, 20, 20),
     (exceptions_of_callees_in_any_order, 20, 20),
     (exceptions_of_callees_by_halves, 20, 50),
-    (exceptions_of_callees_called_twice, 20, 80),
-    (exceptions_of_calls_that_return, 20, 120),
+    (exceptions_of_callees_called_twice, 20, 40),
+    (exceptions_of_calls_that_return, 20, 60),
 ]
 
 
@@ -544,12 +566,14 @@ def judged(program, folder, kib, base, shape, bounds, before):
         return f"{kib} KiB {shape.__name__}: cut off after {LIMIT} s, TOO SLOW", False
     took, most = found
     growth = larger = ""
+    doubled = 0
     if shape in before:
+        doubled = most / before[shape][1]
         growth = f", {took / before[shape][0]:.1f} times half the size"
-        larger = f", {most / before[shape][1]:.2f} times half the size"
+        larger = f", {doubled:.2f} times half the size"
     before[shape] = took, most
     more = max(0, most - base[1]) / kib * 1024
-    marks = (", TOO SLOW" if took > bounds[0] * base[0] else "") + (", TOO LARGE" if more > bounds[1] else "")
+    marks = (", TOO SLOW" if took > bounds[0] * base[0] else "") + (", TOO LARGE" if more > bounds[1] or doubled > DOUBLED else "")
     times = f"{took:.3f} s, {took / base[0]:.1f} times the benign one{growth}"
     return f"{kib} KiB {shape.__name__}: {times}, {most} MB{larger}, {more:.0f} bytes a byte more{marks}", not marks
 

@@ -5,10 +5,10 @@
  * pointer after a call, prints nothing, has no global state, and takes memory from malloc. What a host holds it gives back by
  * flowc_host_free, and all else before the call ends.
  *
- * A result whose length the caller cannot know goes to the head of a place, `out` with `out_size` bytes, and the outcome says in
+ * A result whose length the caller cannot know goes to the head of a buffer, `out` with `out_size` bytes, and the outcome says in
  * `length` how many bytes it has. No zero byte is put behind it. Where the result does not fit the status is FLOWC_TOO_SHORT and the
- * place is as it was: a second call with `length` bytes gets it. The words of a refusal go there too; where they alone do not fit, the
- * status is FLOWC_REFUSED all the same, `length` is greater than `out_size`, and the place is as it was. FLOWC_WORDS bytes hold any.
+ * buffer is as it was: a second call with `length` bytes gets it. The words of a refusal go there too; where they alone do not fit, the
+ * status is FLOWC_REFUSED all the same, `length` is greater than `out_size`, and the buffer is as it was. FLOWC_WORDS bytes hold any.
  *
  * What the caller owes, and nothing checks: each pointer is valid for its length, and aligned; nothing else writes there during the call;
  * `out` overlaps no input; enough stack is left; no call is made from a signal handler, nor in the forked child of a process with threads.
@@ -47,7 +47,7 @@ enum {
     FLOWC_EVENT = 5      /* what a host was asked: it has no place */
 };
 
-/* A place of so many bytes holds the words of each refusal. */
+/* A buffer of this many bytes holds the words of each refusal. */
 enum { FLOWC_WORDS = 64 };
 
 /* How a call ended, and where what was given is wrong. What a status does not speak of is 0. */

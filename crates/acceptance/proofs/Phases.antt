@@ -22,8 +22,8 @@ use Rattle.syntax.specs.Grammar.{SpellsProgram}
 use Rattle.syntax.specs.Tree.{ProgramTree}
 use Rattle.labels.specs.Label.{ReaderPolicy}
 use Rattle.resolved.specs.Program.{Program}
-use Rattle.resolved.specs.EndFaults.{end_faults}
-use Rattle.resolved.specs.declared.fault.EndRefusal.{EndRefusal}
+use Rattle.resolved.specs.ExitFaults.{exit_faults}
+use Rattle.resolved.specs.declared.fault.ExitRefusal.{ExitRefusal}
 use Rattle.resolved.specs.Labelled.{Demand, Labelled}
 use Rattle.resolved.specs.Flow as flow
 use Rattle.resolved.proofs.Flow.{labelled-or_refused, chain-refuses}
@@ -95,13 +95,13 @@ module _ (h : PrincipalHierarchy) (source : List ℕ) where
   same_program program other one two =
       let both : Ok program ≡ Ok other = sym one.resolved ∙ (ap (resolution h) (same_tree source one.tree two.tree one.tree_of two.tree_of) ∙ two.resolved) in cc
 
-  same_end : (program other : Program) (refusal again : EndRefusal) (faults more : List EndRefusal) → program ≡ other → end_faults program ≡ refusal ∷ faults → end_faults other ≡ again ∷ more → refusal ≡ again
-  same_end program other refusal again faults more same e f =
-      let both : refusal ∷ faults ≡ again ∷ more = sym e ∙ (ap end_faults same ∙ f) in cc
+  agreed_exit : (program other : Program) (refusal again : ExitRefusal) (faults more : List ExitRefusal) → program ≡ other → exit_faults program ≡ refusal ∷ faults → exit_faults other ≡ again ∷ more → refusal ≡ again
+  agreed_exit program other refusal again faults more same e f =
+      let both : refusal ∷ faults ≡ again ∷ more = sym e ∙ (ap exit_faults same ∙ f) in cc
 
-  ended_refused : (program other : Program) (refusal : EndRefusal) (faults : List EndRefusal) → program ≡ other → end_faults program ≡ refusal ∷ faults → end_faults other ≡ [] → ⊥
+  ended_refused : (program other : Program) (refusal : ExitRefusal) (faults : List ExitRefusal) → program ≡ other → exit_faults program ≡ refusal ∷ faults → exit_faults other ≡ [] → ⊥
   ended_refused program other refusal faults same e f =
-      let both : refusal ∷ faults ≡ [] = sym e ∙ (ap end_faults same ∙ f) in cc
+      let both : refusal ∷ faults ≡ [] = sym e ∙ (ap exit_faults same ∙ f) in cc
 
   same_flow : (program other : Program) (policy other_policy : ReaderPolicy) (chain others : List Demand) (last again : Demand) → program ≡ other →
       flow.IsProgramRefused program policy chain last → flow.IsProgramRefused other other_policy others again → last ≡ again
@@ -149,8 +149,8 @@ module _ (h : PrincipalHierarchy) (source : List ℕ) where
   source_once _ other _ there (WrongEnd program from wrong others e) (NoTree _ tokens cut refusal refused) = absurd (tree_refused source from.tree tokens refusal from.tree_of cut refused)
   source_once _ _ _ _ (WrongEnd program from wrong others e) (WrongName tree of refusal f) = absurd (named_refused tree refusal program of f from)
   source_once _ _ _ _ (WrongEnd program from wrong others e) (WrongEnd other from_too again more f) =
-      let same : wrong ≡ again = same_end program other wrong again others more (same_program program other from from_too) e f in
-      (ap (λ (refusal : EndRefusal). kinds.End refusal.kind) same, ap (λ (refusal : EndRefusal). refusal.at) same)
+      let same : wrong ≡ again = agreed_exit program other wrong again others more (same_program program other from from_too) e f in
+      (ap (λ (refusal : ExitRefusal). kinds.End refusal.kind) same, ap (λ (refusal : ExitRefusal). refusal.at) same)
   source_once _ _ _ _ (WrongEnd program from wrong others e) (WrongFlow other from_too ended policy chain last unmet) =
       absurd (ended_refused program other wrong others (same_program program other from from_too) e ended)
   source_once _ other _ there (WrongFlow program from ended policy chain last unmet) (NoText _ _ two) = absurd (text_or_none source other there two from.tree_of.text)
@@ -179,11 +179,11 @@ module _ (h : PrincipalHierarchy) (source : List ℕ) where
   Refusal = (kind : RefusalKind) × (at : ℕ) × IsSourceRefused h source kind at
 
   checked : (program : Program) → IsResolvedFrom h source program → ((found : Program) × IsAccepted h source found) ⊎ Refusal
-  checked program from = by_ends (end_faults program) refl
+  checked program from = by_exits (exit_faults program) refl
     where
-      by_ends : (faults : List EndRefusal) → end_faults program ≡ faults → ((found : Program) × IsAccepted h source found) ⊎ Refusal
-      by_ends (refusal ∷ others) e = inr (kinds.End refusal.kind, refusal.at, WrongEnd program from refusal others e)
-      by_ends [] e =
+      by_exits : (faults : List ExitRefusal) → exit_faults program ≡ faults → ((found : Program) × IsAccepted h source found) ⊎ Refusal
+      by_exits (refusal ∷ others) e = inr (kinds.End refusal.kind, refusal.at, WrongEnd program from refusal others e)
+      by_exits [] e =
           ⊎_elim
           (λ labelled. inl (program, record { resolved = from; ended = e; labelled = labelled }))
           (λ unmet. inr (kinds.FlowNotAllowed, unmet.2.at, WrongFlow program from e unmet.0 unmet.1 unmet.2 unmet.3))

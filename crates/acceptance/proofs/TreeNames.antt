@@ -6,7 +6,7 @@ use Rattle.lexer.specs.declared.token.Kind.{Kind}
 use Rattle.lexer.specs.declared.token.Kind.TheVariants as kinds
 use Rattle.lexer.specs.Terminal.{Terminal}
 use Rattle.syntax.specs.Form.{Form, many, ◌·◌}
-use Rattle.syntax.specs.Grammar.{SpellsProgram, at, ◌◂◌, base, name, label, optional_label, direction, channel, exception, global_value, global, written_result, parameters, procedure, item, program}
+use Rattle.syntax.specs.Grammar.{SpellsProgram, at, ◌◂◌, base, name, label, direction, channel, exception, global_value, global, written_result, procedure, item, program, optional, some, parameter}
 use Rattle.syntax.specs.Tree.{NameTree, ItemTree, ProgramTree}
 use Rattle.parser.proofs.Holds.{Each, Held, Holds, spelled_taken}
 use Rattle.types.specs.Laws.{HasUtf8Names}
@@ -60,9 +60,9 @@ module _ (room : ℕ) where
   procedure_named tree k h =
       let throwing = h.1.2 in
       let ending = throwing.2 in
-      let close = before (written_result · name · optional_label ◂ kinds.OpenParenthesis · parameters) kinds.CloseParenthesis h.0.0.0.0 ending.0 ending.2 in
+      let close = before (written_result · name · optional label ◂ kinds.OpenParenthesis · some kinds.Comma parameter) kinds.CloseParenthesis h.0.0.0.0 ending.0 ending.2 in
       let taking = close.1 in
-      let front = before (written_result · name · optional_label) kinds.OpenParenthesis h.0.0.0.0.0 taking.0 taking.2 in
+      let front = before (written_result · name · optional label) kinds.OpenParenthesis h.0.0.0.0.0 taking.0 taking.2 in
       let named = front.1.2 in
       subst IsNamed (sym h.2) (name_text h.0.0.0.0.0.0.1 named.1 named.3)
 

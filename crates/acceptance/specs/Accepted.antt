@@ -10,7 +10,7 @@ use Rattle.principals.specs.HierarchyText.{IsHierarchyOf}
 use Rattle.syntax.specs.Grammar.{SpellsProgram}
 use Rattle.syntax.specs.Tree.{ProgramTree}
 use Rattle.resolved.specs.Program.{Program}
-use Rattle.resolved.specs.EndFaults.{end_faults}
+use Rattle.resolved.specs.ExitFaults.{exit_faults}
 use Rattle.resolved.specs.Labelled.{Labelled}
 use Rattle.types.specs.Resolution.{resolution}
 use Rattle.common.specs.declared.limits.TheConstants.{MAX_TEXT}
@@ -33,10 +33,10 @@ pub record IsResolvedFrom (h : PrincipalHierarchy) (source : List ℕ) (program 
   pub tree_of : IsTreeOf source tree
   pub resolved : resolution h tree ≡ Ok program
 
--- a source is accepted, and stands for a program: that has no fault of its ends, and some labels allow its flows
+-- a source is accepted, and stands for a program: that has no fault of its exits, and some labels allow its flows
 pub record IsAccepted (h : PrincipalHierarchy) (source : List ℕ) (program : Program) : Type 0 where
   pub resolved : IsResolvedFrom h source program
-  pub ended : end_faults program ≡ []
+  pub ended : exit_faults program ≡ []
   pub labelled : Labelled program
 
 -- the hierarchy of the first text

@@ -6,7 +6,7 @@ use Rattle.lexer.specs.RefusalKinds.{lex_refusal_number, lex_refusal_words}
 use Rattle.principals.specs.RefusalKinds.{hierarchy_refusal_number, hierarchy_refusal_words}
 use Rattle.principals.specs.declared.fault.HierarchyRefusalKind.TheVariants.{TooLong}
 use Rattle.parser.specs.RefusalKinds.{parse_refusal_number, parse_refusal_words}
-use Rattle.resolved.specs.RefusalKinds.{end_refusal_number, end_refusal_words}
+use Rattle.resolved.specs.RefusalKinds.{exit_refusal_number, exit_refusal_words}
 use Rattle.types.specs.RefusalKinds.{name_refusal_number, name_refusal_words}
 use Rattle.acceptance.specs.declared.kind.RefusalKind.{RefusalKind}
 use Rattle.acceptance.specs.declared.kind.RefusalKind.TheVariants as kind
@@ -19,7 +19,7 @@ refusal_kind_number (kind.Hierarchy kind) = hierarchy_refusal_number kind
 refusal_kind_number (kind.Lex kind) = lex_refusal_number kind
 refusal_kind_number (kind.Parse kind) = parse_refusal_number kind
 refusal_kind_number (kind.Name kind) = name_refusal_number kind
-refusal_kind_number (kind.End kind) = end_refusal_number kind
+refusal_kind_number (kind.End kind) = exit_refusal_number kind
 refusal_kind_number kind.FlowNotAllowed = 601
 
 -- the words of a kind of refusal
@@ -30,5 +30,5 @@ refusal_kind_words (kind.Hierarchy kind) = hierarchy_refusal_words kind
 refusal_kind_words (kind.Lex kind) = lex_refusal_words kind
 refusal_kind_words (kind.Parse kind) = parse_refusal_words kind
 refusal_kind_words (kind.Name kind) = name_refusal_words kind
-refusal_kind_words (kind.End kind) = end_refusal_words kind
+refusal_kind_words (kind.End kind) = exit_refusal_words kind
 refusal_kind_words kind.FlowNotAllowed = codes "flow not allowed"

@@ -15,8 +15,8 @@ use Rattle.principals.specs.declared.fault.HierarchyRefusal.{HierarchyRefusal}
 use Rattle.syntax.specs.Tree.{ProgramTree}
 use Rattle.labels.specs.Label.{ReaderPolicy}
 use Rattle.resolved.specs.Program.{Program}
-use Rattle.resolved.specs.EndFaults.{end_faults}
-use Rattle.resolved.specs.declared.fault.EndRefusal.{EndRefusal}
+use Rattle.resolved.specs.ExitFaults.{exit_faults}
+use Rattle.resolved.specs.declared.fault.ExitRefusal.{ExitRefusal}
 use Rattle.resolved.specs.Labelled.{Demand}
 use Rattle.resolved.specs.Flow as flow
 use Rattle.types.specs.Resolution.{resolution}
@@ -39,7 +39,7 @@ pub data IsHierarchyRefused (text : List ℕ) : RefusalKind → (at : ℕ) → T
   Wrong : IsText text → (refusal : HierarchyRefusal) → IsRefusedText text refusal
       → IsHierarchyRefused text (kinds.Hierarchy refusal.kind) refusal.at
 
--- why a source is refused under a hierarchy: the first fault of its tokens, of its tree, of names, types and sizes, or of the ends,
+-- why a source is refused under a hierarchy: the first fault of its tokens, of its tree, of names, types and sizes, or of the exits,
 -- or the first demand that no labelling meets
 pub data IsSourceRefused (h : PrincipalHierarchy) (source : List ℕ) : RefusalKind → (at : ℕ) → Type 0 where
   NoText : (kind : RefusalKind) (at : ℕ) → IsNoText source kind at → IsSourceRefused h source kind at
@@ -49,9 +49,9 @@ pub data IsSourceRefused (h : PrincipalHierarchy) (source : List ℕ) : RefusalK
       → parser.AreTokensRefused tokens refusal → IsSourceRefused h source (kinds.Parse refusal.kind) refusal.at
   WrongName : (tree : ProgramTree) → IsTreeOf source tree → (refusal : TypeRefusal) → resolution h tree ≡ Err refusal
       → IsSourceRefused h source (kinds.Name refusal.kind) refusal.at
-  WrongEnd : (program : Program) → IsResolvedFrom h source program → (refusal : EndRefusal) (others : List EndRefusal)
-      → end_faults program ≡ refusal ∷ others → IsSourceRefused h source (kinds.End refusal.kind) refusal.at
-  WrongFlow : (program : Program) → IsResolvedFrom h source program → end_faults program ≡ [] → (policy : ReaderPolicy)
+  WrongEnd : (program : Program) → IsResolvedFrom h source program → (refusal : ExitRefusal) (others : List ExitRefusal)
+      → exit_faults program ≡ refusal ∷ others → IsSourceRefused h source (kinds.End refusal.kind) refusal.at
+  WrongFlow : (program : Program) → IsResolvedFrom h source program → exit_faults program ≡ [] → (policy : ReaderPolicy)
       (chain : List Demand) (last : Demand) → flow.IsProgramRefused program policy chain last
       → IsSourceRefused h source kinds.FlowNotAllowed last.at
 

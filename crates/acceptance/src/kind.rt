@@ -3,7 +3,7 @@
 use lexer::LexRefusalKind;
 use parser::ParseRefusalKind;
 use principals::HierarchyRefusalKind;
-use resolved::EndRefusalKind;
+use resolved::ExitRefusalKind;
 use types::TypeRefusalKind;
 
 /// One of the two texts.
@@ -30,8 +30,8 @@ pub enum RefusalKind {
     Parse(ParseRefusalKind),
     /// 301 to 304, 401 to 403, 703 and 704: a name, a type or a size is wrong.
     Name(TypeRefusalKind),
-    /// 501 to 505: an end of a statement or a procedure is wrong.
-    End(EndRefusalKind),
+    /// 501 to 505: an exit of a statement or a procedure is wrong.
+    End(ExitRefusalKind),
     /// 601: a flow that no labelling allows.
     FlowNotAllowed,
 }

@@ -9,5 +9,5 @@ pub use kind::{RefusalKind, Text};
 pub use lexer::LexRefusalKind;
 pub use parser::ParseRefusalKind;
 pub use principals::HierarchyRefusalKind;
-pub use resolved::EndRefusalKind;
+pub use resolved::ExitRefusalKind;
 pub use types::TypeRefusalKind;

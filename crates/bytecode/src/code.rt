@@ -5,13 +5,14 @@ ghost use Rattle.modules.specs.Form.{Code, code_at, instruction_in, read};
 ghost use Rattle.modules.specs.Opcodes.{instructions};
 ghost use Rattle.bytecode.specs.Reading.{Decodes};
 ghost use Rattle.modules.specs.declared.version.Version.{Version};
-ghost use Rattle.std.specs.Prelude.{[], IfOk, IfSome, Ok, ◌≡◌, ◌≤◌};
+ghost use Rattle.std.specs.Prelude.{[], IfOk, IfSome, Ok, OnOk, ◌<◌, ◌≡◌, ◌≤◌};
+ghost use Rattle.std.specs.Vec.{vec_capacity, vec_len};
 
-use crate::reading::{FieldFault, read_byte, read_number, read_text, refuse};
+use crate::reading::{FieldFault, give_back, read_byte, read_number, read_text, refuse};
 use modules::instruction::Instruction;
 use modules::opcode::{instruction_of, numbered_instruction, width_after};
 use modules::{FormatRefusalKind, Version};
-use std::alloc::Global;
+use std::alloc::{AllocError, Global};
 
 /// The instruction with a number at the front, if there is one that ends within the room that is left in its code. Each version has it.
 fn read_numbered(room: u32, bytes: &[u8]) -> Option<(Instruction, &[u8])>
@@ -45,9 +46,6 @@ fn read_instruction(
         bytes.now) }
     ensures inside { IfOk result (λ x. width_of x.0 ≤ room) }
 {
-    if let Some(found) = read_numbered(room, bytes) {
-        return Ok(found);
-    }
     let (opcode, rest) = read_byte(bytes)?;
     let Some(width) = width_after(version, opcode) else {
         return Err(refuse(FormatRefusalKind::BadValue, bytes));
@@ -62,11 +60,30 @@ fn read_instruction(
     Ok((instruction, after))
 }
 
-// For how many instructions there is room at first: most procedures have no more.
-const FEW: usize = 32;
+// For how many instructions of code of this many bytes there is room at first: for one in four bytes, as most code has them, if the
+// bytes are there.
+fn room_at_first(size: u32, bytes: &[u8]) -> usize {
+    if (size as usize) <= bytes.len() {
+        size as usize / 4 + 1
+    } else {
+        0
+    }
+}
 
-/// The instructions of a version that the next `size` bytes are. Room for them grows with what was read, whatever the size claims, and
-/// what is not taken in the end is given back. It is not inlined, so that the loop has all registers for itself.
+// Makes room for one more instruction, where there is none. It is inlined, so that nothing is called where there is.
+#[inline(always)]
+fn make_room(code: &mut Vec<Instruction>) -> Result<(), AllocError>
+    ensures same { OnOk result (code.new.items ≡ code.old.items) }
+    ensures room { OnOk result (vec_len code.new < vec_capacity code.new) }
+{
+    if code.len() < code.capacity() {
+        return Ok(());
+    }
+    code.reserve(1)
+}
+
+/// The instructions of a version that the next `size` bytes are. Room is made by the size only where as many bytes are there, and what
+/// is not taken in the end is given back. It is not inlined, so that the loop has all registers for itself.
 #[inline(never)]
 fn read_instructions(
     alloc: Global,
@@ -74,19 +91,27 @@ fn read_instructions(
     size: u32,
     bytes: &[u8],
 ) -> Result<(Vec<Instruction>, &[u8]), FieldFault>
-    ensures { Decodes (λ x. (x.0.items, x.1.now)) result (code_at (instructions version) size size []
+    ensures { Decodes (λ x. (x.0.items, x.1.now)) result
+        (code_at (instructions version) size size []
         bytes.now) }
 {
-    let mut code = Vec::with_capacity(alloc, FEW)?;
+    let mut code = Vec::with_capacity(alloc, room_at_first(size, bytes))?;
     let mut rest = bytes;
     let mut room = size;
     while room > 0 {
-        let (next, after) = read_instruction(version, room, rest)?;
-        code.push(next)?;
-        room -= next.width() as u32;
-        rest = after;
+        make_room(&mut code)?;
+        if let Some((next, after)) = read_numbered(room, rest) {
+            code.push_reserved(next);
+            room -= next.width() as u32;
+            rest = after;
+        } else {
+            let (next, after) = read_instruction(version, room, rest)?;
+            code.push_reserved(next);
+            room -= next.width() as u32;
+            rest = after;
+        }
     }
-    code.shrink_to_fit();
+    give_back(&mut code);
     Ok((code, rest))
 }
 
@@ -96,7 +121,8 @@ pub(crate) fn read_code(
     version: Version,
     bytes: &[u8],
 ) -> Result<(Vec<Instruction>, &[u8]), FieldFault>
-    ensures { Decodes (λ x. (x.0.items, x.1.now)) result (read (Code (instructions version)) bytes.now) }
+    ensures { Decodes (λ x. (x.0.items, x.1.now)) result
+        (read (Code (instructions version)) bytes.now) }
 {
     let (size, rest) = read_number(bytes)?;
     read_instructions(alloc, version, size, rest)

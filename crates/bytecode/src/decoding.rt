@@ -136,7 +136,7 @@ fn read_all_of_file(alloc: Global, bytes: &[u8]) -> Result<Contents, FieldFault>
 ///
 /// A refusal is the first one in reading order, field by field from the left, with the offset of the field's first byte,
 /// within code that of the offending byte, and for bytes that end too early their length. Nothing is reserved by a count
-/// or a length that the bytes claim: each list grows by what was read.
+/// that the bytes claim, nor by a length of code where fewer bytes follow: lists grow by what was read.
 pub fn decode(alloc: Global, bytes: &[u8]) -> Result<Module, FormatFault>
     // What is read is spelled so, each byte of it.
     ensures accepted { IfOk result (λ m. Spells module_file m bytes.now) }

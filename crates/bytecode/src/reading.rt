@@ -82,7 +82,16 @@ pub(crate) trait Element {
         ensures holds { IfOk result (λ x. holds self.now state.new (before.now ++ x.0 ∷ [])) };
 }
 
-/// This many fields, one after the other. Nothing is reserved by the count, and the list takes no more memory than it needs.
+/// Gives back the room that a list does not take, where that is more than a quarter of what it takes.
+pub(crate) fn give_back<T>(items: &mut Vec<T>)
+    ensures { items.new.items ≡ items.old.items }
+{
+    if items.capacity() - items.len() > items.len() / 4 {
+        items.shrink_to_fit();
+    }
+}
+
+/// This many fields, one after the other. Nothing is reserved by the count, and the list keeps little more room than it takes.
 pub(crate) fn read_each<'a, E: Element>(
     alloc: Global,
     element: &E,
@@ -104,6 +113,6 @@ where
         items.push(item)?;
         rest = after;
     }
-    items.shrink_to_fit();
+    give_back(&mut items);
     Ok((items, rest))
 }

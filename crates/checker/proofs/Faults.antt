@@ -11,8 +11,8 @@ use Rattle.parser.specs.declared.fault.ParseRefusal.{ParseRefusal}
 use Rattle.principals.specs.ActsFor.{PrincipalHierarchy}
 use Rattle.syntax.specs.Tree.{ProgramTree}
 use Rattle.resolved.specs.Program.{Program}
-use Rattle.resolved.specs.EndFaults.{end_faults}
-use Rattle.resolved.specs.declared.fault.EndRefusal.{EndRefusal}
+use Rattle.resolved.specs.ExitFaults.{exit_faults}
+use Rattle.resolved.specs.declared.fault.ExitRefusal.{ExitRefusal}
 use Rattle.types.specs.Resolution.{resolution}
 use Rattle.types.specs.declared.fault.TypeRefusal.{TypeRefusal}
 use Rattle.acceptance.specs.Accepted.{IsText, IsTreeOf, IsResolvedFrom}
@@ -32,13 +32,13 @@ module _ (h : PrincipalHierarchy) (source : List ℕ) where
       → IsFound h source (of_name refusal)
   named tree refusal of found = WrongName tree of refusal found
 
-  pub ended : (program : Program) (refusal : EndRefusal) → IsResolvedFrom h source program
-      → slice_get (end_faults program) 0 ≡ Some refusal → IsFound h source (of_end refusal)
-  ended program refusal from first = by_faults (end_faults program) refl first
+  pub ended : (program : Program) (refusal : ExitRefusal) → IsResolvedFrom h source program
+      → slice_get (exit_faults program) 0 ≡ Some refusal → IsFound h source (of_end refusal)
+  ended program refusal from first = by_faults (exit_faults program) refl first
     where
-      by_faults : (faults : List EndRefusal) → end_faults program ≡ faults → slice_get faults 0 ≡ Some refusal
+      by_faults : (faults : List ExitRefusal) → exit_faults program ≡ faults → slice_get faults 0 ≡ Some refusal
           → IsFound h source (of_end refusal)
       by_faults [] e none = let no : None ≡ Some refusal = none in absurd (cc)
       by_faults (first ∷ others) e some =
           let same : first ≡ refusal = same_Some first refusal some in
-          subst (λ (r : EndRefusal). IsFound h source (of_end r)) same (WrongEnd program from first others e)
+          subst (λ (r : ExitRefusal). IsFound h source (of_end r)) same (WrongEnd program from first others e)

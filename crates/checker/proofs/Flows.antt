@@ -1,11 +1,9 @@
 -- What a refusal of the solver says of the stored constraints, and of the program from which they were gathered.
-use Rattle.std.proofs.Common.{◌≡◌, refl, sym, ap, ◌∙◌, subst, ℕ, zero, suc, ◌<◌, ◌-◌, length, map, List, [], ◌∷◌, ◌++◌, true, false, get_or, take, ◌+◌, append-nil, arith}
+use Rattle.std.proofs.Common.{◌≡◌, refl, sym, ap, ◌∙◌, subst, ℕ, zero, suc, ◌<◌, ◌-◌, length, map, List, [], ◌∷◌, ◌++◌, true, false, get_or, arith}
 use Rattle.std.specs.Prelude.{Contains, IsFalse, None, Option, Some, flat_map, slice_get, slice_index_or}
 use Rattle.std.specs.Global.{Global}
 use Rattle.std.specs.declared.vec.Vec.{Vec}
 use Rattle.std.proofs.lemmas.List.Elements.{All-contains}
-use Rattle.std.proofs.lemmas.List.{take_more}
-use Rattle.std.proofs.lemmas.Grind.{flat_map-append}
 use Rattle.std.proofs.lemmas.Option.{slice_get_read, slice_get_within, same_Some}
 use Rattle.principals.specs.ActsFor.{PrincipalHierarchy}
 use Rattle.labels.specs.Label.{ReaderPolicy, Label, Covers, flows}
@@ -28,7 +26,7 @@ use Rattle.solver.specs.declared.constraints.Atom.TheVariants.{Unknown, Written}
 use Rattle.solver.specs.declared.constraints.Constraint.{Constraint}
 use Rattle.checker.specs.declared.fault.Step.{Step}
 use Rattle.checker.specs.Reported.{ReportsFlow, reported_by}
-use Rattle.checker.specs.Steps.{report_at, report_of, reported_of}
+use Rattle.checker.specs.Steps.{report_at, report_of}
 use Rattle.common.proofs.Cases.{contained_at, there_map_only}
 
 -- the last of some indices

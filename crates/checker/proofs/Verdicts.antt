@@ -4,7 +4,7 @@ use Rattle.std.specs.Prelude.{Some}
 use Rattle.principals.specs.ActsFor.{PrincipalHierarchy}
 use Rattle.resolved.specs.declared.program.Core.{Core}
 use Rattle.resolved.specs.CoreOf.{program_of}
-use Rattle.resolved.specs.EndFaults.{end_faults}
+use Rattle.resolved.specs.ExitFaults.{exit_faults}
 use Rattle.resolved.specs.Labelled.{Labelled}
 use Rattle.acceptance.specs.Accepted.{IsAccepted, IsResolvedFrom}
 use Rattle.acceptance.specs.Refused.{IsSourceRefused, WrongFlow}
@@ -17,11 +17,11 @@ use Rattle.checker.specs.declared.fault.RefusedFlow.{RefusedFlow}
 use Rattle.checker.specs.declared.fault.Refusal.{Refusal}
 
 -- a program that is kept stands for the source
-pub accepted-from : (h : PrincipalHierarchy) (source : List ℕ) (core kept : Core) → kept ≡ core → IsResolvedFrom h source (program_of core) → end_faults (program_of core) ≡ [] →
+pub accepted-from : (h : PrincipalHierarchy) (source : List ℕ) (core kept : Core) → kept ≡ core → IsResolvedFrom h source (program_of core) → exit_faults (program_of core) ≡ [] →
     Labelled (program_of kept) → IsAccepted h source (program_of kept)
 accepted-from h source core kept same from ended labelled = record {
   resolved = subst (λ c. IsResolvedFrom h source (program_of c)) (sym same) from;
-  ended = subst (λ c. end_faults (program_of c) ≡ []) (sym same) ended;
+  ended = subst (λ c. exit_faults (program_of c) ≡ []) (sym same) ended;
   labelled = labelled;
 }
 
@@ -31,12 +31,12 @@ refused-not-accepted h source refusal fault program accepted = accepted_refused 
 
 -- a program that is refused for a flow
 module _ (h : PrincipalHierarchy) (source bytes : List ℕ) (core : Core) (flow : RefusedFlow) (same : bytes ≡ source) (from : IsResolvedFrom h source (program_of core))
-    (ended : end_faults (program_of core) ≡ []) (refused : RefusesProgram core flow) where
+    (ended : exit_faults (program_of core) ≡ []) (refused : RefusesProgram core flow) where
   resolved : IsResolvedFrom h source (program_of flow.core)
   resolved = subst (λ c. IsResolvedFrom h source (program_of c)) (sym refused.0) from
 
-  unended : end_faults (program_of flow.core) ≡ []
-  unended = subst (λ c. end_faults (program_of c) ≡ []) (sym refused.0) ended
+  unended : exit_faults (program_of flow.core) ≡ []
+  unended = subst (λ c. exit_faults (program_of c) ≡ []) (sym refused.0) ended
 
   abbrev reported : Refusal
   reported = refusal_at texts.Source bytes kinds.FlowNotAllowed flow.at (Some flow)

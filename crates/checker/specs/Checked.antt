@@ -4,7 +4,7 @@ use Rattle.std.specs.Prelude.{◌≡◌, ℕ, ◌<◌, [], length, Option, Some,
 use Rattle.labels.specs.Label.{Label}
 use Rattle.labels.specs.LabelLattice.{label_lattice}
 use Rattle.resolved.specs.CoreOf.{program_of}
-use Rattle.resolved.specs.EndFaults.{end_faults}
+use Rattle.resolved.specs.ExitFaults.{exit_faults}
 use Rattle.resolved.specs.Flow.{AreLeast}
 use Rattle.resolved.specs.Labelled.{Labelled, OfLocal, Unwritten}
 use Rattle.resolved.specs.Names.{HasNames}
@@ -27,10 +27,10 @@ least_value checked unknown =
 abbrev pub least_label : CheckedProgram → Unwritten → Label
 least_label checked u = least_value checked (unwritten_number (program_of checked.core) u)
 
--- what every checked program keeps: no fault of its ends, labels that make it labelled, the least ones, and the names that a module
+-- what every checked program keeps: no fault of its exits, labels that make it labelled, the least ones, and the names that a module
 -- file holds
 pub record IsChecked (checked : CheckedProgram) : Type 0 where
-  pub ended : end_faults (program_of checked.core) ≡ []
+  pub ended : exit_faults (program_of checked.core) ≡ []
   pub labelled : Labelled (program_of checked.core)
   pub least : AreLeast (program_of checked.core) (least_label checked)
   pub names : HasNames (program_of checked.core)

@@ -5,7 +5,7 @@ use Rattle.lexer.specs.declared.fault.LexRefusal.{LexRefusal}
 use Rattle.principals.specs.ActsFor.{PrincipalHierarchy}
 use Rattle.parser.specs.declared.fault.ParseRefusal.{ParseRefusal}
 use Rattle.types.specs.declared.fault.TypeRefusal.{TypeRefusal}
-use Rattle.resolved.specs.declared.fault.EndRefusal.{EndRefusal}
+use Rattle.resolved.specs.declared.fault.ExitRefusal.{ExitRefusal}
 use Rattle.acceptance.specs.Refused.{IsSourceRefused}
 use Rattle.acceptance.specs.declared.kind.RefusalKind.TheVariants as kinds
 use Rattle.checker.specs.declared.found.PhaseRefusal.{PhaseRefusal}
@@ -20,7 +20,7 @@ of_parse refusal = record { kind = kinds.Parse refusal.kind; at = refusal.at }
 abbrev pub of_name : TypeRefusal → PhaseRefusal
 of_name refusal = record { kind = kinds.Name refusal.kind; at = refusal.at }
 
-abbrev pub of_end : EndRefusal → PhaseRefusal
+abbrev pub of_end : ExitRefusal → PhaseRefusal
 of_end refusal = record { kind = kinds.End refusal.kind; at = refusal.at }
 
 -- the source is refused so

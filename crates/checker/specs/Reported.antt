@@ -5,7 +5,7 @@ use Rattle.std.specs.Prelude.{◌≡◌, ◌↔◌, ℕ, List, [], map, Option, 
 use Rattle.principals.specs.ActsFor.{PrincipalHierarchy}
 use Rattle.resolved.specs.CoreOf.{program_of}
 use Rattle.resolved.specs.Program.{Program}
-use Rattle.resolved.specs.EndFaults.{end_faults}
+use Rattle.resolved.specs.ExitFaults.{exit_faults}
 use Rattle.resolved.specs.Labelled.{Demand}
 use Rattle.resolved.specs.Flow.{IsProgramRefused, ReportedStep, reported_step}
 use Rattle.lattices.specs.Constraints.{reported_steps}
@@ -52,11 +52,11 @@ pub record IsSourceFault (h : PrincipalHierarchy) (source : List ℕ) (refusal :
   pub refused : IsSourceRefused h source refusal.kind at
   pub place_of : refusal.at ≡ place_at source at
 
--- it asks for this flow: it stands for the flow's program, which has no fault of its ends and asks for the flow; and the refusal is
+-- it asks for this flow: it stands for the flow's program, which has no fault of its exits and asks for the flow; and the refusal is
 -- that the flow is not allowed, at the place of its byte
 pub record AsksForFlow (h : PrincipalHierarchy) (source : List ℕ) (refusal : Refusal) (flow : RefusedFlow) : Type 0 where
   pub resolved : IsResolvedFrom h source (program_of flow.core)
-  pub ended : end_faults (program_of flow.core) ≡ []
+  pub ended : exit_faults (program_of flow.core) ≡ []
   pub reported : ReportsFlow flow
   pub refusal_is : refusal ≡ refusal_at texts.Source source kinds.FlowNotAllowed flow.at (Some flow)
 

@@ -23,6 +23,6 @@ report_of (Some c) = report_some reported_step c.at (rule_number c.rule) c.targe
 abbrev pub report_at : List (Constraint (Option Target)) → ℕ → List ReportedStep
 report_at constraints index = report_of (slice_get constraints index)
 
--- a program without a fault of its ends is refused for a flow
+-- a program without a fault of its exits is refused for a flow
 abbrev pub RefusesProgram : Core → RefusedFlow → Type 0
 RefusesProgram core flow = (flow.core ≡ core) × ReportsFlow flow

@@ -6,7 +6,7 @@ ghost use Rattle.common.specs.Answers.{IfRefused};
 ghost use Rattle.path_map.specs.EndsOf.{AreEndsOf};
 ghost use Rattle.principals.specs.ActsFor.{PrincipalHierarchy};
 ghost use Rattle.resolved.specs.CoreOf.{program_of};
-ghost use Rattle.resolved.specs.EndFaults.{end_faults};
+ghost use Rattle.resolved.specs.ExitFaults.{exit_faults};
 ghost use Rattle.std.specs.Prelude.{IfErr, IfOk, [], ◌≡◌};
 ghost use Rattle.syntax.specs.Tree.{program_tree};
 
@@ -22,26 +22,26 @@ use resolved::program::Core;
 use std::alloc::Global;
 use types::resolve;
 
-/// A source without a fault before its labels: its resolved program, and the possible ends of each statement and block of it.
+/// A source without a fault before its labels: its resolved program, and the possible exits of each statement and block of it.
 #[derive(Drop)]
 pub(crate) struct Analysed {
     pub core: Core,
     pub ends: Ends,
 }
 
-/// Analyses a source under a hierarchy, phase by phase: its length, its tokens, its tree, its names, types and sizes, and the ends of
+/// Analyses a source under a hierarchy, phase by phase: its length, its tokens, its tree, its names, types and sizes, and the exits of
 /// its statements.
 pub(crate) fn analyse(
     alloc: Global,
     hierarchy: &Hierarchy,
     source: &str,
 ) -> Result<Analysed, OrNoMemory<PhaseRefusal>>
-    // The program is the one that the source stands for, and has no fault of its ends.
+    // The program is the one that the source stands for, and has no fault of its exits.
     ensures resolved { IfOk result (λ analysed.
         IsResolvedFrom hierarchy.now source.now (program_of analysed.core)) }
-    ensures ended { IfOk result (λ analysed. end_faults (program_of analysed.core) ≡ []) }
+    ensures ended { IfOk result (λ analysed. exit_faults (program_of analysed.core) ≡ []) }
 
-    // The ends are those of its statements and blocks.
+    // The exits are those of its statements and blocks.
     ensures mapped { IfOk result (λ analysed.
         AreEndsOf (program_of analysed.core) analysed.ends) }
 

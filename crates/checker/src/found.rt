@@ -6,7 +6,7 @@ ghost use Rattle.std.specs.Prelude.{◌≡◌};
 use acceptance::RefusalKind;
 use lexer::LexRefusal;
 use parser::ParseRefusal;
-use path_map::EndRefusal;
+use path_map::ExitRefusal;
 use types::TypeRefusal;
 
 /// Why a phase refuses a source, and the byte at which that stands.
@@ -49,10 +49,10 @@ impl From<TypeRefusal> for PhaseRefusal {
     }
 }
 
-impl From<EndRefusal> for PhaseRefusal {
+impl From<ExitRefusal> for PhaseRefusal {
     ghost from_gives = { λ refusal given. given ≡ of_end refusal };
 
-    fn from(refusal: EndRefusal) -> PhaseRefusal {
+    fn from(refusal: ExitRefusal) -> PhaseRefusal {
         PhaseRefusal {
             kind: RefusalKind::End(refusal.kind),
             at: refusal.at,

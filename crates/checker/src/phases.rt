@@ -7,7 +7,7 @@ ghost use Rattle.common.specs.Answers.{IfRefused};
 ghost use Rattle.isolation.specs.Larger.{IsolatedUnderLarger};
 ghost use Rattle.path_map.specs.EndsOf.{AreEndsOf};
 ghost use Rattle.resolved.specs.CoreOf.{program_of};
-ghost use Rattle.resolved.specs.EndFaults.{end_faults};
+ghost use Rattle.resolved.specs.ExitFaults.{exit_faults};
 ghost use Rattle.resolved.specs.Flow.{AreLeast};
 ghost use Rattle.resolved.specs.Isolated.{Isolated};
 ghost use Rattle.resolved.specs.Names.{HasNames};
@@ -28,7 +28,7 @@ use resolved::program::Core;
 use solver::{LabelsUnder, solve_by_numbers};
 use std::alloc::Global;
 
-/// Checks a source under a hierarchy, phase by phase: its length, its tokens and tree, its names, types and sizes, the ends of its
+/// Checks a source under a hierarchy, phase by phase: its length, its tokens and tree, its names, types and sizes, the exits of its
 /// statements, and its labels.
 ///
 /// # Errors
@@ -85,9 +85,9 @@ pub fn check(alloc: Global, hierarchy: &Hierarchy, source: &str) -> Result<Check
     }
 }
 
-// A program without a fault of its ends, with its least labels if it is labelled.
+// A program without a fault of its exits, with its least labels if it is labelled.
 fn find_labels(alloc: Global, core: Core, ends: &Ends) -> Result<Checked, OrNoMemory<RefusedFlow>>
-    requires ended { end_faults (program_of core) ≡ [] }
+    requires ended { exit_faults (program_of core) ≡ [] }
     requires mapped { AreEndsOf (program_of core) ends.now }
     requires names { HasNames (program_of core) }
     ensures core { IfOk result (λ checked. checked.core ≡ core) }

@@ -4,7 +4,7 @@ use Rattle.std.specs.Prelude.{Option, if◌then◌else◌}
 use Rattle.std.proofs.lemmas.List.{map-append}
 use Rattle.labels.specs.Label.{Label}
 use Rattle.resolved.specs.CoreOf.{program_of}
-use Rattle.resolved.specs.Ends.{thrown_ends}
+use Rattle.resolved.specs.Exits.{thrown_exits}
 use Rattle.resolved.specs.declared.program.Core.{Core}
 use Rattle.resolved.specs.declared.statement.Exit.TheVariants.{Throw}
 use Rattle.gathering.specs.Names.{NamedAtom, NamedConstraint}
@@ -68,7 +68,7 @@ raised-once found exceptions are =
     rw (first, second) (once-list found.arith found.bounds)
 
 flows-list : (atoms : List NamedAtom) (exit_unknowns : walk.ExitUnknowns) (a b : Bool)
-    → flows atoms exit_unknowns (thrown_ends (raised_list a b)) ≡ flow_if a atoms (exit_unknowns (Throw 0)) ++ flow_if b atoms (exit_unknowns (Throw 1))
+    → flows atoms exit_unknowns (thrown_exits (raised_list a b)) ≡ flow_if a atoms (exit_unknowns (Throw 0)) ++ flow_if b atoms (exit_unknowns (Throw 1))
 flows-list atoms exit_unknowns true true = ap (λ cs. flow atoms (exit_unknowns (Throw 0)) ++ cs) (append-nil (flow atoms (exit_unknowns (Throw 1))))
 flows-list atoms exit_unknowns true false = refl
 flows-list atoms exit_unknowns false true = append-nil (flow atoms (exit_unknowns (Throw 1)))
@@ -77,7 +77,7 @@ flows-list atoms exit_unknowns false false = refl
 pub raised-flows : (atoms : List NamedAtom) (exit_unknowns : walk.ExitUnknowns) (found : Raises) (exceptions : List ℕ) → AreRaised found exceptions
     → raised_flows atoms exit_unknowns exceptions ≡ flow_if found.arith atoms (exit_unknowns (Throw 0)) ++ flow_if found.bounds atoms (exit_unknowns (Throw 1))
 raised-flows atoms exit_unknowns found exceptions are =
-    ap (λ es. flows atoms exit_unknowns (thrown_ends es)) (raised-once found exceptions are) ∙ flows-list atoms exit_unknowns found.arith found.bounds
+    ap (λ es. flows atoms exit_unknowns (thrown_exits es)) (raised-once found exceptions are) ∙ flows-list atoms exit_unknowns found.arith found.bounds
 
 pub left-same : (core : Core) (table : List Label) (atoms : List NamedAtom) (given found : List Atom)
     → found ≡ given → IsLeft core table atoms given → IsLeft core table atoms found
@@ -93,7 +93,7 @@ raised-added core table atoms exit_unknowns found exceptions arith bounds old mi
     ∙ ap (λ o. flow_if found.arith atoms arith ++ flow_if found.bounds atoms o) (sym is'))
     (added-then core table (flow_if found.arith atoms arith) (flow_if found.bounds atoms bounds) old middle new first second)
 
--- a flow to the exit unknown of an end
+-- a flow to the exit unknown of an exit
 pub flow-added : (core : Core) (table : List Label) (atoms : List NamedAtom) (exit_unknown wanted : Option ℕ) (old new : List Stored)
     → exit_unknown ≡ wanted → AreAdded core table (flow atoms exit_unknown) old new → AreAdded core table (flow atoms wanted) old new
 flow-added core table atoms exit_unknown wanted old new is added = added-same core table (flow atoms wanted) (flow atoms exit_unknown) old new (ap (flow atoms) (sym is)) added

@@ -6,7 +6,7 @@ use Rattle.resolved.specs.CoreOf.{program_of}
 use Rattle.resolved.specs.declared.program.Core.{Core}
 use Rattle.resolved.specs.declared.statement.Exit.{Exit}
 use Rattle.resolved.specs.declared.statement.Exit.TheVariants.{Normal}
-use Rattle.resolved.specs.Ends.{has_end, one_end, statement_ends}
+use Rattle.resolved.specs.Exits.{has_exit, one_exit, statement_exits}
 use Rattle.resolved.specs.Program.{Program}
 use Rattle.resolved.specs.Labelled.{Scope}
 use Rattle.resolved.specs.Tree.{Statement, Block, Empty, Then, Handlers, NoMore, Catch}
@@ -76,12 +76,12 @@ module _ (core : Core) (table : List Label) (entries : List Exits) (procedure : 
       → made ≡ record now { number = now.number + 1 } → number ≡ now.number
       → ((first : Exits) (left : List Exits) → drop made.index entries ≡ first ∷ left → exits ≡ first)
       → IsStatementWalked core table entries procedure onward exit_unknowns number statement made new
-      → ((ends : List Exit) (named : NamedAtom) → exits ≡ exits_of ends → IsPart core table named onward → IsPart core table (onward_pc (one_end ends) named number) next)
+      → ((ends : List Exit) (named : NamedAtom) → exits ≡ exits_of ends → IsPart core table named onward → IsPart core table (onward_pc (one_exit ends) named number) next)
       → Along core table entries procedure pc exit_unknowns block old rest exits.normal next new
   along-step pc exit_unknowns block old statement rest reached onward next now made new exits number along made_is number_is exits_are walked goes = λ left before levelled.
       let program : Program = program_of core in
       let scope : Scope = scope_of core procedure in
-      let ends : List Exit = statement_ends program statement in
+      let ends : List Exit = statement_exits program statement in
       let t : walk.ExitUnknowns = exit_unknowns_of exit_unknowns old.thrown.items in
       let comes : Comes core table entries procedure pc exit_unknowns block left old (Then statement rest) reached onward now = along left before levelled in
       let beyond : List Exits = map exits_of (rest_paths program rest) ++ left in
@@ -103,16 +103,16 @@ module _ (core : Core) (table : List Label) (entries : List Exits) (procedure : 
         thrown_is = from.thrown_is ∙ comes.thrown_is;
         adds = λ named stands.
             let adds : Adds core table procedure t named block old (Then statement rest) reached onward now = comes.adds named stands in
-            let tail : Bool → ℕ → ℕ → List NamedConstraint = λ b k m. block_constraints scope b (onward_pc (one_end ends) adds.here k) t m rest in
+            let tail : Bool → ℕ → ℕ → List NamedConstraint = λ b k m. block_constraints scope b (onward_pc (one_exit ends) adds.here k) t m rest in
             record {
-              here = onward_pc (one_end ends) adds.here number;
+              here = onward_pc (one_exit ends) adds.here number;
               stands = goes ends adds.here kept adds.stands;
               added = λ last added. adds.added last
                   (walks-same core table (block_constraints scope reached adds.here t now.number (Then statement rest)) (step number adds.here ++ tail exits.normal number new.number) now last
-                  (sym (append_assoc (single (one_end ends) adds.here (with_normal None t) ends)
-                  (statement_constraints scope adds.here (within_single (one_end ends) (with_normal (Some now.number) t)) (suc now.number) statement)
-                  (tail (has_end ends Normal) now.number (suc now.number + made_by_statement statement)))
-                  ∙ ap (λ k. step k adds.here ++ tail (has_end ends Normal) k (suc now.number + made_by_statement statement)) (sym number_is)
+                  (sym (append_assoc (single (one_exit ends) adds.here (with_normal None t) ends)
+                  (statement_constraints scope adds.here (within_single (one_exit ends) (with_normal (Some now.number) t)) (suc now.number) statement)
+                  (tail (has_exit ends Normal) now.number (suc now.number + made_by_statement statement)))
+                  ∙ ap (λ k. step k adds.here ++ tail (has_exit ends Normal) k (suc now.number + made_by_statement statement)) (sym number_is)
                   ∙ ap (λ b. step number adds.here ++ tail b number (suc now.number + made_by_statement statement)) (sym (ap (λ (x : Exits). x.normal) kept))
                   ∙ ap (λ m. step number adds.here ++ tail exits.normal number m) (omega (arith, from.number_is)))
                   (walks-then core table (step number adds.here) (tail exits.normal number new.number) now new last

@@ -6,7 +6,7 @@ use Rattle.labels.specs.Label.{Label}
 use Rattle.resolved.specs.declared.program.Core.{Core}
 use Rattle.resolved.specs.declared.statement.Exit.{Exit}
 use Rattle.resolved.specs.declared.statement.Handler.{Handler}
-use Rattle.resolved.specs.Ends.{handles, one_end}
+use Rattle.resolved.specs.Exits.{handles, one_exit}
 use Rattle.resolved.specs.Tree.{Empty}
 use Rattle.resolved.specs.TreeOf.{handlers_of}
 use Rattle.path_map.specs.Exits.{Exits}
@@ -37,17 +37,17 @@ module _ (core : Core) (table : List Label) (entries : List Exits) where
   pub begun : (pc : Atom) (exit_unknowns : ExitUnknowns) (exits : Exits) (thrown : List ExitUnknown) (ends : List Exit) (old middle new : Progress)
       → drop old.index entries ≡ exits ∷ drop middle.index entries → middle ≡ record old { index = middle.index } → thrown ≡ middle.thrown.items
       → new.index ≡ middle.index → new.number ≡ middle.number → new.thrown.items ≡ middle.thrown.items → new.journal ≡ middle.journal
-      → (exits ≡ exits_of ends → IsGatheredAt core table pc (λ named. single (one_end ends) named (exit_unknowns_of exit_unknowns thrown) ends) middle.constraints.items new.constraints.items)
-      → IsWalked core table entries pc exit_unknowns (ends ∷ []) (λ named. single (one_end ends) named (exit_unknowns_of exit_unknowns old.thrown.items) ends) 0 old new
+      → (exits ≡ exits_of ends → IsGatheredAt core table pc (λ named. single (one_exit ends) named (exit_unknowns_of exit_unknowns thrown) ends) middle.constraints.items new.constraints.items)
+      → IsWalked core table entries pc exit_unknowns (ends ∷ []) (λ named. single (one_exit ends) named (exit_unknowns_of exit_unknowns old.thrown.items) ends) 0 old new
   begun pc exit_unknowns exits thrown ends old middle new found others lent index number thrown_is journal added = λ left before levelled.
       let both : exits ∷ drop middle.index entries ≡ exits_of ends ∷ left = sym found ∙ before in
-      let from : IsGatheredAt core table pc (λ named. single (one_end ends) named (exit_unknowns_of exit_unknowns thrown) ends) old.constraints.items new.constraints.items =
-      subst (λ cs. IsGatheredAt core table pc (λ named. single (one_end ends) named (exit_unknowns_of exit_unknowns thrown) ends) cs new.constraints.items)
+      let from : IsGatheredAt core table pc (λ named. single (one_exit ends) named (exit_unknowns_of exit_unknowns thrown) ends) old.constraints.items new.constraints.items =
+      subst (λ cs. IsGatheredAt core table pc (λ named. single (one_exit ends) named (exit_unknowns_of exit_unknowns thrown) ends) cs new.constraints.items)
       (ap (λ (p : Progress). p.constraints.items) others) (added (same_heads exits (exits_of ends) (drop middle.index entries) left both)) in
-      passed-same core table entries pc (λ named. single (one_end ends) named (exit_unknowns_of exit_unknowns old.thrown.items) ends) (λ named. single (one_end ends) named (exit_unknowns_of exit_unknowns thrown) ends) 0 0 left old new
-      (λ named. ap (λ t. single (one_end ends) named (exit_unknowns_of exit_unknowns t) ends) (sym (lent ∙ ap (λ (p : Progress). p.thrown.items) others))) refl
+      passed-same core table entries pc (λ named. single (one_exit ends) named (exit_unknowns_of exit_unknowns old.thrown.items) ends) (λ named. single (one_exit ends) named (exit_unknowns_of exit_unknowns thrown) ends) 0 0 left old new
+      (λ named. ap (λ t. single (one_exit ends) named (exit_unknowns_of exit_unknowns t) ends) (sym (lent ∙ ap (λ (p : Progress). p.thrown.items) others))) refl
       (record {
-        added = λ named stands. walks-exact core table (single (one_end ends) named (exit_unknowns_of exit_unknowns thrown) ends) old new (from named stands)
+        added = λ named stands. walks-exact core table (single (one_exit ends) named (exit_unknowns_of exit_unknowns thrown) ends) old new (from named stands)
             (journal ∙ ap (λ (p : Progress). p.journal) others) (thrown_is ∙ ap (λ (p : Progress). p.thrown.items) others);
         entries_left = ap (λ i. drop i entries) index ∙ same_tails exits (exits_of ends) (drop middle.index entries) left both;
         number_is = number ∙ (ap (λ (p : Progress). p.number) others ∙ omega arith);

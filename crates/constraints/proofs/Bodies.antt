@@ -27,7 +27,7 @@ use Rattle.path_map.specs.Exits.{exits_of, Exits}
 use Rattle.path_map.specs.Paths.{block_paths, program_paths}
 use Rattle.path_map.proofs.Procedures.{next-procedure}
 use Rattle.gathering.specs.Names.{NamedAtom, NamedConstraint, Real, real_unknowns}
-use Rattle.gathering.specs.Walk.{at_end, constraints_from, declares, end_constraints, end_exit_unknowns, has_one_end, inner_atom, inner_block, made_by_block, made_by_procedure, made_from, nowhere, procedure_constraints, program_constraints, rule_constraint, thrown_constraints, thrown_number, unknown_count}
+use Rattle.gathering.specs.Walk.{at_end, constraints_from, declares, exit_constraints, end_exit_unknowns, has_one_exit, inner_atom, inner_block, made_by_block, made_by_procedure, made_from, nowhere, procedure_constraints, program_constraints, rule_constraint, thrown_constraints, thrown_number, unknown_count}
 use Rattle.gathering.proofs.Counted.{unknowns-counted}
 use Rattle.solver.specs.declared.constraints.Atom.{Atom}
 use Rattle.constraints.specs.Added.{AreAdded, IsPart, Stored}
@@ -55,25 +55,25 @@ levelled : (n barrier : ℕ) (only : Bool) (thrown : List ExitUnknown) → AreWi
 levelled n barrier true thrown within = record { barrier_is_within = omega arith; entries_are_within = within }
 levelled n barrier false thrown within = record { barrier_is_within = omega arith; entries_are_within = within }
 
--- its ends
+-- its exits
 abbrev own_end_constraints : Scope → (n : ℕ) → (number : ℕ → ℕ) → List NamedConstraint
 own_end_constraints scope n number =
     rule_constraint scope (here scope).at 13 (inner_atom n ∷ []) (ToEnd scope.number) ++ thrown_constraints scope number (here scope).throws
 
 pub ends-none : (core : Core) (table : List Label) (f n : ℕ) (only : Bool) (constraints : List Stored)
-    → only ≡ has_one_end (scope_of core f) → only ≡ true → AreAdded core table (end_constraints (scope_of core f) n) constraints constraints
+    → only ≡ has_one_exit (scope_of core f) → only ≡ true → AreAdded core table (exit_constraints (scope_of core f) n) constraints constraints
 ends-none core table f n only constraints is one =
     let scope : Scope = scope_of core f in
-    added-same core table (end_constraints scope n) [] constraints constraints
+    added-same core table (exit_constraints scope n) [] constraints constraints
     (ap (λ b. if b then [] else own_end_constraints scope n (λ x. thrown_number (here scope).throws (suc n) x)) (sym is ∙ one))
     (added-none core table constraints)
 
 pub ends-added : (core : Core) (table : List Label) (f n level : ℕ) (only : Bool) (procedure : Procedure) (throws : List Thrown) (had taken given : List ExitUnknown) (old middle new : List Stored)
-    → IsOf core f procedure → only ≡ has_one_end (scope_of core f) → only ≡ false
+    → IsOf core f procedure → only ≡ has_one_exit (scope_of core f) → only ≡ false
     → AreDeclaredExitUnknowns (here (scope_of core f)).throws (suc n) level had taken → throws ≡ procedure.throws.items → given ≡ taken
     → AreAdded core table (rule_constraint (scope_of core f) procedure.at 13 (inner_atom n ∷ []) (ToEnd f)) old middle
     → (procedure.at ≡ (here (scope_of core f)).at → AreAdded core table (thrown_constraints (scope_of core f) (number_in given) (map (thrown_entry core.labels) throws)) middle new)
-    → AreAdded core table (end_constraints (scope_of core f) n) old new
+    → AreAdded core table (exit_constraints (scope_of core f) n) old new
 ends-added core table f n level only procedure throws had taken given old middle new is one several are throws_are given_are first second =
     let scope : Scope = scope_of core f in
     let declared : List ThrownEntry = (here scope).throws in
@@ -81,7 +81,7 @@ ends-added core table f n level only procedure throws had taken given old middle
     let at_is : procedure.at ≡ (here scope).at = ap (λ (p : ProcedureEntry). p.at) (sym is) in
     let end : ℕ → List NamedConstraint = λ at. rule_constraint scope at 13 (inner_atom n ∷ []) (ToEnd f) in
     let declared_is : map (thrown_entry core.labels) throws ≡ declared = ap (map (thrown_entry core.labels)) throws_are ∙ ap (λ (p : ProcedureEntry). p.throws) (sym is) in
-    added-same core table (end_constraints scope n) (end procedure.at ++ thrown_constraints scope (number_in given) (map (thrown_entry core.labels) throws)) old new
+    added-same core table (exit_constraints scope n) (end procedure.at ++ thrown_constraints scope (number_in given) (map (thrown_entry core.labels) throws)) old new
     (ap (λ b. if b then [] else own_end_constraints scope n number) (sym one ∙ several)
     ∙ (ap (λ cs. end (here scope).at ++ cs) (sym (thrown-numbers scope declared (suc n) level had taken are))
     ∙ (ap (λ thrown. end (here scope).at ++ thrown_constraints scope (number_in thrown) declared) (sym given_are)
@@ -95,7 +95,7 @@ pub procedure-passed : (core : Core) (table : List Label) (entries : List Exits)
     → AreWithin barrier old.thrown.items
     → level ≡ barrier + 1 → start ≡ old.number + 1 → count ≡ length procedure.throws.items
     → throws ≡ procedure.throws.items → block ≡ procedure.body.items
-    → only ≡ has_one_end (scope_of core f)
+    → only ≡ has_one_exit (scope_of core f)
     → exit_unknowns ≡ end_exit_unknowns_of old.number barrier level only
     → IsPart core table (renamed Real (label_of (program_of core) (ToBegin f))) pc
     → middle.index ≡ old.index → middle.number ≡ start + count → middle.constraints.items ≡ old.constraints.items
@@ -107,9 +107,9 @@ pub procedure-passed : (core : Core) (table : List Label) (entries : List Exits)
     → ((b : ℕ) → b < level → AreWithin b old.thrown.items → AreDeclaredExitUnknowns (map (thrown_entry core.labels) throws) start level old.thrown.items middle.thrown.items)
     → IsBlockWalked core table entries f pc exit_unknowns (block_of block) middle walked
     → StaysInPlace walked new
-    → ((l : ℕ) (had : List ExitUnknown) → IsOf core f procedure → only ≡ has_one_end (scope_of core f)
+    → ((l : ℕ) (had : List ExitUnknown) → IsOf core f procedure → only ≡ has_one_exit (scope_of core f)
     → AreDeclaredExitUnknowns (here (scope_of core f)).throws (suc old.number) l had walked.thrown.items
-    → AreAdded core table (end_constraints (scope_of core f) old.number) walked.constraints.items new.constraints.items)
+    → AreAdded core table (exit_constraints (scope_of core f) old.number) walked.constraints.items new.constraints.items)
     → HasPassedProcedure core table entries f (suc barrier) left old new
 procedure-passed core table entries f barrier level start count procedure throws noted noting block pc exit_unknowns only left old middle walked new is goes within level_is start_is count_is throws_are block_is one exit_unknowns_are stands index_is number_is constraints_are calls moments counted_is noting_is noted_is wide takes walks kept ended =
     let program : Program = program_of core in
@@ -160,9 +160,9 @@ procedure-passed core table entries f barrier level start count procedure throws
     let taken_is : new.thrown.items ≡ middle.thrown.items = kept.thrown_is ∙ passed.thrown_is in
     let own : made_by_procedure scope ≡ suc (length declared + made_by_block (here scope).body) = refl in
     record {
-      added = walks-then core table inside_it (end_constraints scope n) old walked new
+      added = walks-then core table inside_it (exit_constraints scope n) old walked new
           (walks-then core table [] inside_it old middle walked (walks-noted core table old middle constraints_are taking) first)
-          (walks-exact core table (end_constraints scope n) walked new
+          (walks-exact core table (exit_constraints scope n) walked new
           (ended (suc barrier) old.thrown.items is one (subst (AreDeclaredExitUnknowns declared (suc n) (suc barrier) old.thrown.items) (sym passed.thrown_is) taken))
           kept.journal_is kept.thrown_is);
       entries_left = ap (λ k. drop k entries) kept.index_is ∙ passed.entries_left;

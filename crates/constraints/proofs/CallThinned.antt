@@ -14,7 +14,7 @@ use Rattle.resolved.specs.declared.program.Core.{Core}
 use Rattle.resolved.specs.declared.statement.Exit.TheVariants.{Normal, Throw}
 use Rattle.resolved.specs.declared.target.Target.TheVariants.{ToBegin, ToValue}
 use Rattle.resolved.specs.CoreOf.{program_of}
-use Rattle.resolved.specs.Ends.{declared_by, raises_all, thrown_ends}
+use Rattle.resolved.specs.Exits.{declared_by, raises_all, thrown_exits}
 use Rattle.resolved.specs.Labelled.{Scope, label_of, one}
 use Rattle.resolved.specs.Program.{Program, ThrownEntry, procedure_at}
 use Rattle.resolved.specs.Tree.{Expression}
@@ -22,14 +22,14 @@ use Rattle.resolved.proofs.Exits.{thrown-append}
 use Rattle.gathering.specs.Names.{NamedAtom, NamedConstraint, is_inner_name, named_atoms}
 use Rattle.gathering.specs.Size.{begins}
 use Rattle.gathering.specs.Walk as walk
-use Rattle.gathering.specs.Walk.{argument_constraints, call_atoms, call_constraints, call_ends, call_flows, flow, inner_atom, inner_constraint, raise_atoms_all, raised_once, rule_constraint, target_constraint}
+use Rattle.gathering.specs.Walk.{argument_constraints, call_atoms, call_constraints, call_exits, call_flows, flow, inner_atom, inner_constraint, raise_atoms_all, raised_once, rule_constraint, target_constraint}
 use Rattle.gathering.proofs.Rerouted.{outer-joined}
 use Rattle.constraints.specs.Added.{AreAdded, Stored}
 use Rattle.constraints.specs.Journals.{AreOrdered, AreUpTo, IsUpToDate, entry_at, entry_from, moments_at, raised_flow}
 use Rattle.constraints.specs.LeftSides.{scope_of}
 use Rattle.constraints.specs.ExitUnknowns.{no_entry, exit_unknown_of, exit_unknowns_of}
 use Rattle.constraints.specs.Thinned.{Thinned, ThinnedNow}
-use Rattle.constraints.specs.Walks.{kept_call, kept_ends}
+use Rattle.constraints.specs.Walks.{kept_call, kept_exits}
 use Rattle.constraints.specs.declared.journal.Called.{Called}
 use Rattle.constraints.specs.declared.journal.Journal.{Journal}
 use Rattle.constraints.specs.declared.journal.Moment.{Moment}
@@ -60,7 +60,7 @@ module _ (program : Program) (callee own : ℕ) (exit_unknowns : walk.ExitUnknow
     takes : exit_unknowns (Throw exception) ≡ Some exit_unknown
     is : c ≡ raised_flow program callee own exception exit_unknown
 
-  flows-only : (xs : List ℕ) (c : NamedConstraint) → Contains (call_flows program callee own exit_unknowns (thrown_ends xs)) c → IsFlowOf xs c
+  flows-only : (xs : List ℕ) (c : NamedConstraint) → Contains (call_flows program callee own exit_unknowns (thrown_exits xs)) c → IsFlowOf xs c
   flows-only [] c h = absurd (none_in_nil c h)
   flows-only (x ∷ xs) c h = ⊎_elim
       (λ k.
@@ -69,14 +69,14 @@ module _ (program : Program) (callee own : ℕ) (exit_unknowns : walk.ExitUnknow
       (λ k.
       let rest = flows-only xs c k in
       record { exception = rest.exception; among = Contains-later x xs rest.exception rest.among; exit_unknown = rest.exit_unknown; takes = rest.takes; is = rest.is })
-      (Contains-append_cases (flow (inner_atom own ∷ named_atoms (call_atoms program callee (Throw x))) (exit_unknowns (Throw x))) (call_flows program callee own exit_unknowns (thrown_ends xs)) c h)
+      (Contains-append_cases (flow (inner_atom own ∷ named_atoms (call_atoms program callee (Throw x))) (exit_unknowns (Throw x))) (call_flows program callee own exit_unknowns (thrown_exits xs)) c h)
 
   flows-there : (xs : List ℕ) (x exit_unknown : ℕ) → Contains xs x → exit_unknowns (Throw x) ≡ Some exit_unknown
-      → Contains (call_flows program callee own exit_unknowns (thrown_ends xs)) (raised_flow program callee own x exit_unknown)
+      → Contains (call_flows program callee own exit_unknowns (thrown_exits xs)) (raised_flow program callee own x exit_unknown)
   flows-there [] x exit_unknown h takes = absurd (none_in_nil x h)
   flows-there (y ∷ ys) x exit_unknown h takes =
       let first : List NamedConstraint = flow (inner_atom own ∷ named_atoms (call_atoms program callee (Throw y))) (exit_unknowns (Throw y)) in
-      let rest : List NamedConstraint = call_flows program callee own exit_unknowns (thrown_ends ys) in
+      let rest : List NamedConstraint = call_flows program callee own exit_unknowns (thrown_exits ys) in
       ⊎_elim
       (λ same. Contains-append_left first rest (raised_flow program callee own x exit_unknown)
       (subst (λ z. Contains first (raised_flow program callee own z exit_unknown)) same
@@ -84,7 +84,7 @@ module _ (program : Program) (callee own : ℕ) (exit_unknowns : walk.ExitUnknow
       (λ k. Contains-append_right first rest (raised_flow program callee own x exit_unknown) (flows-there ys x exit_unknown k takes))
       (Contains-cons_cases y ys x h)
 
-  flows-inner : (xs : List ℕ) (c : NamedConstraint) → Contains (call_flows program callee own exit_unknowns (thrown_ends xs)) c → IsTrue (is_inner is_inner_name c.right)
+  flows-inner : (xs : List ℕ) (c : NamedConstraint) → Contains (call_flows program callee own exit_unknowns (thrown_exits xs)) c → IsTrue (is_inner is_inner_name c.right)
   flows-inner xs c h =
       let found = flows-only xs c h in
       ap (λ (z : NamedConstraint). is_inner is_inner_name z.right) found.is
@@ -97,7 +97,7 @@ append-five a b c d e f =
     ∙ ap (λ xs. b ++ xs) (append_assoc c (d ++ e) f ∙ ap (λ xs. c ++ xs) (append_assoc d e f))))
 
 declared_flows : Scope → (callee n : ℕ) → walk.ExitUnknowns → List NamedConstraint
-declared_flows scope callee n exit_unknowns = call_flows scope.program callee n exit_unknowns (thrown_ends (declared_by (procedure_at scope.program callee).throws))
+declared_flows scope callee n exit_unknowns = call_flows scope.program callee n exit_unknowns (thrown_exits (declared_by (procedure_at scope.program callee).throws))
 
 call-splits : (scope : Scope) (pc : NamedAtom) (exit_unknowns : walk.ExitUnknowns) (n at callee : ℕ) (arguments : List Expression) (target : Option Variable)
     → call_constraints scope pc exit_unknowns n at callee arguments target ≡ kept_call scope pc exit_unknowns n at callee arguments target ++ declared_flows scope callee n exit_unknowns
@@ -110,10 +110,10 @@ call-splits scope pc exit_unknowns n at callee arguments target =
     let b : List NamedConstraint = rule_constraint scope at 6 (inner_atom n ∷ []) (ToBegin callee) in
     let c : List NamedConstraint = argument_constraints scope at n callee 0 arguments in
     let d : List NamedConstraint = target_constraint scope at 6 (inner_atom n ∷ named_atoms (call_atoms program callee Normal ++ one (label_of program (ToValue callee)))) target in
-    let e : List NamedConstraint = call_flows program callee n exit_unknowns (kept_ends arguments) in
-    let f : List NamedConstraint = call_flows program callee n exit_unknowns (thrown_ends declared) in
-    let ends : call_flows program callee n exit_unknowns (call_ends program callee arguments) ≡ e ++ f =
-    ap (λ es. call_flows program callee n exit_unknowns (Normal ∷ es)) (thrown-append raised declared) ∙ flows-append program callee n exit_unknowns (kept_ends arguments) (thrown_ends declared) in
+    let e : List NamedConstraint = call_flows program callee n exit_unknowns (kept_exits arguments) in
+    let f : List NamedConstraint = call_flows program callee n exit_unknowns (thrown_exits declared) in
+    let ends : call_flows program callee n exit_unknowns (call_exits program callee arguments) ≡ e ++ f =
+    ap (λ es. call_flows program callee n exit_unknowns (Normal ∷ es)) (thrown-append raised declared) ∙ flows-append program callee n exit_unknowns (kept_exits arguments) (thrown_exits declared) in
     ap (λ x. a ++ (b ++ (c ++ (d ++ x)))) ends ∙ append-five a b c d e f
 
 -- ---- the entries at the next call
@@ -145,7 +145,7 @@ module _ (core : Core) (table : List Label) (procedure : ℕ) (pc : NamedAtom) (
       let declared : List ℕ = declared_by (procedure_at program callee).throws in
       let whole : List NamedConstraint = call_constraints scope pc t number at callee arguments target in
       let kept : List NamedConstraint = kept_call scope pc t number at callee arguments target in
-      let flows : List NamedConstraint = call_flows program callee number t (thrown_ends declared) in
+      let flows : List NamedConstraint = call_flows program callee number t (thrown_exits declared) in
       let splits : whole ≡ kept ++ flows = call-splits scope pc t number at callee arguments target in
       let called : Called = called_at last in
       let count : length after.calls.items ≡ last + 1 = ap length calls ∙ length-append before.calls.items (called ∷ []) in
@@ -161,7 +161,7 @@ module _ (core : Core) (table : List Label) (procedure : ℕ) (pc : NamedAtom) (
       let rest : List NamedConstraint = rule_constraint scope at 6 (inner_atom number ∷ []) (ToBegin callee)
       ++ (argument_constraints scope at number callee 0 arguments
       ++ (target_constraint scope at 6 (inner_atom number ∷ named_atoms (call_atoms program callee Normal ++ one (label_of program (ToValue callee)))) target
-      ++ call_flows program callee number t (call_ends program callee arguments))) in
+      ++ call_flows program callee number t (call_exits program callee arguments))) in
       let own : NamedConstraint = record { at = 0; rule = 0; left = pc ∷ named_atoms (raise_atoms_all scope arguments); target = None; right = inner_atom number } in
       record {
         kept = kept;
@@ -210,7 +210,7 @@ module _ (core : Core) (table : List Label) (procedure : ℕ) (pc : NamedAtom) (
             let i : begins whole ≡ 0 + begins rest = refl in
             let j : begins rest ≡ 1 + begins (argument_constraints scope at number callee 0 arguments
             ++ (target_constraint scope at 6 (inner_atom number ∷ named_atoms (call_atoms program callee Normal ++ one (label_of program (ToValue callee)))) target
-            ++ call_flows program callee number t (call_ends program callee arguments))) = refl in
+            ++ call_flows program callee number t (call_exits program callee arguments))) = refl in
             omega (arith, count, i, j);
         up_to_date = record {
           now = λ x. ap (entry_at after x) count ∙ (entries x (last + 1) ∙ (from-upto (moments_at before.moments.items x) last (last + 1) no_entry (ready.upto x) (omega arith) ∙ ready.now x));

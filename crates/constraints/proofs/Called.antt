@@ -5,7 +5,7 @@ use Rattle.common.proofs.Cases.{map_next}
 use Rattle.labels.specs.Label.{Label}
 use Rattle.resolved.specs.CoreOf.{program_of}
 use Rattle.resolved.specs.Program.{Program}
-use Rattle.resolved.specs.Ends.{thrown_ends}
+use Rattle.resolved.specs.Exits.{thrown_exits}
 use Rattle.resolved.specs.Labelled.{Join, Scope, value_label}
 use Rattle.resolved.specs.Tree.{Expression}
 use Rattle.resolved.specs.TreeOf.{expression_of}
@@ -63,7 +63,7 @@ argument-next core table f at k callee parameter xs i x old middle new inside is
     ∙ (arguments-append scope at k callee 0 before (expression_of x) ∙ ap (λ n. argument_constraints scope at k callee 0 before ++ last n) count))
     (added-then core table (argument_constraints scope at k callee 0 before) (last parameter) old middle new first second)
 
--- flows of several ends
+-- flows of several exits
 pub flows-append : (program : Program) (callee own : ℕ) (exit_unknowns : walk.ExitUnknowns) (xs ys : List Exit)
     → call_flows program callee own exit_unknowns (xs ++ ys) ≡ call_flows program callee own exit_unknowns xs ++ call_flows program callee own exit_unknowns ys
 flows-append program callee own exit_unknowns [] ys = refl
@@ -73,7 +73,7 @@ flows-append program callee own exit_unknowns (x ∷ xs) ys =
 
 -- the exceptions of the arguments
 called-list : (program : Program) (callee k : ℕ) (exit_unknowns : walk.ExitUnknowns) (a b : Bool)
-    → call_flows program callee k exit_unknowns (thrown_ends (raised_list a b))
+    → call_flows program callee k exit_unknowns (thrown_exits (raised_list a b))
     ≡ flow_if a (inner_atom k ∷ named_atoms (call_atoms program callee (Throw 0))) (exit_unknowns (Throw 0))
     ++ flow_if b (inner_atom k ∷ named_atoms (call_atoms program callee (Throw 1))) (exit_unknowns (Throw 1))
 called-list program callee k exit_unknowns true true =
@@ -87,11 +87,11 @@ pub called-raised : (core : Core) (table : List Label) (callee k : ℕ) (exit_un
     → AreRaised found exceptions
     → AreAdded core table (flow_if found.arith (inner_atom k ∷ named_atoms (call_atoms (program_of core) callee (Throw 0))) (exit_unknowns (Throw 0))) old middle
     → AreAdded core table (flow_if found.bounds (inner_atom k ∷ named_atoms (call_atoms (program_of core) callee (Throw 1))) (exit_unknowns (Throw 1))) middle new
-    → AreAdded core table (call_flows (program_of core) callee k exit_unknowns (thrown_ends (raised_once exceptions))) old new
+    → AreAdded core table (call_flows (program_of core) callee k exit_unknowns (thrown_exits (raised_once exceptions))) old new
 called-raised core table callee k exit_unknowns found exceptions old middle new are first second =
     let program : Program = program_of core in
     let one : List NamedConstraint = flow_if found.arith (inner_atom k ∷ named_atoms (call_atoms program callee (Throw 0))) (exit_unknowns (Throw 0)) in
     let two : List NamedConstraint = flow_if found.bounds (inner_atom k ∷ named_atoms (call_atoms program callee (Throw 1))) (exit_unknowns (Throw 1)) in
-    added-same core table (call_flows program callee k exit_unknowns (thrown_ends (raised_once exceptions))) (one ++ two) old new
-    (ap (λ es. call_flows program callee k exit_unknowns (thrown_ends es)) (raised-once found exceptions are) ∙ called-list program callee k exit_unknowns found.arith found.bounds)
+    added-same core table (call_flows program callee k exit_unknowns (thrown_exits (raised_once exceptions))) (one ++ two) old new
+    (ap (λ es. call_flows program callee k exit_unknowns (thrown_exits es)) (raised-once found exceptions are) ∙ called-list program callee k exit_unknowns found.arith found.bounds)
     (added-then core table one two old middle new first second)

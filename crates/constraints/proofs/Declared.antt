@@ -79,7 +79,7 @@ level-free barrier level old below within = go (old.level == level) refl
     go true is = let same : old.level ≡ level = eqb-true old.level level is in absurd (omega (arith, same, below, within))
     go false is = refl
 
--- ---- the exit unknowns of a procedure's ends
+-- ---- the exit unknowns of a procedure's exits
 declared-exit_unknown : (throws : List ThrownEntry) (n barrier level e : ℕ) (old : ExitUnknown) → barrier < level → old.level ≤ barrier
     → exit_unknown_of barrier (declared_entry throws n level e old) ≡ (if declares throws e then Some (thrown_number throws n e) else None)
 declared-exit_unknown [] n barrier level e old below within = ap (λ b. if b then Some old.number else None) (le-ltb barrier old.level within)

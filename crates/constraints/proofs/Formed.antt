@@ -14,7 +14,7 @@ use Rattle.resolved.specs.Program.{Program}
 use Rattle.resolved.specs.Labelled.{Scope, label_of, value_label}
 use Rattle.resolved.specs.Tree.{Expression, Statement, If, While, Try, Block, Handlers}
 use Rattle.resolved.specs.TreeOf.{handlers_of, statement_of}
-use Rattle.resolved.specs.Ends.{block_ends, handles, one_end, raises, statement_ends}
+use Rattle.resolved.specs.Exits.{block_exits, handles, one_exit, raises, statement_exits}
 use Rattle.path_map.specs.Exits.{Exits, exits_of}
 use Rattle.path_map.specs.Paths.{block_paths, handlers_paths, inner_paths, rest_paths}
 use Rattle.gathering.specs.Names.{NamedAtom, NamedConstraint, Real, named_atoms}
@@ -212,8 +212,8 @@ module _ (core : Core) (table : List Label) (entries : List Exits) (procedure : 
   -- a block, from its entry and its statements
   pub block-walked : (block : Block) (pc : Atom) (exit_unknowns inner : ExitUnknowns) (exits : Exits) (only : Bool) (old begun new : Progress)
       → ((first : Exits) (left : List Exits) → drop old.index entries ≡ first ∷ left → exits ≡ first)
-      → ((ends : List Exit) → IsWalked core table entries pc exit_unknowns (ends ∷ []) (λ named. single (one_end ends) named (exit_unknowns_of exit_unknowns old.thrown.items) ends) 0 old begun)
-      → ((ends : List Exit) → exits ≡ exits_of ends → only ≡ one_end ends)
+      → ((ends : List Exit) → IsWalked core table entries pc exit_unknowns (ends ∷ []) (λ named. single (one_exit ends) named (exit_unknowns_of exit_unknowns old.thrown.items) ends) 0 old begun)
+      → ((ends : List Exit) → exits ≡ exits_of ends → only ≡ one_exit ends)
       → ((thrown : List ExitUnknown) → AreLevelled exit_unknowns thrown → AreLevelled inner thrown)
       → ((thrown : List ExitUnknown) → AreWithin exit_unknowns.level thrown → exit_unknowns_of inner thrown ≡ within_single only (exit_unknowns_of exit_unknowns thrown))
       → AreStatementsWalked core table entries procedure pc inner block begun new
@@ -221,26 +221,26 @@ module _ (core : Core) (table : List Label) (entries : List Exits) (procedure : 
   block-walked block pc exit_unknowns inner exits only old begun new exits_are begins only_is levels_are exit_unknowns_are walked = λ left before levelled.
       let program : Program = program_of core in
       let scope : Scope = scope_of core procedure in
-      let ends : List Exit = block_ends program block in
+      let ends : List Exit = block_exits program block in
       let beyond : List Exits = map exits_of (rest_paths program block) ++ left in
       let t : walk.ExitUnknowns = exit_unknowns_of exit_unknowns old.thrown.items in
-      let meant : exit_unknowns_of inner old.thrown.items ≡ within_single (one_end ends) t =
+      let meant : exit_unknowns_of inner old.thrown.items ≡ within_single (one_exit ends) t =
       exit_unknowns_are old.thrown.items levelled.entries_are_within ∙ ap (λ b. within_single b t) (only_is ends (exits_are (exits_of ends) beyond before)) in
-      let one : HasPassed core table entries pc (λ named. single (one_end ends) named t ends) 0 beyond old begun = begins ends beyond before levelled in
+      let one : HasPassed core table entries pc (λ named. single (one_exit ends) named t ends) 0 beyond old begun = begins ends beyond before levelled in
       let two : HasPassed core table entries pc (λ named. block_constraints scope true named (exit_unknowns_of inner old.thrown.items) old.number block) (made_by_block block) left begun new =
       walked-on core table entries pc inner (rest_paths program block) (λ thrown k named. block_constraints scope true named (exit_unknowns_of inner thrown) k block)
       (made_by_block block) left begun new old.thrown.items old.number one.thrown_is (omega (arith, one.number_is)) (levels_are old.thrown.items levelled) one.entries_left walked in
       passed-same core table entries pc (λ named. inner_block scope named t old.number block)
-      (λ named. single (one_end ends) named t ends ++ block_constraints scope true named (exit_unknowns_of inner old.thrown.items) old.number block) (made_by_block block) (0 + made_by_block block) left old new
-      (λ named. ap (λ t'. single (one_end ends) named t ends ++ block_constraints scope true named t' old.number block) (sym meant)) (omega arith)
-      (passed-then core table entries pc (λ named. single (one_end ends) named t ends) (λ named. block_constraints scope true named (exit_unknowns_of inner old.thrown.items) old.number block)
+      (λ named. single (one_exit ends) named t ends ++ block_constraints scope true named (exit_unknowns_of inner old.thrown.items) old.number block) (made_by_block block) (0 + made_by_block block) left old new
+      (λ named. ap (λ t'. single (one_exit ends) named t ends ++ block_constraints scope true named t' old.number block) (sym meant)) (omega arith)
+      (passed-then core table entries pc (λ named. single (one_exit ends) named t ends) (λ named. block_constraints scope true named (exit_unknowns_of inner old.thrown.items) old.number block)
       0 (made_by_block block) beyond left old begun new one two)
 
   -- a statement of a block, from its entry and its form
   pub statement-walked : (tree : Statement) (pc : Atom) (exit_unknowns none some inner : ExitUnknowns) (exits : Exits) (only : Bool) (number : ℕ) (old begun new : Progress)
       → ((first : Exits) (left : List Exits) → drop old.index entries ≡ first ∷ left → exits ≡ first)
-      → ((ends : List Exit) → IsWalked core table entries pc none (ends ∷ []) (λ named. single (one_end ends) named (exit_unknowns_of none old.thrown.items) ends) 0 old begun)
-      → ((ends : List Exit) → exits ≡ exits_of ends → only ≡ one_end ends)
+      → ((ends : List Exit) → IsWalked core table entries pc none (ends ∷ []) (λ named. single (one_exit ends) named (exit_unknowns_of none old.thrown.items) ends) 0 old begun)
+      → ((ends : List Exit) → exits ≡ exits_of ends → only ≡ one_exit ends)
       → ((thrown : List ExitUnknown) → AreLevelled exit_unknowns thrown → AreLevelled none thrown)
       → ((thrown : List ExitUnknown) → exit_unknowns_of none thrown ≡ with_normal None (exit_unknowns_of exit_unknowns thrown))
       → ((thrown : List ExitUnknown) → AreLevelled exit_unknowns thrown → AreLevelled some thrown)
@@ -252,15 +252,15 @@ module _ (core : Core) (table : List Label) (entries : List Exits) (procedure : 
   statement-walked tree pc exit_unknowns none some inner exits only number old begun new exits_are begins only_is none_levels none_is some_levels some_is levels_are exit_unknowns_are walked = λ left before levelled.
       let program : Program = program_of core in
       let scope : Scope = scope_of core procedure in
-      let ends : List Exit = statement_ends program tree in
+      let ends : List Exit = statement_exits program tree in
       let beyond : List Exits = map exits_of (inner_paths program tree) ++ left in
       let start : List ExitUnknown = old.thrown.items in
       let t : walk.ExitUnknowns = exit_unknowns_of exit_unknowns start in
       let some_levelled : AreLevelled some start = some_levels start levelled in
-      let meant : exit_unknowns_of inner start ≡ within_single (one_end ends) (with_normal (Some number) t) =
+      let meant : exit_unknowns_of inner start ≡ within_single (one_exit ends) (with_normal (Some number) t) =
       exit_unknowns_are start some_levelled.entries_are_within ∙ (ap (λ b. within_single b (exit_unknowns_of some start)) (only_is ends (exits_are (exits_of ends) beyond before))
-      ∙ ap (within_single (one_end ends)) (some_is start)) in
-      let first : walk.ExitUnknowns → NamedAtom → List NamedConstraint = λ t' named. single (one_end ends) named t' ends in
+      ∙ ap (within_single (one_exit ends)) (some_is start)) in
+      let first : walk.ExitUnknowns → NamedAtom → List NamedConstraint = λ t' named. single (one_exit ends) named t' ends in
       let second : walk.ExitUnknowns → NamedAtom → List NamedConstraint = λ t' named. statement_constraints scope named t' old.number tree in
       let one : HasPassed core table entries pc (first (exit_unknowns_of none start)) 0 beyond old begun = begins ends beyond before (none_levels start levelled) in
       let two : HasPassed core table entries pc (second (exit_unknowns_of inner start)) (made_by_statement tree) left begun new =
@@ -268,6 +268,6 @@ module _ (core : Core) (table : List Label) (entries : List Exits) (procedure : 
       (made_by_statement tree) left begun new start old.number one.thrown_is (omega (arith, one.number_is)) (levels_are start some_levelled) one.entries_left walked in
       passed-same core table entries pc (λ named. step_constraints scope named t number old.number tree)
       (λ named. first (exit_unknowns_of none start) named ++ second (exit_unknowns_of inner start) named) (made_by_statement tree) (0 + made_by_statement tree) left old new
-      (λ named. ap (λ t'. first t' named ++ second (within_single (one_end ends) (with_normal (Some number) t)) named) (sym (none_is start))
+      (λ named. ap (λ t'. first t' named ++ second (within_single (one_exit ends) (with_normal (Some number) t)) named) (sym (none_is start))
       ∙ ap (λ t'. first (exit_unknowns_of none start) named ++ second t' named) (sym meant)) (omega arith)
       (passed-then core table entries pc (first (exit_unknowns_of none start)) (second (exit_unknowns_of inner start)) 0 (made_by_statement tree) beyond left old begun new one two)

@@ -14,7 +14,7 @@ use Rattle.lattices.specs.Constraints as formal
 use Rattle.resolved.specs.Flow.{Gathered}
 use Rattle.resolved.specs.declared.program.Core.{Core}
 use Rattle.resolved.specs.CoreOf.{program_of}
-use Rattle.resolved.specs.EndFaults.{end_faults}
+use Rattle.resolved.specs.ExitFaults.{exit_faults}
 use Rattle.resolved.specs.WellFormed.{program_nodes}
 use Rattle.resolved.specs.Labelled.{FitsDemands, Labelling, program_demands}
 use Rattle.gathering.specs.Gathered.{AreConstraintsOf, FitsConstraints}
@@ -136,7 +136,7 @@ module _ (core : Core) (table : List Label) (walked : Progress) (old new : Made)
       (constraints-in-range table made.next (old.constraints.items ++ made.spread) (map (numbered (program_of core)) (whole.now.kept ++ made.are_spread.added)) stand-for-all
       (spread-below core table walked old.number made.next made.spread whole made.are_spread first))
 
-  pub all-gathered : end_faults (program_of core) ≡ []
+  pub all-gathered : exit_faults (program_of core) ≡ []
       → AreConstraintsOf (program_of core) (map (constraint_of (label_lattice (program_of core).hierarchy) table) new.constraints.items)
   all-gathered ended =
       let l : Lattice Label = label_lattice (program_of core).hierarchy in
@@ -167,7 +167,7 @@ module _ (core : Core) (table : List Label) (walked : Progress) (old new : Made)
           ∙ constraints-numbered (program_of core) made.are_spread.added
           (λ c h. ranged-unknowns core table walked old.number made.next made.spread whole made.are_spread first c (Contains-append_right whole.now.kept made.are_spread.added c h)))
 
-  pub all-fit : end_faults (program_of core) ≡ [] → (labelling : Labelling)
+  pub all-fit : exit_faults (program_of core) ≡ [] → (labelling : Labelling)
       → FitsDemands (program_of core).hierarchy labelling (program_demands (program_of core))
       ↔ FitsConstraints (program_of core) (map (constraint_of (label_lattice (program_of core).hierarchy) table) new.constraints.items) labelling
   all-fit ended labelling =

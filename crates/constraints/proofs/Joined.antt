@@ -11,7 +11,7 @@ use Rattle.resolved.specs.declared.expression.Connective.{Connective}
 use Rattle.resolved.specs.declared.expression.Operator.{Operator}
 use Rattle.resolved.specs.Tree.{Expression, Binary, Short}
 use Rattle.common.specs.declared.exceptions.TheConstants.{ARITH}
-use Rattle.resolved.specs.Ends.{divisor_can_raise, is_division, operator_raises, raises}
+use Rattle.resolved.specs.Exits.{divisor_can_raise, is_division, operator_raises, raises}
 use Rattle.resolved.specs.Labelled.{Join, Scope, any_of, value_label}
 use Rattle.gathering.specs.Walk.{raise_atoms, raise_atoms_all}
 use Rattle.solver.specs.declared.constraints.Atom.{Atom}

@@ -1,12 +1,12 @@
 -- Rows of parts that are kept for unknowns: what they have where a row changes.
-use Rattle.std.proofs.Common.{◌≡◌, sym, ap, ◌∙◌, subst, ℕ, zero, suc, ◌+◌, ◌-◌, ◌<◌, List, [], ◌∷◌, length, get_or, set, arith}
+use Rattle.std.proofs.Common.{◌≡◌, sym, ap, ◌∙◌, subst, ℕ, zero, suc, ◌<◌, List, [], ◌∷◌, length, get_or, set, arith}
 use Rattle.std.proofs.lemmas.List.{map-set}
 use Rattle.solver.specs.declared.constraints.Atom.{Atom}
 use Rattle.solver.specs.declared.constraints.Atom.TheVariants.{Unknown}
 use Rattle.constraints.specs.Added.{Stored}
-use Rattle.constraints.specs.Merging.{AreTaken, HasMore, IsRepeated, parts_at, parts_of, row_of, rows_of, unknowns_at}
+use Rattle.constraints.specs.Merging.{AreTaken, HasMore, parts_at, parts_of, row_of, rows_of}
 use Rattle.constraints.specs.declared.merging.Parts.{Parts}
-use Rattle.constraints.proofs.PartRows.{parts-here, parts-others, parts-set, taken-kept, unknowns-here}
+use Rattle.constraints.proofs.PartRows.{parts-here, parts-others, parts-set, taken-kept}
 
 pub row-there : (rows : List Parts) (k : ℕ) (parts : Parts) → k < length rows → parts ≡ get_or rows k parts
     → (k < length (rows_of rows)) × (row_of parts ≡ get_or (rows_of rows) k (row_of parts))
@@ -28,15 +28,3 @@ row-taken Over same c k old new was now rest right inside is set_is has =
     taken-kept Over same c k (rows_of old) (rows_of new) rest right
     (subst (λ xs. HasMore Over c.left.items xs (parts_at (rows_of new) k)) (sym before) (subst (HasMore Over c.left.items (parts_of was)) (sym after) has))
     (λ j differs. ap (λ rs. parts_at rs j) rows ∙ parts-others (rows_of old) k (row_of now) j differs)
-
--- rows that have the same unknowns
-pub rows-repeated : (rows : List Parts) (i : ℕ) (one next : Parts) → i < length rows → 1 < i + 1 → one ≡ get_or rows (i - 1) one → next ≡ get_or rows i next
-    → next.unknowns.items ≡ one.unknowns.items → 0 < length one.unknowns.items → IsRepeated (rows_of rows) (i - 1)
-rows-repeated rows i one next below above one_is next_is same some =
-    let at_next : suc (i - 1) ≡ i = omega (arith, above) in
-    let before : i - 1 < length rows = omega (arith, below) in
-    let first = row-there rows (i - 1) one before one_is in
-    let second = row-there rows i next below next_is in
-    let one_has : unknowns_at (rows_of rows) (i - 1) ≡ one.unknowns.items = unknowns-here (rows_of rows) (i - 1) (row_of one) (row_of one) first.0 first.1 in
-    let next_has : unknowns_at (rows_of rows) i ≡ next.unknowns.items = unknowns-here (rows_of rows) i (row_of next) (row_of next) second.0 second.1 in
-    (ap (unknowns_at (rows_of rows)) at_next ∙ (next_has ∙ (same ∙ sym one_has)), omega (arith, some, ap length one_has))

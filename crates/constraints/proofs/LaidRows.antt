@@ -1,11 +1,10 @@
 -- Rows of parts that are laid out one after the other, and what they are together with what was taken for them.
-use Rattle.std.proofs.Common.{◌≡◌, ◌≢◌, refl, sym, ap, ◌∙◌, subst, ℕ, zero, suc, ◌+◌, ◌-◌, ◌*◌, ◌<◌, ◌≤◌, ◌==◌, get_or, List, [], ◌∷◌, ◌++◌, length, Bool, true, false, arith, ◌⊎◌, inl, inr, ⊎_elim}
-use Rattle.std.specs.Prelude.{Contains, IsTrue, Option, None, Some, if◌then◌else◌, nat_lt}
-use Rattle.std.proofs.lemmas.Bool.{cases_eq, eq-eqb, ltb-false, ltb-true, ne_eqb}
-use Rattle.std.proofs.lemmas.List.{append_assoc, append-nil, get_or_append_left, get_or_at, get_or_past, length_push}
+use Rattle.std.proofs.Common.{◌≡◌, ◌≢◌, refl, sym, ap, ◌∙◌, subst, ℕ, zero, suc, ◌+◌, ◌*◌, ◌<◌, ◌≤◌, ◌==◌, get_or, List, [], ◌∷◌, ◌++◌, drop, length, take, arith, ◌⊎◌, inl, inr, ⊎_elim}
+use Rattle.std.specs.Prelude.{Contains, Option, None, Some, if◌then◌else◌}
+use Rattle.std.proofs.lemmas.Bool.{cases_eq, eq-eqb, ne_eqb}
+use Rattle.std.proofs.lemmas.List.{append_assoc, append-nil, take-append-drop}
 use Rattle.std.proofs.lemmas.List.Elements.{Contains-append_cases, Contains-append_left, Contains-append_right}
-use Rattle.common.proofs.Elements.{none_in_nil, Contains-cons_cases, Contains-first, Contains-later}
-use Rattle.common.proofs.Cases.{by_test}
+use Rattle.common.proofs.Elements.{none_in_nil, Contains-cons_cases, Contains-first}
 use Rattle.labels.specs.Label.{Label}
 use Rattle.resolved.specs.declared.program.Core.{Core}
 use Rattle.resolved.specs.CoreOf.{program_of}
@@ -13,9 +12,11 @@ use Rattle.gathering.specs.Names.{real_unknowns}
 use Rattle.solver.specs.declared.constraints.Atom.{Atom}
 use Rattle.solver.specs.declared.constraints.Atom.TheVariants.{Unknown}
 use Rattle.constraints.specs.Added.{Stored}
-use Rattle.constraints.specs.Merging.{AreLaidOut, AreLaidSoFar, AreShared, AreSpreadShared, AreSpreadSoFar, AreTaken, ComesOf, Flows, FlowsOn, IsFollowed, IsHeld, IsInnerWithPart, IsKept, IsLaidOut, IsRepeated, Row, itself, parts_at, unknowns_at}
+use Rattle.constraints.specs.Laying.{AreLaidSoFar, IsFound, IsFurther, IsMoreLaid, IsOfRow, IsPieceOf, IsRowBegun, LeadsOn, by_found}
+use Rattle.constraints.specs.Merging.{AreLaidOut, AreShared, AreSpreadShared, AreSpreadSoFar, AreTaken, ComesOf, Flows, FlowsOn, IsFollowed, IsKept, IsLaidOut, Row, itself, parts_at, unknowns_at}
 use Rattle.constraints.specs.declared.journal.Called.{Called}
 use Rattle.constraints.specs.declared.journal.Journal.{Journal}
+use Rattle.constraints.specs.declared.laying.Further.{Further}
 use Rattle.constraints.specs.declared.spreading.Made.{Made}
 use Rattle.constraints.proofs.PartRows.{first-part, flows-more, parts-here, parts-inside, unknowns-here}
 
@@ -51,8 +52,8 @@ unknown-part [] k p h = h
 unknown-part (row ∷ rows) zero p h = Contains-append_left row.unknowns row.written p h
 unknown-part (row ∷ rows) (suc k) p h = unknown-part rows k p h
 
--- ---- no row, and one more
-pub laid-nothing : (rows : List Row) (first : ℕ) (old : List Stored) → AreLaidSoFar rows 0 first first None old old
+-- ---- no row
+pub laid-nothing : (rows : List Row) (first : ℕ) (old : List Stored) → AreLaidSoFar rows 0 first first [] old old
 laid-nothing rows first old = record {
   are = record {
     laid = [];
@@ -63,153 +64,241 @@ laid-nothing rows first old = record {
     came = λ p to flow. absurd (none_in_nil flow.by flow.among);
     inner = λ c h. absurd (none_in_nil c h);
   };
-  held_is = λ u is. absurd (cc);
+  held_are = λ further h. absurd (none_in_nil further h);
 }
 
-module _ (rows : List Row) (i first next : ℕ) (old middle new : List Stored) where
-  -- a row of which each part flows on by what is laid out for it
-  laid-more : (before : AreLaidOut rows i first next old middle) → (laid : List Stored) → new ≡ middle ++ laid
-      → ((part : Atom) → Contains (parts_at rows i) part → FlowsOn (before.laid ++ laid) part (Unknown i))
-      → ((part to : Atom) → Flows laid part to → ComesOf (IsKept rows) first next before.stands part to)
-      → ((c : Stored) → Contains laid c → IsInnerWithPart c)
-      → AreLaidOut rows (i + 1) first next old new
-  laid-more before laid laid_is goes came inner = record {
-    laid = before.laid ++ laid;
-    laid_is = laid_is ∙ (ap (λ xs. xs ++ laid) before.laid_is ∙ append_assoc old before.laid laid);
-    stands = before.stands;
-    least = before.least;
-    goes = λ k below p h. ⊎_elim
-        (λ (here : k ≡ i). subst (λ j. FlowsOn (before.laid ++ laid) p (Unknown j)) (sym here) (goes p (subst (λ j. Contains (parts_at rows j) p) here h)))
-        (λ (differs : k ≢ i). on-more before.laid (before.laid ++ laid) p (Unknown k) (Contains-append_left before.laid laid) (before.goes k (omega (arith, below, differs)) p h))
-        (cases_eq k i);
-    came = λ p to flow. ⊎_elim
-        (λ h. before.came p to (record { by = flow.by; among = h; starts = flow.starts; ends = flow.ends }))
-        (λ h. came p to (record { by = flow.by; among = h; starts = flow.starts; ends = flow.ends }))
-        (Contains-append_cases before.laid laid flow.by flow.among);
-    inner = λ c h. ⊎_elim (before.inner c) (inner c) (Contains-append_cases before.laid laid c h);
-  }
+-- ---- one more row
+further-more : (first next more : ℕ) (stands others : ℕ → List Atom) (laid all : List Stored) (u : ℕ) (parts : List Atom) → next ≤ more → ((c : Stored) → Contains laid c → Contains all c)
+    → ((v : ℕ) → v < next → others v ≡ stands v) → IsFurther first next stands laid u parts → IsFurther first more others all u parts
+further-more first next more stands others laid all u parts most among same further = record {
+  from_first = further.from_first;
+  below_next = omega (arith, most, further.below_next);
+  stands_for = same u further.below_next ∙ further.stands_for;
+  goes = λ p h. flows-more laid all p (Unknown u) among (further.goes p h);
+}
 
-  -- as it is
-  pub laid-plain : (parts : List Atom) → parts_at rows i ≡ parts → AreLaidSoFar rows i first next None old middle → IsLaidOut i parts middle new
-      → AreLaidSoFar rows (i + 1) first next None old new
-  laid-plain parts is before row = record {
-    are = laid-more before.are row.laid row.laid_is
-        (λ p h. inl (flows-more row.laid (before.are.laid ++ row.laid) p (Unknown i) (Contains-append_right before.are.laid row.laid) (row.goes p (subst (λ list. Contains list p) is h))))
-        (λ p to flow. let came = row.came p to flow in inl (i, came.0, subst (λ list. Contains list p) (sym is) came.1))
-        row.inner;
-    held_is = λ u some. absurd (cc);
-  }
+pub row-laid : (rows : List Row) (i first next : ℕ) (held : List Further) (old middle new : List Stored) (unknowns left written : List Atom)
+    → parts_at rows i ≡ unknowns ++ written → IsRowBegun rows i first next held old middle unknowns left → IsLaidOut i (left ++ written) middle new
+    → AreLaidSoFar rows (i + 1) first next held old new
+row-laid rows i first next held old middle new unknowns left written is begun row =
+    let before = begun.so_far.are in
+    let all : List Stored = before.laid ++ row.laid in
+    record {
+      are = record {
+        laid = all;
+        laid_is = row.laid_is ∙ (ap (λ xs. xs ++ row.laid) before.laid_is ∙ append_assoc old before.laid row.laid);
+        stands = before.stands;
+        least = before.least;
+        goes = λ k below p h. ⊎_elim
+            (λ (here : k ≡ i). subst (λ j. FlowsOn all p (Unknown j)) (sym here) (row-goes p (subst (λ j. Contains (parts_at rows j) p) here h)))
+            (λ (differs : k ≢ i). on-more before.laid all p (Unknown k) (Contains-append_left before.laid row.laid) (before.goes k (omega (arith, below, differs)) p h))
+            (cases_eq k i);
+        came = λ p to flow. ⊎_elim
+            (λ h. before.came p to (record { by = flow.by; among = h; starts = flow.starts; ends = flow.ends }))
+            (λ h. row-came p to (row.came p to (record { by = flow.by; among = h; starts = flow.starts; ends = flow.ends })))
+            (Contains-append_cases before.laid row.laid flow.by flow.among);
+        inner = λ c h. ⊎_elim (before.inner c) (row.inner c) (Contains-append_cases before.laid row.laid c h);
+      };
+      held_are = λ further h. further-more first next next before.stands before.stands before.laid all further.number further.parts.items (omega arith) (Contains-append_left before.laid row.laid) (λ v below. refl)
+          (begun.so_far.held_are further h);
+    }
+  where
+    both : List Stored
+    both = begun.so_far.are.laid ++ row.laid
 
-  -- by a further unknown
-  held-row : (u : ℕ) (written : List Atom) → parts_at rows i ≡ unknowns_at rows i ++ written → (before : AreLaidOut rows i first next old middle)
-      → IsHeld rows i first next before.stands before.laid u → IsLaidOut i (Unknown u ∷ written) middle new → AreLaidOut rows (i + 1) first next old new
-  held-row u written is before held row =
-      laid-more before row.laid row.laid_is
-      (λ p h. ⊎_elim
-      (λ k. inr (
-        u,
-        flows-more before.laid (before.laid ++ row.laid) p (Unknown u) (Contains-append_left before.laid row.laid) (held.goes p k),
-        flows-more row.laid (before.laid ++ row.laid) (Unknown u) (Unknown i) (Contains-append_right before.laid row.laid) (row.goes (Unknown u) (Contains-first (Unknown u) written)),
-      ))
-      (λ k. inl (flows-more row.laid (before.laid ++ row.laid) p (Unknown i) (Contains-append_right before.laid row.laid) (row.goes p (Contains-later (Unknown u) written p k))))
-      (Contains-append_cases (unknowns_at rows i) written p (subst (λ list. Contains list p) is h)))
-      (λ p to flow.
-      let came = row.came p to flow in
-      ⊎_elim
-      (λ same. inr (inl (record {
-        by = u;
-        is = sym same;
-        from_first = held.from_first;
-        below_next = held.below_next;
-        some = held.some;
-        each = λ one k. (i, came.0, subst (λ list. Contains list one) (sym is) (Contains-append_left (unknowns_at rows i) written one (subst (λ list. Contains list one) held.stands_for k)));
-      })))
-      (λ k. inl (i, came.0, subst (λ list. Contains list p) (sym is) (Contains-append_right (unknowns_at rows i) written p k)))
-      (Contains-cons_cases (Unknown u) written p came.1))
-      row.inner
+    on-left : (p : Atom) → Contains left p → FlowsOn both p (Unknown i)
+    on-left p h = inl (flows-more row.laid both p (Unknown i) (Contains-append_right begun.so_far.are.laid row.laid) (row.goes p (Contains-append_left left written p h)))
 
-  pub laid-held : (u : ℕ) (written : List Atom) (again : Bool) → parts_at rows i ≡ unknowns_at rows i ++ written → (IsTrue again → IsRepeated rows i)
-      → AreLaidSoFar rows i first next (Some u) old middle → IsLaidOut i (Unknown u ∷ written) middle new
-      → AreLaidSoFar rows (i + 1) first next (if again then Some u else None) old new
-  unfolding held-row laid-more
-  laid-held u written true is repeats before row = record {
-    are = held-row u written is before.are (before.held_is u refl) row;
-    held_is = λ w some.
-        let same : u ≡ w = cc in
-        let held = before.held_is u refl in
-        let next_is : unknowns_at rows (i + 1) ≡ unknowns_at rows i = after in
-        subst (IsHeld rows (i + 1) first next before.are.stands (before.are.laid ++ row.laid)) same (record {
-          from_first = held.from_first;
-          below_next = held.below_next;
-          stands_for = held.stands_for ∙ sym next_is;
-          some = held.some;
-          goes = λ p h. flows-more before.are.laid (before.are.laid ++ row.laid) p (Unknown u) (Contains-append_left before.are.laid row.laid)
-              (held.goes p (subst (λ list. Contains list p) next_is h));
-        });
-  }
-    where
-      after : unknowns_at rows (i + 1) ≡ unknowns_at rows i
-      after = let e : i + 1 ≡ suc i = omega arith in ap (unknowns_at rows) e ∙ (repeats refl).0
-  laid-held u written false is repeats before row = record {
-    are = held-row u written is before.are (before.held_is u refl) row;
-    held_is = λ w some. absurd (cc);
-  }
+    row-goes : (p : Atom) → Contains (parts_at rows i) p → FlowsOn both p (Unknown i)
+    row-goes p h = ⊎_elim
+        (λ (k : Contains unknowns p). ⊎_elim (on-left p) (λ (by : (u : ℕ) × Contains left (Unknown u) × Flows begun.so_far.are.laid p (Unknown u)). inr (
+          by.0,
+          flows-more begun.so_far.are.laid both p (Unknown by.0) (Contains-append_left begun.so_far.are.laid row.laid) by.2,
+          flows-more row.laid both (Unknown by.0) (Unknown i) (Contains-append_right begun.so_far.are.laid row.laid) (row.goes (Unknown by.0) (Contains-append_left left written (Unknown by.0) by.1)),
+        )) (begun.goes p k))
+        (λ (k : Contains written p). inl (flows-more row.laid both p (Unknown i) (Contains-append_right begun.so_far.are.laid row.laid) (row.goes p (Contains-append_right left written p k))))
+        (Contains-append_cases unknowns written p (subst (λ list. Contains list p) is h))
 
--- a further unknown for the unknowns of a row that the next one has again
-pub laid-open : (rows : List Row) (i first next : ℕ) (unknowns : List Atom) (old middle new : List Stored) → unknowns_at rows i ≡ unknowns → IsRepeated rows i
-    → AreLaidSoFar rows i first next None old middle → IsLaidOut next unknowns middle new → AreLaidSoFar rows i first (next + 1) (Some next) old new
-laid-open rows i first next unknowns old middle new is repeats before row = record {
-  are = record {
-    laid = both;
-    laid_is = row.laid_is ∙ (ap (λ xs. xs ++ row.laid) before.are.laid_is ∙ append_assoc old before.are.laid row.laid);
-    stands = stands;
-    least = omega (arith, before.are.least);
-    goes = λ k below p h. on-more before.are.laid both p (Unknown k) (Contains-append_left before.are.laid row.laid) (before.are.goes k below p h);
-    came = λ p to flow. ⊎_elim
-        (λ h. comes-more (IsKept rows) (IsKept rows) first next (next + 1) before.are.stands stands p to (λ a b k. k) (omega arith) stands-old
-        (before.are.came p to (record { by = flow.by; among = h; starts = flow.starts; ends = flow.ends })))
-        (λ h.
-        let came = row.came p to (record { by = flow.by; among = h; starts = flow.starts; ends = flow.ends }) in
-        inr (inr (record {
-          by = next;
-          is = came.0;
-          from_first = before.are.least;
-          below_next = omega arith;
-          stands_for = subst (λ list. Contains list p) (sym stands-new) came.1;
-          end = Unknown i;
-          goes = (i, refl, in-row p came.1);
+    row-came : (p to : Atom) → (to ≡ Unknown i) × Contains (left ++ written) p → ComesOf (IsKept rows) first next begun.so_far.are.stands p to
+    row-came p to came = ⊎_elim
+        (λ (k : Contains left p). ⊎_elim
+        (λ (kept : Contains (parts_at rows i) p). inl (i, came.0, kept))
+        (λ (of : IsOfRow rows i first next begun.so_far.are.stands p). inr (inl (record {
+          by = of.by;
+          is = of.is;
+          from_first = of.from_first;
+          below_next = of.below_next;
+          some = of.some;
+          each = λ one h. (i, came.0, of.each one h);
         })))
-        (Contains-append_cases before.are.laid row.laid flow.by flow.among);
-    inner = λ c h. ⊎_elim (before.are.inner c) (row.inner c) (Contains-append_cases before.are.laid row.laid c h);
+        (begun.came p k))
+        (λ (k : Contains written p). inl (i, came.0, subst (λ list. Contains list p) (sym is) (Contains-append_right unknowns written p k)))
+        (Contains-append_cases left written p came.1)
+
+-- ---- further unknowns for pieces
+more-same : (rows : List Row) (k first next : ℕ) (old middle : List Stored) (are : AreLaidOut rows k first next old middle) → IsMoreLaid rows k first next next old middle middle are are
+more-same rows k first next old middle are = record { least = omega arith; laid = λ c h. h; stands = λ u below. refl }
+
+pub found-held : (rows : List Row) (k first next : ℕ) (had : List Further) (old middle : List Stored) (before : AreLaidSoFar rows k first next had old middle) (piece : List Atom) (further : Further)
+    → Contains had further → further.parts.items ≡ piece → IsFound rows k first next next had had old middle middle before piece (Some further.number)
+found-held rows k first next had old middle before piece further there same = record {
+  after = before;
+  is_more = more-same rows k first next old middle before.are;
+  stands_for = λ u is.
+      let number : further.number ≡ u = cc in
+      subst (λ v. IsFurther first next before.are.stands before.are.laid v piece) number
+      (subst (λ list. IsFurther first next before.are.stands before.are.laid further.number list) same (before.held_are further there));
+}
+
+pub found-none : (rows : List Row) (k first next : ℕ) (had : List Further) (old middle : List Stored) (before : AreLaidSoFar rows k first next had old middle) (piece : List Atom)
+    → IsFound rows k first next next had had old middle middle before piece None
+found-none rows k first next had old middle before piece = record {
+  after = before;
+  is_more = more-same rows k first next old middle before.are;
+  stands_for = λ u is. absurd (cc);
+}
+
+pub found-new : (rows : List Row) (k first next more : ℕ) (had held : List Further) (old middle new : List Stored) (before : AreLaidSoFar rows k first next had old middle) (piece : List Atom) (further : Further)
+    → IsPieceOf rows k piece → more ≡ next + 1 → further.number ≡ next → further.parts.items ≡ piece → IsLaidOut next piece middle new
+    → ((one : Further) → Contains held one → Contains had one ⊎ (one ≡ further))
+    → IsFound rows k first next more had held old middle new before piece (Some further.number)
+found-new rows k first next more had held old middle new before piece further in_row more_is number parts row holds = record {
+  after = record {
+    are = record {
+      laid = both;
+      laid_is = row.laid_is ∙ (ap (λ xs. xs ++ row.laid) before.are.laid_is ∙ append_assoc old before.are.laid row.laid);
+      stands = stands;
+      least = omega (arith, before.are.least, more_is);
+      goes = λ j below p h. on-more before.are.laid both p (Unknown j) (Contains-append_left before.are.laid row.laid) (before.are.goes j below p h);
+      came = λ p to flow. ⊎_elim
+          (λ h. comes-more (IsKept rows) (IsKept rows) first next more before.are.stands stands p to (λ a b j. j) (omega (arith, more_is)) stands-old
+          (before.are.came p to (record { by = flow.by; among = h; starts = flow.starts; ends = flow.ends })))
+          (λ h.
+          let came = row.came p to (record { by = flow.by; among = h; starts = flow.starts; ends = flow.ends }) in
+          inr (inr (record {
+            by = next;
+            is = came.0;
+            from_first = before.are.least;
+            below_next = omega (arith, more_is);
+            stands_for = subst (λ list. Contains list p) (sym stands-new) came.1;
+            end = Unknown k;
+            goes = (k, refl, in_row p came.1);
+          })))
+          (Contains-append_cases before.are.laid row.laid flow.by flow.among);
+      inner = λ c h. ⊎_elim (before.are.inner c) (row.inner c) (Contains-append_cases before.are.laid row.laid c h);
+    };
+    held_are = λ one h. ⊎_elim
+        (λ (k : Contains had one). further-more first next more before.are.stands stands before.are.laid both one.number one.parts.items (omega (arith, more_is)) (Contains-append_left before.are.laid row.laid) stands-old
+        (before.held_are one k))
+        (λ (same : one ≡ further). subst (λ (f : Further). IsFurther first more stands both f.number f.parts.items) (sym same) it)
+        (holds one h);
   };
-  held_is = λ w some.
-      let same : next ≡ w = cc in
-      subst (IsHeld rows i first (next + 1) stands both) same (record {
-        from_first = before.are.least;
-        below_next = omega arith;
-        stands_for = stands-new ∙ sym is;
-        some = (one.0, subst (λ list. Contains list one.0) (sym (stands-new ∙ sym is)) one.1);
-        goes = λ p h. flows-more row.laid both p (Unknown next) (Contains-append_right before.are.laid row.laid) (row.goes p (subst (λ list. Contains list p) is h));
-      });
+  is_more = record { least = omega (arith, more_is); laid = Contains-append_left before.are.laid row.laid; stands = stands-old };
+  stands_for = λ u is.
+      let same : further.number ≡ u = cc in
+      subst (λ v. IsFurther first more stands both v piece) same (subst (λ list. IsFurther first more stands both further.number list) parts it);
 }
   where
     both : List Stored
     both = before.are.laid ++ row.laid
 
     stands : ℕ → List Atom
-    stands u = if u == next then unknowns else before.are.stands u
+    stands u = if u == next then piece else before.are.stands u
 
-    stands-new : stands next ≡ unknowns
-    stands-new = ap (λ b. if b then unknowns else before.are.stands next) (eq-eqb next next refl)
+    stands-new : stands next ≡ piece
+    stands-new = ap (λ b. if b then piece else before.are.stands next) (eq-eqb next next refl)
 
     stands-old : (u : ℕ) → u < next → stands u ≡ before.are.stands u
-    stands-old u below = ap (λ b. if b then unknowns else before.are.stands u) (ne_eqb u next (λ (e : u ≡ next). omega (arith, below, e)))
+    stands-old u below = ap (λ b. if b then piece else before.are.stands u) (ne_eqb u next (λ (e : u ≡ next). omega (arith, below, e)))
 
-    one : (part : Atom) × Contains (unknowns_at rows i) part
-    one = first-part (unknowns_at rows i) repeats.1
+    at-next : IsFurther first more stands both next piece
+    at-next = record {
+      from_first = before.are.least;
+      below_next = omega (arith, more_is);
+      stands_for = stands-new;
+      goes = λ p h. flows-more row.laid both p (Unknown next) (Contains-append_right before.are.laid row.laid) (row.goes p h);
+    }
 
-    in-row : (p : Atom) → Contains unknowns p → Contains (parts_at rows i) p
-    in-row p h = unknown-part rows i p (subst (λ list. Contains list p) (sym is) h)
+    it : IsFurther first more stands both further.number further.parts.items
+    it = subst (λ list. IsFurther first more stands both further.number list) (sym parts) (subst (λ v. IsFurther first more stands both v piece) (sym number) at-next)
+
+-- ---- a row, piece by piece
+only-one : (a p : Atom) → Contains (a ∷ []) p → a ≡ p
+only-one a p h = ⊎_elim (λ same. same) (λ none. absurd (none_in_nil p none)) (Contains-cons_cases a [] p h)
+
+pub begun-none : (rows : List Row) (k first next : ℕ) (held : List Further) (old middle : List Stored) → AreLaidSoFar rows k first next held old middle → IsRowBegun rows k first next held old middle [] []
+begun-none rows k first next held old middle so_far = record {
+  so_far = so_far;
+  goes = λ p h. absurd (none_in_nil p h);
+  came = λ p h. absurd (none_in_nil p h);
+}
+
+pub begun-more : (rows : List Row) (k first next more : ℕ) (had held : List Further) (old middle new : List Stored) (done left piece : List Atom) (found : Option ℕ)
+    → (begun : IsRowBegun rows k first next had old middle done left) → IsPieceOf rows k piece → 0 < length piece
+    → IsFound rows k first next more had held old middle new begun.so_far piece found → IsRowBegun rows k first more held old new (done ++ piece) (left ++ by_found found piece)
+begun-more rows k first next more had held old middle new done left piece found begun in_row some is = record {
+  so_far = is.after;
+  goes = λ p h. ⊎_elim
+      (λ (h : Contains done p). ⊎_elim
+      (λ (j : Contains left p). inl (Contains-append_left left (by_found found piece) p j))
+      (λ (by : (u : ℕ) × Contains left (Unknown u) × Flows begun.so_far.are.laid p (Unknown u)). inr (
+        by.0,
+        Contains-append_left left (by_found found piece) (Unknown by.0) by.1,
+        flows-more begun.so_far.are.laid is.after.are.laid p (Unknown by.0) is.is_more.laid by.2,
+      ))
+      (begun.goes p h))
+      (λ (h : Contains piece p). new-goes found (λ u e. is.stands_for u e) p h)
+      (Contains-append_cases done piece p h);
+  came = λ p h. ⊎_elim
+      (λ (h : Contains left p). ⊎_elim inl
+      (λ (of : IsOfRow rows k first next begun.so_far.are.stands p).
+      let same : is.after.are.stands of.by ≡ begun.so_far.are.stands of.by = is.is_more.stands of.by of.below_next in
+      inr (record {
+        by = of.by;
+        is = of.is;
+        from_first = of.from_first;
+        below_next = omega (arith, of.below_next, is.is_more.least);
+        some = (of.some.0, subst (λ list. Contains list of.some.0) (sym same) of.some.1);
+        each = subst (IsPieceOf rows k) (sym same) of.each;
+      }))
+      (begun.came p h))
+      (new-came found (λ u e. is.stands_for u e) p)
+      (Contains-append_cases left (by_found found piece) p h);
+}
+  where
+    new-goes : (o : Option ℕ) → ((u : ℕ) → o ≡ Some u → IsFurther first more is.after.are.stands is.after.are.laid u piece) → (p : Atom) → Contains piece p → LeadsOn (left ++ by_found o piece) is.after.are.laid p
+    new-goes None none p h = inl (Contains-append_right left piece p h)
+    new-goes (Some u) further p h = inr (u, Contains-append_right left (Unknown u ∷ []) (Unknown u) (Contains-first (Unknown u) []), (further u refl).goes p h)
+
+    new-came : (o : Option ℕ) → ((u : ℕ) → o ≡ Some u → IsFurther first more is.after.are.stands is.after.are.laid u piece) → (p : Atom) → Contains (by_found o piece) p
+        → Contains (parts_at rows k) p ⊎ IsOfRow rows k first more is.after.are.stands p
+    new-came None none p h = inl (in_row p h)
+    new-came (Some u) further p h =
+        let it = further u refl in
+        let one = first-part piece some in
+        inr (record {
+          by = u;
+          is = sym (only-one (Unknown u) p h);
+          from_first = it.from_first;
+          below_next = it.below_next;
+          some = (one.0, subst (λ list. Contains list one.0) (sym it.stands_for) one.1);
+          each = subst (IsPieceOf rows k) (sym it.stands_for) in_row;
+        })
+
+nil-taken : {X : Type 0} (k : ℕ) → take {A = X} k [] ≡ []
+nil-taken zero = refl
+nil-taken (suc k) = refl
+
+pub taken-more : {X : Type 0} (xs : List X) (n m : ℕ) → take (n + m) xs ≡ take n xs ++ take m (drop n xs)
+taken-more {X = X} [] zero m = let e : 0 + m ≡ m = omega arith in ap (λ k. take {A = X} k []) e
+taken-more {X = X} [] (suc n) m = nil-taken {X = X} (suc n + m) ∙ sym (nil-taken {X = X} m)
+taken-more (x ∷ xs) zero m = let e : 0 + m ≡ m = omega arith in ap (λ k. take k (x ∷ xs)) e
+taken-more (x ∷ xs) (suc n) m = let e : suc n + m ≡ suc (n + m) = omega arith in ap (λ k. take k (x ∷ xs)) e ∙ ap (λ ys. x ∷ ys) (taken-more xs n m)
+
+pub piece-among : (xs piece : List Atom) (n m : ℕ) → piece ≡ take m (drop n xs) → (p : Atom) → Contains piece p → Contains xs p
+piece-among xs piece n m is p h =
+    subst (λ list. Contains list p) (take-append-drop n xs) (Contains-append_right (take n xs) (drop n xs) p
+    (subst (λ list. Contains list p) (take-append-drop m (drop n xs)) (Contains-append_left (take m (drop n xs)) (drop m (drop n xs)) p (subst (λ list. Contains list p) is h))))
 
 -- ---- all of them are those that were taken
 kept-flows : (Over : Atom → Atom → Type 0) (spread between : List Stored) (start rows : List Row) (old : List Stored) → ((k : ℕ) → parts_at start k ≡ []) → AreTaken Over spread start rows old between
@@ -251,7 +340,7 @@ all-shared Over Others others same spread between new start rows old first next 
 
 pub shared-all : (Over : Atom → Atom → Type 0) (core : Core) (table : List Label) (journal : Journal) (calls : List Called) (start rows : List Row) (wide : ℕ) (old between new : Made)
     → ((a b : Atom) → Over a b → IsFollowed (real_unknowns (program_of core)) old.constraints.items a b)
-    → ((k : ℕ) → parts_at start k ≡ []) → length rows ≡ wide → wide ≡ old.number
+    → ((k : ℕ) → parts_at start k ≡ []) → length rows ≡ wide → wide ≤ old.number
     → (so_far : AreSpreadSoFar Over core table journal calls start rows old between)
     → AreLaidOut rows wide between.number new.number between.constraints.items new.constraints.items
     → 2 * new.number ≤ 2 * between.number + wide + 1
@@ -271,58 +360,6 @@ shared-all Over core table journal calls start rows wide old between new others 
     }
 
 -- ---- for the functions that lay rows out
-row-split : (rows : List Row) (k : ℕ) (parts : Row) → k < length rows → parts ≡ get_or rows k parts → parts_at rows k ≡ unknowns_at rows k ++ parts.written
+pub row-split : (rows : List Row) (k : ℕ) (parts : Row) → k < length rows → parts ≡ get_or rows k parts → parts_at rows k ≡ unknowns_at rows k ++ parts.written
 row-split rows k parts inside is =
     parts-here rows k parts parts inside is ∙ ap (λ xs. xs ++ parts.written) (sym (unknowns-here rows k parts parts inside is))
-
-pub row-held : (rows : List Row) (i first next u : ℕ) (parts : Row) (held result : Option ℕ) (again : Bool) (written : List Atom) (old middle new : List Stored)
-    → i < length rows → parts ≡ get_or rows i parts → (IsTrue again → IsRepeated rows i) → held ≡ Some u → result ≡ (if again then Some u else None) → written ≡ parts.written
-    → AreLaidSoFar rows i first next held old middle → IsLaidOut i (Unknown u ∷ written) middle new → AreLaidSoFar rows (i + 1) first next result old new
-row-held rows i first next u parts held result again written old middle new inside is repeats some result_is same before row =
-    subst (λ o. AreLaidSoFar rows (i + 1) first next o old new) (sym result_is)
-    (laid-held rows i first next old middle new u written again (row-split rows i parts inside is ∙ ap (λ xs. unknowns_at rows i ++ xs) (sym same)) repeats
-    (subst (λ o. AreLaidSoFar rows i first next o old middle) some before) row)
-
-pub row-plain : (rows : List Row) (i first next : ℕ) (parts : Row) (unknowns written : List Atom) (old middle new : List Stored)
-    → i < length rows → parts ≡ get_or rows i parts → unknowns ≡ parts.unknowns → written ≡ parts.written
-    → AreLaidSoFar rows i first next None old middle → IsLaidOut i (unknowns ++ written) middle new → AreLaidSoFar rows (i + 1) first next None old new
-row-plain rows i first next parts unknowns written old middle new inside is same_unknowns same_written before row =
-    laid-plain rows i first next old middle new (unknowns ++ written)
-    (parts-here rows i parts parts inside is ∙ (ap (λ xs. xs ++ parts.written) (sym same_unknowns) ∙ ap (λ xs. unknowns ++ xs) (sym same_written))) before row
-
-pub row-opened : (rows : List Row) (i first next : ℕ) (parts : Row) (unknowns written : List Atom) (old middle opened new : List Stored)
-    → i < length rows → parts ≡ get_or rows i parts → IsRepeated rows i → unknowns ≡ parts.unknowns → written ≡ parts.written
-    → AreLaidSoFar rows i first next None old middle → IsLaidOut next (unknowns ++ []) middle opened → IsLaidOut i (Unknown next ∷ written) opened new
-    → AreLaidSoFar rows (i + 1) first (next + 1) (Some next) old new
-row-opened rows i first next parts unknowns written old middle opened new inside is repeats same_unknowns same_written before further row =
-    row-held rows i first (next + 1) next parts (Some next) (Some next) true written old opened new inside is (λ e. repeats) refl refl same_written
-    (laid-open rows i first next unknowns old middle opened (unknowns-here rows i parts parts inside is ∙ sym same_unknowns) repeats before
-    (subst (λ xs. IsLaidOut next xs middle opened) (append-nil unknowns) further)) row
-
--- ---- whether rows are repeated
-pub repeated-next : (rows : List Row) (again new : List Bool) (i : ℕ) (b : Bool) → new ≡ again ++ b ∷ [] → length again + 1 ≡ i
-    → (IsTrue b → IsRepeated rows (i - 1)) → ((k : ℕ) → IsTrue (get_or again k false) → IsRepeated rows k) → (k : ℕ) → IsTrue (get_or new k false) → IsRepeated rows k
-repeated-next rows again new i b is count next before k true_there = ⊎_elim
-    (λ (here : k ≡ length again).
-    let last : IsTrue b = sym (get_or_at again b [] false k (sym here)) ∙ (sym (ap (λ xs. get_or xs k false) is) ∙ true_there) in
-    let at_k : i - 1 ≡ k = omega (arith, here, count) in
-    subst (IsRepeated rows) at_k (next last))
-    (λ (differs : k ≢ length again). ⊎_elim
-    (λ (below : k < length again). before k (sym (get_or_append_left again (b ∷ []) false k below) ∙ (sym (ap (λ xs. get_or xs k false) is) ∙ true_there)))
-    (λ (past : length again < k).
-    let none : get_or new k false ≡ false = ap (λ xs. get_or xs k false) is ∙ get_or_past (again ++ b ∷ []) k false (omega (arith, past, length_push again b)) in
-    absurd (not-both (get_or new k false) true_there none))
-    (below-or-past k (length again) differs))
-    (cases_eq k (length again))
-  where
-    not-both : (b : Bool) → b ≡ true → b ≡ false → ⊥
-    not-both true e f = let i : true ≡ false = f in absurd (cc)
-    not-both false e f = let i : false ≡ true = e in absurd (cc)
-
-    below-or-past : (k n : ℕ) → k ≢ n → (k < n) ⊎ (n < k)
-    below-or-past k n differs = by_test (nat_lt k n) (λ e. inl (ltb-true k n e)) (λ e. inr (omega (arith, ltb-false k n e, differs)))
-
-pub none-held : (rows : List Row) (i first next : ℕ) (held : Option ℕ) (old new : List Stored) → ((u : ℕ) → held ≡ Some u → ⊥)
-    → AreLaidSoFar rows i first next held old new → AreLaidSoFar rows i first next None old new
-none-held rows i first next None old new none so_far = so_far
-none-held rows i first next (Some u) old new none so_far = absurd (none u refl)

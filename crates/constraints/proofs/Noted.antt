@@ -9,7 +9,7 @@ use Rattle.std.proofs.lemmas.List.Elements.{Contains-append_cases}
 use Rattle.common.proofs.Cases.{by_test}
 use Rattle.common.proofs.Elements.{none_in_nil, Contains-cons_cases, Contains-first, Contains-later}
 use Rattle.labels.specs.Label.{Label}
-use Rattle.resolved.specs.Ends.{handles}
+use Rattle.resolved.specs.Exits.{handles}
 use Rattle.resolved.specs.Program.{ThrownEntry}
 use Rattle.resolved.specs.ProgramOf.{thrown_entry}
 use Rattle.resolved.specs.Tree.{Handlers, NoMore, Catch}

@@ -16,7 +16,7 @@ use Rattle.constraints.specs.declared.exit_unknowns.ExitUnknown.{ExitUnknown}
 use Rattle.constraints.specs.declared.exit_unknowns.ExitUnknowns.{ExitUnknowns}
 use Rattle.constraints.proofs.Thinned.{walks-exact, walks-same, walks-then}
 
--- the ends of two pieces, one after the other
+-- the exits of two pieces, one after the other
 pub paths-then : (first second : List (List Exit)) (found left : List Exits) → found ≡ map exits_of (first ++ second) ++ left
     → found ≡ map exits_of first ++ (map exits_of second ++ left)
 paths-then first second found left is =

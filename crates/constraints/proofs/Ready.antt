@@ -19,7 +19,7 @@ use Rattle.resolved.specs.ProgramOf.{thrown_entry}
 use Rattle.resolved.specs.Tree.{Expression, Statement, If, While, Try, Nested, Block, Then, Handlers, Catch}
 use Rattle.resolved.specs.TreeOf.{block_of, handlers_of, statement_of}
 use Rattle.resolved.specs.declared.expression.Base.TheVariants.{Boolean}
-use Rattle.resolved.specs.Ends.{block_ends, one_end, statement_ends}
+use Rattle.resolved.specs.Exits.{block_exits, one_exit, statement_exits}
 use Rattle.resolved.specs.Labelled.{here}
 use Rattle.resolved.specs.WellFormed.{block_fits, handlers_fit, has_base, is_exception, label_fits, statement_fits, throws_fit}
 use Rattle.path_map.specs.Exits.{Exits}
@@ -162,26 +162,26 @@ module _ (core : Core) (table : List Label) (entries : List Exits) (procedure : 
   -- the statements of a block, and what is in a statement, after their own entry
   pub block-goes : (block : Block) (pc : Atom) (exit_unknowns inner : ExitUnknowns) (old begun : Progress)
       → IsBlockReady core entries procedure exit_unknowns block old
-      → ((ends : List Exit) → IsWalked core table entries pc exit_unknowns (ends ∷ []) (λ named. single (one_end ends) named (exit_unknowns_of exit_unknowns old.thrown.items) ends) 0 old begun)
+      → ((ends : List Exit) → IsWalked core table entries pc exit_unknowns (ends ∷ []) (λ named. single (one_exit ends) named (exit_unknowns_of exit_unknowns old.thrown.items) ends) 0 old begun)
       → ((thrown : List ExitUnknown) → AreLevelled exit_unknowns thrown → AreLevelled inner thrown) → inner.level ≡ exit_unknowns.level
       → AreStatementsReady core entries procedure inner block begun
   block-goes block pc exit_unknowns inner old begun ready begins levels_are level_is =
-      let ends : List Exit = block_ends (program_of core) block in
+      let ends : List Exit = block_exits (program_of core) block in
       ready-then core entries table pc exit_unknowns exit_unknowns inner (ends ∷ []) (rest_paths (program_of core) block)
-      (λ named. single (one_end ends) named (exit_unknowns_of exit_unknowns old.thrown.items) ends) 0 (fits-block block) (fits-block block) (made_by_block block) (made_by_block block) 0 0 old begun ready (begins ends)
+      (λ named. single (one_exit ends) named (exit_unknowns_of exit_unknowns old.thrown.items) ends) 0 (fits-block block) (fits-block block) (made_by_block block) (made_by_block block) 0 0 old begun ready (begins ends)
       ready.levelled (levels_are old.thrown.items ready.levelled) ready.fitting (omega arith) (omega (arith, level_is))
 
   pub statement-goes : (tree : Statement) (pc : Atom) (exit_unknowns none some inner : ExitUnknowns) (old begun : Progress)
       → IsStatementReady core entries procedure exit_unknowns tree old
-      → ((ends : List Exit) → IsWalked core table entries pc none (ends ∷ []) (λ named. single (one_end ends) named (exit_unknowns_of none old.thrown.items) ends) 0 old begun)
+      → ((ends : List Exit) → IsWalked core table entries pc none (ends ∷ []) (λ named. single (one_exit ends) named (exit_unknowns_of none old.thrown.items) ends) 0 old begun)
       → ((thrown : List ExitUnknown) → AreLevelled exit_unknowns thrown → AreLevelled none thrown)
       → ((thrown : List ExitUnknown) → AreLevelled exit_unknowns thrown → AreLevelled some thrown)
       → ((thrown : List ExitUnknown) → AreLevelled some thrown → AreLevelled inner thrown) → some.level ≡ exit_unknowns.level → inner.level ≡ some.level
       → IsFormReady core entries procedure inner tree begun
   statement-goes tree pc exit_unknowns none some inner old begun ready begins none_levels some_levels levels_are some_level inner_level =
-      let ends : List Exit = statement_ends (program_of core) tree in
+      let ends : List Exit = statement_exits (program_of core) tree in
       ready-then core entries table pc exit_unknowns none inner (ends ∷ []) (inner_paths (program_of core) tree)
-      (λ named. single (one_end ends) named (exit_unknowns_of none old.thrown.items) ends) 0 (fits-statement tree) (fits-statement tree) (made_by_statement tree) (made_by_statement tree) 1 1 old begun ready (begins ends)
+      (λ named. single (one_exit ends) named (exit_unknowns_of none old.thrown.items) ends) 0 (fits-statement tree) (fits-statement tree) (made_by_statement tree) (made_by_statement tree) 1 1 old begun ready (begins ends)
       (none_levels old.thrown.items ready.levelled) (levels_are old.thrown.items (some_levels old.thrown.items ready.levelled)) ready.fitting
       (omega arith) (omega (arith, some_level, inner_level))
 
@@ -325,7 +325,7 @@ module _ (core : Core) (table : List Label) (entries : List Exits) (procedure : 
       (fits-block (Then statement rest)) (fits-block rest) (made_by_statement statement + made_by_block rest) (made_by_block rest) 1 0 made new before walked before.levelled before.levelled
       (and_parts (fits-statement statement) (fits-block rest) ready.fitting).1 (omega arith) (omega arith)
 
-  -- there is a number for the normal end of a statement
+  -- there is a number for the normal exit of a statement
   pub along-room : (exit_unknowns : ExitUnknowns) (statement : Statement) (rest : Block) (now : Progress)
       → AreStatementsReady core entries procedure exit_unknowns (Then statement rest) now → HasRoom 1 now
   along-room exit_unknowns statement rest now ready = omega (arith, ready.room)

@@ -11,7 +11,7 @@ use Rattle.common.proofs.Cases.{by_test, contained_map}
 use Rattle.labels.specs.Label.{Label}
 use Rattle.resolved.specs.declared.program.Core.{Core}
 use Rattle.resolved.specs.CoreOf.{program_of}
-use Rattle.resolved.specs.Ends.{declared_by}
+use Rattle.resolved.specs.Exits.{declared_by}
 use Rattle.resolved.specs.Labelled.{thrown_label}
 use Rattle.resolved.specs.Program.{Program, ProcedureEntry, ThrownEntry, procedure_at}
 use Rattle.resolved.specs.ProgramOf.{procedure_entry}

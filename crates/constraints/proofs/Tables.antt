@@ -20,7 +20,7 @@ use Rattle.resolved.specs.declared.tables.Thrown.{Thrown}
 use Rattle.resolved.specs.declared.expression.Variable.TheVariants.{Local}
 use Rattle.resolved.specs.declared.target.Target.TheVariants.{ToLoop, ToVariable, ToParameter}
 use Rattle.resolved.specs.Labelled.{OfLocal, parameter_label, result_label, thrown_label, written_or}
-use Rattle.resolved.specs.Ends.{declared_by}
+use Rattle.resolved.specs.Exits.{declared_by}
 use Rattle.resolved.specs.Tree.{Empty}
 use Rattle.gathering.specs.Names.{Real, own_unknowns, unknowns_before}
 use Rattle.path_map.specs.Exceptions.{exceptions_of}

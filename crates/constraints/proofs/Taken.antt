@@ -5,7 +5,7 @@ use Rattle.std.proofs.Math.Path.{fun_ext}
 use Rattle.std.proofs.lemmas.Bool.{lt-ltb, ne_eqb}
 use Rattle.std.proofs.lemmas.List.{get_or-map}
 use Rattle.std.proofs.Math.Bool.{or-true}
-use Rattle.resolved.specs.Ends.{handles}
+use Rattle.resolved.specs.Exits.{handles}
 use Rattle.resolved.specs.Tree.{Handlers, NoMore, Catch}
 use Rattle.resolved.specs.TreeOf.{handlers_of}
 use Rattle.resolved.specs.declared.statement.Exit.{Exit}

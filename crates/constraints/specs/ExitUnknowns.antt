@@ -1,4 +1,4 @@
--- Private: the exit unknowns of ends as a table: one of each end that is no exception, and for each exception an entry with its level. An entry
+-- Private: the exit unknowns of exits as a table: one of each exit that is no exception, and for each exception an entry with its level. An entry
 -- counts where its level is above the barrier, so that raising the barrier takes all of them away at once.
 -- Source: our own.
 use Rattle.std.specs.Prelude.{ℕ, suc, ◌≤◌, ◌==◌, List, [], ◌∷◌, set, Option, Some, None, if◌then◌else◌, nat_lt, slice_index_or}
@@ -21,7 +21,7 @@ exit_unknown_of barrier entry = if nat_lt barrier entry.level then Some entry.nu
 abbrev pub thrown_exit_unknown : (thrown : List ExitUnknown) → (barrier exception : ℕ) → Option ℕ
 thrown_exit_unknown thrown barrier exception = exit_unknown_of barrier (slice_index_or thrown exception no_entry)
 
--- the exit unknown of each end
+-- the exit unknown of each exit
 abbrev pub exit_unknowns_of : ExitUnknowns → (thrown : List ExitUnknown) → walk.ExitUnknowns
 exit_unknowns_of exit_unknowns thrown = value_at (thrown_exit_unknown thrown) exit_unknowns.ends
 

@@ -10,7 +10,7 @@ use Rattle.resolved.specs.declared.target.Target.{Target}
 use Rattle.resolved.specs.CoreOf.{program_of}
 use Rattle.resolved.specs.Program.{Program, procedure_at}
 use Rattle.resolved.specs.Tree.{Expression}
-use Rattle.resolved.specs.Ends.{index_can_raise}
+use Rattle.resolved.specs.Exits.{index_can_raise}
 use Rattle.resolved.specs.Labelled.{Join, OfLocal, OfLoop, Scope, Unwritten, label_of, value_label}
 use Rattle.gathering.specs.Names.{Inner, NamedAtom, Real, named_atoms, unwritten_number}
 use Rattle.gathering.specs.Walk.{raise_atoms}

@@ -1,3 +1,4 @@
+pub mod Laying
 pub mod LeftSides
 pub mod Rows
 pub mod Added

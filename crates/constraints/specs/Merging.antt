@@ -1,7 +1,7 @@
 -- Private: inner constraints with one right side, put together to one whose left side has all of their parts; and one further unknown for
 -- parts that flow to several.
 -- Source: our own.
-use Rattle.std.specs.Prelude.{◌≡◌, ◌⊎◌, ℕ, zero, suc, ◌+◌, ◌*◌, ◌<◌, ◌≤◌, List, [], ◌∷◌, ◌++◌, Contains, length, map, Option, None, Some}
+use Rattle.std.specs.Prelude.{◌≡◌, ◌⊎◌, ℕ, zero, suc, ◌+◌, ◌*◌, ◌<◌, ◌≤◌, List, [], ◌∷◌, ◌++◌, Contains, map, None}
 use Rattle.labels.specs.Label.{Label}
 use Rattle.resolved.specs.declared.program.Core.{Core}
 use Rattle.resolved.specs.CoreOf.{program_of}
@@ -131,27 +131,6 @@ pub record AreLaidOut (rows : List Row) (below first next : ℕ) (old new : List
   pub goes : (k : ℕ) → k < below → (part : Atom) → Contains (parts_at rows k) part → FlowsOn laid part (Unknown k)
   pub came : (part to : Atom) → Flows laid part to → ComesOf (IsKept rows) first next stands part to
   pub inner : (c : Stored) → Contains laid c → IsInnerWithPart c
-
--- the next row has the unknowns of this one, of which there are some
-abbrev pub IsRepeated : List Row → (k : ℕ) → Type 0
-IsRepeated rows k = (unknowns_at rows (suc k) ≡ unknowns_at rows k) × (0 < length (unknowns_at rows k))
-
--- a further unknown stands for the unknowns of the next row
-pub record IsHeld (rows : List Row) (at first next : ℕ) (stands : ℕ → List Atom) (laid : List Stored) (u : ℕ) : Type 0 where
-  pub from_first : first ≤ u
-  pub below_next : u < next
-  pub stands_for : stands u ≡ unknowns_at rows at
-  pub some : (one : Atom) × Contains (stands u) one
-  pub goes : (part : Atom) → Contains (unknowns_at rows at) part → Flows laid part (Unknown u)
-
--- and one may be held
-pub record AreLaidSoFar (rows : List Row) (below first next : ℕ) (held : Option ℕ) (old new : List Stored) : Type 0 where
-  pub are : AreLaidOut rows below first next old new
-  pub held_is : (u : ℕ) → held ≡ Some u → IsHeld rows below first next are.stands are.laid u
-
-abbrev pub held_count : Option ℕ → ℕ
-held_count None = 0
-held_count (Some u) = 1
 
 -- a part flows on, or what it flows on to
 pub record FlowsOver (Over : Atom → Atom → Type 0) (cs : List Stored) (part to : Atom) : Type 0 where

@@ -1,4 +1,4 @@
--- Private: the exit unknowns of a procedure's ends as a table, and a walk past a procedure.
+-- Private: the exit unknowns of a procedure's exits as a table, and a walk past a procedure.
 -- Source: our own.
 use Rattle.std.specs.Prelude.{◌≡◌, ℕ, suc, ◌+◌, ◌==◌, List, [], ◌∷◌, ◌++◌, drop, length, map, if◌then◌else◌, Some, None, Bool, true, false, slice_index_or}
 use Rattle.labels.specs.Label.{Label}
@@ -33,7 +33,7 @@ AreDeclaredExitUnknowns throws n level old new =
 abbrev pub number_in : List ExitUnknown → (exception : ℕ) → ℕ
 number_in thrown x = (slice_index_or thrown x no_entry).number
 
--- the exit unknowns of a procedure's ends, where its end has number n; none where there is one end only
+-- the exit unknowns of a procedure's exits, where its end has number n; none where there is one exit only
 abbrev pub end_exit_unknowns_of : (n barrier level : ℕ) → (only : Bool) → ExitUnknowns
 end_exit_unknowns_of n barrier level true =
     record { ends = for_all None level; level = level }

@@ -28,7 +28,7 @@ use Rattle.constraints.specs.declared.exit_unknowns.ExitUnknowns.{ExitUnknowns}
 abbrev pub exception_count : Core → ℕ
 exception_count core = BUILT_IN + length (program_of core).exceptions
 
--- the summaries of the ends of a program's statements and blocks, along which a walk goes
+-- the summaries of the exits of a program's statements and blocks, along which a walk goes
 abbrev pub entries_of : List (List Exit) → List Exits
 entries_of found = map exits_of found
 
@@ -69,7 +69,7 @@ AreStatementsReady core entries procedure exit_unknowns block now =
     IsReady core entries exit_unknowns (rest_paths (program_of core) block)
     (block_fits (program_of core) (here (scope_of core procedure)) block) (made_by_block block) 0 now
 
--- for a statement of a block, for whose normal end one was made, and for what is in one
+-- for a statement of a block, for whose normal exit one was made, and for what is in one
 abbrev pub IsStatementReady : Core → (entries : List Exits) → (procedure : ℕ) → ExitUnknowns → Statement → (now : Progress) → Type 0
 IsStatementReady core entries procedure exit_unknowns statement now =
     IsReady core entries exit_unknowns (statement_paths (program_of core) statement)

@@ -5,7 +5,7 @@ use Rattle.labels.specs.Label.{Label}
 use Rattle.resolved.specs.declared.program.Core.{Core}
 use Rattle.resolved.specs.CoreOf.{program_of}
 use Rattle.resolved.specs.Program.{ProcedureEntry, SlotEntry, ThrownEntry, procedure_at}
-use Rattle.resolved.specs.Ends.{declared_by}
+use Rattle.resolved.specs.Exits.{declared_by}
 use Rattle.resolved.specs.Labelled.{result_label}
 use Rattle.gathering.specs.Names.{own_unknowns, unknowns_before}
 use Rattle.solver.specs.declared.constraints.Atom.{Atom}

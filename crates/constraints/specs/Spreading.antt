@@ -8,7 +8,7 @@ use Rattle.labels.specs.Label.{Label}
 use Rattle.resolved.specs.declared.program.Core.{Core}
 use Rattle.resolved.specs.declared.statement.Exit.TheVariants.{Throw}
 use Rattle.resolved.specs.CoreOf.{program_of}
-use Rattle.resolved.specs.Ends.{declared_by}
+use Rattle.resolved.specs.Exits.{declared_by}
 use Rattle.resolved.specs.Labelled.{thrown_label}
 use Rattle.resolved.specs.Program.{Program, procedure_at}
 use Rattle.gathering.specs.Names.{NamedAtom, NamedConstraint, named_atoms}

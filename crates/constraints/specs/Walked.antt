@@ -1,4 +1,4 @@
--- Private: what a walk along blocks, statements and handlers does, where the path map has their ends from an entry on.
+-- Private: what a walk along blocks, statements and handlers does, where the path map has their exits from an entry on.
 -- Source: our own.
 use Rattle.std.specs.Prelude.{◌≡◌, ℕ, ◌+◌, List, ◌∷◌, ◌++◌, drop, length, map, true, false, Some, None, slice_index_or}
 use Rattle.labels.specs.Label.{Label}
@@ -6,7 +6,7 @@ use Rattle.resolved.specs.declared.program.Core.{Core}
 use Rattle.resolved.specs.declared.statement.Exit.{Exit}
 use Rattle.resolved.specs.declared.statement.Handler.{Handler}
 use Rattle.resolved.specs.CoreOf.{program_of}
-use Rattle.resolved.specs.Ends.{handles, one_end, raises, statement_ends}
+use Rattle.resolved.specs.Exits.{handles, one_exit, raises, statement_exits}
 use Rattle.resolved.specs.Labelled.{Scope, value_label}
 use Rattle.resolved.specs.Tree.{Expression, Statement, Block, Handlers}
 use Rattle.resolved.specs.TreeOf.{handlers_of}
@@ -51,13 +51,13 @@ AreStatementsWalked core table entries procedure pc exit_unknowns block old new 
     (λ named. block_constraints (scope_of core procedure) true named (exit_unknowns_of exit_unknowns old.thrown.items) old.number block)
     (made_by_block block) old new
 
--- a statement of a block, whose normal end has the exit unknown with this number: the flow of its pc where it has one end only, and what
+-- a statement of a block, whose normal exit has the exit unknown with this number: the flow of its pc where it has one exit only, and what
 -- the rule of its form says
 abbrev pub step_constraints : Scope → (pc : NamedAtom) → walk.ExitUnknowns → (normal inner : ℕ) → Statement → List NamedConstraint
 step_constraints scope pc exit_unknowns normal inner statement =
-    let ends : List Exit = statement_ends scope.program statement in
-    single (one_end ends) pc (with_normal None exit_unknowns) ends
-    ++ statement_constraints scope pc (within_single (one_end ends) (with_normal (Some normal) exit_unknowns)) inner statement
+    let ends : List Exit = statement_exits scope.program statement in
+    single (one_exit ends) pc (with_normal None exit_unknowns) ends
+    ++ statement_constraints scope pc (within_single (one_exit ends) (with_normal (Some normal) exit_unknowns)) inner statement
 
 -- past a statement of a block, and past one by the rule of its form
 abbrev pub IsStatementWalked : Core → (table : List Label) → (entries : List Exits) → (procedure : ℕ) → (pc : Atom) → ExitUnknowns → (normal : ℕ) → Statement → (old new : Progress) → Type 0

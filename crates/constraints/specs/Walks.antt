@@ -10,7 +10,7 @@ use Rattle.resolved.specs.declared.statement.Exit.TheVariants.{Normal}
 use Rattle.resolved.specs.declared.target.Target.{Target}
 use Rattle.resolved.specs.declared.target.Target.TheVariants.{ToBegin, ToLoop, ToValue}
 use Rattle.resolved.specs.Tree.{Expression, Statement}
-use Rattle.resolved.specs.Ends.{raises, raises_all, thrown_ends}
+use Rattle.resolved.specs.Exits.{raises, raises_all, thrown_exits}
 use Rattle.resolved.specs.Labelled.{Scope, label_of, one, value_label}
 use Rattle.gathering.specs.Names.{NamedAtom, NamedConstraint, Real, named_atoms}
 use Rattle.gathering.specs.Walk as walk
@@ -19,7 +19,7 @@ use Rattle.solver.specs.declared.constraints.Atom.{Atom}
 use Rattle.constraints.specs.Added.{IsGatheredAt, Stored}
 use Rattle.constraints.specs.LeftSides.{scope_of}
 
--- a statement that works a value out and goes on at an end: what the value flows to, and its ends
+-- a statement that works a value out and goes on at an exit: what the value flows to, and its exits
 abbrev pub valued_constraints : Scope → (pc : NamedAtom) → walk.ExitUnknowns → (at rule : ℕ) → Expression → Target → Exit → List NamedConstraint
 valued_constraints scope pc exit_unknowns at rule e target exit =
     let q : List NamedAtom = pc ∷ named_atoms (raise_atoms scope e) in
@@ -40,9 +40,9 @@ loop_head_constraints scope pc exit_unknowns inner at loop e =
     ++ (flow (inner_atom inner ∷ []) (exit_unknowns Normal)
     ++ raised_flows (loop_atom ∷ named_atoms (raise_atoms scope e)) exit_unknowns (raises e)))
 
--- the ends of a call but for the exceptions that its callee declares, and what is gathered of it but for their flows
-abbrev pub kept_ends : List Expression → List Exit
-kept_ends arguments = Normal ∷ thrown_ends (raised_once (raises_all arguments))
+-- the exits of a call but for the exceptions that its callee declares, and what is gathered of it but for their flows
+abbrev pub kept_exits : List Expression → List Exit
+kept_exits arguments = Normal ∷ thrown_exits (raised_once (raises_all arguments))
 
 abbrev pub kept_call : Scope → (pc : NamedAtom) → walk.ExitUnknowns → ℕ → (at callee : ℕ) → List Expression → Option Variable → List NamedConstraint
 kept_call scope pc exit_unknowns n at callee arguments target =
@@ -51,4 +51,4 @@ kept_call scope pc exit_unknowns n at callee arguments target =
     ++ (argument_constraints scope at n callee 0 arguments
     ++ (target_constraint scope at 6
     (inner_atom n ∷ named_atoms (call_atoms scope.program callee Normal ++ one (label_of scope.program (ToValue callee)))) target
-    ++ call_flows scope.program callee n exit_unknowns (kept_ends arguments))))
+    ++ call_flows scope.program callee n exit_unknowns (kept_exits arguments))))

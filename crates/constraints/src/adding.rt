@@ -31,7 +31,8 @@ impl<'a> Table<'a> {
         ensures { OnOk result ((procedure : ℕ) (atoms : List NamedAtom) →
             IsLeft self.now.core.now self.now.core.now.labels atoms left.items →
             AreAdded self.now.core.now self.now.core.now.labels
-            (rule_constraint (scope_of self.now.core.now procedure) at (rule_number rule) atoms target)
+            (rule_constraint (scope_of self.now.core.now procedure) at (rule_number rule) atoms
+            target)
             constraints.old.items constraints.new.items) }
     {
         let right = self.part(target);

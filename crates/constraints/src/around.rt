@@ -6,7 +6,7 @@ use crate::exit_unknowns::{ExitUnknown, ExitUnknowns};
 use resolved::statement::Exit;
 use solver::Atom;
 
-/// The context of a block or a statement: the pc at which it is reached, and the exit unknowns of its ends, for whose exceptions the progress of a
+/// The context of a block or a statement: the pc at which it is reached, and the exit unknowns of its exits, for whose exceptions the progress of a
 /// walk has the entries.
 #[derive(Clone, Copy, Debug, PartialEq, Eq)]
 pub struct Context {
@@ -18,7 +18,8 @@ impl Context {
     /// What stands around a statement of this context, where exceptions have these entries.
     pub fn around(self, thrown: &[ExitUnknown]) -> Around<'_>
         ensures pc { result.pc ≡ self.pc }
-        ensures exit_unknowns { exit_unknowns_around result ≡ exit_unknowns_of self.exit_unknowns thrown.now }
+        ensures exit_unknowns { exit_unknowns_around result ≡ exit_unknowns_of self.exit_unknowns
+            thrown.now }
     {
         Around {
             pc: self.pc,
@@ -28,7 +29,7 @@ impl Context {
     }
 }
 
-/// What stands around a statement: the pc at which it is reached, and where the label of each of its ends flows.
+/// What stands around a statement: the pc at which it is reached, and where the label of each of its exits flows.
 #[derive(Clone, Copy, Debug)]
 pub struct Around<'a> {
     pub pc: Atom,
@@ -37,7 +38,7 @@ pub struct Around<'a> {
 }
 
 impl<'a> Around<'a> {
-    /// The exit unknown of an end.
+    /// The exit unknown of an exit.
     pub fn exit_unknown(&self, exit: Exit) -> Option<u32>
         ensures { result ≡ exit_unknowns_around self.now exit }
     {

@@ -8,7 +8,7 @@ ghost use Rattle.gathering.specs.Names.{NamedAtom, named_atoms};
 ghost use Rattle.gathering.specs.Walk.{inner_constraint, raise_atoms, raised_flows, rule_constraint, single};
 ghost use Rattle.path_map.specs.Exits.{exits_of};
 ghost use Rattle.path_map.specs.Exits.{Exits};
-ghost use Rattle.resolved.specs.Ends.{one_end, raises};
+ghost use Rattle.resolved.specs.Exits.{one_exit, raises};
 ghost use Rattle.resolved.specs.Labelled.{value_label};
 ghost use Rattle.resolved.specs.TreeOf.{expression_of};
 ghost use Rattle.resolved.specs.declared.statement.Exit.{Exit};
@@ -28,7 +28,7 @@ use solver::{Atom, Constraint, Rule};
 use std::alloc::AllocError;
 
 impl<'a> ProcedureWalk<'a> {
-    /// The possible ends that the path map has under this number.
+    /// The possible exits that the path map has under this number.
     pub fn exits_at(&self, number: usize) -> Exits
         ensures { (exits : Exits) (rest : List Exits) →
             drop number (entries_of self.now.map.now) ≡ exits ∷ rest → result ≡ exits }
@@ -39,7 +39,7 @@ impl<'a> ProcedureWalk<'a> {
         self.map.exits(number)
     }
 
-    /// Adds the flow of the pc to the exit unknown of the possible end, where there is one only.
+    /// Adds the flow of the pc to the exit unknown of the possible exit, where there is one only.
     pub fn add_single(
         &self,
         exits: Exits,
@@ -50,7 +50,7 @@ impl<'a> ProcedureWalk<'a> {
             IsGatheredAt self.now.table.now.core.now self.now.table.now.core.now.labels
             around.now.pc
             (λ (named : NamedAtom).
-            single (one_end ends) named (exit_unknowns_around around.now) ends)
+            single (one_exit ends) named (exit_unknowns_around around.now) ends)
             constraints.old.items constraints.new.items) }
     {
         match exits.single() {
@@ -145,7 +145,8 @@ impl<'a> ProcedureWalk<'a> {
             self.now.table.now.core.now.labels around.now.pc
             (λ (named : NamedAtom). loop_head_constraints
             (scope_of self.now.table.now.core.now self.now.procedure) named
-            (exit_unknowns_around around.now) inner site.at site.number (expression_of condition.now))
+            (exit_unknowns_around around.now) inner site.at site.number
+            (expression_of condition.now))
             constraints.old.items constraints.new.items) }
     {
         self.add_turn(site.at, site.number, around.pc, constraints)?;

@@ -2,12 +2,12 @@
 ghost use Rattle.constraints.specs.Added.{AreAdded, IsGatheredAt, IsLeftFrom, IsPart, flow_if};
 ghost use Rattle.constraints.specs.LeftSides.{scope_of};
 ghost use Rattle.constraints.specs.ExitUnknowns.{exit_unknowns_around};
-ghost use Rattle.constraints.specs.Walks.{kept_call, kept_ends};
+ghost use Rattle.constraints.specs.Walks.{kept_call, kept_exits};
 ghost use Rattle.gathering.specs.Names.{NamedAtom, named_atoms};
 ghost use Rattle.gathering.specs.Walk.{argument_constraints, call_atoms, call_flows, flow, inner_atom, raised_once};
 ghost use Rattle.path_map.specs.Exceptions.{AreRaised};
 ghost use Rattle.resolved.specs.CoreOf.{program_of};
-ghost use Rattle.resolved.specs.Ends.{thrown_ends};
+ghost use Rattle.resolved.specs.Exits.{thrown_exits};
 ghost use Rattle.resolved.specs.Labelled.{any_of, label_of, one};
 ghost use Rattle.resolved.specs.Program.{procedure_at};
 ghost use Rattle.resolved.specs.TreeOf.{expression_of};
@@ -36,7 +36,7 @@ impl<'a> ProcedureWalk<'a> {
         !self.table.row(callee).throws.is_empty()
     }
 
-    // The label of a call, and what its normal end has beside it.
+    // The label of a call, and what its normal exit has beside it.
     fn left_of_end(&self, own: Atom, callee: u32) -> Result<Left, AllocError>
         ensures { IfOk result (λ left. IsLeftFrom self.now.table.now.core.now
             self.now.table.now.core.now.labels own
@@ -140,7 +140,7 @@ impl<'a> ProcedureWalk<'a> {
     }
 
     // Adds the flows of the exceptions that the arguments of a call can raise.
-    fn add_argument_ends(
+    fn add_argument_exits(
         &self,
         callee: u32,
         found: Raises,
@@ -153,7 +153,7 @@ impl<'a> ProcedureWalk<'a> {
             AreRaised found exceptions →
             AreAdded self.now.table.now.core.now self.now.table.now.core.now.labels
             (call_flows (program_of self.now.table.now.core.now) callee k
-            (exit_unknowns_around around.now) (thrown_ends (raised_once exceptions)))
+            (exit_unknowns_around around.now) (thrown_exits (raised_once exceptions)))
             constraints.old.items constraints.new.items) }
     {
         let arith = found.arith;
@@ -163,8 +163,8 @@ impl<'a> ProcedureWalk<'a> {
         Ok(())
     }
 
-    // Adds the flows of the ends of a call, but for the exceptions that its callee declares.
-    fn add_call_ends(
+    // Adds the flows of the exits of a call, but for the exceptions that its callee declares.
+    fn add_call_exits(
         &self,
         callee: u32,
         arguments: &[Expression],
@@ -177,14 +177,14 @@ impl<'a> ProcedureWalk<'a> {
             AreAdded self.now.table.now.core.now self.now.table.now.core.now.labels
             (call_flows (program_of self.now.table.now.core.now) callee k
             (exit_unknowns_around around.now)
-            (kept_ends (map expression_of arguments.now)))
+            (kept_exits (map expression_of arguments.now)))
             constraints.old.items constraints.new.items) }
     {
         let left = self.left_of_end(around.pc, callee)?;
         let normal = around.exit_unknown(Exit::Normal);
         self.table.add_flow(self.alloc, &left, normal, constraints)?;
         let found = raises_of_all(arguments);
-        self.add_argument_ends(callee, found, around, constraints)?;
+        self.add_argument_exits(callee, found, around, constraints)?;
         Ok(())
     }
 
@@ -223,7 +223,7 @@ impl<'a> ProcedureWalk<'a> {
         let received = self.left_of_result(own, site.callee)?;
         self.add_target(site.at, Rule::Call, received, site.target, constraints)?;
         let ends = Around { pc: own, ..*around };
-        self.add_call_ends(site.callee, arguments, &ends, constraints)?;
+        self.add_call_exits(site.callee, arguments, &ends, constraints)?;
         Ok(())
     }
 }

@@ -1,4 +1,4 @@
-//! Where the label of each end flows.
+//! Where the label of each exit flows.
 ghost use Rattle.constraints.specs.Ready.{AreHandledInside, most_unknowns};
 ghost use Rattle.constraints.specs.ExitUnknowns.{AreLevelled, AreWithin, entry_after, entry_in_try, no_entry, exit_unknown_of, exit_unknowns_of, thrown_exit_unknown, undone};
 ghost use Rattle.gathering.specs.Walk.{in_loop, with_normal, within_single};
@@ -18,7 +18,7 @@ pub struct ExitUnknown {
     pub level: u32,
 }
 
-/// The inner unknown to which the label of each end flows, if to any; and the level of the innermost `try`. The path map has a barrier for
+/// The inner unknown to which the label of each exit flows, if to any; and the level of the innermost `try`. The path map has a barrier for
 /// exceptions, whose exit unknowns stand in a list of entries.
 #[derive(Clone, Copy, Debug, PartialEq, Eq)]
 pub struct ExitUnknowns {
@@ -161,7 +161,7 @@ pub(crate) fn numbers_of(
 }
 
 impl ExitUnknowns {
-    /// The exit unknown of an end.
+    /// The exit unknown of an exit.
     pub fn at(self, thrown: &[ExitUnknown], exit: Exit) -> Option<u32>
         ensures { result ≡ exit_unknowns_of self thrown.now exit }
     {
@@ -172,7 +172,7 @@ impl ExitUnknowns {
         self.ends.with_raised(raised).at(exit)
     }
 
-    /// The same exit unknowns but for that of the normal end.
+    /// The same exit unknowns but for that of the normal exit.
     pub fn with_normal(self, normal: Option<u32>) -> ExitUnknowns
         ensures level { result.level ≡ self.level }
         ensures levelled { (thrown : List ExitUnknown) →
@@ -219,7 +219,7 @@ impl ExitUnknowns {
         }
     }
 
-    /// No exit unknowns, where there is one end only.
+    /// No exit unknowns, where there is one exit only.
     pub fn within_single(self, only: bool) -> ExitUnknowns
         ensures level { result.level ≡ self.level }
         ensures levelled { (thrown : List ExitUnknown) →

@@ -2,7 +2,7 @@
 ghost use Rattle.constraints.specs.LeftSides.{IsJoined, scope_of};
 ghost use Rattle.gathering.specs.Walk.{raise_atoms, raise_atoms_all};
 ghost use Rattle.resolved.specs.CoreOf.{program_of};
-ghost use Rattle.resolved.specs.Ends.{divisor_can_raise, is_division, raises};
+ghost use Rattle.resolved.specs.Exits.{divisor_can_raise, is_division, raises};
 ghost use Rattle.resolved.specs.Labelled.{any_of, label_of, one, value_label};
 ghost use Rattle.resolved.specs.TreeOf.{expression_of};
 ghost use Rattle.std.specs.Prelude.{IfOk, OnOk, map, ◌&&◌, ◌||◌, ◌≡◌};

@@ -11,6 +11,7 @@ mod expressions;
 mod following;
 mod forms;
 mod journal;
+mod laying;
 mod lefts;
 mod merging;
 mod pieces;

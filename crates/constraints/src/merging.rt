@@ -1,15 +1,11 @@
-//! Inner constraints with one right side, put together to one, and one further unknown for unknowns that several rows have.
+//! Inner constraints with one right side, whose parts are kept together.
 ghost use Rattle.constraints.specs.Following.{IsOver};
-ghost use Rattle.constraints.specs.Merging.{AreLaidOut, AreLaidSoFar, AreTaken, HasMore, IsLaidOut, IsRepeated, Row, held_count, parts_at, parts_of, row_of, rows_of};
-ghost use Rattle.std.specs.declared.vec.Vec.{Vec};
-ghost use Rattle.solver.specs.declared.constraints.Atom.{Atom};
-ghost use Rattle.std.specs.Prelude.{IfOk, IsTrue, List, None, OnOk, [], false, get_or, if◌then◌else◌, length, map, ℕ, ◌*◌, ◌+◌, ◌++◌, ◌<◌, ◌^◌, ◌∷◌, ◌≡◌, ◌≢◌, ◌≤◌};
-ghost use Rattle.constraints.specs.Added.{Stored};
+ghost use Rattle.constraints.specs.Merging.{AreTaken, HasMore, parts_at, parts_of, rows_of};
+ghost use Rattle.std.specs.Prelude.{IfOk, OnOk, [], length, ℕ, ◌∷◌, ◌≡◌};
 
 use crate::following::Following;
-use crate::spreading::Made;
 use resolved::target::Target;
-use solver::{Atom, Constraint, Left, Rule};
+use solver::{Atom, Constraint};
 use std::alloc::{AllocError, Global};
 
 /// What flows to an unknown: unknowns and written labels.
@@ -110,136 +106,6 @@ pub(crate) fn take_all(
 {
     for constraint in constraints {
         take(constraint, following, kept, rest)?;
-    }
-    Ok(())
-}
-
-// Whether two lists of parts are the same.
-fn are_same(one: &[Atom], other: &[Atom]) -> bool
-    ensures { IsTrue result → one.now ≡ other.now }
-{
-    if one.len() != other.len() {
-        return false;
-    }
-    for i in 0..one.len() {
-        if one[i] != other[i] {
-            return false;
-        }
-    }
-    true
-}
-
-// Whether a row has several unknowns, and the next one the same.
-fn is_repeated(parts: &Parts, next: &Parts) -> bool
-    ensures same { IsTrue result → next.now.unknowns.items ≡ parts.now.unknowns.items }
-    ensures some { IsTrue result → 0 < length parts.now.unknowns.items }
-{
-    parts.unknowns.len() > 1 && are_same(&next.unknowns, &parts.unknowns)
-}
-
-// Of each row, whether the next one has the same unknowns.
-fn repeated(alloc: Global, rows: &[Parts]) -> Result<Vec<bool>, AllocError>
-    ensures count { IfOk result (λ again. length rows.now ≤ length again.items) }
-    ensures repeated { IfOk result (λ again. (k : ℕ) → IsTrue (get_or again.items k false) →
-        IsRepeated (rows_of rows.now) k) }
-{
-    let mut again = Vec::with_capacity(alloc, rows.len())?;
-    for i in 1..rows.len() {
-        again.push(is_repeated(&rows[i - 1], &rows[i]))?;
-    }
-    again.push(false)?;
-    Ok(again)
-}
-
-// Whether the next row has the unknowns for which one is held.
-fn held_on(held: Option<u32>, again: bool) -> Option<u32>
-    ensures { result ≡ (if again then held else None) }
-{
-    if again {
-        return held;
-    }
-    None
-}
-
-// Adds the constraint of the parts that are kept for an unknown, if there are some.
-fn lay_out_one(
-    alloc: Global,
-    number: u32,
-    unknowns: &[Atom],
-    written: &[Atom],
-    constraints: &mut Vec<Constraint<Option<Target>>>,
-) -> Result<(), AllocError>
-    ensures { OnOk result (IsLaidOut number (unknowns.now ++ written.now)
-        constraints.old.items constraints.new.items) }
-{
-    let count = unknowns.len() + written.len();
-    if count == 0 {
-        return Ok(());
-    }
-    let mut left = Left::with_capacity(alloc, count)?;
-    left.extend_from_slice(unknowns)?;
-    left.extend_from_slice(written)?;
-    constraints.push(Constraint {
-        at: 0,
-        rule: Rule::Between,
-        left,
-        target: None,
-        right: Atom::Unknown(number),
-    })?;
-    Ok(())
-}
-
-// Lays out a row. Its unknowns go by the further unknown that is held for them, or by a new one, where the next row has them again.
-fn lay_out_row(
-    alloc: Global,
-    number: u32,
-    parts: Parts,
-    held: Option<u32>,
-    again: bool,
-    made: &mut Made,
-) -> Result<Option<u32>, AllocError>
-    requires room { made.old.number + 1 < 2 ^ 32 }
-    ensures laid { IfOk result (λ next. (rows : List Row) (first : ℕ) (old : List Stored) →
-        number < length rows → row_of parts ≡ get_or rows number (row_of parts) →
-        (IsTrue again → IsRepeated rows number) →
-        AreLaidSoFar rows number first made.old.number held old made.old.constraints.items →
-        AreLaidSoFar rows (number + 1) first made.new.number next old made.new.constraints.items) }
-    ensures few { IfOk result (λ next. 2 * made.new.number + held_count held
-        ≤ 2 * made.old.number + 1 + held_count next) }
-{
-    let unknowns = parts.unknowns.as_slice();
-    let constraints = &mut made.constraints;
-    if let Some(further) = held {
-        let by = [Atom::Unknown(further)];
-        lay_out_one(alloc, number, &by, &parts.written, constraints)?;
-        return Ok(held_on(held, again));
-    }
-    if !again {
-        lay_out_one(alloc, number, unknowns, &parts.written, constraints)?;
-        return Ok(None);
-    }
-    let further = made.number;
-    made.number = further + 1;
-    let by = [Atom::Unknown(further)];
-    lay_out_one(alloc, further, unknowns, &[], constraints)?;
-    lay_out_one(alloc, number, &by, &parts.written, constraints)?;
-    Ok(Some(further))
-}
-
-/// Adds the constraints of the parts that are kept for unknowns. Unknowns that rows have one after the other go to them by a further one.
-pub(crate) fn lay_out(alloc: Global, kept: Vec<Parts>, made: &mut Made) -> Result<(), AllocError>
-    requires room { made.old.number + length kept.items < 2 ^ 31 }
-    ensures laid { OnOk result (AreLaidOut (rows_of kept.items) (length kept.items)
-        made.old.number made.new.number made.old.constraints.items made.new.constraints.items) }
-    ensures few { OnOk result (2 * made.new.number
-        ≤ 2 * made.old.number + length kept.items + 1) }
-{
-    let again = repeated(alloc, &kept)?;
-    let mut held = None;
-    let mut number = 0;
-    for parts in kept {
-        held = lay_out_row(alloc, number as u32, parts, held, again[number], made)?;
-        number += 1;
     }
     Ok(())
 }

@@ -9,7 +9,7 @@ ghost use Rattle.gathering.specs.Names.{NamedAtom};
 ghost use Rattle.gathering.specs.Walk.{block_constraints, call_constraints, inner_atom, onward_pc, rule_constraint, single};
 ghost use Rattle.path_map.specs.Exits.{exits_of};
 ghost use Rattle.path_map.specs.Exits.{Exits};
-ghost use Rattle.resolved.specs.Ends.{one_end};
+ghost use Rattle.resolved.specs.Exits.{one_exit};
 ghost use Rattle.resolved.specs.Tree.{Empty};
 ghost use Rattle.resolved.specs.TreeOf.{expression_of};
 ghost use Rattle.resolved.specs.declared.statement.Exit.{Exit};
@@ -36,7 +36,7 @@ pub(crate) struct Tried {
 }
 
 impl<'a> ProcedureWalk<'a> {
-    // The possible ends of the next block or statement.
+    // The possible exits of the next block or statement.
     fn next_exits(&self, progress: &mut Progress) -> Exits
         requires { progress.old.index < length (entries_of self.now.map.now) }
         ensures found { drop progress.old.index (entries_of self.now.map.now)
@@ -50,7 +50,7 @@ impl<'a> ProcedureWalk<'a> {
         exits
     }
 
-    // Comes to a block or statement: gives its possible ends, and adds the flow of the pc where there is one only.
+    // Comes to a block or statement: gives its possible exits, and adds the flow of the pc where there is one only.
     pub(crate) fn begin(
         &self,
         context: Context,
@@ -63,7 +63,7 @@ impl<'a> ProcedureWalk<'a> {
         ensures added { OnOk result ((ends : List Exit) →
             IsWalked self.now.table.now.core.now self.now.table.now.core.now.labels
             (entries_of self.now.map.now) context.pc context.exit_unknowns (ends ∷ [])
-            (λ (named : NamedAtom). single (one_end ends) named
+            (λ (named : NamedAtom). single (one_exit ends) named
             (exit_unknowns_of context.exit_unknowns progress.old.thrown.items) ends) 0
             progress.old progress.new) }
     {
@@ -73,12 +73,12 @@ impl<'a> ProcedureWalk<'a> {
         Ok(exits)
     }
 
-    // The pc of what follows a statement with these ends, whose normal end has the exit unknown with this number.
+    // The pc of what follows a statement with these exits, whose normal exit has the exit unknown with this number.
     pub(crate) fn onward_pc(&self, exits: Exits, pc: Atom, number: u32) -> Atom
         ensures { (ends : List Exit) (named : NamedAtom) → exits ≡ exits_of ends →
             IsPart self.now.table.now.core.now self.now.table.now.core.now.labels named pc →
             IsPart self.now.table.now.core.now self.now.table.now.core.now.labels
-            (onward_pc (one_end ends) named number) result }
+            (onward_pc (one_exit ends) named number) result }
     {
         if exits.is_single() {
             return pc;

@@ -5,7 +5,7 @@ ghost use Rattle.constraints.specs.Procedures.{AreDeclaredExitUnknowns, StaysInP
 ghost use Rattle.constraints.specs.Ready.{entries_of, AreThrownInside, IsProcedureReady, most_unknowns};
 ghost use Rattle.constraints.specs.ExitUnknowns.{AreWithin};
 ghost use Rattle.constraints.specs.Thinned.{ThinnedWhole};
-ghost use Rattle.gathering.specs.Walk.{end_constraints, has_one_end, program_constraints, thrown_constraints, unknown_count};
+ghost use Rattle.gathering.specs.Walk.{exit_constraints, has_one_exit, program_constraints, thrown_constraints, unknown_count};
 ghost use Rattle.labels.specs.Label.{Label};
 ghost use Rattle.path_map.specs.EndsOf.{AreEndsOf};
 ghost use Rattle.resolved.specs.CoreOf.{program_of};
@@ -80,13 +80,13 @@ impl<'a> ProcedureWalk<'a> {
             let left = left_of_pc(self.alloc, exit_unknown)?;
             let target = Target::ToThrown(self.procedure, exception);
             self.table
-                .add_rule(at, Rule::ProcedureEnds, left, target, constraints)?;
+                .add_rule(at, Rule::ProcedureExits, left, target, constraints)?;
         }
         Ok(())
     }
 
-    // Adds the demands on the ends of a procedure, of which the first has this number, where it has more than one end.
-    fn add_end_demands(
+    // Adds the demands on the exits of a procedure, of which the first has this number, where it has more than one exit.
+    fn add_exit_demands(
         &self,
         procedure: &Procedure,
         number: u32,
@@ -96,11 +96,11 @@ impl<'a> ProcedureWalk<'a> {
         ensures unchanged { OnOk result (StaysInPlace progress.old progress.new) }
         ensures added { OnOk result ((level : ℕ) (had : List ExitUnknown) →
             IsOf self.now.table.now.core.now self.now.procedure procedure.now →
-            only ≡ has_one_end (scope_of self.now.table.now.core.now self.now.procedure) →
+            only ≡ has_one_exit (scope_of self.now.table.now.core.now self.now.procedure) →
             AreDeclaredExitUnknowns (here (scope_of self.now.table.now.core.now
             self.now.procedure)).throws (suc number) level had progress.old.thrown.items →
             AreAdded self.now.table.now.core.now self.now.table.now.core.now.labels
-            (end_constraints (scope_of self.now.table.now.core.now self.now.procedure) number)
+            (exit_constraints (scope_of self.now.table.now.core.now self.now.procedure) number)
             progress.old.constraints.items progress.new.constraints.items) }
     {
         if only {
@@ -110,7 +110,7 @@ impl<'a> ProcedureWalk<'a> {
         let target = Target::ToEnd(self.procedure);
         self.table.add_rule(
             procedure.at,
-            Rule::ProcedureEnds,
+            Rule::ProcedureExits,
             left,
             target,
             &mut progress.constraints,
@@ -159,12 +159,12 @@ impl<'a> ProcedureWalk<'a> {
             exit_unknowns,
         };
         walk_block(self, &procedure.body, context, progress)?;
-        self.add_end_demands(procedure, number, only, progress)?;
+        self.add_exit_demands(procedure, number, only, progress)?;
         Ok(())
     }
 }
 
-// The exit unknowns of the ends of a procedure whose end has this number; none where it has one end only.
+// The exit unknowns of the exits of a procedure whose end has this number; none where it has one exit only.
 fn end_exit_unknowns(number: u32, barrier: u32, level: u32, only: bool) -> ExitUnknowns
     ensures { result ≡ end_exit_unknowns_of number barrier level only }
 {

@@ -3,7 +3,7 @@ ghost use Rattle.gathering.specs.Gathered.{AreConstraintsOf, FitsConstraints};
 ghost use Rattle.labels.specs.LabelLattice.{label_lattice};
 ghost use Rattle.path_map.specs.EndsOf.{AreEndsOf};
 ghost use Rattle.resolved.specs.CoreOf.{program_of};
-ghost use Rattle.resolved.specs.EndFaults.{end_faults};
+ghost use Rattle.resolved.specs.ExitFaults.{exit_faults};
 ghost use Rattle.resolved.specs.Labelled.{FitsDemands, Labelling, program_demands};
 ghost use Rattle.resolved.specs.WellFormed.{program_nodes};
 ghost use Rattle.solver.specs.Links.{InRange};
@@ -29,7 +29,7 @@ pub struct LabelConstraints {
 
 /// Gathers the label constraints of a program: some labels for their unknowns fit them exactly where the labels of the locals and the
 /// loops among these make every procedure labelled. Each has its byte and its rule, and a target by name, unless it is an inner one.
-/// The caller owes the ends of that program, which has no fault of its ends.
+/// The caller owes the exits of that program, which has no fault of its exits.
 ///
 /// It takes time and memory in proportion to the program, where the exceptions that a procedure declares count once for all of its calls,
 /// and by the logarithm of these wherever the exit unknown of one of them changes between two calls.
@@ -38,7 +38,7 @@ pub struct LabelConstraints {
 ///
 /// Memory ran out.
 pub fn gather(alloc: Global, core: &Core, ends: &Ends) -> Result<LabelConstraints, AllocError>
-    requires ended { end_faults (program_of core.now) ≡ [] }
+    requires ended { exit_faults (program_of core.now) ≡ [] }
     requires mapped { AreEndsOf (program_of core.now) ends.now }
 
     // They stand for the program's demands, in their order, and a label that is not written has its number.

@@ -16,12 +16,16 @@ ghost use Rattle.std.specs.Prelude.{Contains, IfOk, IsTrue, List, OnOk, [], if�
 use crate::exit_unknowns::exit_unknown_in;
 use crate::following::Following;
 use crate::journal::{Called, Journal};
-use crate::merging::{Parts, lay_out, no_parts, take_all};
+use crate::laying::lay_out;
+use crate::merging::{Parts, no_parts, take_all};
 use crate::rows::ThrownLabel;
 use crate::table::Table;
 use resolved::target::Target;
 use solver::{Atom, Constraint, Left};
 use std::alloc::{AllocError, Global};
+
+// So few calls are kept one by one where the label of each flows on to that of the last.
+const FEW_CALLS: usize = 8;
 
 /// The table of labels, the entries of exceptions at each call, and which labels of calls flow on to others.
 #[derive(Drop)]
@@ -105,6 +109,26 @@ impl<'a> Spreading<'a> {
         under && self.journal.is_fixed(exception, first, last)
     }
 
+    // Whether some calls are few, and the label of each is found to flow on to that of the last: what one of them raises is then left out
+    // where the last one raises it, if it is not said of all of them together.
+    fn lead_on(&self, calls: &[Called]) -> bool {
+        if calls.len() > FEW_CALLS {
+            return false;
+        }
+        let Some(last) = calls.last() else {
+            return false;
+        };
+        let to = Atom::Unknown(last.own);
+        calls.iter().all(|called| self.following.leads(Atom::Unknown(called.own), to))
+    }
+
+    // Whether what some calls raise may be said of all of them together: they are made under this barrier, and are not kept one by one.
+    fn are_together(&self, barrier: u32, calls: &[Called]) -> bool
+        ensures { IsTrue result → All (λ (called : Called). called.barrier ≡ barrier) calls.now }
+    {
+        are_under(barrier, calls) && !self.lead_on(calls)
+    }
+
     // Parts exceptions by whether they have one exit unknown at all of these calls, by their barrier and their entries.
     fn parted(
         &self,
@@ -123,7 +147,7 @@ impl<'a> Spreading<'a> {
             Contains parted.varied.items x → Contains labels.now x) }
     {
         let (first, last) = range_of(calls);
-        let under = are_under(barrier, calls);
+        let under = self.are_together(barrier, calls);
         let mut fixed = Vec::new(self.alloc);
         let mut varied = Vec::new(self.alloc);
         for thrown in labels {
@@ -204,7 +228,8 @@ impl<'a> Spreading<'a> {
         requires { made.old.number < most_unknowns }
         ensures number { OnOk result (made.new.number ≡ made.old.number + 1) }
         ensures added { OnOk result ((atoms : List NamedAtom) →
-            IsLeft self.now.table.now.core.now self.now.table.now.core.now.labels atoms parts.items →
+            IsLeft self.now.table.now.core.now self.now.table.now.core.now.labels
+            atoms parts.items →
             AreAdded self.now.table.now.core.now self.now.table.now.core.now.labels
             (inner_constraint atoms made.old.number)
             made.old.constraints.items made.new.constraints.items) }
@@ -231,7 +256,8 @@ impl<'a> Spreading<'a> {
         ensures count { OnOk result (length kept.new.items ≡ length kept.old.items) }
         ensures taken { OnOk result (AreSomeTaken (IsOver self.now.following.now)
             (λ own. (atoms : List NamedAtom) →
-            IsLeft self.now.table.now.core.now self.now.table.now.core.now.labels atoms parts.items →
+            IsLeft self.now.table.now.core.now self.now.table.now.core.now.labels
+            atoms parts.items →
             AreAdded self.now.table.now.core.now self.now.table.now.core.now.labels
             (inner_constraint atoms made.old.number) [] own)
             (rows_of kept.old.items) (rows_of kept.new.items)
@@ -437,6 +463,18 @@ fn spread_row(
     Ok(())
 }
 
+// For how many unknowns parts are kept: for so many, and for none where no call raises an exception, so that nothing will be spread.
+fn kept_count(table: &Table, calls: &[Called], number: u32) -> u32
+    ensures { result ≤ number }
+{
+    for called in calls {
+        if !table.row(called.callee).throws.is_empty() {
+            return number;
+        }
+    }
+    0
+}
+
 /// Adds the flows of the exceptions that calls raise: to each exit unknown by one constraint.
 pub(crate) fn spread_calls<'a>(
     alloc: Global,
@@ -450,9 +488,10 @@ pub(crate) fn spread_calls<'a>(
         journal.now.calls.items made.old made.new) }
 {
     let rows = rows_of_calls(alloc, table.core.procedures.len(), &journal.calls)?;
-    let mut kept = no_parts(alloc, made.number as usize)?;
+    let count = kept_count(table, &journal.calls, made.number);
+    let mut kept = no_parts(alloc, count as usize)?;
     let real = table.unknowns;
-    let following = Following::of(alloc, real, made.number, &made.constraints, &journal.calls)?;
+    let following = Following::of(alloc, real, count, &made.constraints, &journal.calls)?;
     let spreading = Spreading {
         alloc,
         table,
@@ -462,6 +501,6 @@ pub(crate) fn spread_calls<'a>(
     for (i, row) in rows.iter().enumerate() {
         spread_row(&spreading, i as u32, row, &mut kept, made)?;
     }
-    lay_out(alloc, kept, made)?;
+    lay_out(alloc, &kept, made)?;
     Ok(())
 }

@@ -6,7 +6,7 @@ ghost use Rattle.constraints.specs.Walks.{IsSimple, valued_constraints};
 ghost use Rattle.gathering.specs.Names.{NamedAtom};
 ghost use Rattle.gathering.specs.Walk.{flow, raised_flows, target_constraint};
 ghost use Rattle.path_map.specs.Exceptions.{AreRaised};
-ghost use Rattle.resolved.specs.Ends.{raises};
+ghost use Rattle.resolved.specs.Exits.{raises};
 ghost use Rattle.resolved.specs.Tree.{Assign, Clear, Leave, Receive, ReturnWith, Send};
 ghost use Rattle.resolved.specs.TreeOf.{expression_of, some_expression_of};
 ghost use Rattle.solver.specs.Rule.{rule_number};
@@ -25,7 +25,7 @@ use resolved::target::Target;
 use solver::{Atom, Constraint, Left, Rule};
 use std::alloc::{AllocError, Global};
 
-/// A procedure of a program whose constraints are gathered, with the labels of the program's tables and its possible ends.
+/// A procedure of a program whose constraints are gathered, with the labels of the program's tables and its possible exits.
 #[derive(Drop)]
 pub struct ProcedureWalk<'a> {
     pub alloc: Global,
@@ -35,8 +35,8 @@ pub struct ProcedureWalk<'a> {
 }
 
 impl<'a> ProcedureWalk<'a> {
-    // Adds the flows of what goes on at an end or raises one of these exceptions.
-    pub(crate) fn add_ends(
+    // Adds the flows of what goes on at an exit or raises one of these exceptions.
+    pub(crate) fn add_exits(
         &self,
         left: &[Atom],
         around: &Around,
@@ -60,7 +60,7 @@ impl<'a> ProcedureWalk<'a> {
         Ok(())
     }
 
-    // Adds what a value flows to, and the ends of a statement that goes on at an end once it has the value.
+    // Adds what a value flows to, and the exits of a statement that goes on at an exit once it has the value.
     fn add_valued(
         &self,
         demand: Demand,
@@ -73,7 +73,8 @@ impl<'a> ProcedureWalk<'a> {
             self.now.table.now.core.now.labels around.now.pc
             (λ (named : NamedAtom). valued_constraints
             (scope_of self.now.table.now.core.now self.now.procedure) named
-            (exit_unknowns_around around.now) demand.at (rule_number demand.rule) (expression_of value.now)
+            (exit_unknowns_around around.now) demand.at (rule_number demand.rule)
+            (expression_of value.now)
             demand.target exit)
             constraints.old.items constraints.new.items) }
     {
@@ -86,7 +87,7 @@ impl<'a> ProcedureWalk<'a> {
             .table
             .left_of_raise(self.alloc, around.pc, self.procedure, value)?;
         let found = raises_of(value);
-        self.add_ends(&left, around, exit, found, constraints)?;
+        self.add_exits(&left, around, exit, found, constraints)?;
         Ok(())
     }
 

@@ -5,7 +5,7 @@ ghost use Rattle.constraints.specs.ExitUnknowns.{exit_unknowns_around};
 ghost use Rattle.constraints.specs.Walks.{IsSimple};
 ghost use Rattle.gathering.specs.Walk.{store_atoms};
 ghost use Rattle.path_map.specs.Exceptions.{AreRaised};
-ghost use Rattle.resolved.specs.Ends.{index_raises, raises};
+ghost use Rattle.resolved.specs.Exits.{index_raises, raises};
 ghost use Rattle.resolved.specs.Labelled.{value_label};
 ghost use Rattle.resolved.specs.Tree.{Store};
 ghost use Rattle.resolved.specs.TreeOf.{expression_of};
@@ -98,7 +98,7 @@ impl<'a> ProcedureWalk<'a> {
             .add_rule(store.at, Rule::Store, stored, target, constraints)?;
         let left = self.left_of_store(around.pc, store.length, index, value)?;
         let found = raises_of_store(store.length, index, value);
-        self.add_ends(&left, around, Exit::Normal, found, constraints)?;
+        self.add_exits(&left, around, Exit::Normal, found, constraints)?;
         Ok(())
     }
 }

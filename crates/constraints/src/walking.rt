@@ -78,7 +78,7 @@ fn walk_statements(
     Ok(())
 }
 
-// Walks past a statement, and gives its possible ends. Its normal end has the exit unknown with this number.
+// Walks past a statement, and gives its possible exits. Its normal exit has the exit unknown with this number.
 #[cycle(walk)]
 fn walk_statement(
     walk: &ProcedureWalk,
@@ -235,7 +235,8 @@ fn walk_try(
     progress: &mut Progress,
 ) -> Result<(), AllocError>
     requires { IsFormReady walk.now.table.now.core.now (entries_of walk.now.map.now)
-        walk.now.procedure context.exit_unknowns (Try 0 (block_of block.now) (handlers_of handlers.now))
+        walk.now.procedure context.exit_unknowns (Try 0 (block_of block.now)
+        (handlers_of handlers.now))
         progress.old }
     ensures { OnOk result ((at : ℕ) →
         IsFormWalked walk.now.table.now.core.now

@@ -14,7 +14,7 @@ mod tasks;
 mod texts;
 
 pub use acceptance::{
-    EndRefusalKind, HierarchyRefusalKind, LexRefusalKind, ParseRefusalKind, RefusalKind, Text,
+    ExitRefusalKind, HierarchyRefusalKind, LexRefusalKind, ParseRefusalKind, RefusalKind, Text,
     TypeRefusalKind,
 };
 pub use bytecode::{FormatFault, FormatRefusal, decode};

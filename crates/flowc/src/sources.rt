@@ -130,7 +130,8 @@ const CHUNK: usize = 4096;
 pub fn read_text<R: Source>(alloc: Global, source: &mut R) -> Result<Vec<u8>, ReadFault>
     ensures text { IfOk result (λ text. IsTextOf (R.left source.old) text.items) }
     ensures bound { IfOk result (λ text. length text.items ≤ MAX_TEXT + 1) }
-    ensures rest { IfOk result (λ text. Consumes (R.left source.old) (R.left source.new) text.items) }
+    ensures rest { IfOk result (λ text. Consumes (R.left source.old) (R.left source.new)
+        text.items) }
     ensures prefix { OnErr result (GivesSome (R.left source.old) (R.left source.new)) }
     ensures kept { OnOk result (R.has_failed source.new ≡ R.has_failed source.old) }
     ensures rejected { IfErr result (IfRefused (λ _. IsTrue (R.has_failed source.new))) }

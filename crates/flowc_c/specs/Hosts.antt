@@ -13,7 +13,7 @@ use Rattle.common.specs.declared.sent.Pair.{Pair}
 use Rattle.machine.specs.declared.status.Status.{Status}
 use Rattle.machine.specs.declared.status.Status.TheVariants as runs
 use Rattle.verifier.specs.declared.loading.LoadRefusal.TheVariants.{Bytes, Code}
-use Rattle.flowc_c.specs.Place.{IsPut, IsTooShort}
+use Rattle.flowc_c.specs.Buffer.{IsPut, IsTooShort}
 use Rattle.flowc_c.specs.declared.outcome.TheConstants.{DONE, REFUSED, NO_MEMORY}
 use Rattle.flowc_c.specs.declared.reply.Reply.{Reply}
 use Rattle.flowc_c.specs.declared.reply.TheConstants.{NO_HOST}
@@ -105,13 +105,13 @@ Says (Some (Viewed pairs)) reply = ⊥
 abbrev pub shown_of : Pair → ShownPair
 shown_of pair = record { channel = pair.channel; number = pair.number }
 
--- the pairs that a principal sees of a session stand at the head of the place
+-- the pairs that a principal sees of a session stand at the head of the buffer
 pub record PutsView (old : Option HostContents) (id principal : ℕ) (said : ℕ) (before after : List ShownPair) : Type 0 where
   pub pairs : List Pair
   pub answers : GivesAnswer old (View id principal) (Viewed pairs) old
   pub put : IsPut (map shown_of pairs) said before after
 
--- the place is too short for them, and how many they are was said
+-- the buffer is too short for them, and how many they are was said
 pub record NeedsView (old : Option HostContents) (id principal : ℕ) (said : ℕ) (before : List ShownPair) : Type 0 where
   pub pairs : List Pair
   pub answers : GivesAnswer old (View id principal) (Viewed pairs) old
@@ -128,7 +128,7 @@ AskedSent (Some old) id (Some (Refused faults.NoMemory)) (Some new) = host_of ne
 AskedSent None id None None = Unit {0}
 AskedSent old id answer new = ⊥
 
--- the pairs that a session has sent stand at the head of the place
+-- the pairs that a session has sent stand at the head of the buffer
 pub record PutsSent (old : Option HostContents) (id : ℕ) (said : ℕ) (before after : List ShownPair) : Type 0 where
   pub host : HostContents
   pub held : old ≡ Some host
@@ -136,7 +136,7 @@ pub record PutsSent (old : Option HostContents) (id : ℕ) (said : ℕ) (before 
   pub sent : HasSent host id pairs
   pub put : IsPut (map shown_of pairs) said before after
 
--- the place is too short for them, and how many they are was said
+-- the buffer is too short for them, and how many they are was said
 pub record NeedsSent (old : Option HostContents) (id : ℕ) (said : ℕ) (before : List ShownPair) : Type 0 where
   pub host : HostContents
   pub held : old ≡ Some host

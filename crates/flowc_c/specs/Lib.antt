@@ -1,4 +1,4 @@
-pub mod Place
+pub mod Buffer
 pub mod Outcome
 pub mod Results
 pub mod Hosts

@@ -23,7 +23,7 @@ use Rattle.modules.specs.Form.{Spells}
 use Rattle.modules.specs.Format.{module_file}
 use Rattle.principals.specs.ActsFor.{HasName, PrincipalHierarchy}
 use Rattle.flowc_c.specs.Hosts.{GivesAnswer, SaysPlaceOfHost}
-use Rattle.flowc_c.specs.Place.{IsPutIfFits}
+use Rattle.flowc_c.specs.Buffer.{IsPutIfFits}
 use Rattle.flowc_c.specs.declared.opening.OpenRefusal.{OpenRefusal}
 use Rattle.flowc_c.specs.declared.opening.OpenRefusal.TheVariants.{Bytes, Encoding, World, Hierarchy, Host}
 use Rattle.flowc_c.specs.declared.outcome.TheConstants.{DONE, REFUSED, NO_MEMORY}
@@ -144,7 +144,7 @@ pub record SaysOpenRefusal (refusal : OpenRefusal) (reply : Reply) : Type 0 wher
   pub number : reply.number ≡ open_refusal_number refusal
   pub place : SaysPlaceOfOpen refusal reply
 
--- the reply says why the host of a handle opens no session, and the place has the words
+-- the reply says why the host of a handle opens no session, and the buffer has the words
 pub record TellsOpenRefusal (old : Option HostContents) (bytes text : List ℕ) (reply : Reply) (before after : List ℕ) : Type 0 where
   pub host : HostContents
   pub held : old ≡ Some host
@@ -163,7 +163,7 @@ pub record TellsUnderRefusal (old : Option HostContents) (bytes text hierarchy :
   pub says : SaysOpenRefusal refusal reply
   pub words : IsPutIfFits (open_refusal_words refusal) reply.length before after
 
--- what a reply says of an opening, and what the place of the words then holds
+-- what a reply says of an opening, and what the buffer of the words then holds
 abbrev pub SaysOpening : Option (Result ℕ (OrNoMemory OpenRefusal)) → Reply → (before after : List ℕ) → Type 0
 SaysOpening None reply before after = (reply.status ≡ NO_HOST) × (after ≡ before)
 SaysOpening (Some (Ok id)) reply before after = (reply.status ≡ DONE) × (reply.id ≡ id) × (after ≡ before)

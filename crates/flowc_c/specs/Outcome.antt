@@ -10,7 +10,7 @@ use Rattle.verifier.specs.Loaded.{CannotLoad}
 use Rattle.verifier.specs.RefusalKinds.{load_refusal_number, load_refusal_words}
 use Rattle.verifier.specs.declared.loading.LoadRefusal.{LoadRefusal}
 use Rattle.verifier.specs.declared.loading.LoadRefusal.TheVariants.{Bytes, Code}
-use Rattle.flowc_c.specs.Place.{IsPutIfFits}
+use Rattle.flowc_c.specs.Buffer.{IsPutIfFits}
 use Rattle.flowc_c.specs.declared.outcome.Outcome.{Outcome}
 
 -- ---- two texts
@@ -33,7 +33,7 @@ pub record SaysFirstFault (hierarchy source : List ℕ) (outcome : Outcome) : Ty
   pub first : IsFirstFault hierarchy source refusal
   pub says : SaysRefusal refusal outcome
 
--- and the place has its words
+-- and the buffer has its words
 pub record TellsFirstFault (hierarchy source : List ℕ) (outcome : Outcome) (old new : List ℕ) : Type 0 where
   pub refusal : Refusal
   pub first : IsFirstFault hierarchy source refusal
@@ -52,7 +52,7 @@ pub record SaysModuleRefusal (refusal : LoadRefusal) (outcome : Outcome) : Type 
   pub number : outcome.number ≡ load_refusal_number refusal
   pub place : SaysPlaceOf refusal outcome
 
--- the outcome says why bytes are not loaded, and the place has the words
+-- the outcome says why bytes are not loaded, and the buffer has the words
 pub record TellsModuleRefusal (bytes : List ℕ) (outcome : Outcome) (old new : List ℕ) : Type 0 where
   pub refusal : LoadRefusal
   pub cannot : CannotLoad bytes refusal

@@ -1,16 +1,16 @@
--- What the place of a caller holds where a call is done: the module of two texts, what an explanation or a listing shows.
+-- What the buffer of a caller holds where a call is done: the module of two texts, what an explanation or a listing shows.
 -- Source: our own.
 use Rattle.std.specs.Prelude.{ℕ, List, [], Some}
 use Rattle.compiler.specs.Compiled.{IsCompiled}
 use Rattle.flowc.specs.Explained.{Explains, ExplainsRefusal}
 use Rattle.flowc.specs.Stdout.{Lists}
-use Rattle.flowc_c.specs.Place.{IsPut, IsTooShort}
+use Rattle.flowc_c.specs.Buffer.{IsPut, IsTooShort}
 
 -- the bytes of a module of the two texts
 abbrev pub PutsModule : (hierarchy source : List ℕ) (said : ℕ) (old new : List ℕ) → Type 0
 PutsModule hierarchy source said old new = (code : List ℕ) × IsCompiled hierarchy source code × IsPut code said old new
 
--- the place is too short for the bytes of a module of the two texts, and how many they are was said
+-- the buffer is too short for the bytes of a module of the two texts, and how many they are was said
 abbrev pub NeedsModule : (hierarchy source : List ℕ) (said : ℕ) (old : List ℕ) → Type 0
 NeedsModule hierarchy source said old = (code : List ℕ) × IsCompiled hierarchy source code × IsTooShort code said old
 

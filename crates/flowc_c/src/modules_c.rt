@@ -2,20 +2,20 @@
 
 ghost use Rattle.flowc.specs.Stdout.{CannotList};
 ghost use Rattle.flowc_c.specs.Outcome.{SaysModuleRefusal, TellsModuleRefusal};
-ghost use Rattle.flowc_c.specs.Place.{IsPutIfFits};
+ghost use Rattle.flowc_c.specs.Buffer.{IsPutIfFits};
 ghost use Rattle.flowc_c.specs.Results.{NeedsListing, PutsListing};
 ghost use Rattle.listing.specs.Listing.{listing_text};
 ghost use Rattle.verifier.specs.RefusalKinds.{load_refusal_words};
 ghost use Rattle.std.specs.Prelude.{◌≡◌, IfOk};
 
+use crate::buffer::{deliver, deliver_words};
 use crate::outcome::{DONE, NO_MEMORY, Outcome, REFUSED, TOO_SHORT, ended, refuse_module};
-use crate::place::{deliver, deliver_words};
 use channels::{Device, ViewFault};
 use flowc::{LoadRefusal, Module, OrNoMemory, load};
 use listing::write_listing;
 use std::alloc::Global;
 
-/// Lists the module that bytes spell: puts a line for each channel, and its code, at the head of a place.
+/// Lists the module that bytes spell: puts a line for each channel, and its code, at the head of a buffer.
 ///
 /// Where they are refused it says why, and puts the words there.
 #[unsafe(no_mangle)]
@@ -50,7 +50,7 @@ fn listing_of(alloc: Global, program: &Module) -> Result<Vec<u8>, ViewFault>
     Ok(sink.into_inner())
 }
 
-// The outcome of bytes that are not loaded, with the words of the refusal at the head of a place.
+// The outcome of bytes that are not loaded, with the words of the refusal at the head of a buffer.
 fn tell(refusal: LoadRefusal, out: &mut [u8]) -> Outcome
     ensures status { result.status ≡ REFUSED }
     ensures says { SaysModuleRefusal refusal result }

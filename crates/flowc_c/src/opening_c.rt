@@ -2,13 +2,13 @@
 
 ghost use Rattle.flowc_c.specs.Hosts.{hosted};
 ghost use Rattle.flowc_c.specs.Opening.{HasNoPrincipal, IsPrincipalOf, OpensSession, OpensSessionUnder, SaysOpenRefusal, SaysOpening, TellsOpenRefusal, TellsUnderRefusal, open_refusal_words};
-ghost use Rattle.flowc_c.specs.Place.{IsPutIfFits};
+ghost use Rattle.flowc_c.specs.Buffer.{IsPutIfFits};
 ghost use Rattle.principals.specs.ActsFor.{HasName};
 ghost use Rattle.std.specs.Prelude.{◌≡◌, ◌<◌, ◌≤◌, ◌↔◌, Contains, IsUtf8, None};
 
+use crate::buffer::deliver_words;
 use crate::opening::{OpenFault, OpenRefusal, ask_open, ask_open_under, refuse_open};
 use crate::outcome::{DONE, NO_MEMORY, REFUSED};
-use crate::place::deliver_words;
 use crate::reply::{NO_HOST, Reply, ended};
 use flowc::{Id, Module, OrNoMemory, decode};
 use host_handle::Handle;
@@ -16,7 +16,7 @@ use std::alloc::Global;
 
 /// Opens a session of the module that bytes spell, on the world that a text writes for it.
 ///
-/// Where that is refused the words of the refusal go to the head of the place.
+/// Where that is refused the words of the refusal go to the head of the buffer.
 #[unsafe(no_mangle)]
 pub extern "C" fn flowc_host_open(
     alloc: Global,
@@ -88,7 +88,7 @@ fn opened(id: Id) -> Reply
     reply
 }
 
-// The reply to a refused opening, with the words of the refusal at the head of a place.
+// The reply to a refused opening, with the words of the refusal at the head of a buffer.
 fn tell(refusal: &OpenRefusal, words: &mut [u8]) -> Reply
     ensures status { result.status ≡ REFUSED }
     ensures says { SaysOpenRefusal refusal.now result }

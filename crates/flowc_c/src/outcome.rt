@@ -13,14 +13,14 @@ pub const DONE: u32 = 0;
 pub const REFUSED: u32 = 1;
 /// Memory ran out.
 pub const NO_MEMORY: u32 = 3;
-/// The place for the result is too short.
+/// The buffer for the result is too short.
 pub const TOO_SHORT: u32 = 4;
 
 /// How a call ended. A number that a status does not speak of is 0.
 #[repr(C)]
 #[derive(Drop)]
 pub struct Outcome {
-    /// 0 done, 1 refused, 3 out of memory, 4 the place for the result is too short.
+    /// 0 done, 1 refused, 3 out of memory, 4 the buffer for the result is too short.
     pub status: u32,
     /// Of a refusal: the number that it is reported by.
     pub number: u32,

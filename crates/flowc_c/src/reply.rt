@@ -25,7 +25,7 @@ pub(crate) const EVENT: u32 = 5;
 #[repr(C)]
 #[derive(Drop)]
 pub struct Reply {
-    /// 0 done, 1 refused, 2 there is no host, 3 out of memory, 4 the place for the result is too short.
+    /// 0 done, 1 refused, 2 there is no host, 3 out of memory, 4 the buffer for the result is too short.
     pub status: u32,
     /// Of a refusal: the number that it is reported by.
     pub number: u32,

@@ -6,13 +6,13 @@ ghost use Rattle.explaining.specs.Locals.{WritesLabels};
 ghost use Rattle.flowc.specs.Compiled.{AreAccepted};
 ghost use Rattle.flowc.specs.Explained.{ShowsChain};
 ghost use Rattle.flowc_c.specs.Outcome.{SaysFirstFault, SaysRefusal, TellsFirstFault};
-ghost use Rattle.flowc_c.specs.Place.{IsPut, IsPutIfFits};
+ghost use Rattle.flowc_c.specs.Buffer.{IsPut, IsPutIfFits};
 ghost use Rattle.flowc_c.specs.Results.{NeedsModule, PutsChain, PutsLabels, PutsModule};
 ghost use Rattle.acceptance.specs.RefusalKinds.{refusal_kind_words};
 ghost use Rattle.std.specs.Prelude.{[], ◌≡◌, ◌<◌, ℕ, List, IfOk, None, Some, length};
 
+use crate::buffer::{deliver, deliver_words};
 use crate::outcome::{DONE, NO_MEMORY, Outcome, REFUSED, TOO_SHORT, ended, refuse_texts};
-use crate::place::{deliver, deliver_words};
 use channels::{Device, ViewFault};
 use explaining::{write_flow, write_labels};
 use flowc::{Checked, OrNoMemory, Refusal, RefusedFlow, check_texts, compile};
@@ -20,7 +20,7 @@ use std::alloc::Global;
 
 /// Checks a source under a hierarchy text.
 ///
-/// Where they are refused it says the first fault, and puts its words at the head of the place.
+/// Where they are refused it says the first fault, and puts its words at the head of the buffer.
 #[unsafe(no_mangle)]
 pub extern "C" fn flowc_check(
     alloc: Global,
@@ -42,7 +42,7 @@ pub extern "C" fn flowc_check(
     }
 }
 
-/// Compiles a source under a hierarchy text, and puts the bytes of the module at the head of a place.
+/// Compiles a source under a hierarchy text, and puts the bytes of the module at the head of a buffer.
 ///
 /// Where they are refused it says the first fault, and puts its words there.
 #[unsafe(no_mangle)]
@@ -69,17 +69,18 @@ pub extern "C" fn flowc_compile(
     }
 }
 
-// The outcome of two texts that are refused, with the words of the refusal at the head of a place.
+// The outcome of two texts that are refused, with the words of the refusal at the head of a buffer.
 fn tell(refusal: &Refusal, out: &mut [u8]) -> Outcome
     ensures status { result.status ≡ REFUSED }
     ensures says { SaysRefusal refusal.now result }
-    ensures words { IsPutIfFits (refusal_kind_words refusal.now.kind) result.length out.old out.new }
+    ensures words { IsPutIfFits (refusal_kind_words refusal.now.kind) result.length out.old
+        out.new }
 {
     let length = deliver_words(refusal.kind.words(), out);
     refuse_texts(refusal, length)
 }
 
-/// Explains a source under a hierarchy text: puts the least label of each local that is written without one at the head of a place;
+/// Explains a source under a hierarchy text: puts the least label of each local that is written without one at the head of a buffer;
 /// or, where a flow is refused, the chain of that flow, and of another refusal nothing.
 #[unsafe(no_mangle)]
 pub extern "C" fn flowc_explain(
@@ -106,7 +107,7 @@ pub extern "C" fn flowc_explain(
     }
 }
 
-// The outcome of a checked source, with its least labels at the head of a place.
+// The outcome of a checked source, with its least labels at the head of a buffer.
 fn explain_labels(alloc: Global, checked: &Checked, source: &[u8], out: &mut [u8]) -> Outcome
     ensures labels { result.status ≡ DONE → (text : List ℕ)
         × WritesLabels checked.now source.now (Some []) (Some text)

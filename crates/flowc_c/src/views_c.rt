@@ -1,7 +1,7 @@
-//! What the sessions of a host have sent, put into places of the caller.
+//! What the sessions of a host have sent, put into buffers of the caller.
 
 ghost use Rattle.flowc_c.specs.Hosts.{Asked, AskedSent, IsEventRefused, IsUnknownSession, NeedsSent, NeedsView, PutsSent, PutsView, SaysHostRefusal, hosted, shown_of};
-ghost use Rattle.flowc_c.specs.Place.{IsPut, IsTooShort};
+ghost use Rattle.flowc_c.specs.Buffer.{IsPut, IsTooShort};
 ghost use Rattle.common.specs.declared.fault.OrNoMemory.TheVariants as faults;
 ghost use Rattle.host.specs.Meaning.{Refused, View, Viewed};
 ghost use Rattle.host.specs.Values.{viewed_or};
@@ -26,7 +26,7 @@ pub struct ShownPair {
     pub number: i32,
 }
 
-/// Puts the pairs that a principal sees of a session at the head of a place.
+/// Puts the pairs that a principal sees of a session at the head of a buffer.
 #[unsafe(no_mangle)]
 pub extern "C" fn flowc_host_view(
     alloc: Global,
@@ -68,7 +68,7 @@ fn ask_view(
     Some(answer)
 }
 
-/// Puts all pairs that a session has sent at the head of a place, for the operator.
+/// Puts all pairs that a session has sent at the head of a buffer, for the operator.
 #[unsafe(no_mangle)]
 pub extern "C" fn flowc_host_sent(
     alloc: Global,
@@ -144,7 +144,7 @@ fn reply_to_view(
     }
 }
 
-// Puts pairs at the head of a place, if there is memory for them and they fit.
+// Puts pairs at the head of a buffer, if there is memory for them and they fit.
 fn show(alloc: Global, pairs: &[Pair], out: &mut [ShownPair]) -> Reply
     ensures shown { result.status ≡ DONE →
         IsPut (map shown_of pairs.now) result.length out.old out.new }
@@ -174,7 +174,7 @@ fn shown_pairs(alloc: Global, pairs: &[Pair]) -> Result<Vec<ShownPair>, AllocErr
         .collect(alloc)
 }
 
-// Puts pairs at the head of a place, if they fit.
+// Puts pairs at the head of a buffer, if they fit.
 fn deliver_pairs(shown: &[ShownPair], out: &mut [ShownPair]) -> Reply
     ensures done { result.status ≡ DONE → IsPut shown.now result.length out.old out.new }
     ensures too_short { result.status ≡ TOO_SHORT → IsTooShort shown.now result.length out.old }

@@ -8,8 +8,8 @@ use Rattle.resolved.specs.declared.statement.Exit.TheVariants.{Normal, Return, B
 use Rattle.resolved.specs.declared.target.Target.TheVariants.{ToEnd, ToThrown}
 use Rattle.resolved.specs.Tree.{Expression, Integer, Logical, Read, Element, Unary, Binary, Short}
 use Rattle.resolved.specs.Program.{Program, procedure_at}
-use Rattle.resolved.specs.Ends.{index_can_raise, divisor_can_raise, is_division, raises}
-use Rattle.resolved.specs.Labelled.{Scope, Join, LabelAtom, one, label_of, variable_label, value_label, raise_label, raise_labels, label_if, any_of, call_exits}
+use Rattle.resolved.specs.Exits.{index_can_raise, divisor_can_raise, is_division, raises}
+use Rattle.resolved.specs.Labelled.{Scope, Join, LabelAtom, one, label_of, variable_label, value_label, raise_label, raise_labels, label_if, any_of, call_exit_labels}
 use Rattle.gathering.specs.Walk.{raise_atoms, raise_atoms_all, store_atoms, call_atoms}
 
 abbrev pub Sub : Join → Join → Type 0
@@ -237,7 +237,7 @@ module _ (scope : Scope) where
       )
 
 -- ---- calls
-pub alike-call : (program : Program) (callee : ℕ) (j : Join) (e : Exit) → Alike (j ++ call_atoms program callee e) (call_exits program callee j e)
+pub alike-call : (program : Program) (callee : ℕ) (j : Join) (e : Exit) → Alike (j ++ call_atoms program callee e) (call_exit_labels program callee j e)
 alike-call program callee j Normal =
     let x : Join = label_if (any_of (procedure_at program callee).throws) (one (label_of program (ToEnd callee))) in (sub-itself (j ++ x), sub-itself (j ++ x))
 alike-call program callee j Return = (sub-both j [] j (sub-itself j) (sub-nil j), sub-left j [])

@@ -12,13 +12,13 @@ use Rattle.resolved.specs.declared.target.Target.TheVariants.{ToBegin, ToChannel
 use Rattle.resolved.specs.Tree.{Expression, Integer, Logical, Read, Element, Unary, Binary, Short, Statement, Assign, Clear, Store, Receive, Send, Call, If, While, Leave, ReturnWith, Try, Nested, Block, Empty, Then, Handlers, NoMore, Catch}
 use Rattle.resolved.specs.Program.{Program, ProcedureEntry, ThrownEntry}
 use Rattle.common.specs.declared.exceptions.TheConstants.{END}
-use Rattle.resolved.specs.Ends.{has_end, one_end, index_raises, raises, statement_ends, block_ends}
+use Rattle.resolved.specs.Exits.{has_exit, one_exit, index_raises, raises, statement_exits, block_exits}
 use Rattle.resolved.specs.Labelled.{Scope, here, one, label_of}
 use Rattle.resolved.specs.WellFormed.{expression_nodes, statement_nodes, block_nodes, handlers_nodes, procedure_nodes, program_nodes, statement_loops, block_loops, handlers_loops, procedure_fits, well_formed}
 use Rattle.resolved.proofs.WellFormedParts.{procedure_parts, program_parts, procedure_at_is}
 use Rattle.gathering.specs.Names.{Real, NamedAtom, NamedConstraint, named_atoms, own_unknowns, real_unknowns}
 use Rattle.gathering.specs.Size.{begins}
-use Rattle.gathering.specs.Walk.{inner_atom, rule_constraint, target_constraint, ExitUnknowns, with_normal, in_loop, handler_count, handler_number, in_try, thrown_number, flow, flows, raised_flows, single, within_single, by_ends, onward_pc, raise_atoms, store_atoms, call_atoms, call_ends, made_by_statement, made_by_block, made_by_handlers, made_by_procedure, made_from, argument_constraints, call_flows, statement_constraints, block_constraints, handlers_constraints, has_one_end, end_exit_unknowns, thrown_constraints, end_constraints, inner_block, procedure_constraints, constraints_from, program_constraints, unknown_count}
+use Rattle.gathering.specs.Walk.{inner_atom, rule_constraint, target_constraint, ExitUnknowns, with_normal, in_loop, handler_count, handler_number, in_try, thrown_number, flow, flows, raised_flows, single, within_single, by_exits, onward_pc, raise_atoms, store_atoms, call_atoms, call_exits, made_by_statement, made_by_block, made_by_handlers, made_by_procedure, made_from, argument_constraints, call_flows, statement_constraints, block_constraints, handlers_constraints, has_one_exit, end_exit_unknowns, thrown_constraints, exit_constraints, inner_block, procedure_constraints, constraints_from, program_constraints, unknown_count}
 use Rattle.gathering.proofs.Numbers.{total, total-sum}
 use Rattle.gathering.proofs.Small.{nodes_in}
 
@@ -43,7 +43,7 @@ begins-single false p exit_unknowns ends = refl
 begins-single true p exit_unknowns [] = refl
 begins-single true p exit_unknowns (e ∷ rest) = begins-flow (p ∷ []) (exit_unknowns e)
 
--- the ends of a statement with a value
+-- the exits of a statement with a value
 begins-own : (q : List NamedAtom) (exit_unknowns : ExitUnknowns) (first : Exit) (raised : List ℕ) → begins (flow q (exit_unknowns first) ++ raised_flows q exit_unknowns raised) ≡ 0
 begins-own q exit_unknowns first raised =
     let i : begins (flow q (exit_unknowns first)) ≡ 0 = begins-flow q (exit_unknowns first) in
@@ -52,12 +52,12 @@ begins-own q exit_unknowns first raised =
     omega (arith, i, j, s)
 
 -- a block of its own
-within : (ends : List Exit) (p : NamedAtom) (exit_unknowns : ExitUnknowns) (walked : ExitUnknowns → List NamedConstraint) (made n : ℕ) → ((t : ExitUnknowns) → 2 * begins (walked t) + made ≤ n) → 2 * begins (by_ends ends p exit_unknowns walked) + made ≤ n
+within : (ends : List Exit) (p : NamedAtom) (exit_unknowns : ExitUnknowns) (walked : ExitUnknowns → List NamedConstraint) (made n : ℕ) → ((t : ExitUnknowns) → 2 * begins (walked t) + made ≤ n) → 2 * begins (by_exits ends p exit_unknowns walked) + made ≤ n
 within ends p exit_unknowns walked made n each =
-    let t : ExitUnknowns = within_single (one_end ends) exit_unknowns in
-    let i : begins (single (one_end ends) p exit_unknowns ends) ≡ 0 = begins-single (one_end ends) p exit_unknowns ends in
+    let t : ExitUnknowns = within_single (one_exit ends) exit_unknowns in
+    let i : begins (single (one_exit ends) p exit_unknowns ends) ≡ 0 = begins-single (one_exit ends) p exit_unknowns ends in
     let j : 2 * begins (walked t) + made ≤ n = each t in
-    let s : begins (single (one_end ends) p exit_unknowns ends ++ walked t) ≡ begins (single (one_end ends) p exit_unknowns ends) + begins (walked t) = begins-append (single (one_end ends) p exit_unknowns ends) (walked t) in
+    let s : begins (single (one_exit ends) p exit_unknowns ends ++ walked t) ≡ begins (single (one_exit ends) p exit_unknowns ends) + begins (walked t) = begins-append (single (one_exit ends) p exit_unknowns ends) (walked t) in
     omega (arith, i, j, s)
 
 -- an expression has a node
@@ -118,24 +118,24 @@ module _ (scope : Scope) where
         let given : List NamedAtom = inner_atom n ∷ named_atoms (call_atoms scope.program callee Normal ++ one (label_of scope.program (ToValue callee))) in
         let second : List NamedConstraint = argument_constraints scope at n callee 0 arguments in
         let third : List NamedConstraint = target_constraint scope at 6 given target in
-        let fourth : List NamedConstraint = call_flows scope.program callee n exit_unknowns (call_ends scope.program callee arguments) in
+        let fourth : List NamedConstraint = call_flows scope.program callee n exit_unknowns (call_exits scope.program callee arguments) in
         let c : begins second ≡ 0 = begins-arguments at n callee 0 arguments in
         let d : begins third ≡ 0 = begins-target at 6 given target in
-        let h : begins fourth ≡ 0 = begins-calls callee n exit_unknowns (call_ends scope.program callee arguments) in
+        let h : begins fourth ≡ 0 = begins-calls callee n exit_unknowns (call_exits scope.program callee arguments) in
         let s : begins (second ++ (third ++ fourth)) ≡ begins second + begins (third ++ fourth) = begins-append second (third ++ fourth) in
         let t : begins (third ++ fourth) ≡ begins third + begins fourth = begins-append third fourth in
         omega (arith, c, d, h, s, t)
     begins-statement (If at e then_block else_block) p exit_unknowns n =
         let pc : NamedAtom = inner_atom n in
         let second : List NamedConstraint = raised_flows (p ∷ named_atoms (raise_atoms scope e)) exit_unknowns (raises e) in
-        let third : List NamedConstraint = by_ends (block_ends scope.program then_block) pc exit_unknowns (λ t. block_constraints scope true pc t (suc n) then_block) in
-        let fourth : List NamedConstraint = by_ends (block_ends scope.program else_block) pc exit_unknowns (λ t. block_constraints scope true pc t (suc n + made_by_block then_block) else_block) in
+        let third : List NamedConstraint = by_exits (block_exits scope.program then_block) pc exit_unknowns (λ t. block_constraints scope true pc t (suc n) then_block) in
+        let fourth : List NamedConstraint = by_exits (block_exits scope.program else_block) pc exit_unknowns (λ t. block_constraints scope true pc t (suc n + made_by_block then_block) else_block) in
         let i : begins second ≡ 0 = begins-flows (p ∷ named_atoms (raise_atoms scope e)) exit_unknowns _ in
         let j : 2 * begins third + (3 * made_by_block then_block + 3 * length (block_loops then_block)) ≤ 8 * block_nodes then_block =
-        within (block_ends scope.program then_block) pc exit_unknowns (λ t. block_constraints scope true pc t (suc n) then_block) (3 * made_by_block then_block + 3 * length (block_loops then_block)) (8 * block_nodes then_block)
+        within (block_exits scope.program then_block) pc exit_unknowns (λ t. block_constraints scope true pc t (suc n) then_block) (3 * made_by_block then_block + 3 * length (block_loops then_block)) (8 * block_nodes then_block)
         (λ t. begins-block then_block true pc t (suc n)) in
         let k : 2 * begins fourth + (3 * made_by_block else_block + 3 * length (block_loops else_block)) ≤ 8 * block_nodes else_block =
-        within (block_ends scope.program else_block) pc exit_unknowns (λ t. block_constraints scope true pc t (suc n + made_by_block then_block) else_block) (3 * made_by_block else_block + 3 * length (block_loops else_block)) (8 * block_nodes else_block)
+        within (block_exits scope.program else_block) pc exit_unknowns (λ t. block_constraints scope true pc t (suc n + made_by_block then_block) else_block) (3 * made_by_block else_block + 3 * length (block_loops else_block)) (8 * block_nodes else_block)
         (λ t. begins-block else_block true pc t (suc n + made_by_block then_block)) in
         let s : begins (second ++ (third ++ fourth)) ≡ begins second + begins (third ++ fourth) = begins-append second (third ++ fourth) in
         let t : begins (third ++ fourth) ≡ begins third + begins fourth = begins-append third fourth in
@@ -146,12 +146,12 @@ module _ (scope : Scope) where
         let loop_atom : NamedAtom = renamed Real (label_of scope.program (ToLoop scope.number loop)) in
         let out : List NamedConstraint = flow (pc ∷ []) (exit_unknowns Normal) in
         let raising : List NamedConstraint = raised_flows (loop_atom ∷ named_atoms (raise_atoms scope e)) exit_unknowns (raises e) in
-        let third : List NamedConstraint = by_ends (block_ends scope.program body) pc (in_loop (suc n) exit_unknowns) (λ t. block_constraints scope true pc t (suc (suc n)) body) in
+        let third : List NamedConstraint = by_exits (block_exits scope.program body) pc (in_loop (suc n) exit_unknowns) (λ t. block_constraints scope true pc t (suc (suc n)) body) in
         let fourth : List NamedConstraint = rule_constraint scope at 8 (inner_atom (suc n) ∷ []) (ToLoop scope.number loop) in
         let h : begins out ≡ 0 = begins-flow (pc ∷ []) (exit_unknowns Normal) in
         let i : begins raising ≡ 0 = begins-flows (loop_atom ∷ named_atoms (raise_atoms scope e)) exit_unknowns _ in
         let j : 2 * begins third + (3 * made_by_block body + 3 * length (block_loops body)) ≤ 8 * block_nodes body =
-        within (block_ends scope.program body) pc (in_loop (suc n) exit_unknowns) (λ t. block_constraints scope true pc t (suc (suc n)) body) (3 * made_by_block body + 3 * length (block_loops body)) (8 * block_nodes body)
+        within (block_exits scope.program body) pc (in_loop (suc n) exit_unknowns) (λ t. block_constraints scope true pc t (suc (suc n)) body) (3 * made_by_block body + 3 * length (block_loops body)) (8 * block_nodes body)
         (λ t. begins-block body true pc t (suc (suc n))) in
         let s : begins (out ++ (raising ++ (third ++ fourth))) ≡ begins out + begins (raising ++ (third ++ fourth)) = begins-append out (raising ++ (third ++ fourth)) in
         let t : begins (raising ++ (third ++ fourth)) ≡ begins raising + begins (third ++ fourth) = begins-append raising (third ++ fourth) in
@@ -166,10 +166,10 @@ module _ (scope : Scope) where
     begins-statement (Try at block handlers) p exit_unknowns n =
         let number : ℕ → ℕ = λ x. handler_number handlers n x in
         let inside : ExitUnknowns = in_try number handlers exit_unknowns in
-        let first : List NamedConstraint = by_ends (block_ends scope.program block) p inside (λ t. block_constraints scope true p t (n + handler_count handlers) block) in
+        let first : List NamedConstraint = by_exits (block_exits scope.program block) p inside (λ t. block_constraints scope true p t (n + handler_count handlers) block) in
         let second : List NamedConstraint = handlers_constraints scope number exit_unknowns ((n + handler_count handlers) + made_by_block block) handlers in
         let i : 2 * begins first + (3 * made_by_block block + 3 * length (block_loops block)) ≤ 8 * block_nodes block =
-        within (block_ends scope.program block) p inside (λ t. block_constraints scope true p t (n + handler_count handlers) block) (3 * made_by_block block + 3 * length (block_loops block)) (8 * block_nodes block)
+        within (block_exits scope.program block) p inside (λ t. block_constraints scope true p t (n + handler_count handlers) block) (3 * made_by_block block + 3 * length (block_loops block)) (8 * block_nodes block)
         (λ t. begins-block block true p t (n + handler_count handlers)) in
         let j : 2 * begins second + (3 * (handler_count handlers + made_by_handlers handlers) + 3 * length (handlers_loops handlers)) ≤ 8 * handlers_nodes handlers = begins-handlers handlers number exit_unknowns ((n + handler_count handlers) + made_by_block block) in
         let s : begins (first ++ second) ≡ begins first + begins second = begins-append first second in
@@ -177,22 +177,22 @@ module _ (scope : Scope) where
         omega (arith, i, j, s, w)
     begins-statement (Nested at block) p exit_unknowns n =
         let i : 2 * begins (statement_constraints scope p exit_unknowns n (Nested at block)) + (3 * made_by_block block + 3 * length (block_loops block)) ≤ 8 * block_nodes block =
-        within (block_ends scope.program block) p exit_unknowns (λ t. block_constraints scope true p t n block) (3 * made_by_block block + 3 * length (block_loops block)) (8 * block_nodes block) (λ t. begins-block block true p t n) in
+        within (block_exits scope.program block) p exit_unknowns (λ t. block_constraints scope true p t n block) (3 * made_by_block block + 3 * length (block_loops block)) (8 * block_nodes block) (λ t. begins-block block true p t n) in
         omega (arith, i)
 
     begins-block : (block : Block) (reached : Bool) (p : NamedAtom) (exit_unknowns : ExitUnknowns) (n : ℕ) → 2 * begins (block_constraints scope reached p exit_unknowns n block) + (3 * made_by_block block + 3 * length (block_loops block)) ≤ 8 * block_nodes block
     begins-block Empty true p exit_unknowns n = let i : begins (flow (p ∷ []) (exit_unknowns Normal)) ≡ 0 = begins-flow (p ∷ []) (exit_unknowns Normal) in omega (arith, i)
     begins-block Empty false p exit_unknowns n = omega arith
     begins-block (Then s rest) reached p exit_unknowns n =
-        let ends : List Exit = statement_ends scope.program s in
-        let inside : ExitUnknowns = within_single (one_end ends) (with_normal (Some n) exit_unknowns) in
-        let pc : NamedAtom = onward_pc (one_end ends) p n in
-        let first : List NamedConstraint = single (one_end ends) p (with_normal None exit_unknowns) ends in
+        let ends : List Exit = statement_exits scope.program s in
+        let inside : ExitUnknowns = within_single (one_exit ends) (with_normal (Some n) exit_unknowns) in
+        let pc : NamedAtom = onward_pc (one_exit ends) p n in
+        let first : List NamedConstraint = single (one_exit ends) p (with_normal None exit_unknowns) ends in
         let second : List NamedConstraint = statement_constraints scope p inside (suc n) s in
-        let third : List NamedConstraint = block_constraints scope (has_end ends Normal) pc exit_unknowns (suc n + made_by_statement s) rest in
-        let i : begins first ≡ 0 = begins-single (one_end ends) p (with_normal None exit_unknowns) ends in
+        let third : List NamedConstraint = block_constraints scope (has_exit ends Normal) pc exit_unknowns (suc n + made_by_statement s) rest in
+        let i : begins first ≡ 0 = begins-single (one_exit ends) p (with_normal None exit_unknowns) ends in
         let j : 2 * begins second + 3 * (made_by_statement s + 1) + 3 * length (statement_loops s) ≤ 8 * statement_nodes s = begins-statement s p inside (suc n) in
-        let k : 2 * begins third + (3 * made_by_block rest + 3 * length (block_loops rest)) ≤ 8 * block_nodes rest = begins-block rest (has_end ends Normal) pc exit_unknowns (suc n + made_by_statement s) in
+        let k : 2 * begins third + (3 * made_by_block rest + 3 * length (block_loops rest)) ≤ 8 * block_nodes rest = begins-block rest (has_exit ends Normal) pc exit_unknowns (suc n + made_by_statement s) in
         let t : begins (first ++ (second ++ third)) ≡ begins first + begins (second ++ third) = begins-append first (second ++ third) in
         let u : begins (second ++ third) ≡ begins second + begins third = begins-append second third in
         let w : length (statement_loops s ++ block_loops rest) ≡ length (statement_loops s) + length (block_loops rest) = length-append (statement_loops s) (block_loops rest) in
@@ -202,10 +202,10 @@ module _ (scope : Scope) where
     begins-handlers NoMore number exit_unknowns n = omega arith
     begins-handlers (Catch at handled body rest) number exit_unknowns n =
         let pc : NamedAtom = inner_atom (number handled) in
-        let first : List NamedConstraint = by_ends (block_ends scope.program body) pc exit_unknowns (λ t. block_constraints scope true pc t n body) in
+        let first : List NamedConstraint = by_exits (block_exits scope.program body) pc exit_unknowns (λ t. block_constraints scope true pc t n body) in
         let second : List NamedConstraint = handlers_constraints scope number exit_unknowns (n + made_by_block body) rest in
         let i : 2 * begins first + (3 * made_by_block body + 3 * length (block_loops body)) ≤ 8 * block_nodes body =
-        within (block_ends scope.program body) pc exit_unknowns (λ t. block_constraints scope true pc t n body) (3 * made_by_block body + 3 * length (block_loops body)) (8 * block_nodes body) (λ t. begins-block body true pc t n) in
+        within (block_exits scope.program body) pc exit_unknowns (λ t. block_constraints scope true pc t n body) (3 * made_by_block body + 3 * length (block_loops body)) (8 * block_nodes body) (λ t. begins-block body true pc t n) in
         let j : 2 * begins second + (3 * (handler_count rest + made_by_handlers rest) + 3 * length (handlers_loops rest)) ≤ 8 * handlers_nodes rest = begins-handlers rest number exit_unknowns (n + made_by_block body) in
         let s : begins (first ++ second) ≡ begins first + begins second = begins-append first second in
         let w : length (block_loops body ++ handlers_loops rest) ≡ length (block_loops body) + length (handlers_loops rest) = length-append (block_loops body) (handlers_loops rest) in
@@ -216,8 +216,8 @@ module _ (scope : Scope) where
   begins-thrown number [] = refl
   begins-thrown number (entry ∷ rest) = let i : begins (thrown_constraints scope number rest) ≡ 0 = begins-thrown number rest in omega (arith, i)
 
-  begins-end : (n : ℕ) → begins (end_constraints scope n) ≡ 0
-  begins-end n = go (has_one_end scope)
+  begins-end : (n : ℕ) → begins (exit_constraints scope n) ≡ 0
+  begins-end n = go (has_one_exit scope)
     where
       rest : List NamedConstraint
       rest = thrown_constraints scope (λ x. thrown_number (here scope).throws (suc n) x) (here scope).throws
@@ -233,9 +233,9 @@ module _ (scope : Scope) where
       let m : ℕ = suc n + length (here scope).throws in
       let first : List NamedConstraint = inner_block scope pc (end_exit_unknowns scope n) m body in
       let i : 2 * begins first + (3 * made_by_block body + 3 * length (block_loops body)) ≤ 8 * block_nodes body =
-      within (block_ends scope.program body) pc (end_exit_unknowns scope n) (λ t. block_constraints scope true pc t m body) (3 * made_by_block body + 3 * length (block_loops body)) (8 * block_nodes body) (λ t. begins-block body true pc t m) in
-      let j : begins (end_constraints scope n) ≡ 0 = begins-end n in
-      let s : begins (first ++ end_constraints scope n) ≡ begins first + begins (end_constraints scope n) = begins-append first (end_constraints scope n) in
+      within (block_exits scope.program body) pc (end_exit_unknowns scope n) (λ t. block_constraints scope true pc t m body) (3 * made_by_block body + 3 * length (block_loops body)) (8 * block_nodes body) (λ t. begins-block body true pc t m) in
+      let j : begins (exit_constraints scope n) ≡ 0 = begins-end n in
+      let s : begins (first ++ exit_constraints scope n) ≡ begins first + begins (exit_constraints scope n) = begins-append first (exit_constraints scope n) in
       omega (arith, i, j, s)
 
 from-begins : (program : Program) (ps : List ProcedureEntry) (f n : ℕ) → list_all (procedure_fits program) ps ≡ true →

@@ -1,4 +1,4 @@
--- Where no fault of the ends is found, each statement is reached, and so a program without one is gathered.
+-- Where no fault of the exits is found, each statement is reached, and so a program without one is gathered.
 use Rattle.std.proofs.Common.{◌≡◌, refl, ℕ, zero, suc, Bool, true, false, not, ◌&&◌, List, [], ◌∷◌, ◌++◌}
 use Rattle.std.specs.Prelude.{filter, flat_map, is_some, slice_index_or}
 use Rattle.std.specs.List.{list_all}
@@ -7,35 +7,35 @@ use Rattle.resolved.specs.declared.statement.Exit.{Exit}
 use Rattle.resolved.specs.declared.statement.Exit.TheVariants.{Normal, Throw}
 use Rattle.resolved.specs.Tree.{Statement, Assign, Clear, Store, Receive, Send, Call, If, While, Leave, ReturnWith, Try, Nested, Block, Empty, Then, Handlers, NoMore, Catch, place_of}
 use Rattle.resolved.specs.Program.{Program, ProcedureEntry}
-use Rattle.resolved.specs.Ends.{same_exit, has_end, statement_ends, block_ends}
-use Rattle.resolved.specs.EndFaults.{fault_unless, may_stand, may_end, inner_faults, block_faults, handlers_faults, procedure_faults, end_faults}
-use Rattle.resolved.specs.declared.fault.EndRefusalKind.TheVariants.{OutsideLoop, Unreachable, NeverRaised, NoValueReturned, Undeclared}
-use Rattle.resolved.specs.declared.fault.EndRefusal.{EndRefusal}
+use Rattle.resolved.specs.Exits.{same_exit, has_exit, statement_exits, block_exits}
+use Rattle.resolved.specs.ExitFaults.{fault_unless, may_stand, may_exit, inner_faults, block_faults, handlers_faults, procedure_faults, exit_faults}
+use Rattle.resolved.specs.declared.fault.ExitRefusalKind.TheVariants.{OutsideLoop, Unreachable, NeverRaised, NoValueReturned, Undeclared}
+use Rattle.resolved.specs.declared.fault.ExitRefusal.{ExitRefusal}
 use Rattle.resolved.specs.Labelled.{program_demands}
 use Rattle.gathering.specs.Walk.{program_constraints}
 use Rattle.gathering.proofs.Reached.{Goes, Part, PartIn, PartBy}
 use Rattle.gathering.proofs.Programs.{PartsFrom, Gathers, gathered_by, all-gathers}
 use Rattle.resolved.proofs.Exits.{no_fault-test}
 
-none-left : (xs ys : List EndRefusal) → (xs ++ ys) ≡ [] → xs ≡ []
+none-left : (xs ys : List ExitRefusal) → (xs ++ ys) ≡ [] → xs ≡ []
 none-left [] ys e = refl
 none-left (x ∷ xs) ys e = absurd (cc)
 
-none-right : (xs ys : List EndRefusal) → (xs ++ ys) ≡ [] → ys ≡ []
+none-right : (xs ys : List ExitRefusal) → (xs ++ ys) ≡ [] → ys ≡ []
 none-right [] ys e = e
 none-right (x ∷ xs) ys e = absurd (cc)
 
 module _ (program : Program) where
   reached-first : (loop b : Bool) (s : Statement) (rest : Block) → block_faults program loop b (Then s rest) ≡ [] → b ≡ true
   reached-first loop b s rest none =
-      let a : List EndRefusal = fault_unless (may_stand loop s) OutsideLoop (place_of s) in
-      let r : List EndRefusal = fault_unless b Unreachable (place_of s) in
+      let a : List ExitRefusal = fault_unless (may_stand loop s) OutsideLoop (place_of s) in
+      let r : List ExitRefusal = fault_unless b Unreachable (place_of s) in
       no_fault-test b Unreachable (place_of s) (none-right a r (none-left (a ++ r) (inner_faults program loop s)
-      (none-left ((a ++ r) ++ inner_faults program loop s) (block_faults program loop (has_end (statement_ends program s) Normal) rest) none)))
+      (none-left ((a ++ r) ++ inner_faults program loop s) (block_faults program loop (has_exit (statement_exits program s) Normal) rest) none)))
 
-  goes-on : (loop : Bool) (s : Statement) (rest : Block) → block_faults program loop (has_end (statement_ends program s) Normal) rest ≡ [] → Goes program s rest
+  goes-on : (loop : Bool) (s : Statement) (rest : Block) → block_faults program loop (has_exit (statement_exits program s) Normal) rest ≡ [] → Goes program s rest
   goes-on loop s Empty none = tt
-  goes-on loop s (Then next more) none = reached-first loop (has_end (statement_ends program s) Normal) next more none
+  goes-on loop s (Then next more) none = reached-first loop (has_exit (statement_exits program s) Normal) next more none
 
   mutual
     part-from : (s : Statement) (loop : Bool) → inner_faults program loop s ≡ [] → Part program s
@@ -46,46 +46,46 @@ module _ (program : Program) where
     part-from (Send at channel e) loop none = tt
     part-from (Call at procedure arguments target) loop none = tt
     part-from (If at e then_block else_block) loop none =
-        let yes : List EndRefusal = block_faults program loop true then_block in
-        let no : List EndRefusal = block_faults program loop true else_block in
+        let yes : List ExitRefusal = block_faults program loop true then_block in
+        let no : List ExitRefusal = block_faults program loop true else_block in
         (part_in-from then_block loop true (none-left yes no none), part_in-from else_block loop true (none-right yes no none))
     part-from (While at l e body) loop none = part_in-from body true true none
     part-from (Leave at exit) loop none = tt
     part-from (ReturnWith at value) loop none = tt
     part-from (Try at block handlers) loop none =
-        let own : List EndRefusal = block_faults program loop true block in
-        let more : List EndRefusal = handlers_faults program loop (block_ends program block) handlers in
-        (part_in-from block loop true (none-left own more none), part_by-from handlers loop (block_ends program block) (none-right own more none))
+        let own : List ExitRefusal = block_faults program loop true block in
+        let more : List ExitRefusal = handlers_faults program loop (block_exits program block) handlers in
+        (part_in-from block loop true (none-left own more none), part_by-from handlers loop (block_exits program block) (none-right own more none))
     part-from (Nested at block) loop none = part_in-from block loop true none
 
     pub part_in-from : (block : Block) (loop b : Bool) → block_faults program loop b block ≡ [] → PartIn program block
     part_in-from Empty loop b none = tt
     part_in-from (Then s rest) loop b none =
-        let a : List EndRefusal = fault_unless (may_stand loop s) OutsideLoop (place_of s) in
-        let r : List EndRefusal = fault_unless b Unreachable (place_of s) in
-        let own : List EndRefusal = inner_faults program loop s in
-        let more : List EndRefusal = block_faults program loop (has_end (statement_ends program s) Normal) rest in (
+        let a : List ExitRefusal = fault_unless (may_stand loop s) OutsideLoop (place_of s) in
+        let r : List ExitRefusal = fault_unless b Unreachable (place_of s) in
+        let own : List ExitRefusal = inner_faults program loop s in
+        let more : List ExitRefusal = block_faults program loop (has_exit (statement_exits program s) Normal) rest in (
           part-from s loop (none-right (a ++ r) own (none-left ((a ++ r) ++ own) more none)),
           goes-on loop s rest (none-right ((a ++ r) ++ own) more none),
-          part_in-from rest loop (has_end (statement_ends program s) Normal) (none-right ((a ++ r) ++ own) more none),
+          part_in-from rest loop (has_exit (statement_exits program s) Normal) (none-right ((a ++ r) ++ own) more none),
         )
 
     part_by-from : (handlers : Handlers) (loop : Bool) (ends : List Exit) → handlers_faults program loop ends handlers ≡ [] → PartBy program handlers
     part_by-from NoMore loop ends none = tt
     part_by-from (Catch at handled body rest) loop ends none =
-        let a : List EndRefusal = fault_unless (has_end ends (Throw handled)) NeverRaised at in
-        let own : List EndRefusal = block_faults program loop true body in
-        let more : List EndRefusal = handlers_faults program loop (filter (λ exit. not (same_exit (Throw handled) exit)) ends) rest in (
+        let a : List ExitRefusal = fault_unless (has_exit ends (Throw handled)) NeverRaised at in
+        let own : List ExitRefusal = block_faults program loop true body in
+        let more : List ExitRefusal = handlers_faults program loop (filter (λ exit. not (same_exit (Throw handled) exit)) ends) rest in (
           part_in-from body loop true (none-right a own (none-left (a ++ own) more none)),
           part_by-from rest loop (filter (λ exit. not (same_exit (Throw handled) exit)) ends) (none-right (a ++ own) more none),
         )
 
 procedure-part : (program : Program) (procedure : ProcedureEntry) → procedure_faults program procedure ≡ [] → PartIn program procedure.body
 procedure-part program procedure none =
-    let ends : List Exit = block_ends program procedure.body in
-    let own : List EndRefusal = block_faults program false true procedure.body in
-    let valued : List EndRefusal = fault_unless (not (is_some procedure.result && has_end ends Normal)) NoValueReturned procedure.at in
-    let declared : List EndRefusal = fault_unless (list_all (may_end procedure) ends) Undeclared procedure.at in
+    let ends : List Exit = block_exits program procedure.body in
+    let own : List ExitRefusal = block_faults program false true procedure.body in
+    let valued : List ExitRefusal = fault_unless (not (is_some procedure.result && has_exit ends Normal)) NoValueReturned procedure.at in
+    let declared : List ExitRefusal = fault_unless (list_all (may_exit procedure) ends) Undeclared procedure.at in
     part_in-from program procedure.body false true (none-left own valued (none-left (own ++ valued) declared none))
 
 each-part : (program : Program) (absent : ProcedureEntry) → PartIn program absent.body → (ps : List ProcedureEntry) →
@@ -96,13 +96,13 @@ each-part program absent part (p ∷ ps) none zero =
 each-part program absent part (p ∷ ps) none (suc f) =
     each-part program absent part ps (none-right (procedure_faults program p) (flat_map (procedure_faults program) ps) none) f
 
-pub faultless-parts : (program : Program) → end_faults program ≡ [] → (f : ℕ) (ps : List ProcedureEntry) → PartsFrom program f ps
+pub faultless-parts : (program : Program) → exit_faults program ≡ [] → (f : ℕ) (ps : List ProcedureEntry) → PartsFrom program f ps
 faultless-parts program none f [] = tt
 faultless-parts program none f (p ∷ ps) = (each-part program _ tt program.procedures none f, faultless-parts program none (suc f) ps)
 
--- so a program without a fault of its ends is gathered
-pub faultless-gathers : (program : Program) → end_faults program ≡ [] → Gathers program
+-- so a program without a fault of its exits is gathered
+pub faultless-gathers : (program : Program) → exit_faults program ≡ [] → Gathers program
 faultless-gathers program none = all-gathers program (faultless-parts program none 0 program.procedures)
 
-pub faultless-gathered : (program : Program) → end_faults program ≡ [] → IsGathered (program_demands program) (program_constraints program)
+pub faultless-gathered : (program : Program) → exit_faults program ≡ [] → IsGathered (program_demands program) (program_constraints program)
 faultless-gathered program none = gathered_by program (faultless-gathers program none)

@@ -1,4 +1,4 @@
-pub mod Ends
+pub mod Exits
 pub mod Atoms
 pub mod Reached
 pub mod Closed

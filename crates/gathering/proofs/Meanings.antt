@@ -4,8 +4,8 @@ use Rattle.std.specs.Prelude.{if◌then◌else◌, ◌==◌}
 use Rattle.resolved.specs.declared.statement.Exit.TheVariants.{Normal, Continue, Throw}
 use Rattle.resolved.specs.declared.target.Target.TheVariants.{ToLoop}
 use Rattle.resolved.specs.Tree.{Statement, Assign, Clear, Store, Receive, Send, Call, If, While, Leave, ReturnWith, Try, Nested, Block, Empty, Then, Handlers, NoMore, Catch}
-use Rattle.resolved.specs.Ends.{handles}
-use Rattle.resolved.specs.Labelled.{Scope, Join, one, label_of, value_label, raise_label, raise_labels, ExitLabels, statement_exits, block_exits}
+use Rattle.resolved.specs.Exits.{handles}
+use Rattle.resolved.specs.Labelled.{Scope, Join, one, label_of, value_label, raise_label, raise_labels, ExitLabels, statement_exit_labels, block_exit_labels}
 use Rattle.gathering.specs.Walk.{handler_count, handler_number, made_by_statement, made_by_block, made_by_handlers}
 use Rattle.gathering.proofs.Reached.{Agrees, AgreesIn, AgreesBy}
 
@@ -54,18 +54,18 @@ module _ (scope : Scope) where
         branch ∷ (meanings_in branch then_block ++ meanings_in branch else_block)
     meanings pc (While at loop e body) =
         let b : Join = (one (label_of scope.program (ToLoop scope.number loop)) ++ raise_label scope e) ++ value_label scope e in
-        b ∷ ((block_exits scope b body Normal ++ block_exits scope b body Continue) ∷ meanings_in b body)
+        b ∷ ((block_exit_labels scope b body Normal ++ block_exit_labels scope b body Continue) ∷ meanings_in b body)
     meanings pc (Leave at exit) = []
     meanings pc (ReturnWith at value) = []
     meanings pc (Try at block handlers) =
-        let x : ExitLabels = block_exits scope pc block in
+        let x : ExitLabels = block_exit_labels scope pc block in
         handled_at x handlers ++ (meanings_in pc block ++ meanings_by x handlers)
     meanings pc (Nested at block) = meanings_in pc block
 
     pub meanings_in : (pc : Join) → Block → List Join
     meanings_in pc Empty = []
     meanings_in pc (Then statement rest) =
-        statement_exits scope pc statement Normal ∷ (meanings pc statement ++ meanings_in (statement_exits scope pc statement Normal) rest)
+        statement_exit_labels scope pc statement Normal ∷ (meanings pc statement ++ meanings_in (statement_exit_labels scope pc statement Normal) rest)
 
     pub meanings_by : ExitLabels → Handlers → List Join
     meanings_by x NoMore = []
@@ -92,7 +92,7 @@ module _ (scope : Scope) where
     meanings-made (Leave at exit) pc = refl
     meanings-made (ReturnWith at value) pc = refl
     meanings-made (Try at block handlers) pc =
-        let x : ExitLabels = block_exits scope pc block in
+        let x : ExitLabels = block_exit_labels scope pc block in
         length-append (handled_at x handlers) (meanings_in pc block ++ meanings_by x handlers)
         ∙ ap (λ k. k + length (meanings_in pc block ++ meanings_by x handlers)) (handled-count handlers x)
         ∙ ap (λ k. handler_count handlers + k) (length-append (meanings_in pc block) (meanings_by x handlers)
@@ -102,9 +102,9 @@ module _ (scope : Scope) where
     pub meanings_in-made : (block : Block) (pc : Join) → length (meanings_in pc block) ≡ made_by_block block
     meanings_in-made Empty pc = refl
     meanings_in-made (Then s rest) pc =
-        ap suc (length-append (meanings pc s) (meanings_in (statement_exits scope pc s Normal) rest)
-        ∙ ap (λ k. k + length (meanings_in (statement_exits scope pc s Normal) rest)) (meanings-made s pc)
-        ∙ ap (λ k. made_by_statement s + k) (meanings_in-made rest (statement_exits scope pc s Normal)))
+        ap suc (length-append (meanings pc s) (meanings_in (statement_exit_labels scope pc s Normal) rest)
+        ∙ ap (λ k. k + length (meanings_in (statement_exit_labels scope pc s Normal) rest)) (meanings-made s pc)
+        ∙ ap (λ k. made_by_statement s + k) (meanings_in-made rest (statement_exit_labels scope pc s Normal)))
 
     meanings_by-made : (handlers : Handlers) (x : ExitLabels) → length (meanings_by x handlers) ≡ made_by_handlers handlers
     meanings_by-made NoMore x = refl
@@ -142,7 +142,7 @@ module _ (scope : Scope) where
       agrees-from (Leave at exit) n pc h = tt
       agrees-from (ReturnWith at value) n pc h = tt
       agrees-from (Try at block handlers) n pc h =
-          let x : ExitLabels = block_exits scope pc block in
+          let x : ExitLabels = block_exit_labels scope pc block in
           let after : Starts m (n + handler_count handlers) (meanings_in pc block ++ meanings_by x handlers) =
           subst (λ k. Starts m (n + k) (meanings_in pc block ++ meanings_by x handlers)) (handled-count handlers x)
           (starts-right m n (handled_at x handlers) (meanings_in pc block ++ meanings_by x handlers) h) in (
@@ -156,7 +156,7 @@ module _ (scope : Scope) where
       pub agrees_in-from : (block : Block) (n : ℕ) (pc : Join) → Starts m n (meanings_in pc block) → AgreesIn scope m n pc block
       agrees_in-from Empty n pc h = tt
       agrees_in-from (Then s rest) n pc h =
-          let after : Join = statement_exits scope pc s Normal in (
+          let after : Join = statement_exit_labels scope pc s Normal in (
             h.0,
             agrees-from s (suc n) pc (starts-left m (suc n) (meanings pc s) (meanings_in after rest) h.1),
             agrees_in-from rest (suc n + made_by_statement s) after (subst (λ k. Starts m (suc n + k) (meanings_in after rest)) (meanings-made s pc)

@@ -11,12 +11,11 @@ use Rattle.labels.specs.LabelLattice.{label_lattice}
 use Rattle.labels.proofs.FlowTests.{IsLattice-flows}
 use Rattle.lattices.proofs.Gathered.{fits-alike, fits-down, fits-up}
 use Rattle.resolved.specs.Program.{Program, ProcedureEntry, procedure_at}
-use Rattle.resolved.specs.EndFaults.{end_faults}
+use Rattle.resolved.specs.ExitFaults.{exit_faults}
 use Rattle.resolved.specs.Flow.{Gathered, AreGathered}
 use Rattle.resolved.specs.Labelled.{FitsDemands, Labelling, Unwritten, OfLocal, OfLoop, program_demands}
 use Rattle.resolved.specs.WellFormed.{well_formed}
 use Rattle.gathering.specs.Names.{Name, Real, Inner, is_inner_name, NamedAtom, NamedConstraint, own_unknowns, unknowns_before, real_unknowns, unwritten_number, unknown_number, IsUnwrittenOf, numbered, numbered_atom}
-use Rattle.gathering.specs.Gathered.{AreConstraintsOf}
 use Rattle.gathering.specs.Walk.{program_constraints, gathered_constraints, unknown_count, FitsGathered, IsUnknownBelow, AreUnknownsBelow}
 use Rattle.gathering.proofs.Programs.{gathered_by}
 use Rattle.gathering.proofs.Faultless.{faultless-gathers}
@@ -119,8 +118,8 @@ module _ (program : Program) where
     in-range cs ranged a (c, h, inl k) = (ranged c h).0 a k
     in-range cs ranged a (c, h, inr e) = subst (InRange program bound) e (ranged c h).1
 
--- a well-formed program without a fault of its ends is gathered, with numbers
-pub numbered-gathered : (program : Program) → IsTrue (well_formed program) → end_faults program ≡ [] → AreGathered program (gathered_constraints program)
+-- a well-formed program without a fault of its exits is gathered, with numbers
+pub numbered-gathered : (program : Program) → IsTrue (well_formed program) → exit_faults program ≡ [] → AreGathered program (gathered_constraints program)
 numbered-gathered program formed none =
     let bound : ℕ = unknown_count program in
     let ranged : Ranged program bound (program_constraints program) = ranged-program program formed in
@@ -129,7 +128,7 @@ numbered-gathered program formed none =
     (λ a there. returns program bound a (in-range program bound (program_constraints program) ranged a there))
 
 -- in which a local and a loop have their own numbers
-pub numbered-numbers : (program : Program) (formed : IsTrue (well_formed program)) (none : end_faults program ≡ []) (u : Unwritten) →
+pub numbered-numbers : (program : Program) (formed : IsTrue (well_formed program)) (none : exit_faults program ≡ []) (u : Unwritten) →
     (numbered-gathered program formed none).number u ≡ unwritten_number program u
 unfolding numbered-gathered
 numbered-numbers program formed none u =
@@ -140,7 +139,7 @@ numbered-numbers program formed none u =
     (λ a there. returns program bound a (in-range program bound (program_constraints program) ranged a there)) u
 
 -- and the numbers of inner unknowns follow on theirs
-pub numbered-inner : (program : Program) (formed : IsTrue (well_formed program)) (none : end_faults program ≡ []) →
+pub numbered-inner : (program : Program) (formed : IsTrue (well_formed program)) (none : exit_faults program ≡ []) →
     (numbered-gathered program formed none).inner ≡ (λ k. nat_le (real_unknowns program) k)
 unfolding numbered-gathered
 numbered-inner program formed none =
@@ -151,7 +150,7 @@ numbered-inner program formed none =
     (λ a there. returns program bound a (in-range program bound (program_constraints program) ranged a there))
 
 -- so each labelling meets the demands exactly where it fits what is gathered
-pub labellings-fit : (program : Program) → IsTrue (well_formed program) → end_faults program ≡ [] → (labelling : Labelling) →
+pub labellings-fit : (program : Program) → IsTrue (well_formed program) → exit_faults program ≡ [] → (labelling : Labelling) →
     FitsDemands program.hierarchy labelling (program_demands program) ↔ FitsGathered program labelling
 labellings-fit program formed none labelling =
     let gathered = numbered-gathered program formed none in

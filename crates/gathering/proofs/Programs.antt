@@ -8,10 +8,10 @@ use Rattle.resolved.specs.declared.statement.Exit.{Exit}
 use Rattle.resolved.specs.declared.statement.Exit.TheVariants.{Normal, Return, Break, Continue, Throw}
 use Rattle.resolved.specs.declared.target.Target.TheVariants.{ToBegin, ToEnd, ToThrown}
 use Rattle.resolved.specs.Program.{Program, ProcedureEntry, ThrownEntry, procedure_at}
-use Rattle.resolved.specs.Ends.{one_end}
-use Rattle.resolved.specs.Labelled.{Unwritten, OfLoop, Scope, here, Join, one, label_of, ExitLabels, block_rule, block_exits, demand, block_demands, end_demands, procedure_demands, demands_from, program_demands}
+use Rattle.resolved.specs.Exits.{one_exit}
+use Rattle.resolved.specs.Labelled.{Unwritten, OfLoop, Scope, here, Join, one, label_of, ExitLabels, block_rule, block_exit_labels, demand, block_demands, exit_demands, procedure_demands, demands_from, program_demands}
 use Rattle.gathering.specs.Names.{Name, Real, Inner, is_inner_name, NamedAtom, NamedConstraint, real_unknowns}
-use Rattle.gathering.specs.Walk.{inner_atom, rule_constraint, ExitUnknowns, nowhere, single, within_single, inner_block, block_constraints, thrown_number, declares, at_end, body_ends, has_one_end, end_exit_unknowns, thrown_constraints, end_constraints, procedure_constraints, made_by_procedure, constraints_from, program_constraints}
+use Rattle.gathering.specs.Walk.{inner_atom, rule_constraint, ExitUnknowns, nowhere, single, within_single, inner_block, block_constraints, thrown_number, declares, at_end, body_exits, has_one_exit, end_exit_unknowns, thrown_constraints, exit_constraints, procedure_constraints, made_by_procedure, constraints_from, program_constraints}
 use Rattle.gathering.proofs.Atoms.{sub-same}
 use Rattle.gathering.proofs.Reached.{PartIn, AgreesIn}
 use Rattle.gathering.proofs.Closed.{Below, closed_by, Closed, Take, below-named, below-inner, closed-nil, closed-append, closed-rule_constraint, closed-block, closed-statements}
@@ -26,7 +26,7 @@ abbrev pub begin_pc : Scope → NamedAtom
 begin_pc scope = renamed Real (label_of scope.program (ToBegin scope.number))
 
 abbrev pub exits_of : Scope → ExitLabels
-exits_of scope = block_exits scope (begin_of scope) (here scope).body
+exits_of scope = block_exit_labels scope (begin_of scope) (here scope).body
 
 abbrev pub first_within : Scope → ℕ → ℕ
 first_within scope n = suc n + length (here scope).throws
@@ -64,12 +64,12 @@ module _ (m : ℕ → Join) where
           subst (λ z. Contains (m z) a) same (sub-same (exits_of scope (Throw x)) (m (thrown_number (here scope).throws (suc n) x)) (sym (agrees.1 x e)) a there)
       go false e is = absurd (cc)
 
-  end-take : (scope : Scope) (n : ℕ) → AgreesOf scope n → Take m (body_ends scope) (end_exit_unknowns scope n) (exits_of scope)
-  end-take scope n agrees = go (has_one_end scope)
+  end-take : (scope : Scope) (n : ℕ) → AgreesOf scope n → Take m (body_exits scope) (end_exit_unknowns scope n) (exits_of scope)
+  end-take scope n agrees = go (has_one_exit scope)
     where
-      go : (b : Bool) → Take m (body_ends scope) (if b then nowhere else at_end n (here scope).throws) (exits_of scope)
+      go : (b : Bool) → Take m (body_exits scope) (if b then nowhere else at_end n (here scope).throws) (exits_of scope)
       go true = λ e k h is a there. let i : None ≡ Some k = is in absurd (cc)
-      go false = at_end-take scope n agrees (body_ends scope)
+      go false = at_end-take scope n agrees (body_exits scope)
 
   closed-thrown : (scope : Scope) (number : ℕ → ℕ) (throws : List ThrownEntry) → Closed m (thrown_constraints scope number throws)
   closed-thrown scope number [] = closed-nil m
@@ -77,8 +77,8 @@ module _ (m : ℕ → Join) where
       closed-append m (rule_constraint scope (here scope).at 13 (inner_atom (number entry.exception) ∷ []) (ToThrown scope.number entry.exception)) (thrown_constraints scope number rest)
       (closed-rule_constraint m scope (here scope).at 13 (inner_atom (number entry.exception) ∷ []) (ToThrown scope.number entry.exception)) (closed-thrown scope number rest)
 
-  closed-ends : (scope : Scope) (n : ℕ) → Closed m (end_constraints scope n)
-  closed-ends scope n = go (has_one_end scope)
+  closed-ends : (scope : Scope) (n : ℕ) → Closed m (exit_constraints scope n)
+  closed-ends scope n = go (has_one_exit scope)
     where
       go : (b : Bool) → Closed m (if b then [] else (rule_constraint scope (here scope).at 13 (inner_atom n ∷ []) (ToEnd scope.number) ++ thrown_constraints scope (λ x. thrown_number (here scope).throws (suc n) x) (here scope).throws))
       go true = closed-nil m
@@ -88,8 +88,8 @@ module _ (m : ℕ → Join) where
   closed-procedure : (scope : Scope) (n : ℕ) → PartIn scope.program (here scope).body → AgreesOf scope n → Closed m (procedure_constraints scope n)
   closed-procedure scope n part agrees =
       let p : NamedAtom = begin_pc scope in
-      closed-append m (inner_block scope p (end_exit_unknowns scope n) (first_within scope n) (here scope).body) (end_constraints scope n)
-      (closed-block m (body_ends scope) p (end_exit_unknowns scope n) (begin_of scope) (block_rule scope (begin_of scope) (here scope).body)
+      closed-append m (inner_block scope p (end_exit_unknowns scope n) (first_within scope n) (here scope).body) (exit_constraints scope n)
+      (closed-block m (body_exits scope) p (end_exit_unknowns scope n) (begin_of scope) (block_rule scope (begin_of scope) (here scope).body)
       (λ t. block_constraints scope true p t (first_within scope n) (here scope).body) (below-named m (begin_of scope)) (end-take scope n agrees)
       (λ t fit. closed-statements m scope (here scope).body true p (begin_of scope) t (first_within scope n) part agrees.2 (below-named m (begin_of scope)) fit))
       (closed-ends scope n)
@@ -115,8 +115,8 @@ module _ (m : ℕ → Join) where
         (one-rule cs m closed scope (here scope).at 13 (inner_atom (number entry.exception) ∷ []) (x (Throw entry.exception)) (ToThrown scope.number entry.exception) own.0 own.1)
         (one-thrown scope number x rest (λ y h. each y (or_right (y == entry.exception) (declares rest y) h)))
 
-    one-ends : (scope : Scope) (n : ℕ) → AgreesOf scope n → GivesAll cs (end_exit_unknowns scope n) (exits_of scope) → One cs (end_demands scope (body_ends scope) (exits_of scope)) (end_constraints scope n)
-    one-ends scope n agrees gives = go (has_one_end scope) gives
+    one-ends : (scope : Scope) (n : ℕ) → AgreesOf scope n → GivesAll cs (end_exit_unknowns scope n) (exits_of scope) → One cs (exit_demands scope (body_exits scope) (exits_of scope)) (exit_constraints scope n)
+    one-ends scope n agrees gives = go (has_one_exit scope) gives
       where
         go : (b : Bool) → GivesAll cs (if b then nowhere else at_end n (here scope).throws) (exits_of scope) →
             One cs (if b then [] else (demand scope.program (here scope).at 13 (exits_of scope Normal ++ exits_of scope Return) (ToEnd scope.number)
@@ -137,17 +137,17 @@ module _ (m : ℕ → Join) where
     one-procedure : (scope : Scope) (n : ℕ) → PartIn scope.program (here scope).body → AgreesOf scope n → Within cs (procedure_constraints scope n) → One cs (procedure_demands scope) (procedure_constraints scope n)
     one-procedure scope n part agrees within =
         let p : NamedAtom = begin_pc scope in
-        let ends : List Exit = body_ends scope in
+        let ends : List Exit = body_exits scope in
         let exit_unknowns : ExitUnknowns = end_exit_unknowns scope n in
-        let own : List NamedConstraint = single (one_end ends) p exit_unknowns ends in
-        let walked : List NamedConstraint = block_constraints scope true p (within_single (one_end ends) exit_unknowns) (first_within scope n) (here scope).body in
-        let in_body : Within cs (own ++ walked) = within-left cs (own ++ walked) (end_constraints scope n) within in
+        let own : List NamedConstraint = single (one_exit ends) p exit_unknowns ends in
+        let walked : List NamedConstraint = block_constraints scope true p (within_single (one_exit ends) exit_unknowns) (first_within scope n) (here scope).body in
+        let in_body : Within cs (own ++ walked) = within-left cs (own ++ walked) (exit_constraints scope n) within in
         let gives : GivesAll cs exit_unknowns (exits_of scope) = fed-block cs ends p exit_unknowns (begin_of scope) (block_rule scope (begin_of scope) (here scope).body)
         (λ t. block_constraints scope true p t (first_within scope n) (here scope).body) in_body (fed-named cs (begin_of scope))
         (λ t w. fed-statements cs scope (here scope).body true p (begin_of scope) t (first_within scope n) part (λ i. absurd (cc)) (fed-named cs (begin_of scope)) w) in
-        one-append cs (block_demands scope (begin_of scope) (here scope).body) (end_demands scope ends (exits_of scope)) (own ++ walked) (end_constraints scope n)
-        (one-append cs [] (block_demands scope (begin_of scope) (here scope).body) own walked (one-single cs (one_end ends) p exit_unknowns ends)
-        (one-statements cs m closed scope (here scope).body true p (begin_of scope) (within_single (one_end ends) exit_unknowns) (first_within scope n) part agrees.2
+        one-append cs (block_demands scope (begin_of scope) (here scope).body) (exit_demands scope ends (exits_of scope)) (own ++ walked) (exit_constraints scope n)
+        (one-append cs [] (block_demands scope (begin_of scope) (here scope).body) own walked (one-single cs (one_exit ends) p exit_unknowns ends)
+        (one-statements cs m closed scope (here scope).body true p (begin_of scope) (within_single (one_exit ends) exit_unknowns) (first_within scope n) part agrees.2
         (below-named m (begin_of scope)) (fed-named cs (begin_of scope)) (within-right cs own walked in_body)))
         (one-ends scope n agrees gives)
 

@@ -18,12 +18,12 @@ use Rattle.resolved.specs.declared.target.Target.TheVariants.{ToVariable, ToChan
 use Rattle.resolved.specs.Tree.{Expression, Integer, Logical, Read, Element, Unary, Binary, Short, Statement, Assign, Clear, Store, Receive, Send, Call, If, While, Leave, ReturnWith, Try, Nested, Block, Empty, Then, Handlers, NoMore, Catch}
 use Rattle.resolved.specs.Program.{Program, ProcedureEntry, SlotEntry, ThrownEntry, procedure_at, slot_at}
 use Rattle.common.specs.declared.exceptions.TheConstants.{END}
-use Rattle.resolved.specs.Ends.{has_end, one_end, index_can_raise, index_raises, handles, raises, thrown_ends, statement_ends, block_ends}
+use Rattle.resolved.specs.Exits.{has_exit, one_exit, index_can_raise, index_raises, handles, raises, thrown_exits, statement_exits, block_exits}
 use Rattle.resolved.specs.Labelled.{OfLocal, OfLoop, Scope, Join, LabelAtom, one, label_of, written_or, variable_label, value_label, label_if, any_of}
 use Rattle.resolved.specs.WellFormed.{VariableType, slot_type, variable_type, scalar_by, array_by, has_base, has_result, target_by, parameters_of, arguments_match, call_matches, is_array, same_base, prefix_base, operand_base, result_base, statement_fits, block_fits, handlers_fit, is_exception, statement_loops, block_loops, handlers_loops}
 use Rattle.resolved.proofs.WellFormedParts.{result_some}
 use Rattle.gathering.specs.Names.{Real, Inner, NamedAtom, NamedConstraint, named_atoms, real_unknowns, IsUnwrittenOf}
-use Rattle.gathering.specs.Walk.{inner_atom, rule_constraint, target_constraint, inner_constraint, ExitUnknowns, nowhere, with_normal, in_loop, handler_count, handler_number, in_try, at_end, thrown_number, declares, flow, flows, raised_once, raised_flows, single, within_single, by_ends, onward_pc, raise_atoms, raise_atoms_all, store_atoms, call_atoms, made_by_statement, made_by_block, made_by_handlers, argument_constraints, call_flows, call_ends, call_constraints, statement_constraints, block_constraints, handlers_constraints}
+use Rattle.gathering.specs.Walk.{inner_atom, rule_constraint, target_constraint, inner_constraint, ExitUnknowns, nowhere, with_normal, in_loop, handler_count, handler_number, in_try, at_end, thrown_number, declares, flow, flows, raised_once, raised_flows, single, within_single, by_exits, onward_pc, raise_atoms, raise_atoms_all, store_atoms, call_atoms, made_by_statement, made_by_block, made_by_handlers, argument_constraints, call_flows, call_exits, call_constraints, statement_constraints, block_constraints, handlers_constraints}
 use Rattle.gathering.proofs.Atoms.{Sub, raise-value, atoms-below}
 
 -- ---- what is there
@@ -134,7 +134,7 @@ module _ (program : Program) (bound : ℕ) where
       ranged-append (flow left (exit_unknowns e)) (flows left exit_unknowns rest) (ranged-flow left (exit_unknowns e) f (ok e)) (ranged-flows left exit_unknowns rest f ok)
 
   pub ranged-raised : (q : List NamedAtom) (exit_unknowns : ExitUnknowns) (raised : List ℕ) → AllInRange q → ExitUnknownsInRange exit_unknowns → Ranged (raised_flows q exit_unknowns raised)
-  ranged-raised q exit_unknowns raised f ok = ranged-flows q exit_unknowns (thrown_ends (raised_once raised)) f ok
+  ranged-raised q exit_unknowns raised f ok = ranged-flows q exit_unknowns (thrown_exits (raised_once raised)) f ok
 
   pub ranged-own : (q : List NamedAtom) (exit_unknowns : ExitUnknowns) (first : Exit) (raised : List ℕ) → AllInRange q → ExitUnknownsInRange exit_unknowns → Ranged (flow q (exit_unknowns first) ++ raised_flows q exit_unknowns raised)
   ranged-own q exit_unknowns first raised f ok =
@@ -271,7 +271,7 @@ module _ (program : Program) (bound : ℕ) where
     ranged-target at rule left None test h fits = ranged-nil
     ranged-target at rule left (Some x) test h fits = ranged-rule at rule left (ToVariable f x) h (variable-ok x (scalar-there (variable_type program own x) test fits))
 
-    -- a statement with one demand, and its ends
+    -- a statement with one demand, and its exits
     pub ranged-demanding : (at rule : ℕ) (p : NamedAtom) (left q : Join) (target : Target) (exit_unknowns : ExitUnknowns) (first : Exit) (raised : List ℕ) → InRange p → JoinInRange left → JoinInRange q →
         InRange (renamed Real (label_of program target)) → ExitUnknownsInRange exit_unknowns →
         Ranged (rule_constraint own_scope at rule (p ∷ named_atoms left) target ++ (flow (p ∷ named_atoms q) (exit_unknowns first) ++ raised_flows (p ∷ named_atoms q) exit_unknowns raised))
@@ -326,7 +326,7 @@ module _ (program : Program) (bound : ℕ) where
         let first : List NamedConstraint = rule_constraint own_scope at 6 (pc ∷ []) (ToBegin callee) in
         let second : List NamedConstraint = argument_constraints own_scope at n callee 0 arguments in
         let third : List NamedConstraint = target_constraint own_scope at 6 (pc ∷ named_atoms (x ++ v)) target in
-        let fourth : List NamedConstraint = call_flows program callee n exit_unknowns (call_ends program callee arguments) in
+        let fourth : List NamedConstraint = call_flows program callee n exit_unknowns (call_exits program callee arguments) in
         ranged-append entered (first ++ (second ++ (third ++ fourth)))
         (ranged-inner (p ∷ named_atoms (raise_atoms_all own_scope arguments)) n (pc-atoms p (raise_atoms_all own_scope arguments) ok passed.1) h)
         (ranged-append first (second ++ (third ++ fourth)) (ranged-rule at 6 (pc ∷ []) (ToBegin callee) (alone pc h) tt)
@@ -334,14 +334,14 @@ module _ (program : Program) (bound : ℕ) where
         (ranged-append third fourth
         (ranged-target at 6 (pc ∷ named_atoms (x ++ v)) target (λ base. has_result entry.result (same_base base))
         (pc-atoms pc (x ++ v) h (join-append x v (call_atoms-ok callee Normal) (join-one (label_of program (ToValue callee)) tt))) parts.1)
-        (ranged-call_flows callee n exit_unknowns (call_ends program callee arguments) h fit))))
+        (ranged-call_flows callee n exit_unknowns (call_exits program callee arguments) h fit))))
 
     -- a block of its own
-    pub ranged-by_ends : (ends : List Exit) (p : NamedAtom) (exit_unknowns : ExitUnknowns) (walked : ExitUnknowns → List NamedConstraint) → InRange p → ExitUnknownsInRange exit_unknowns →
-        ((t : ExitUnknowns) → ExitUnknownsInRange t → Ranged (walked t)) → Ranged (by_ends ends p exit_unknowns walked)
-    ranged-by_ends ends p exit_unknowns walked ok fit each =
-        ranged-append (single (one_end ends) p exit_unknowns ends) (walked (within_single (one_end ends) exit_unknowns))
-        (ranged-single (one_end ends) p exit_unknowns ends ok fit) (each (within_single (one_end ends) exit_unknowns) (within-fits (one_end ends) exit_unknowns fit))
+    pub ranged-by_exits : (ends : List Exit) (p : NamedAtom) (exit_unknowns : ExitUnknowns) (walked : ExitUnknowns → List NamedConstraint) → InRange p → ExitUnknownsInRange exit_unknowns →
+        ((t : ExitUnknowns) → ExitUnknownsInRange t → Ranged (walked t)) → Ranged (by_exits ends p exit_unknowns walked)
+    ranged-by_exits ends p exit_unknowns walked ok fit each =
+        ranged-append (single (one_exit ends) p exit_unknowns ends) (walked (within_single (one_exit ends) exit_unknowns))
+        (ranged-single (one_exit ends) p exit_unknowns ends ok fit) (each (within_single (one_exit ends) exit_unknowns) (within-fits (one_exit ends) exit_unknowns fit))
 
     abbrev pub LoopsFit : List ℕ → Type 0
     LoopsFit xs = (l : ℕ) → Contains xs l → l < own.loops
@@ -402,16 +402,16 @@ module _ (program : Program) (bound : ℕ) where
           let made : IsMade n = (omega (arith, h.0), omega (arith, h.1)) in
           let first : List NamedConstraint = inner_constraint (p ∷ named_atoms (value_label own_scope e)) n in
           let second : List NamedConstraint = raised_flows (p ∷ named_atoms (raise_atoms own_scope e)) exit_unknowns (raises e) in
-          let third : List NamedConstraint = by_ends (block_ends program then_block) pc exit_unknowns (λ t. block_constraints own_scope true pc t (suc n) then_block) in
-          let fourth : List NamedConstraint = by_ends (block_ends program else_block) pc exit_unknowns (λ t. block_constraints own_scope true pc t (suc n + made_by_block then_block) else_block) in
+          let third : List NamedConstraint = by_exits (block_exits program then_block) pc exit_unknowns (λ t. block_constraints own_scope true pc t (suc n) then_block) in
+          let fourth : List NamedConstraint = by_exits (block_exits program else_block) pc exit_unknowns (λ t. block_constraints own_scope true pc t (suc n + made_by_block then_block) else_block) in
           ranged-append first (second ++ (third ++ fourth))
           (ranged-inner (p ∷ named_atoms (value_label own_scope e)) n (pc-atoms p (value_label own_scope e) ok v) made)
           (ranged-append second (third ++ fourth)
           (ranged-raised (p ∷ named_atoms (raise_atoms own_scope e)) exit_unknowns (raises e) (pc-atoms p (raise_atoms own_scope e) ok (raise-ok e v)) fit)
           (ranged-append third fourth
-          (ranged-by_ends (block_ends program then_block) pc exit_unknowns (λ t. block_constraints own_scope true pc t (suc n) then_block) made fit
+          (ranged-by_exits (block_exits program then_block) pc exit_unknowns (λ t. block_constraints own_scope true pc t (suc n) then_block) made fit
           (λ t k. ranged-block then_block true pc t (suc n) inner.1 (loops-left (block_loops then_block) (block_loops else_block) loops) made k (omega (arith, h.0), omega (arith, h.1))))
-          (ranged-by_ends (block_ends program else_block) pc exit_unknowns (λ t. block_constraints own_scope true pc t (suc n + made_by_block then_block) else_block) made fit
+          (ranged-by_exits (block_exits program else_block) pc exit_unknowns (λ t. block_constraints own_scope true pc t (suc n + made_by_block then_block) else_block) made fit
           (λ t k. ranged-block else_block true pc t (suc n + made_by_block then_block) outer.1 (loops-right (block_loops then_block) (block_loops else_block) loops) made k (omega (arith, h.0), omega (arith, h.1))))))
       ranged-statement (While at loop e body) p exit_unknowns n fits loops ok fit h =
           let parts = and_parts (has_base program own Boolean e) (block_fits program own body) fits in
@@ -425,7 +425,7 @@ module _ (program : Program) (bound : ℕ) where
           let entry : List NamedConstraint = inner_constraint (loop_atom ∷ named_atoms (value_label own_scope e)) n in
           let out : List NamedConstraint = flow (pc ∷ []) (exit_unknowns Normal) in
           let raising : List NamedConstraint = raised_flows (loop_atom ∷ named_atoms (raise_atoms own_scope e)) exit_unknowns (raises e) in
-          let third : List NamedConstraint = by_ends (block_ends program body) pc (in_loop (suc n) exit_unknowns) (λ t. block_constraints own_scope true pc t (suc (suc n)) body) in
+          let third : List NamedConstraint = by_exits (block_exits program body) pc (in_loop (suc n) exit_unknowns) (λ t. block_constraints own_scope true pc t (suc (suc n)) body) in
           let fourth : List NamedConstraint = rule_constraint own_scope at 8 (inner_atom (suc n) ∷ []) (ToLoop f loop) in
           ranged-append first (entry ++ (out ++ (raising ++ (third ++ fourth)))) (ranged-rule at 8 (p ∷ []) (ToLoop f loop) (alone p ok) turn_ok)
           (ranged-append entry (out ++ (raising ++ (third ++ fourth)))
@@ -434,7 +434,7 @@ module _ (program : Program) (bound : ℕ) where
           (ranged-append raising (third ++ fourth)
           (ranged-raised (loop_atom ∷ named_atoms (raise_atoms own_scope e)) exit_unknowns (raises e) (pc-atoms loop_atom (raise_atoms own_scope e) turn_ok (raise-ok e v)) fit)
           (ranged-append third fourth
-          (ranged-by_ends (block_ends program body) pc (in_loop (suc n) exit_unknowns) (λ t. block_constraints own_scope true pc t (suc (suc n)) body) made (loop-fits (suc n) exit_unknowns back fit)
+          (ranged-by_exits (block_exits program body) pc (in_loop (suc n) exit_unknowns) (λ t. block_constraints own_scope true pc t (suc (suc n)) body) made (loop-fits (suc n) exit_unknowns back fit)
           (λ t k. ranged-block body true pc t (suc (suc n)) parts.1 (λ l i. loops l (Contains-later loop (block_loops body) l i)) made k (omega (arith, h.0), omega (arith, h.1))))
           (ranged-rule at 8 (inner_atom (suc n) ∷ []) (ToLoop f loop) (alone (inner_atom (suc n)) back) turn_ok)))))
       ranged-statement (Leave at exit) p exit_unknowns n fits loops ok fit h = ranged-flow (p ∷ []) (exit_unknowns exit) (alone p ok) (fit exit)
@@ -452,13 +452,13 @@ module _ (program : Program) (bound : ℕ) where
           let least : n ≤ handler_number handlers n x = inside.0 in
           let i : handler_number handlers n x < n + handler_count handlers = inside.1 in
           (omega (arith, h.0, least), omega (arith, h.1, i)) in
-          let first : List NamedConstraint = by_ends (block_ends program block) p (in_try number handlers exit_unknowns) (λ t. block_constraints own_scope true p t (n + handler_count handlers) block) in
+          let first : List NamedConstraint = by_exits (block_exits program block) p (in_try number handlers exit_unknowns) (λ t. block_constraints own_scope true p t (n + handler_count handlers) block) in
           ranged-append first (handlers_constraints own_scope number exit_unknowns ((n + handler_count handlers) + made_by_block block) handlers)
-          (ranged-by_ends (block_ends program block) p (in_try number handlers exit_unknowns) (λ t. block_constraints own_scope true p t (n + handler_count handlers) block) ok (try-fits number handlers exit_unknowns numbers fit)
+          (ranged-by_exits (block_exits program block) p (in_try number handlers exit_unknowns) (λ t. block_constraints own_scope true p t (n + handler_count handlers) block) ok (try-fits number handlers exit_unknowns numbers fit)
           (λ t k. ranged-block block true p t (n + handler_count handlers) parts.0 (loops-left (block_loops block) (handlers_loops handlers) loops) ok k (omega (arith, h.0), omega (arith, h.1))))
           (ranged-handlers handlers number exit_unknowns ((n + handler_count handlers) + made_by_block block) parts.1 (loops-right (block_loops block) (handlers_loops handlers) loops) numbers fit (omega (arith, h.0), omega (arith, h.1)))
       ranged-statement (Nested at block) p exit_unknowns n fits loops ok fit h =
-          ranged-by_ends (block_ends program block) p exit_unknowns (λ t. block_constraints own_scope true p t n block) ok fit
+          ranged-by_exits (block_exits program block) p exit_unknowns (λ t. block_constraints own_scope true p t n block) ok fit
           (λ t k. ranged-block block true p t n fits loops ok k h)
 
       pub ranged-block : (block : Block) (reached : Bool) (p : NamedAtom) (exit_unknowns : ExitUnknowns) (n : ℕ) → block_fits program own block ≡ true → LoopsFit (block_loops block) → InRange p → ExitUnknownsInRange exit_unknowns →
@@ -467,19 +467,19 @@ module _ (program : Program) (bound : ℕ) where
       ranged-block Empty false p exit_unknowns n fits loops ok fit h = ranged-nil
       ranged-block (Then s rest) reached p exit_unknowns n fits loops ok fit h =
           let parts = and_parts (statement_fits program own s) (block_fits program own rest) fits in
-          let ends : List Exit = statement_ends program s in
+          let ends : List Exit = statement_exits program s in
           let made : IsMade n = (omega (arith, h.0), omega (arith, h.1)) in
           let inside : ExitUnknowns = with_normal (Some n) exit_unknowns in
-          let first : List NamedConstraint = single (one_end ends) p (with_normal None exit_unknowns) ends in
-          let second : List NamedConstraint = statement_constraints own_scope p (within_single (one_end ends) inside) (suc n) s in
-          let third : List NamedConstraint = block_constraints own_scope (has_end ends Normal) (onward_pc (one_end ends) p n) exit_unknowns (suc n + made_by_statement s) rest in
+          let first : List NamedConstraint = single (one_exit ends) p (with_normal None exit_unknowns) ends in
+          let second : List NamedConstraint = statement_constraints own_scope p (within_single (one_exit ends) inside) (suc n) s in
+          let third : List NamedConstraint = block_constraints own_scope (has_exit ends Normal) (onward_pc (one_exit ends) p n) exit_unknowns (suc n + made_by_statement s) rest in
           ranged-append first (second ++ third)
-          (ranged-single (one_end ends) p (with_normal None exit_unknowns) ends ok (normal-fits None exit_unknowns (λ k is. let i : None ≡ Some k = is in absurd (cc)) fit))
+          (ranged-single (one_exit ends) p (with_normal None exit_unknowns) ends ok (normal-fits None exit_unknowns (λ k is. let i : None ≡ Some k = is in absurd (cc)) fit))
           (ranged-append second third
-          (ranged-statement s p (within_single (one_end ends) inside) (suc n) parts.0 (loops-left (statement_loops s) (block_loops rest) loops) ok
-          (within-fits (one_end ends) inside (normal-fits (Some n) exit_unknowns (λ k is. same-number n k made is) fit)) (omega (arith, h.0), omega (arith, h.1)))
-          (ranged-block rest (has_end ends Normal) (onward_pc (one_end ends) p n) exit_unknowns (suc n + made_by_statement s) parts.1 (loops-right (statement_loops s) (block_loops rest) loops)
-          (onward-ok (one_end ends) p n ok made) fit (omega (arith, h.0), omega (arith, h.1))))
+          (ranged-statement s p (within_single (one_exit ends) inside) (suc n) parts.0 (loops-left (statement_loops s) (block_loops rest) loops) ok
+          (within-fits (one_exit ends) inside (normal-fits (Some n) exit_unknowns (λ k is. same-number n k made is) fit)) (omega (arith, h.0), omega (arith, h.1)))
+          (ranged-block rest (has_exit ends Normal) (onward_pc (one_exit ends) p n) exit_unknowns (suc n + made_by_statement s) parts.1 (loops-right (statement_loops s) (block_loops rest) loops)
+          (onward-ok (one_exit ends) p n ok made) fit (omega (arith, h.0), omega (arith, h.1))))
 
       pub ranged-handlers : (handlers : Handlers) (number : ℕ → ℕ) (exit_unknowns : ExitUnknowns) (n : ℕ) → handlers_fit program own handlers ≡ true → LoopsFit (handlers_loops handlers) →
           ((x : ℕ) → handles handlers x ≡ true → IsMade (number x)) → ExitUnknownsInRange exit_unknowns → HasRoom n (made_by_handlers handlers) → Ranged (handlers_constraints own_scope number exit_unknowns n handlers)
@@ -489,9 +489,9 @@ module _ (program : Program) (bound : ℕ) where
           let inner = and_parts (is_exception program handled) (block_fits program own body) outer.0 in
           let p : NamedAtom = inner_atom (number handled) in
           let ok : IsMade (number handled) = numbers handled (or_left (handled == handled) (handles rest handled) (eq-eqb handled handled refl)) in
-          let first : List NamedConstraint = by_ends (block_ends program body) p exit_unknowns (λ t. block_constraints own_scope true p t n body) in
+          let first : List NamedConstraint = by_exits (block_exits program body) p exit_unknowns (λ t. block_constraints own_scope true p t n body) in
           ranged-append first (handlers_constraints own_scope number exit_unknowns (n + made_by_block body) rest)
-          (ranged-by_ends (block_ends program body) p exit_unknowns (λ t. block_constraints own_scope true p t n body) ok fit
+          (ranged-by_exits (block_exits program body) p exit_unknowns (λ t. block_constraints own_scope true p t n body) ok fit
           (λ t k. ranged-block body true p t n inner.1 (loops-left (block_loops body) (handlers_loops rest) loops) ok k (omega (arith, h.0), omega (arith, h.1))))
           (ranged-handlers rest number exit_unknowns (n + made_by_block body) outer.1 (loops-right (block_loops body) (handlers_loops rest) loops)
           (λ x i. numbers x (or_right (x == handled) (handles rest x) i)) fit (omega (arith, h.0), omega (arith, h.1)))

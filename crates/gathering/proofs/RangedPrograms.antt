@@ -7,13 +7,13 @@ use Rattle.common.proofs.Elements.{none_in_nil, Contains-cons_cases}
 use Rattle.lattices.specs.Constraints.{renamed}
 use Rattle.resolved.specs.declared.target.Target.TheVariants.{ToBegin, ToEnd, ToThrown}
 use Rattle.resolved.specs.Program.{Program, ProcedureEntry, ThrownEntry, procedure_at}
-use Rattle.resolved.specs.Ends.{block_ends}
+use Rattle.resolved.specs.Exits.{block_exits}
 use Rattle.resolved.specs.Labelled.{Scope, label_of}
 use Rattle.resolved.specs.WellFormed.{counts_from, block_loops, well_formed}
 use Rattle.resolved.proofs.WellFormedParts.{ProcedureParts, procedure_there}
 use Rattle.gathering.specs.Names.{Real, NamedAtom, NamedConstraint, real_unknowns}
-use Rattle.gathering.specs.Walk.{inner_atom, rule_constraint, nowhere, thrown_number, declares, at_end, has_one_end, end_exit_unknowns, inner_block, block_constraints, thrown_constraints, end_constraints, procedure_constraints, made_by_procedure, constraints_from, program_constraints, made_from, unknown_count}
-use Rattle.gathering.proofs.Ranged.{IsMade, HasRoom, Ranged, ExitUnknownsInRange, nowhere-fits, end-fits, alone, ranged-nil, ranged-append, thrown-inside, own_scope, own, ranged-rule, ranged-by_ends, ranged-block}
+use Rattle.gathering.specs.Walk.{inner_atom, rule_constraint, nowhere, thrown_number, declares, at_end, has_one_exit, end_exit_unknowns, inner_block, block_constraints, thrown_constraints, exit_constraints, procedure_constraints, made_by_procedure, constraints_from, program_constraints, made_from, unknown_count}
+use Rattle.gathering.proofs.Ranged.{IsMade, HasRoom, Ranged, ExitUnknownsInRange, nowhere-fits, end-fits, alone, ranged-nil, ranged-append, thrown-inside, own_scope, own, ranged-rule, ranged-by_exits, ranged-block}
 
 -- numbers that count up from n
 counts-below : (xs : List ℕ) (n : ℕ) → counts_from n xs ≡ true → (l : ℕ) → Contains xs l → l < n + length xs
@@ -44,8 +44,8 @@ module _ (program : Program) (bound : ℕ) where
         (alone program bound (inner_atom (number x)) (h x (or_left (x == x) (declares rest x) (eq-eqb x x refl)))) tt)
         (ranged-thrown number rest (λ y k. h y (or_right (y == x) (declares rest y) k)))
 
-    ranged-ends : (n : ℕ) → HasRoom program bound n (suc (length (own program bound f there).throws)) → Ranged program bound (end_constraints (own_scope program bound f there) n)
-    ranged-ends n h = go (has_one_end (own_scope program bound f there))
+    ranged-ends : (n : ℕ) → HasRoom program bound n (suc (length (own program bound f there).throws)) → Ranged program bound (exit_constraints (own_scope program bound f there) n)
+    ranged-ends n h = go (has_one_exit (own_scope program bound f there))
       where
         throws : List ThrownEntry
         throws = (own program bound f there).throws
@@ -66,7 +66,7 @@ module _ (program : Program) (bound : ℕ) where
             (omega (arith, h.0, least), omega (arith, h.1, i))))
 
     end_exit_unknowns-fit : (n : ℕ) → HasRoom program bound n (suc (length (own program bound f there).throws)) → ExitUnknownsInRange program bound (end_exit_unknowns (own_scope program bound f there) n)
-    end_exit_unknowns-fit n h = go (has_one_end (own_scope program bound f there))
+    end_exit_unknowns-fit n h = go (has_one_exit (own_scope program bound f there))
       where
         go : (b : Bool) → ExitUnknownsInRange program bound (if b then nowhere else at_end n (own program bound f there).throws)
         go true = nowhere-fits program bound
@@ -80,8 +80,8 @@ module _ (program : Program) (bound : ℕ) where
         let pc : NamedAtom = renamed Real (label_of program (ToBegin f)) in
         let m : ℕ = suc n + length procedure.throws in
         let ended : HasRoom program bound n (suc (length procedure.throws)) = (omega (arith, h.0), omega (arith, h.1)) in
-        ranged-append program bound (inner_block scope pc (end_exit_unknowns scope n) m procedure.body) (end_constraints scope n)
-        (ranged-by_ends program bound f there (block_ends program procedure.body) pc (end_exit_unknowns scope n) (λ t. block_constraints scope true pc t m procedure.body) tt (end_exit_unknowns-fit n ended)
+        ranged-append program bound (inner_block scope pc (end_exit_unknowns scope n) m procedure.body) (exit_constraints scope n)
+        (ranged-by_exits program bound f there (block_exits program procedure.body) pc (end_exit_unknowns scope n) (λ t. block_constraints scope true pc t m procedure.body) tt (end_exit_unknowns-fit n ended)
         (λ t k. ranged-block program bound f there procedure.body true pc t m parts.body_fits (loops-fit program procedure parts) tt k (omega (arith, h.0), omega (arith, h.1))))
         (ranged-ends n ended)
 

@@ -4,14 +4,14 @@ use Rattle.resolved.specs.declared.statement.Exit.TheVariants.{Normal, Continue,
 use Rattle.resolved.specs.declared.target.Target.TheVariants.{ToLoop}
 use Rattle.resolved.specs.Tree.{Statement, Assign, Clear, Store, Receive, Send, Call, If, While, Leave, ReturnWith, Try, Nested, Block, Empty, Then, Handlers, NoMore, Catch}
 use Rattle.resolved.specs.Program.{Program}
-use Rattle.resolved.specs.Ends.{has_end, handles, statement_ends}
-use Rattle.resolved.specs.Labelled.{Scope, Join, one, label_of, value_label, raise_label, raise_labels, ExitLabels, statement_exits, block_exits}
+use Rattle.resolved.specs.Exits.{has_exit, handles, statement_exits}
+use Rattle.resolved.specs.Labelled.{Scope, Join, one, label_of, value_label, raise_label, raise_labels, ExitLabels, statement_exit_labels, block_exit_labels}
 use Rattle.gathering.specs.Walk.{handler_count, handler_number, made_by_statement, made_by_block}
 
 -- each statement is reached: the one before it can end normally
 abbrev pub Goes : Program → Statement → Block → Type 0
 Goes program statement Empty = Unit {0}
-Goes program statement (Then next rest) = has_end (statement_ends program statement) Normal ≡ true
+Goes program statement (Then next rest) = has_exit (statement_exits program statement) Normal ≡ true
 
 abbrev mutual
   pub Part : Program → Statement → Type 0
@@ -51,11 +51,11 @@ module _ (scope : Scope) (m : ℕ → Join) where
         (m n ≡ branch) × AgreesIn (suc n) branch then_block × AgreesIn (suc n + made_by_block then_block) branch else_block
     Agrees n pc (While at loop e body) =
         let b : Join = (one (label_of scope.program (ToLoop scope.number loop)) ++ raise_label scope e) ++ value_label scope e in
-        (m n ≡ b) × (m (suc n) ≡ (block_exits scope b body Normal ++ block_exits scope b body Continue)) × AgreesIn (suc (suc n)) b body
+        (m n ≡ b) × (m (suc n) ≡ (block_exit_labels scope b body Normal ++ block_exit_labels scope b body Continue)) × AgreesIn (suc (suc n)) b body
     Agrees n pc (Leave at exit) = Unit {0}
     Agrees n pc (ReturnWith at value) = Unit {0}
     Agrees n pc (Try at block handlers) =
-        let x : ExitLabels = block_exits scope pc block in
+        let x : ExitLabels = block_exit_labels scope pc block in
         ((y : ℕ) → handles handlers y ≡ true → m (handler_number handlers n y) ≡ x (Throw y))
         × AgreesIn (n + handler_count handlers) pc block × AgreesBy ((n + handler_count handlers) + made_by_block block) x handlers
     Agrees n pc (Nested at block) = AgreesIn n pc block
@@ -63,8 +63,8 @@ module _ (scope : Scope) (m : ℕ → Join) where
     pub AgreesIn : (n : ℕ) → (pc : Join) → Block → Type 0
     AgreesIn n pc Empty = Unit {0}
     AgreesIn n pc (Then statement rest) =
-        (m n ≡ statement_exits scope pc statement Normal) × Agrees (suc n) pc statement
-        × AgreesIn (suc n + made_by_statement statement) (statement_exits scope pc statement Normal) rest
+        (m n ≡ statement_exit_labels scope pc statement Normal) × Agrees (suc n) pc statement
+        × AgreesIn (suc n + made_by_statement statement) (statement_exit_labels scope pc statement Normal) rest
 
     pub AgreesBy : (n : ℕ) → ExitLabels → Handlers → Type 0
     AgreesBy n x NoMore = Unit {0}

@@ -1,7 +1,7 @@
 -- What is gathered stays gathered where some flows go by further inner unknowns.
 use Rattle.std.proofs.Common.{◌≡◌, refl, sym, ap, ◌∙◌, subst, Bool, true, false, List, [], ◌∷◌, ◌++◌, ⊎_elim}
 use Rattle.std.specs.Prelude.{IsTrue, IsFalse, Contains, Option, if◌then◌else◌}
-use Rattle.std.proofs.lemmas.List.Elements.{Contains-append_cases, Contains-append_left, Contains-append_right}
+use Rattle.std.proofs.lemmas.List.Elements.{Contains-append_cases, Contains-append_left}
 use Rattle.common.proofs.Elements.{Contains-later, Contains-first}
 use Rattle.lattices.specs.Constraints.{Atom, Written, Unknown, Constraint, renamed, is_inner, outer, Feeds, through, LeftStandsFor, StandsFor, OneByOne, IsGathered}
 use Rattle.lattices.specs.Constraints as formal

@@ -4,7 +4,7 @@ use Rattle.std.specs.Prelude.{IsTrue, ◌↔◌, nat_le}
 use Rattle.labels.specs.LabelLattice.{label_lattice}
 use Rattle.labels.proofs.FlowTests.{IsLattice-flows}
 use Rattle.lattices.proofs.Gathered.{fits-alike, fits-down, fits-up}
-use Rattle.resolved.specs.EndFaults.{end_faults}
+use Rattle.resolved.specs.ExitFaults.{exit_faults}
 use Rattle.resolved.specs.Flow.{Gathered}
 use Rattle.resolved.specs.Labelled.{Labelling, FitsDemands, program_demands}
 use Rattle.resolved.specs.Program.{Program}
@@ -31,7 +31,7 @@ constraints-fit program cs are labelling =
           (fits-down (program_demands program) cs are.gathered lattice laws found.labels found.fits),
     )
 
-module _ (program : Program) (formed : IsTrue (well_formed program)) (none : end_faults program ≡ []) (base added : List Gathered) where
+module _ (program : Program) (formed : IsTrue (well_formed program)) (none : exit_faults program ≡ []) (base added : List Gathered) where
   abbrev pub IsReroutedProgram : Type 0
   IsReroutedProgram =
       IsRerouted (λ k. nat_le (real_unknowns program) k) (λ k. nat_le (unknown_count program) k) (gathered_constraints program) base added

@@ -14,12 +14,12 @@ use Rattle.resolved.specs.declared.target.Target.TheVariants.{ToVariable, ToChan
 use Rattle.resolved.specs.Tree.{Expression, Integer, Logical, Read, Element, Unary, Binary, Short, Statement, Assign, Clear, Store, Receive, Send, Call, If, While, Leave, ReturnWith, Try, Nested, Block, Empty, Then, Handlers, NoMore, Catch}
 use Rattle.resolved.specs.Program.{Program, ProcedureEntry, ThrownEntry, procedure_at}
 use Rattle.common.specs.declared.exceptions.TheConstants.{ARITH, BOUNDS, END}
-use Rattle.resolved.specs.Ends.{has_end, one_end, index_can_raise, divisor_can_raise, is_division, index_raises, raises, raises_all, thrown_ends, declared_by, statement_ends, block_ends}
+use Rattle.resolved.specs.Exits.{has_exit, one_exit, index_can_raise, divisor_can_raise, is_division, index_raises, raises, raises_all, thrown_exits, declared_by, statement_exits, block_exits}
 use Rattle.resolved.specs.Labelled.{Scope, here, Join, one, label_of, value_label, label_if, any_of}
 use Rattle.resolved.specs.WellFormed.{expression_nodes, statement_nodes, block_nodes, handlers_nodes, procedure_nodes, program_nodes}
 use Rattle.resolved.proofs.WellFormedParts.{procedure_at_is}
 use Rattle.gathering.specs.Names.{Real, NamedAtom, NamedConstraint, named_atoms, numbered, real_unknowns}
-use Rattle.gathering.specs.Walk.{inner_atom, rule_constraint, target_constraint, ExitUnknowns, with_normal, in_loop, handler_count, handler_number, in_try, thrown_number, flow, flows, raised_once, raised_flows, single, within_single, by_ends, inner_block, onward_pc, raise_atoms, raise_atoms_all, store_atoms, call_atoms, made_by_statement, made_by_block, made_by_procedure, argument_constraints, call_flows, call_ends, call_constraints, statement_constraints, block_constraints, handlers_constraints, has_one_end, end_exit_unknowns, thrown_constraints, end_constraints, procedure_constraints, constraints_from, program_constraints, gathered_constraints}
+use Rattle.gathering.specs.Walk.{inner_atom, rule_constraint, target_constraint, ExitUnknowns, with_normal, in_loop, handler_count, handler_number, in_try, thrown_number, flow, flows, raised_once, raised_flows, single, within_single, by_exits, inner_block, onward_pc, raise_atoms, raise_atoms_all, store_atoms, call_atoms, made_by_statement, made_by_block, made_by_procedure, argument_constraints, call_flows, call_exits, call_constraints, statement_constraints, block_constraints, handlers_constraints, has_one_exit, end_exit_unknowns, thrown_constraints, exit_constraints, procedure_constraints, constraints_from, program_constraints, gathered_constraints}
 use Rattle.gathering.specs.Size.{size_of, declared_at, declared_in, declared_under, declared_at_calls}
 
 size-append : (xs ys : List NamedConstraint) → size_of (xs ++ ys) ≡ size_of xs + size_of ys
@@ -101,8 +101,8 @@ once-length raised = filtered_length (λ x. list_any (λ y. x == y) raised) (ARI
 raised-size : (left : List NamedAtom) (exit_unknowns : ExitUnknowns) (raised : List ℕ) → size_of (raised_flows left exit_unknowns raised) ≤ 2 * suc (length left)
 raised-size left exit_unknowns raised =
     let i : length (raised_once raised) ≤ 2 = once-length raised in
-    let e : length (thrown_ends (raised_once raised)) ≡ length (raised_once raised) = length-map (raised_once raised) (λ exception. Throw exception) in
-    flows-size left exit_unknowns (thrown_ends (raised_once raised)) (omega (arith, i, e))
+    let e : length (thrown_exits (raised_once raised)) ≡ length (raised_once raised) = length-map (raised_once raised) (λ exception. Throw exception) in
+    flows-size left exit_unknowns (thrown_exits (raised_once raised)) (omega (arith, i, e))
 
 own-size : (q : List NamedAtom) (exit_unknowns : ExitUnknowns) (first : Exit) (raised : List ℕ) → size_of (flow q (exit_unknowns first) ++ raised_flows q exit_unknowns raised) ≤ 3 * suc (length q)
 own-size q exit_unknowns first raised =
@@ -117,16 +117,16 @@ single-size true p exit_unknowns [] = omega arith
 single-size true p exit_unknowns (e ∷ rest) = let i : size_of (flow (p ∷ []) (exit_unknowns e)) ≤ suc (suc zero) = flow-size (p ∷ []) (exit_unknowns e) in omega (arith, i)
 
 -- a block of its own, by the size of its statements
-by_ends-size : (ends : List Exit) (p : NamedAtom) (exit_unknowns : ExitUnknowns) (walked : ExitUnknowns → List NamedConstraint) (n : ℕ) → ((t : ExitUnknowns) → size_of (walked t) ≤ n) → size_of (by_ends ends p exit_unknowns walked) ≤ 2 + n
-by_ends-size ends p exit_unknowns walked n each =
-    let t : ExitUnknowns = within_single (one_end ends) exit_unknowns in
-    let i : size_of (single (one_end ends) p exit_unknowns ends) ≤ 2 = single-size (one_end ends) p exit_unknowns ends in
+by_exits-size : (ends : List Exit) (p : NamedAtom) (exit_unknowns : ExitUnknowns) (walked : ExitUnknowns → List NamedConstraint) (n : ℕ) → ((t : ExitUnknowns) → size_of (walked t) ≤ n) → size_of (by_exits ends p exit_unknowns walked) ≤ 2 + n
+by_exits-size ends p exit_unknowns walked n each =
+    let t : ExitUnknowns = within_single (one_exit ends) exit_unknowns in
+    let i : size_of (single (one_exit ends) p exit_unknowns ends) ≤ 2 = single-size (one_exit ends) p exit_unknowns ends in
     let j : size_of (walked t) ≤ n = each t in
-    let s : size_of (single (one_end ends) p exit_unknowns ends ++ walked t) ≡ size_of (single (one_end ends) p exit_unknowns ends) + size_of (walked t) = size-append (single (one_end ends) p exit_unknowns ends) (walked t) in
+    let s : size_of (single (one_exit ends) p exit_unknowns ends ++ walked t) ≡ size_of (single (one_exit ends) p exit_unknowns ends) + size_of (walked t) = size-append (single (one_exit ends) p exit_unknowns ends) (walked t) in
     omega (arith, i, j, s)
 
 module _ (scope : Scope) where
-  -- a statement with one demand, and its ends
+  -- a statement with one demand, and its exits
   demanding-size : (at rule : ℕ) (p : NamedAtom) (left q : Join) (target : Target) (exit_unknowns : ExitUnknowns) (first : Exit) (raised : List ℕ) (n : ℕ) → length left ≤ n → length q ≤ n →
       size_of (rule_constraint scope at rule (p ∷ named_atoms left) target ++ (flow (p ∷ named_atoms q) (exit_unknowns first) ++ raised_flows (p ∷ named_atoms q) exit_unknowns raised)) ≤ 8 + 4 * n
   demanding-size at rule p left q target exit_unknowns first raised n h k =
@@ -201,7 +201,7 @@ module _ (scope : Scope) where
       let x : Join = call_atoms scope.program callee Normal in
       let v : Join = one (label_of scope.program (ToValue callee)) in
       let given : List NamedAtom = inner_atom n ∷ named_atoms (x ++ v) in
-      let ends : List Exit = call_ends scope.program callee arguments in
+      let ends : List Exit = call_exits scope.program callee arguments in
       let second : List NamedConstraint = argument_constraints scope at n callee 0 arguments in
       let third : List NamedConstraint = target_constraint scope at 6 given target in
       let fourth : List NamedConstraint = call_flows scope.program callee n exit_unknowns ends in
@@ -217,8 +217,8 @@ module _ (scope : Scope) where
       let i : length (raised ++ declared_by throws) ≡ length raised + length (declared_by throws) = length-append raised (declared_by throws) in
       let j : length (declared_by throws) ≡ length throws = length-map throws (λ (entry : ThrownEntry). entry.exception) in
       let k : length raised ≤ 2 = once-length (raises_all arguments) in
-      let l : length ends ≡ suc (length (thrown_ends (raised ++ declared_by throws))) = refl in
-      let m : length (thrown_ends (raised ++ declared_by throws)) ≡ length (raised ++ declared_by throws) = length-map (raised ++ declared_by throws) (λ exception. Throw exception) in
+      let l : length ends ≡ suc (length (thrown_exits (raised ++ declared_by throws))) = refl in
+      let m : length (thrown_exits (raised ++ declared_by throws)) ≡ length (raised ++ declared_by throws) = length-map (raised ++ declared_by throws) (λ exception. Throw exception) in
       let s : size_of (second ++ (third ++ fourth)) ≡ size_of second + size_of (third ++ fourth) = size-append second (third ++ fourth) in
       let t : size_of (third ++ fourth) ≡ size_of third + size_of fourth = size-append third fourth in
       omega (arith, a, b, c, d, e, f, g, h, i, j, k, l, m, s, t)
@@ -267,8 +267,8 @@ module _ (scope : Scope) where
     statement-size (If at e then_block else_block) p exit_unknowns n =
         let pc : NamedAtom = inner_atom n in
         let second : List NamedConstraint = raised_flows (p ∷ named_atoms (raise_atoms scope e)) exit_unknowns (raises e) in
-        let third : List NamedConstraint = by_ends (block_ends scope.program then_block) pc exit_unknowns (λ t. block_constraints scope true pc t (suc n) then_block) in
-        let fourth : List NamedConstraint = by_ends (block_ends scope.program else_block) pc exit_unknowns (λ t. block_constraints scope true pc t (suc n + made_by_block then_block) else_block) in
+        let third : List NamedConstraint = by_exits (block_exits scope.program then_block) pc exit_unknowns (λ t. block_constraints scope true pc t (suc n) then_block) in
+        let fourth : List NamedConstraint = by_exits (block_exits scope.program else_block) pc exit_unknowns (λ t. block_constraints scope true pc t (suc n + made_by_block then_block) else_block) in
         let yes : ℕ = 2 + (20 * block_nodes then_block + 3 * declared_in scope.program then_block) in
         let no : ℕ = 2 + (20 * block_nodes else_block + 3 * declared_in scope.program else_block) in
         let a : length (named_atoms (value_label scope e)) ≡ length (value_label scope e) = named-length (value_label scope e) in
@@ -276,8 +276,8 @@ module _ (scope : Scope) where
         let c : length (named_atoms (raise_atoms scope e)) ≡ length (raise_atoms scope e) = named-length (raise_atoms scope e) in
         let d : length (raise_atoms scope e) ≤ expression_nodes e = raise-length scope e in
         let i : size_of second ≤ 2 * suc (suc (length (named_atoms (raise_atoms scope e)))) = raised-size (p ∷ named_atoms (raise_atoms scope e)) exit_unknowns (raises e) in
-        let j : size_of third ≤ 2 + yes = by_ends-size (block_ends scope.program then_block) pc exit_unknowns (λ t. block_constraints scope true pc t (suc n) then_block) yes (λ t. block-size then_block true pc t (suc n)) in
-        let k : size_of fourth ≤ 2 + no = by_ends-size (block_ends scope.program else_block) pc exit_unknowns (λ t. block_constraints scope true pc t (suc n + made_by_block then_block) else_block) no
+        let j : size_of third ≤ 2 + yes = by_exits-size (block_exits scope.program then_block) pc exit_unknowns (λ t. block_constraints scope true pc t (suc n) then_block) yes (λ t. block-size then_block true pc t (suc n)) in
+        let k : size_of fourth ≤ 2 + no = by_exits-size (block_exits scope.program else_block) pc exit_unknowns (λ t. block_constraints scope true pc t (suc n + made_by_block then_block) else_block) no
         (λ t. block-size else_block true pc t (suc n + made_by_block then_block)) in
         let s : size_of (second ++ (third ++ fourth)) ≡ size_of second + size_of (third ++ fourth) = size-append second (third ++ fourth) in
         let t : size_of (third ++ fourth) ≡ size_of third + size_of fourth = size-append third fourth in
@@ -287,7 +287,7 @@ module _ (scope : Scope) where
         let loop_atom : NamedAtom = renamed Real (label_of scope.program (ToLoop scope.number loop)) in
         let out : List NamedConstraint = flow (pc ∷ []) (exit_unknowns Normal) in
         let raising : List NamedConstraint = raised_flows (loop_atom ∷ named_atoms (raise_atoms scope e)) exit_unknowns (raises e) in
-        let third : List NamedConstraint = by_ends (block_ends scope.program body) pc (in_loop (suc n) exit_unknowns) (λ t. block_constraints scope true pc t (suc (suc n)) body) in
+        let third : List NamedConstraint = by_exits (block_exits scope.program body) pc (in_loop (suc n) exit_unknowns) (λ t. block_constraints scope true pc t (suc (suc n)) body) in
         let fourth : List NamedConstraint = rule_constraint scope at 8 (inner_atom (suc n) ∷ []) (ToLoop scope.number loop) in
         let within : ℕ = 2 + (20 * block_nodes body + 3 * declared_in scope.program body) in
         let a : length (named_atoms (value_label scope e)) ≡ length (value_label scope e) = named-length (value_label scope e) in
@@ -296,7 +296,7 @@ module _ (scope : Scope) where
         let d : length (raise_atoms scope e) ≤ expression_nodes e = raise-length scope e in
         let h : size_of out ≤ 2 = flow-size (pc ∷ []) (exit_unknowns Normal) in
         let i : size_of raising ≤ 2 * suc (suc (length (named_atoms (raise_atoms scope e)))) = raised-size (loop_atom ∷ named_atoms (raise_atoms scope e)) exit_unknowns (raises e) in
-        let j : size_of third ≤ 2 + within = by_ends-size (block_ends scope.program body) pc (in_loop (suc n) exit_unknowns) (λ t. block_constraints scope true pc t (suc (suc n)) body) within
+        let j : size_of third ≤ 2 + within = by_exits-size (block_exits scope.program body) pc (in_loop (suc n) exit_unknowns) (λ t. block_constraints scope true pc t (suc (suc n)) body) within
         (λ t. block-size body true pc t (suc (suc n))) in
         let s : size_of (out ++ (raising ++ (third ++ fourth))) ≡ size_of out + size_of (raising ++ (third ++ fourth)) = size-append out (raising ++ (third ++ fourth)) in
         let t : size_of (raising ++ (third ++ fourth)) ≡ size_of raising + size_of (third ++ fourth) = size-append raising (third ++ fourth) in
@@ -311,10 +311,10 @@ module _ (scope : Scope) where
     statement-size (Try at block handlers) p exit_unknowns n =
         let number : ℕ → ℕ = λ x. handler_number handlers n x in
         let inside : ExitUnknowns = in_try number handlers exit_unknowns in
-        let first : List NamedConstraint = by_ends (block_ends scope.program block) p inside (λ t. block_constraints scope true p t (n + handler_count handlers) block) in
+        let first : List NamedConstraint = by_exits (block_exits scope.program block) p inside (λ t. block_constraints scope true p t (n + handler_count handlers) block) in
         let second : List NamedConstraint = handlers_constraints scope number exit_unknowns ((n + handler_count handlers) + made_by_block block) handlers in
         let within : ℕ = 2 + (20 * block_nodes block + 3 * declared_in scope.program block) in
-        let i : size_of first ≤ 2 + within = by_ends-size (block_ends scope.program block) p inside (λ t. block_constraints scope true p t (n + handler_count handlers) block) within
+        let i : size_of first ≤ 2 + within = by_exits-size (block_exits scope.program block) p inside (λ t. block_constraints scope true p t (n + handler_count handlers) block) within
         (λ t. block-size block true p t (n + handler_count handlers)) in
         let j : size_of second ≤ 20 * handlers_nodes handlers + 3 * declared_under scope.program handlers = handlers-size handlers number exit_unknowns ((n + handler_count handlers) + made_by_block block) in
         let s : size_of (first ++ second) ≡ size_of first + size_of second = size-append first second in
@@ -322,22 +322,22 @@ module _ (scope : Scope) where
     statement-size (Nested at block) p exit_unknowns n =
         let within : ℕ = 2 + (20 * block_nodes block + 3 * declared_in scope.program block) in
         let i : size_of (statement_constraints scope p exit_unknowns n (Nested at block)) ≤ 2 + within =
-        by_ends-size (block_ends scope.program block) p exit_unknowns (λ t. block_constraints scope true p t n block) within (λ t. block-size block true p t n) in
+        by_exits-size (block_exits scope.program block) p exit_unknowns (λ t. block_constraints scope true p t n block) within (λ t. block-size block true p t n) in
         omega (arith, i)
 
     pub block-size : (block : Block) (reached : Bool) (p : NamedAtom) (exit_unknowns : ExitUnknowns) (n : ℕ) → size_of (block_constraints scope reached p exit_unknowns n block) ≤ 2 + (20 * block_nodes block + 3 * declared_in scope.program block)
     block-size Empty true p exit_unknowns n = let i : size_of (flow (p ∷ []) (exit_unknowns Normal)) ≤ 2 = flow-size (p ∷ []) (exit_unknowns Normal) in omega (arith, i)
     block-size Empty false p exit_unknowns n = omega arith
     block-size (Then s rest) reached p exit_unknowns n =
-        let ends : List Exit = statement_ends scope.program s in
-        let within : ExitUnknowns = within_single (one_end ends) (with_normal (Some n) exit_unknowns) in
-        let pc : NamedAtom = onward_pc (one_end ends) p n in
-        let first : List NamedConstraint = single (one_end ends) p (with_normal None exit_unknowns) ends in
+        let ends : List Exit = statement_exits scope.program s in
+        let within : ExitUnknowns = within_single (one_exit ends) (with_normal (Some n) exit_unknowns) in
+        let pc : NamedAtom = onward_pc (one_exit ends) p n in
+        let first : List NamedConstraint = single (one_exit ends) p (with_normal None exit_unknowns) ends in
         let second : List NamedConstraint = statement_constraints scope p within (suc n) s in
-        let third : List NamedConstraint = block_constraints scope (has_end ends Normal) pc exit_unknowns (suc n + made_by_statement s) rest in
-        let i : size_of first ≤ 2 = single-size (one_end ends) p (with_normal None exit_unknowns) ends in
+        let third : List NamedConstraint = block_constraints scope (has_exit ends Normal) pc exit_unknowns (suc n + made_by_statement s) rest in
+        let i : size_of first ≤ 2 = single-size (one_exit ends) p (with_normal None exit_unknowns) ends in
         let j : size_of second + 2 ≤ 20 * statement_nodes s + 3 * declared_at scope.program s = statement-size s p within (suc n) in
-        let k : size_of third ≤ 2 + (20 * block_nodes rest + 3 * declared_in scope.program rest) = block-size rest (has_end ends Normal) pc exit_unknowns (suc n + made_by_statement s) in
+        let k : size_of third ≤ 2 + (20 * block_nodes rest + 3 * declared_in scope.program rest) = block-size rest (has_exit ends Normal) pc exit_unknowns (suc n + made_by_statement s) in
         let t : size_of (first ++ (second ++ third)) ≡ size_of first + size_of (second ++ third) = size-append first (second ++ third) in
         let u : size_of (second ++ third) ≡ size_of second + size_of third = size-append second third in
         omega (arith, i, j, k, t, u)
@@ -346,10 +346,10 @@ module _ (scope : Scope) where
     handlers-size NoMore number exit_unknowns n = omega arith
     handlers-size (Catch at handled body rest) number exit_unknowns n =
         let pc : NamedAtom = inner_atom (number handled) in
-        let first : List NamedConstraint = by_ends (block_ends scope.program body) pc exit_unknowns (λ t. block_constraints scope true pc t n body) in
+        let first : List NamedConstraint = by_exits (block_exits scope.program body) pc exit_unknowns (λ t. block_constraints scope true pc t n body) in
         let second : List NamedConstraint = handlers_constraints scope number exit_unknowns (n + made_by_block body) rest in
         let within : ℕ = 2 + (20 * block_nodes body + 3 * declared_in scope.program body) in
-        let i : size_of first ≤ 2 + within = by_ends-size (block_ends scope.program body) pc exit_unknowns (λ t. block_constraints scope true pc t n body) within (λ t. block-size body true pc t n) in
+        let i : size_of first ≤ 2 + within = by_exits-size (block_exits scope.program body) pc exit_unknowns (λ t. block_constraints scope true pc t n body) within (λ t. block-size body true pc t n) in
         let j : size_of second ≤ 20 * handlers_nodes rest + 3 * declared_under scope.program rest = handlers-size rest number exit_unknowns (n + made_by_block body) in
         let s : size_of (first ++ second) ≡ size_of first + size_of second = size-append first second in
         omega (arith, i, j, s)
@@ -359,8 +359,8 @@ module _ (scope : Scope) where
   thrown-size number [] = omega arith
   thrown-size number (entry ∷ rest) = let i : size_of (thrown_constraints scope number rest) ≡ 2 * length rest = thrown-size number rest in omega (arith, i)
 
-  end-size : (n : ℕ) → size_of (end_constraints scope n) ≤ 2 + 2 * length (here scope).throws
-  end-size n = go (has_one_end scope)
+  end-size : (n : ℕ) → size_of (exit_constraints scope n) ≤ 2 + 2 * length (here scope).throws
+  end-size n = go (has_one_exit scope)
     where
       rest : List NamedConstraint
       rest = thrown_constraints scope (λ x. thrown_number (here scope).throws (suc n) x) (here scope).throws
@@ -376,9 +376,9 @@ module _ (scope : Scope) where
       let m : ℕ = suc n + length (here scope).throws in
       let first : List NamedConstraint = inner_block scope pc (end_exit_unknowns scope n) m body in
       let within : ℕ = 2 + (20 * block_nodes body + 3 * declared_in scope.program body) in
-      let i : size_of first ≤ 2 + within = by_ends-size (block_ends scope.program body) pc (end_exit_unknowns scope n) (λ t. block_constraints scope true pc t m body) within (λ t. block-size body true pc t m) in
-      let j : size_of (end_constraints scope n) ≤ 2 + 2 * length (here scope).throws = end-size n in
-      let s : size_of (first ++ end_constraints scope n) ≡ size_of first + size_of (end_constraints scope n) = size-append first (end_constraints scope n) in
+      let i : size_of first ≤ 2 + within = by_exits-size (block_exits scope.program body) pc (end_exit_unknowns scope n) (λ t. block_constraints scope true pc t m body) within (λ t. block-size body true pc t m) in
+      let j : size_of (exit_constraints scope n) ≤ 2 + 2 * length (here scope).throws = end-size n in
+      let s : size_of (first ++ exit_constraints scope n) ≡ size_of first + size_of (exit_constraints scope n) = size-append first (exit_constraints scope n) in
       omega (arith, i, j, s)
 
 -- ---- programs

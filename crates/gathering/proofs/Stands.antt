@@ -14,11 +14,11 @@ use Rattle.resolved.specs.declared.target.Target.TheVariants.{ToVariable, ToChan
 use Rattle.resolved.specs.Tree.{Expression, Statement, Assign, Clear, Store, Receive, Send, Call, If, While, Leave, ReturnWith, Try, Nested, Block, Empty, Then, Handlers, NoMore, Catch}
 use Rattle.resolved.specs.Program.{Program}
 use Rattle.common.specs.declared.exceptions.TheConstants.{END}
-use Rattle.resolved.specs.Ends.{has_end, one_end, index_raises, raises, thrown_ends, handles, statement_ends, block_ends}
-use Rattle.resolved.specs.Labelled.{Scope, Join, LabelAtom, one, label_of, value_label, raise_label, raise_labels, call_exits, ExitLabels, statement_rule, block_rule, statement_exits, block_exits, argument_demands, Demand, demand, target_demand, statement_demands, block_demands, handlers_demands}
+use Rattle.resolved.specs.Exits.{has_exit, one_exit, index_raises, raises, thrown_exits, handles, statement_exits, block_exits}
+use Rattle.resolved.specs.Labelled.{Scope, Join, LabelAtom, one, label_of, value_label, raise_label, raise_labels, call_exit_labels, ExitLabels, statement_rule, block_rule, statement_exit_labels, block_exit_labels, argument_demands, Demand, demand, target_demand, statement_demands, block_demands, handlers_demands}
 use Rattle.gathering.specs.Names.{Real, Inner, is_inner_name, NamedAtom, NamedConstraint, named_atoms}
-use Rattle.gathering.specs.Walk.{inner_atom, rule_constraint, target_constraint, inner_constraint, ExitUnknowns, with_normal, in_loop, handler_count, handler_number, in_try, flow, flows, raised_once, raised_flows, single, within_single, onward_pc, raise_atoms, raise_atoms_all, store_atoms, call_atoms, made_by_statement, made_by_block, argument_constraints, call_flows, call_ends, call_constraints, statement_constraints, block_constraints, handlers_constraints}
-use Rattle.gathering.proofs.Ends.{in_try-taken}
+use Rattle.gathering.specs.Walk.{inner_atom, rule_constraint, target_constraint, inner_constraint, ExitUnknowns, with_normal, in_loop, handler_count, handler_number, in_try, flow, flows, raised_once, raised_flows, single, within_single, onward_pc, raise_atoms, raise_atoms_all, store_atoms, call_atoms, made_by_statement, made_by_block, argument_constraints, call_flows, call_exits, call_constraints, statement_constraints, block_constraints, handlers_constraints}
+use Rattle.gathering.proofs.Exits.{in_try-taken}
 use Rattle.gathering.proofs.Atoms.{Alike, alike-itself, alike-value, store_label, alike-stored, alike-three}
 use Rattle.gathering.proofs.Reached.{Goes, Part, PartIn, PartBy, Agrees, AgreesIn, AgreesBy}
 use Rattle.gathering.proofs.Closed.{atoms_of, Below, closed_by, Closed, pc-below, below-inner, onward-below}
@@ -62,7 +62,7 @@ module _ (cs : List NamedConstraint) where
   one-single true p exit_unknowns (e ∷ rest) = one-flow (p ∷ []) (exit_unknowns e)
 
   pub one-raised : (q : List NamedAtom) (exit_unknowns : ExitUnknowns) (raised : List ℕ) → One [] (raised_flows q exit_unknowns raised)
-  one-raised q exit_unknowns raised = one-flows q exit_unknowns (thrown_ends (raised_once raised))
+  one-raised q exit_unknowns raised = one-flows q exit_unknowns (thrown_exits (raised_once raised))
 
   pub one-own : (q : List NamedAtom) (exit_unknowns : ExitUnknowns) (first : Exit) (raised : List ℕ) → One [] (flow q (exit_unknowns first) ++ raised_flows q exit_unknowns raised)
   one-own q exit_unknowns first raised = one-append [] [] (flow q (exit_unknowns first)) (raised_flows q exit_unknowns raised) (one-flow q (exit_unknowns first)) (one-raised q exit_unknowns raised)
@@ -129,7 +129,7 @@ module _ (cs : List NamedConstraint) where
         (one-end scope at 6 (inner_atom own) j v (j ++ v) (ToParameter callee i) below fed (alike-itself (j ++ v)))
         (one-arguments scope at own j callee (suc i) rest below fed)
 
-    -- a statement with one demand, and its ends
+    -- a statement with one demand, and its exits
     pub one-demanding : (scope : Scope) (at rule : ℕ) (p : NamedAtom) (pc x j : Join) (target : Target) (xs : List NamedConstraint) → Below m (p ∷ []) pc → Fed cs (p ∷ []) pc → Alike (pc ++ x) j →
         One [] xs → One (demand scope.program at rule j target) (rule_constraint scope at rule (p ∷ named_atoms x) target ++ xs)
     one-demanding scope at rule p pc x j target xs below fed alike rest =
@@ -145,12 +145,12 @@ module _ (cs : List NamedConstraint) where
         let own_below : Below m (own ∷ []) j = below-inner m n j is in
         let x : Join = call_atoms scope.program callee Normal in
         let v : Join = one (label_of scope.program (ToValue callee)) in
-        let whole : Join = call_exits scope.program callee j Normal ++ v in
+        let whole : Join = call_exit_labels scope.program callee j Normal ++ v in
         let entry : List NamedConstraint = inner_constraint (p ∷ named_atoms (raise_atoms_all scope arguments)) n in
         let first : List NamedConstraint = rule_constraint scope at 6 (own ∷ []) (ToBegin callee) in
         let second : List NamedConstraint = argument_constraints scope at n callee 0 arguments in
         let third : List NamedConstraint = target_constraint scope at 6 (own ∷ named_atoms (x ++ v)) target in
-        let fourth : List NamedConstraint = call_flows scope.program callee n exit_unknowns (call_ends scope.program callee arguments) in
+        let fourth : List NamedConstraint = call_flows scope.program callee n exit_unknowns (call_exits scope.program callee arguments) in
         let begun : List Demand = demand scope.program at 6 j (ToBegin callee) in
         let passed : List Demand = argument_demands scope at j callee 0 arguments in
         let given : List Demand = target_demand scope at 6 whole target in
@@ -159,10 +159,10 @@ module _ (cs : List NamedConstraint) where
         (one-append passed given second (third ++ fourth) (one-arguments scope at n j callee 0 arguments own_below own_fed)
         (one-target_more scope at 6 (own ∷ named_atoms (x ++ v)) whole target fourth
         (pc-below m own j (x ++ v) whole own_below (alike-three j x v).0) (pc-fed cs own j (x ++ v) whole own_fed (alike-three j x v).1)
-        (one-call_flows scope.program callee n exit_unknowns (call_ends scope.program callee arguments)))))
+        (one-call_flows scope.program callee n exit_unknowns (call_exits scope.program callee arguments)))))
 
     module _ (scope : Scope) where
-      one-unreached : (s : Statement) (rest : Block) (p : NamedAtom) (pc : Join) (exit_unknowns : ExitUnknowns) (n : ℕ) → Goes scope.program s rest → has_end (statement_ends scope.program s) Normal ≡ false →
+      one-unreached : (s : Statement) (rest : Block) (p : NamedAtom) (pc : Join) (exit_unknowns : ExitUnknowns) (n : ℕ) → Goes scope.program s rest → has_exit (statement_exits scope.program s) Normal ≡ false →
           One (block_demands scope pc rest) (block_constraints scope false p exit_unknowns n rest)
       one-unreached s Empty p pc exit_unknowns n goes e = tt
       one-unreached s (Then next rest) p pc exit_unknowns n goes e = let i : true ≡ false = sym goes ∙ e in absurd (cc)
@@ -203,15 +203,15 @@ module _ (cs : List NamedConstraint) where
             let r : Join = raise_label scope e in
             let v : Join = value_label scope e in
             let branch : Join = (pc ++ r) ++ v in
-            let yes_ends : List Exit = block_ends scope.program then_block in
-            let no_ends : List Exit = block_ends scope.program else_block in
+            let yes_exits : List Exit = block_exits scope.program then_block in
+            let no_exits : List Exit = block_exits scope.program else_block in
             let q : List NamedAtom = p ∷ named_atoms (raise_atoms scope e) in
             let first : List NamedConstraint = inner_constraint (p ∷ named_atoms v) n in
             let second : List NamedConstraint = raised_flows q exit_unknowns (raises e) in
-            let yes_one : List NamedConstraint = single (one_end yes_ends) (inner_atom n) exit_unknowns yes_ends in
-            let yes_walk : List NamedConstraint = block_constraints scope true (inner_atom n) (within_single (one_end yes_ends) exit_unknowns) (suc n) then_block in
-            let no_one : List NamedConstraint = single (one_end no_ends) (inner_atom n) exit_unknowns no_ends in
-            let no_walk : List NamedConstraint = block_constraints scope true (inner_atom n) (within_single (one_end no_ends) exit_unknowns) (suc n + made_by_block then_block) else_block in
+            let yes_one : List NamedConstraint = single (one_exit yes_exits) (inner_atom n) exit_unknowns yes_exits in
+            let yes_walk : List NamedConstraint = block_constraints scope true (inner_atom n) (within_single (one_exit yes_exits) exit_unknowns) (suc n) then_block in
+            let no_one : List NamedConstraint = single (one_exit no_exits) (inner_atom n) exit_unknowns no_exits in
+            let no_walk : List NamedConstraint = block_constraints scope true (inner_atom n) (within_single (one_exit no_exits) exit_unknowns) (suc n + made_by_block then_block) else_block in
             let third : List NamedConstraint = yes_one ++ yes_walk in
             let fourth : List NamedConstraint = no_one ++ no_walk in
             let after : Within cs (second ++ (third ++ fourth)) = within-right cs first (second ++ (third ++ fourth)) within in
@@ -224,11 +224,11 @@ module _ (cs : List NamedConstraint) where
             one-append [] (yes_demands ++ no_demands) first (second ++ (third ++ fourth)) tt
             (one-append [] (yes_demands ++ no_demands) second (third ++ fourth) (one-raised q exit_unknowns (raises e))
             (one-append yes_demands no_demands third fourth
-            (one-append [] yes_demands yes_one yes_walk (one-single (one_end yes_ends) (inner_atom n) exit_unknowns yes_ends)
-            (one-statements then_block true (inner_atom n) branch (within_single (one_end yes_ends) exit_unknowns) (suc n) part.0 agrees.1 b_below b_fed
+            (one-append [] yes_demands yes_one yes_walk (one-single (one_exit yes_exits) (inner_atom n) exit_unknowns yes_exits)
+            (one-statements then_block true (inner_atom n) branch (within_single (one_exit yes_exits) exit_unknowns) (suc n) part.0 agrees.1 b_below b_fed
             (within-right cs yes_one yes_walk (within-left cs third fourth branches))))
-            (one-append [] no_demands no_one no_walk (one-single (one_end no_ends) (inner_atom n) exit_unknowns no_ends)
-            (one-statements else_block true (inner_atom n) branch (within_single (one_end no_ends) exit_unknowns) (suc n + made_by_block then_block) part.1 agrees.2 b_below b_fed
+            (one-append [] no_demands no_one no_walk (one-single (one_exit no_exits) (inner_atom n) exit_unknowns no_exits)
+            (one-statements else_block true (inner_atom n) branch (within_single (one_exit no_exits) exit_unknowns) (suc n + made_by_block then_block) part.1 agrees.2 b_below b_fed
             (within-right cs no_one no_walk (within-right cs third fourth branches))))))
         one-statement (While at loop e body) p pc exit_unknowns n part agrees below fed within =
             let l : Join = one (label_of scope.program (ToLoop scope.number loop)) in
@@ -237,14 +237,14 @@ module _ (cs : List NamedConstraint) where
             let v : Join = value_label scope e in
             let q : List NamedAtom = loop_atom ∷ named_atoms (raise_atoms scope e) in
             let b : Join = (l ++ r) ++ v in
-            let ends : List Exit = block_ends scope.program body in
-            let x : ExitLabels = block_exits scope b body in
+            let ends : List Exit = block_exits scope.program body in
+            let x : ExitLabels = block_exit_labels scope b body in
             let first : List NamedConstraint = rule_constraint scope at 8 (p ∷ []) (ToLoop scope.number loop) in
             let entry : List NamedConstraint = inner_constraint (loop_atom ∷ named_atoms v) n in
             let out : List NamedConstraint = flow (inner_atom n ∷ []) (exit_unknowns Normal) in
             let raising : List NamedConstraint = raised_flows q exit_unknowns (raises e) in
-            let own : List NamedConstraint = single (one_end ends) (inner_atom n) (in_loop (suc n) exit_unknowns) ends in
-            let walked : List NamedConstraint = block_constraints scope true (inner_atom n) (within_single (one_end ends) (in_loop (suc n) exit_unknowns)) (suc (suc n)) body in
+            let own : List NamedConstraint = single (one_exit ends) (inner_atom n) (in_loop (suc n) exit_unknowns) ends in
+            let walked : List NamedConstraint = block_constraints scope true (inner_atom n) (within_single (one_exit ends) (in_loop (suc n) exit_unknowns)) (suc (suc n)) body in
             let third : List NamedConstraint = own ++ walked in
             let fourth : List NamedConstraint = rule_constraint scope at 8 (inner_atom (suc n) ∷ []) (ToLoop scope.number loop) in
             let after : Within cs (entry ++ (out ++ (raising ++ (third ++ fourth)))) = within-right cs first (entry ++ (out ++ (raising ++ (third ++ fourth)))) within in
@@ -265,8 +265,8 @@ module _ (cs : List NamedConstraint) where
             (one-append [] (within_body ++ last) out (raising ++ (third ++ fourth)) (one-flow (inner_atom n ∷ []) (exit_unknowns Normal))
             (one-append [] (within_body ++ last) raising (third ++ fourth) (one-raised q exit_unknowns (raises e))
             (one-append within_body last third fourth
-            (one-append [] within_body own walked (one-single (one_end ends) (inner_atom n) (in_loop (suc n) exit_unknowns) ends)
-            (one-statements body true (inner_atom n) b (within_single (one_end ends) (in_loop (suc n) exit_unknowns)) (suc (suc n)) part agrees.2 b_below b_fed (within-right cs own walked in_third)))
+            (one-append [] within_body own walked (one-single (one_exit ends) (inner_atom n) (in_loop (suc n) exit_unknowns) ends)
+            (one-statements body true (inner_atom n) b (within_single (one_exit ends) (in_loop (suc n) exit_unknowns)) (suc (suc n)) part agrees.2 b_below b_fed (within-right cs own walked in_third)))
             (one-rule scope at 8 (inner_atom (suc n) ∷ []) (x Normal ++ x Continue) (ToLoop scope.number loop) (below-inner m (suc n) (x Normal ++ x Continue) agrees.1) back)))))
         one-statement (Leave at exit) p pc exit_unknowns n part agrees below fed within = one-flow (p ∷ []) (exit_unknowns exit)
         one-statement (ReturnWith at (Some e)) p pc exit_unknowns n part agrees below fed within =
@@ -275,50 +275,50 @@ module _ (cs : List NamedConstraint) where
             (one-own (p ∷ named_atoms (raise_atoms scope e)) exit_unknowns Return (raises e))
         one-statement (ReturnWith at None) p pc exit_unknowns n part agrees below fed within = one-flow (p ∷ []) (exit_unknowns Return)
         one-statement (Try at block handlers) p pc exit_unknowns n part agrees below fed within =
-            let ends : List Exit = block_ends scope.program block in
-            let x : ExitLabels = block_exits scope pc block in
+            let ends : List Exit = block_exits scope.program block in
+            let x : ExitLabels = block_exit_labels scope pc block in
             let number : ℕ → ℕ = λ z. handler_number handlers n z in
             let inside : ExitUnknowns = in_try number handlers exit_unknowns in
-            let own : List NamedConstraint = single (one_end ends) p inside ends in
-            let walked : List NamedConstraint = block_constraints scope true p (within_single (one_end ends) inside) (n + handler_count handlers) block in
+            let own : List NamedConstraint = single (one_exit ends) p inside ends in
+            let walked : List NamedConstraint = block_constraints scope true p (within_single (one_exit ends) inside) (n + handler_count handlers) block in
             let second : List NamedConstraint = handlers_constraints scope number exit_unknowns ((n + handler_count handlers) + made_by_block block) handlers in
             let in_first : Within cs (own ++ walked) = within-left cs (own ++ walked) second within in
             let gives : GivesAll cs inside x = fed-block cs ends p inside pc (block_rule scope pc block) (λ t. block_constraints scope true p t (n + handler_count handlers) block)
             in_first fed (λ t w. fed-statements cs scope block true p pc t (n + handler_count handlers) part.0 (λ i. absurd (cc)) fed w) in
             one-append (block_demands scope pc block) (handlers_demands scope x handlers) (own ++ walked) second
-            (one-append [] (block_demands scope pc block) own walked (one-single (one_end ends) p inside ends)
-            (one-statements block true p pc (within_single (one_end ends) inside) (n + handler_count handlers) part.0 agrees.1 below fed (within-right cs own walked in_first)))
+            (one-append [] (block_demands scope pc block) own walked (one-single (one_exit ends) p inside ends)
+            (one-statements block true p pc (within_single (one_exit ends) inside) (n + handler_count handlers) part.0 agrees.1 below fed (within-right cs own walked in_first)))
             (one-handlers handlers number x exit_unknowns ((n + handler_count handlers) + made_by_block block) part.1 agrees.2 agrees.0
             (λ z h. gives (Throw z) (number z) (in_try-taken number handlers exit_unknowns z h)) (within-right cs (own ++ walked) second within))
         one-statement (Nested at block) p pc exit_unknowns n part agrees below fed within =
-            let ends : List Exit = block_ends scope.program block in
-            let own : List NamedConstraint = single (one_end ends) p exit_unknowns ends in
-            let walked : List NamedConstraint = block_constraints scope true p (within_single (one_end ends) exit_unknowns) n block in
-            one-append [] (block_demands scope pc block) own walked (one-single (one_end ends) p exit_unknowns ends)
-            (one-statements block true p pc (within_single (one_end ends) exit_unknowns) n part agrees below fed (within-right cs own walked within))
+            let ends : List Exit = block_exits scope.program block in
+            let own : List NamedConstraint = single (one_exit ends) p exit_unknowns ends in
+            let walked : List NamedConstraint = block_constraints scope true p (within_single (one_exit ends) exit_unknowns) n block in
+            one-append [] (block_demands scope pc block) own walked (one-single (one_exit ends) p exit_unknowns ends)
+            (one-statements block true p pc (within_single (one_exit ends) exit_unknowns) n part agrees below fed (within-right cs own walked within))
 
         pub one-statements : (block : Block) (reached : Bool) (p : NamedAtom) (pc : Join) (exit_unknowns : ExitUnknowns) (n : ℕ) → PartIn scope.program block → AgreesIn scope m n pc block → Below m (p ∷ []) pc → Fed cs (p ∷ []) pc →
             Within cs (block_constraints scope reached p exit_unknowns n block) → One (block_demands scope pc block) (block_constraints scope reached p exit_unknowns n block)
         one-statements Empty true p pc exit_unknowns n part agrees below fed within = one-flow (p ∷ []) (exit_unknowns Normal)
         one-statements Empty false p pc exit_unknowns n part agrees below fed within = tt
         one-statements (Then s rest) reached p pc exit_unknowns n part agrees below fed within =
-            let ends : List Exit = statement_ends scope.program s in
+            let ends : List Exit = statement_exits scope.program s in
             let exits : ExitLabels = statement_rule scope pc s in
-            let x : ExitLabels = statement_exits scope pc s in
-            let t : ExitUnknowns = within_single (one_end ends) (with_normal (Some n) exit_unknowns) in
-            let named_pc : NamedAtom = onward_pc (one_end ends) p n in
-            let first : List NamedConstraint = single (one_end ends) p (with_normal None exit_unknowns) ends in
+            let x : ExitLabels = statement_exit_labels scope pc s in
+            let t : ExitUnknowns = within_single (one_exit ends) (with_normal (Some n) exit_unknowns) in
+            let named_pc : NamedAtom = onward_pc (one_exit ends) p n in
+            let first : List NamedConstraint = single (one_exit ends) p (with_normal None exit_unknowns) ends in
             let second : List NamedConstraint = statement_constraints scope p t (suc n) s in
-            let third : List NamedConstraint = block_constraints scope (has_end ends Normal) named_pc exit_unknowns (suc n + made_by_statement s) rest in
+            let third : List NamedConstraint = block_constraints scope (has_exit ends Normal) named_pc exit_unknowns (suc n + made_by_statement s) rest in
             let after : Within cs (second ++ third) = within-right cs first (second ++ third) within in
             let in_second : Within cs second = within-left cs second third after in
-            one-append [] (statement_demands scope pc s ++ block_demands scope (x Normal) rest) first (second ++ third) (one-single (one_end ends) p (with_normal None exit_unknowns) ends)
+            one-append [] (statement_demands scope pc s ++ block_demands scope (x Normal) rest) first (second ++ third) (one-single (one_exit ends) p (with_normal None exit_unknowns) ends)
             (one-append (statement_demands scope pc s) (block_demands scope (x Normal) rest) second third
             (one-statement s p pc t (suc n) part.0 agrees.1 below fed in_second)
-            (by_test (has_end ends Normal)
-            (λ h. one-statements rest (has_end ends Normal) named_pc (x Normal) exit_unknowns (suc n + made_by_statement s) part.2 agrees.2
-            (onward-below m (one_end ends) ends p n pc exits h refl agrees.0 below)
-            (fed-onward cs (has_end ends Normal) (one_end ends) ends p n exit_unknowns pc exits refl refl fed (fed-statement cs scope s p pc t (suc n) part.0 fed in_second))
+            (by_test (has_exit ends Normal)
+            (λ h. one-statements rest (has_exit ends Normal) named_pc (x Normal) exit_unknowns (suc n + made_by_statement s) part.2 agrees.2
+            (onward-below m (one_exit ends) ends p n pc exits h refl agrees.0 below)
+            (fed-onward cs (has_exit ends Normal) (one_exit ends) ends p n exit_unknowns pc exits refl refl fed (fed-statement cs scope s p pc t (suc n) part.0 fed in_second))
             (within-right cs second third after))
             (λ h. subst (λ b. One (block_demands scope (x Normal) rest) (block_constraints scope b named_pc exit_unknowns (suc n + made_by_statement s) rest)) (sym h)
             (one-unreached s rest named_pc (x Normal) exit_unknowns (suc n + made_by_statement s) part.1 h))))
@@ -328,16 +328,16 @@ module _ (cs : List NamedConstraint) where
             Within cs (handlers_constraints scope number exit_unknowns n handlers) → One (handlers_demands scope x handlers) (handlers_constraints scope number exit_unknowns n handlers)
         one-handlers NoMore number x exit_unknowns n part agrees named fed within = tt
         one-handlers (Catch at handled body rest) number x exit_unknowns n part agrees named fed within =
-            let ends : List Exit = block_ends scope.program body in
+            let ends : List Exit = block_exits scope.program body in
             let pc : Join = x (Throw handled) in
             let p : NamedAtom = inner_atom (number handled) in
-            let own : List NamedConstraint = single (one_end ends) p exit_unknowns ends in
-            let walked : List NamedConstraint = block_constraints scope true p (within_single (one_end ends) exit_unknowns) n body in
+            let own : List NamedConstraint = single (one_exit ends) p exit_unknowns ends in
+            let walked : List NamedConstraint = block_constraints scope true p (within_single (one_exit ends) exit_unknowns) n body in
             let second : List NamedConstraint = handlers_constraints scope number exit_unknowns (n + made_by_block body) rest in
             let there : handles (Catch at handled body rest) handled ≡ true = or_left (handled == handled) (handles rest handled) (eq-eqb handled handled refl) in
             one-append (block_demands scope pc body) (handlers_demands scope x rest) (own ++ walked) second
-            (one-append [] (block_demands scope pc body) own walked (one-single (one_end ends) p exit_unknowns ends)
-            (one-statements body true p pc (within_single (one_end ends) exit_unknowns) n part.0 agrees.0 (below-inner m (number handled) pc (named handled there))
+            (one-append [] (block_demands scope pc body) own walked (one-single (one_exit ends) p exit_unknowns ends)
+            (one-statements body true p pc (within_single (one_exit ends) exit_unknowns) n part.0 agrees.0 (below-inner m (number handled) pc (named handled there))
             (fed-inner_atom cs (number handled) pc (fed handled there)) (within-right cs own walked (within-left cs (own ++ walked) second within))))
             (one-handlers rest number x exit_unknowns (n + made_by_block body) part.1 agrees.1 (λ y h. named y (or_right (y == handled) (handles rest y) h))
             (λ z h. fed z (or_right (z == handled) (handles rest z) h)) (within-right cs (own ++ walked) second within))

@@ -1,6 +1,6 @@
 -- Private: the gathering of a program's demands by a walk along its tree, in a size in proportion to the tree (and, for a call, to the
--- exceptions that its callee declares). The program-counter label (pc) of a statement is one atom: an inner unknown where the pc has grown. Each end
--- that matters has an exit unknown, an inner unknown that was made where the end is caught, and what an end is reached at flows to its
+-- exceptions that its callee declares). The program-counter label (pc) of a statement is one atom: an inner unknown where the pc has grown. Each exit
+-- that matters has an exit unknown, an inner unknown that was made where the exit is caught, and what an exit is reached at flows to its
 -- exit unknown. Inner unknowns have numbers from n on, in the order in which the walk comes to what makes them.
 -- Source: our own.
 use Rattle.std.specs.Prelude.{ℕ, suc, ◌+◌, ◌<◌, List, [], ◌∷◌, ◌++◌, Bool, true, false, map, filter, length, ◌==◌, ◌&&◌, ◌||◌, if◌then◌else◌, Option, Some, None, Contains}
@@ -16,8 +16,8 @@ use Rattle.resolved.specs.declared.target.Target.TheVariants.{ToVariable, ToChan
 use Rattle.resolved.specs.Tree.{Expression, Integer, Logical, Read, Element, Unary, Binary, Short, Statement, Assign, Clear, Store, Receive, Send, Call, If, While, Leave, ReturnWith, Try, Nested, Block, Empty, Then, Handlers, NoMore, Catch}
 use Rattle.resolved.specs.Program.{Program, ProcedureEntry, ThrownEntry, procedure_at}
 use Rattle.common.specs.declared.exceptions.TheConstants.{ARITH, BOUNDS, END}
-use Rattle.resolved.specs.Ends.{has_end, one_end, index_can_raise, divisor_can_raise, is_division, index_raises, raises, raises_all, thrown_ends, declared_by, handles, statement_ends, block_ends}
-use Rattle.resolved.specs.Labelled.{Labelling, Scope, here, Join, one, label_of, value_label, label_if, any_of, as_one_end}
+use Rattle.resolved.specs.Exits.{has_exit, one_exit, index_can_raise, divisor_can_raise, is_division, index_raises, raises, raises_all, thrown_exits, declared_by, handles, statement_exits, block_exits}
+use Rattle.resolved.specs.Labelled.{Labelling, Scope, here, Join, one, label_of, value_label, label_if, any_of, as_one_exit}
 use Rattle.resolved.specs.Flow.{Gathered}
 use Rattle.gathering.specs.Gathered.{FitsConstraints}
 use Rattle.gathering.specs.Names.{Inner, Real, NamedAtom, NamedConstraint, named_atoms, numbered, real_unknowns}
@@ -39,7 +39,7 @@ target_constraint scope at rule left (Some x) = rule_constraint scope at rule le
 abbrev pub inner_constraint : List NamedAtom → ℕ → List NamedConstraint
 inner_constraint left k = record { at = 0; rule = 0; left = left; target = None; right = inner_atom k } ∷ []
 
--- ---- exit unknowns: where the label of each end flows, if anywhere
+-- ---- exit unknowns: where the label of each exit flows, if anywhere
 abbrev pub ExitUnknowns : Type 0
 ExitUnknowns = Exit → Option ℕ
 
@@ -86,7 +86,7 @@ abbrev pub declares : List ThrownEntry → (exception : ℕ) → Bool
 declares [] x = false
 declares (entry ∷ rest) x = (x == entry.exception) || declares rest x
 
--- the ends of a procedure with number n, and with its declared exceptions from there on
+-- the exits of a procedure with number n, and with its declared exceptions from there on
 abbrev pub at_end : ℕ → List ThrownEntry → ExitUnknowns
 at_end n throws Normal = Some n
 at_end n throws Return = Some n
@@ -108,20 +108,20 @@ abbrev pub raised_once : List ℕ → List ℕ
 raised_once exceptions = filter (λ x. list_any (λ y. x == y) exceptions) (ARITH ∷ BOUNDS ∷ [])
 
 abbrev pub raised_flows : List NamedAtom → ExitUnknowns → (raised : List ℕ) → List NamedConstraint
-raised_flows left exit_unknowns raised = flows left exit_unknowns (thrown_ends (raised_once raised))
+raised_flows left exit_unknowns raised = flows left exit_unknowns (thrown_exits (raised_once raised))
 
--- where there is one end only, the pc itself flows to its exit unknown, and nothing within is asked for
+-- where there is one exit only, the pc itself flows to its exit unknown, and nothing within is asked for
 abbrev pub single : (only : Bool) → NamedAtom → ExitUnknowns → List Exit → List NamedConstraint
-single false pc exit_unknowns ends = []
+single false pc exit_unknowns exits = []
 single true pc exit_unknowns [] = []
 single true pc exit_unknowns (exit ∷ rest) = flow (pc ∷ []) (exit_unknowns exit)
 
 abbrev pub within_single : (only : Bool) → ExitUnknowns → ExitUnknowns
 within_single only exit_unknowns = if only then nowhere else exit_unknowns
 
--- a statement or block, by its ends and by what is gathered of it for exit unknowns
-abbrev pub by_ends : List Exit → (pc : NamedAtom) → ExitUnknowns → (within : ExitUnknowns → List NamedConstraint) → List NamedConstraint
-by_ends ends pc exit_unknowns within = single (one_end ends) pc exit_unknowns ends ++ within (within_single (one_end ends) exit_unknowns)
+-- a statement or block, by its exits and by what is gathered of it for exit unknowns
+abbrev pub by_exits : List Exit → (pc : NamedAtom) → ExitUnknowns → (within : ExitUnknowns → List NamedConstraint) → List NamedConstraint
+by_exits exits pc exit_unknowns within = single (one_exit exits) pc exit_unknowns exits ++ within (within_single (one_exit exits) exit_unknowns)
 
 -- the pc of what follows
 abbrev pub onward_pc : (only : Bool) → NamedAtom → ℕ → NamedAtom
@@ -151,7 +151,7 @@ abbrev pub store_atoms : Scope → (length : ℕ) → (index e : Expression) →
 store_atoms scope length index e =
     (if index_can_raise index length then value_label scope index else raise_atoms scope index) ++ raise_atoms scope e
 
--- what the ends of a call have beside its own label
+-- what the exits of a call have beside its own label
 abbrev pub call_atoms : Program → (callee : ℕ) → Exit → Join
 call_atoms program callee Normal = label_if (any_of (procedure_at program callee).throws) (one (label_of program (ToEnd callee)))
 call_atoms program callee Return = []
@@ -199,9 +199,9 @@ call_flows program callee own exit_unknowns (exit ∷ rest) =
     flow (inner_atom own ∷ named_atoms (call_atoms program callee exit)) (exit_unknowns exit) ++ call_flows program callee own exit_unknowns rest
 
 -- the exceptions of the arguments, each once, then those that the callee declares
-abbrev pub call_ends : Program → (callee : ℕ) → List Expression → List Exit
-call_ends program callee arguments =
-    Normal ∷ thrown_ends (raised_once (raises_all arguments) ++ declared_by (procedure_at program callee).throws)
+abbrev pub call_exits : Program → (callee : ℕ) → List Expression → List Exit
+call_exits program callee arguments =
+    Normal ∷ thrown_exits (raised_once (raises_all arguments) ++ declared_by (procedure_at program callee).throws)
 
 abbrev pub call_constraints : Scope → (pc : NamedAtom) → ExitUnknowns → ℕ → (at callee : ℕ) → List Expression → Option Variable → List NamedConstraint
 call_constraints scope pc exit_unknowns n at callee arguments target =
@@ -210,11 +210,11 @@ call_constraints scope pc exit_unknowns n at callee arguments target =
     ++ (argument_constraints scope at n callee 0 arguments
     ++ (target_constraint scope at 6
     (inner_atom n ∷ named_atoms (call_atoms scope.program callee Normal ++ one (label_of scope.program (ToValue callee)))) target
-    ++ call_flows scope.program callee n exit_unknowns (call_ends scope.program callee arguments))))
+    ++ call_flows scope.program callee n exit_unknowns (call_exits scope.program callee arguments))))
 
 -- ---- the walk: statements, blocks and handlers that are reached at a pc, with inner unknowns from number n on
 abbrev mutual
-  -- a statement by what the rule of its form says of its ends
+  -- a statement by what the rule of its form says of its exits
   pub statement_constraints : Scope → (pc : NamedAtom) → ExitUnknowns → ℕ → Statement → List NamedConstraint
   statement_constraints scope pc exit_unknowns n (Assign at x e) =
       let q : List NamedAtom = pc ∷ named_atoms (raise_atoms scope e) in
@@ -239,15 +239,15 @@ abbrev mutual
   statement_constraints scope pc exit_unknowns n (If at e then_block else_block) =
       inner_constraint (pc ∷ named_atoms (value_label scope e)) n
       ++ (raised_flows (pc ∷ named_atoms (raise_atoms scope e)) exit_unknowns (raises e)
-      ++ (by_ends (block_ends scope.program then_block) (inner_atom n) exit_unknowns (λ t. block_constraints scope true (inner_atom n) t (suc n) then_block)
-      ++ by_ends (block_ends scope.program else_block) (inner_atom n) exit_unknowns (λ t. block_constraints scope true (inner_atom n) t (suc n + made_by_block then_block) else_block)))
+      ++ (by_exits (block_exits scope.program then_block) (inner_atom n) exit_unknowns (λ t. block_constraints scope true (inner_atom n) t (suc n) then_block)
+      ++ by_exits (block_exits scope.program else_block) (inner_atom n) exit_unknowns (λ t. block_constraints scope true (inner_atom n) t (suc n + made_by_block then_block) else_block)))
   statement_constraints scope pc exit_unknowns n (While at loop e body) =
       let loop_atom : NamedAtom = renamed Real (label_of scope.program (ToLoop scope.number loop)) in
       rule_constraint scope at 8 (pc ∷ []) (ToLoop scope.number loop)
       ++ (inner_constraint (loop_atom ∷ named_atoms (value_label scope e)) n
       ++ (flow (inner_atom n ∷ []) (exit_unknowns Normal)
       ++ (raised_flows (loop_atom ∷ named_atoms (raise_atoms scope e)) exit_unknowns (raises e)
-      ++ (by_ends (block_ends scope.program body) (inner_atom n) (in_loop (suc n) exit_unknowns) (λ t. block_constraints scope true (inner_atom n) t (suc (suc n)) body)
+      ++ (by_exits (block_exits scope.program body) (inner_atom n) (in_loop (suc n) exit_unknowns) (λ t. block_constraints scope true (inner_atom n) t (suc (suc n)) body)
       ++ rule_constraint scope at 8 (inner_atom (suc n) ∷ []) (ToLoop scope.number loop)))))
   statement_constraints scope pc exit_unknowns n (Leave at exit) = flow (pc ∷ []) (exit_unknowns exit)
   statement_constraints scope pc exit_unknowns n (ReturnWith at None) = flow (pc ∷ []) (exit_unknowns Return)
@@ -257,41 +257,41 @@ abbrev mutual
       ++ (flow q (exit_unknowns Return) ++ raised_flows q exit_unknowns (raises e))
   statement_constraints scope pc exit_unknowns n (Try at block handlers) =
       let number : ℕ → ℕ = λ x. handler_number handlers n x in
-      by_ends (block_ends scope.program block) pc (in_try number handlers exit_unknowns) (λ t. block_constraints scope true pc t (n + handler_count handlers) block)
+      by_exits (block_exits scope.program block) pc (in_try number handlers exit_unknowns) (λ t. block_constraints scope true pc t (n + handler_count handlers) block)
       ++ handlers_constraints scope number exit_unknowns ((n + handler_count handlers) + made_by_block block) handlers
-  statement_constraints scope pc exit_unknowns n (Nested at block) = by_ends (block_ends scope.program block) pc exit_unknowns (λ t. block_constraints scope true pc t n block)
+  statement_constraints scope pc exit_unknowns n (Nested at block) = by_exits (block_exits scope.program block) pc exit_unknowns (λ t. block_constraints scope true pc t n block)
 
-  -- the statements of a block that is reached or not, by what the rule of blocks says of its ends
+  -- the statements of a block that is reached or not, by what the rule of blocks says of its exits
   pub block_constraints : Scope → (reached : Bool) → (pc : NamedAtom) → ExitUnknowns → ℕ → Block → List NamedConstraint
   block_constraints scope reached pc exit_unknowns n Empty = if reached then flow (pc ∷ []) (exit_unknowns Normal) else []
   block_constraints scope reached pc exit_unknowns n (Then statement rest) =
-      let ends : List Exit = statement_ends scope.program statement in
-      single (one_end ends) pc (with_normal None exit_unknowns) ends
-      ++ (statement_constraints scope pc (within_single (one_end ends) (with_normal (Some n) exit_unknowns)) (suc n) statement
-      ++ block_constraints scope (has_end ends Normal) (onward_pc (one_end ends) pc n) exit_unknowns (suc n + made_by_statement statement) rest)
+      let exits : List Exit = statement_exits scope.program statement in
+      single (one_exit exits) pc (with_normal None exit_unknowns) exits
+      ++ (statement_constraints scope pc (within_single (one_exit exits) (with_normal (Some n) exit_unknowns)) (suc n) statement
+      ++ block_constraints scope (has_exit exits Normal) (onward_pc (one_exit exits) pc n) exit_unknowns (suc n + made_by_statement statement) rest)
 
   -- handlers, of which each begins at the inner unknown that took its exception
   pub handlers_constraints : Scope → (number : ℕ → ℕ) → ExitUnknowns → ℕ → Handlers → List NamedConstraint
   handlers_constraints scope number exit_unknowns n NoMore = []
   handlers_constraints scope number exit_unknowns n (Catch at handled body rest) =
-      by_ends (block_ends scope.program body) (inner_atom (number handled)) exit_unknowns (λ t. block_constraints scope true (inner_atom (number handled)) t n body)
+      by_exits (block_exits scope.program body) (inner_atom (number handled)) exit_unknowns (λ t. block_constraints scope true (inner_atom (number handled)) t n body)
       ++ handlers_constraints scope number exit_unknowns (n + made_by_block body) rest
 
 -- a block of its own
 abbrev pub inner_block : Scope → (pc : NamedAtom) → ExitUnknowns → ℕ → Block → List NamedConstraint
 inner_block scope pc exit_unknowns n block =
-    by_ends (block_ends scope.program block) pc exit_unknowns (λ t. block_constraints scope true pc t n block)
+    by_exits (block_exits scope.program block) pc exit_unknowns (λ t. block_constraints scope true pc t n block)
 
 -- ---- procedures and programs
-abbrev pub body_ends : Scope → List Exit
-body_ends scope = block_ends scope.program (here scope).body
+abbrev pub body_exits : Scope → List Exit
+body_exits scope = block_exits scope.program (here scope).body
 
--- whether a procedure has one end only, where its normal end and its return are one
-abbrev pub has_one_end : Scope → Bool
-has_one_end scope = one_end (map as_one_end (body_ends scope))
+-- whether a procedure has one exit only, where its normal exit and its return are one
+abbrev pub has_one_exit : Scope → Bool
+has_one_exit scope = one_exit (map as_one_exit (body_exits scope))
 
 abbrev pub end_exit_unknowns : Scope → ℕ → ExitUnknowns
-end_exit_unknowns scope n = if has_one_end scope then nowhere else at_end n (here scope).throws
+end_exit_unknowns scope n = if has_one_exit scope then nowhere else at_end n (here scope).throws
 
 -- the demands on the declared exceptions, of which the first has number n
 abbrev pub thrown_constraints : Scope → (number : ℕ → ℕ) → List ThrownEntry → List NamedConstraint
@@ -300,9 +300,9 @@ thrown_constraints scope number (entry ∷ rest) =
     rule_constraint scope (here scope).at 13 (inner_atom (number entry.exception) ∷ []) (ToThrown scope.number entry.exception)
     ++ thrown_constraints scope number rest
 
-abbrev pub end_constraints : Scope → ℕ → List NamedConstraint
-end_constraints scope n =
-    if has_one_end scope then []
+abbrev pub exit_constraints : Scope → ℕ → List NamedConstraint
+exit_constraints scope n =
+    if has_one_exit scope then []
     else (rule_constraint scope (here scope).at 13 (inner_atom n ∷ []) (ToEnd scope.number)
     ++ thrown_constraints scope (λ x. thrown_number (here scope).throws (suc n) x) (here scope).throws)
 
@@ -311,7 +311,7 @@ abbrev pub procedure_constraints : Scope → ℕ → List NamedConstraint
 procedure_constraints scope n =
     inner_block scope (renamed Real (label_of scope.program (ToBegin scope.number))) (end_exit_unknowns scope n)
     (suc n + length (here scope).throws) (here scope).body
-    ++ end_constraints scope n
+    ++ exit_constraints scope n
 
 abbrev pub constraints_from : Program → (f n : ℕ) → List ProcedureEntry → List NamedConstraint
 constraints_from program f n [] = []

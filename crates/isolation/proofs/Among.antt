@@ -1,4 +1,4 @@
--- Each end that the meaning gives is among the possible ends, and each exception of an expression among those that it can raise.
+-- Each exit that the meaning gives is among the possible exits, and each exception of an expression among those that it can raise.
 use Rattle.std.proofs.Common.{arith, ◌≡◌, refl, sym, ap, ◌∙◌, ℕ, zero, suc, Bool, true, false, not, ◌||◌, List, [], ◌∷◌, ◌++◌, append_assoc, ℤ, pos, negsuc, neg_ℤ, ◌+ℤ◌}
 use Rattle.std.specs.Prelude.{Option, Some, None, if◌then◌else◌, ◌==◌, filter}
 use Rattle.std.specs.List.{list_any, list_all}
@@ -21,10 +21,10 @@ use Rattle.resolved.specs.Tree.{Expression, Integer, Logical, Read, Element, Una
 use Rattle.resolved.specs.Program.{Program, procedure_at}
 use Rattle.resolved.specs.Value.{Evaluated, Yields, Raises, then_with, truth_in, number_in, wrapped, literal_number, unless_zero, operator_value, decides, in_range, position_of, checked_index}
 use Rattle.resolved.specs.SourceState.{SourceState, value_of, values_of, cells, cell_at, assigned, stored, cleared}
-use Rattle.resolved.specs.Meaning.{OutOfFuel, Outcome, Ended, Stopped, normally, thrown, after, evaluated, looped, fuel, caught, leaving, returned_to, received, sending, Calls, statement_meaning, block_meaning, handlers_meaning, frame_of, calls_with}
-use Rattle.resolved.specs.Ends.{same_exit, has_end, index_can_raise, divisor_can_raise, index_raises, operator_raises, raises, raises_all, thrown_ends, declared_by, leaves_loop, handles, passes, then_ends, statement_ends, block_ends, handlers_ends}
-use Rattle.resolved.specs.EndFaults.{may_end}
-use Rattle.isolation.specs.Runs.{EndsAmong}
+use Rattle.resolved.specs.Meaning.{OutOfFuel, Outcome, Ended, Stopped, normally, after, evaluated, looped, fuel, caught, leaving, returned_to, received, sending, Calls, statement_meaning, block_meaning, handlers_meaning, frame_of, calls_with}
+use Rattle.resolved.specs.Exits.{same_exit, has_exit, index_can_raise, divisor_can_raise, index_raises, operator_raises, raises, raises_all, thrown_exits, declared_by, leaves_loop, handles, passes, then_exits, statement_exits, block_exits, handlers_exits}
+use Rattle.resolved.specs.ExitFaults.{may_exit}
+use Rattle.isolation.specs.Runs.{ExitsAmong}
 use Rattle.resolved.proofs.Exits.{same_exit-itself, thrown-append, end-filter, all-has, then-other}
 use Rattle.common.specs.Integers.{is_zero}
 use Rattle.common.specs.declared.exceptions.TheConstants.{ARITH, BOUNDS, END}
@@ -39,12 +39,12 @@ any-left p xs ys h = list_any-append p xs ys ∙ or_left (list_any p xs) (list_a
 pub any-right : {X : Type 0} (p : X → Bool) (xs ys : List X) → list_any p ys ≡ true → list_any p (xs ++ ys) ≡ true
 any-right p xs ys h = list_any-append p xs ys ∙ or_right (list_any p xs) (list_any p ys) h
 
--- the exceptions among the ends are those of the list, and nothing else is
-pub thrown-is : (xs : List ℕ) (x : ℕ) → has_end (thrown_ends xs) (Throw x) ≡ raised_in xs x
+-- the exceptions among the exits are those of the list, and nothing else is
+pub thrown-is : (xs : List ℕ) (x : ℕ) → has_exit (thrown_exits xs) (Throw x) ≡ raised_in xs x
 thrown-is [] x = refl
 thrown-is (y ∷ xs) x = ap (λ b. (x == y) || b) (thrown-is xs x)
 
-pub thrown-among : (xs : List ℕ) (x : ℕ) → raised_in xs x ≡ true → has_end (thrown_ends xs) (Throw x) ≡ true
+pub thrown-among : (xs : List ℕ) (x : ℕ) → raised_in xs x ≡ true → has_exit (thrown_exits xs) (Throw x) ≡ true
 thrown-among xs x h = thrown-is xs x ∙ h
 
 -- the exceptions of what was evaluated are in a list
@@ -160,11 +160,11 @@ expressions-raise s (e ∷ rest) =
     rw (← append-nil (raises_all rest)) (raises-then (raises_all rest) [] (values_of s rest) (λ vs. Yields (v ∷ vs))
     (expressions-raise s rest) (λ vs g. raises-none [] (v ∷ vs))))
 
--- the end of an outcome is in a list
+-- the exit of an outcome is in a list
 pub record Among (ends : List Exit) (o : Outcome) : Type 0 where
-  pub among : EndsAmong ends o
+  pub among : ExitsAmong ends o
 
-among-more : (xs ys : List Exit) (o : Outcome) → ((exit : Exit) → has_end xs exit ≡ true → has_end ys exit ≡ true) → Among xs o →
+among-more : (xs ys : List Exit) (o : Outcome) → ((exit : Exit) → has_exit xs exit ≡ true → has_exit ys exit ≡ true) → Among xs o →
     Among ys o
 among-more xs ys (Ended exit r s) more h = record { among = more exit h.among }
 among-more xs ys (Stopped stop s) more h = record { among = tt }
@@ -176,10 +176,10 @@ among-right : (xs ys : List Exit) (o : Outcome) → Among ys o → Among (xs ++ 
 among-right xs ys o h = among-more ys (xs ++ ys) o (λ exit f. any-right (same_exit exit) xs ys f) h
 
 among-first : (exit : Exit) (rest : List Exit) (r : Option Value) (s : SourceState) → Among (exit ∷ rest) (Ended exit r s)
-among-first exit rest r s = record { among = or_left (same_exit exit exit) (has_end rest exit) (same_exit-itself exit) }
+among-first exit rest r s = record { among = or_left (same_exit exit exit) (has_exit rest exit) (same_exit-itself exit) }
 
 among-evaluated : {A : Type 0} (xs : List ℕ) (ends : List Exit) (e : Evaluated A) (s : SourceState) (next : A → Outcome) →
-    RaisesAmong xs e → ((exit : Exit) → has_end (thrown_ends xs) exit ≡ true → has_end ends exit ≡ true) →
+    RaisesAmong xs e → ((exit : Exit) → has_exit (thrown_exits xs) exit ≡ true → has_exit ends exit ≡ true) →
     ((v : A) → e ≡ Yields v → Among ends (next v)) → Among ends (evaluated e s next)
 among-evaluated xs ends (Yields v) s next h more rest = rest v refl
 among-evaluated xs ends (Raises x) s next h more rest = record { among = more (Throw x) (thrown-among xs x (h.among x refl)) }
@@ -188,11 +188,11 @@ among-if : (ends : List Exit) (b : Bool) (x y : Outcome) → Among ends x → Am
 among-if ends true x y h i = h
 among-if ends false x y h i = i
 
-then-normal : (first rest : List Exit) (o : Outcome) → has_end first Normal ≡ true → Among rest o → Among (then_ends first rest) o
+then-normal : (first rest : List Exit) (o : Outcome) → has_exit first Normal ≡ true → Among rest o → Among (then_exits first rest) o
 then-normal first rest o h among = rw h (among-right (filter (λ x. not (same_exit Normal x)) first) rest o among)
 
 among-after : (first rest : List Exit) (o : Outcome) (next : SourceState → Outcome) → Among first o →
-    ((t : SourceState) → Among rest (next t)) → Among (then_ends first rest) (after o next)
+    ((t : SourceState) → Among rest (next t)) → Among (then_exits first rest) (after o next)
 among-after first rest (Ended Normal r s) next h onward = then-normal first rest (next s) h.among (onward s)
 among-after first rest (Ended Return r s) next h onward = record { among = then-other first rest Return refl h.among }
 among-after first rest (Ended Break r s) next h onward = record { among = then-other first rest Break refl h.among }
@@ -200,18 +200,18 @@ among-after first rest (Ended Continue r s) next h onward = record { among = the
 among-after first rest (Ended (Throw x) r s) next h onward = record { among = then-other first rest (Throw x) refl h.among }
 among-after first rest (Stopped stop s) next h onward = record { among = tt }
 
--- the ends of a loop, by the exceptions of its condition and the ends of its body
-abbrev loop_ends : List ℕ → List Exit → List Exit
-loop_ends xs body = Normal ∷ (thrown_ends xs ++ filter leaves_loop body)
+-- the exits of a loop, by the exceptions of its condition and the exits of its body
+abbrev loop_exits : List ℕ → List Exit → List Exit
+loop_exits xs body = Normal ∷ (thrown_exits xs ++ filter leaves_loop body)
 
-loop-leaving : (xs : List ℕ) (body : List Exit) (exit : Exit) → leaves_loop exit ≡ true → has_end body exit ≡ true →
-    has_end (loop_ends xs body) exit ≡ true
+loop-leaving : (xs : List ℕ) (body : List Exit) (exit : Exit) → leaves_loop exit ≡ true → has_exit body exit ≡ true →
+    has_exit (loop_exits xs body) exit ≡ true
 loop-leaving xs body exit leaves h =
-    or_right (same_exit exit Normal) (has_end (thrown_ends xs ++ filter leaves_loop body) exit)
-    (any-right (same_exit exit) (thrown_ends xs) (filter leaves_loop body) (end-filter leaves_loop body exit ∙ rw (leaves, h) refl))
+    or_right (same_exit exit Normal) (has_exit (thrown_exits xs ++ filter leaves_loop body) exit)
+    (any-right (same_exit exit) (thrown_exits xs) (filter leaves_loop body) (end-filter leaves_loop body exit ∙ rw (leaves, h) refl))
 
 among-looped : (xs : List ℕ) (body : List Exit) (o : Outcome) (again : SourceState → Outcome) → Among body o →
-    ((t : SourceState) → Among (loop_ends xs body) (again t)) → Among (loop_ends xs body) (looped o again)
+    ((t : SourceState) → Among (loop_exits xs body) (again t)) → Among (loop_exits xs body) (looped o again)
 among-looped xs body (Ended Normal r s) again h onward = onward s
 among-looped xs body (Ended Return r s) again h onward = record { among = loop-leaving xs body Return refl h.among }
 among-looped xs body (Ended Break r s) again h onward = record { among = refl }
@@ -219,34 +219,34 @@ among-looped xs body (Ended Continue r s) again h onward = onward s
 among-looped xs body (Ended (Throw x) r s) again h onward = record { among = loop-leaving xs body (Throw x) refl h.among }
 among-looped xs body (Stopped stop s) again h onward = record { among = tt }
 
-loop-thrown : (xs : List ℕ) (body : List Exit) (exit : Exit) → has_end (thrown_ends xs) exit ≡ true →
-    has_end (loop_ends xs body) exit ≡ true
+loop-thrown : (xs : List ℕ) (body : List Exit) (exit : Exit) → has_exit (thrown_exits xs) exit ≡ true →
+    has_exit (loop_exits xs body) exit ≡ true
 loop-thrown xs body exit h =
-    or_right (same_exit exit Normal) (has_end (thrown_ends xs ++ filter leaves_loop body) exit)
-    (any-left (same_exit exit) (thrown_ends xs) (filter leaves_loop body) h)
+    or_right (same_exit exit Normal) (has_exit (thrown_exits xs ++ filter leaves_loop body) exit)
+    (any-left (same_exit exit) (thrown_exits xs) (filter leaves_loop body) h)
 
 among-fuel : (k : ℕ) (xs : List ℕ) (ends : List Exit) (condition : SourceState → Evaluated Value) (body : SourceState → Outcome) →
     ((t : SourceState) → RaisesAmong xs (condition t)) → ((t : SourceState) → Among ends (body t)) → (s : SourceState) →
-    Among (loop_ends xs ends) (fuel k condition body s)
+    Among (loop_exits xs ends) (fuel k condition body s)
 among-fuel zero xs ends condition body raised h s =
-    among-evaluated xs (loop_ends xs ends) (condition s) s (λ v. if truth_in v then Stopped OutOfFuel s else normally s) (raised s)
+    among-evaluated xs (loop_exits xs ends) (condition s) s (λ v. if truth_in v then Stopped OutOfFuel s else normally s) (raised s)
     (loop-thrown xs ends) (λ v e.
-    among-if (loop_ends xs ends) (truth_in v) (Stopped OutOfFuel s) (normally s) (record { among = tt }) (record { among = refl }))
+    among-if (loop_exits xs ends) (truth_in v) (Stopped OutOfFuel s) (normally s) (record { among = tt }) (record { among = refl }))
 among-fuel (suc k) xs ends condition body raised h s =
-    among-evaluated xs (loop_ends xs ends) (condition s) s (λ v. if truth_in v then looped (body s)
+    among-evaluated xs (loop_exits xs ends) (condition s) s (λ v. if truth_in v then looped (body s)
     (fuel k condition body) else normally s) (raised s) (loop-thrown xs ends) (λ v e.
-    among-if (loop_ends xs ends) (truth_in v) (looped (body s) (fuel k condition body)) (normally s)
+    among-if (loop_exits xs ends) (truth_in v) (looped (body s) (fuel k condition body)) (normally s)
     (among-looped xs ends (body s) (fuel k condition body) (h s) (among-fuel k xs ends condition body raised h))
     (record { among = refl }))
 
--- an end that passes the handlers
+-- an exit that passes the handlers
 try-passing : (handlers : Handlers) (block others : List Exit) (exit : Exit) → passes handlers exit ≡ true →
-    has_end block exit ≡ true → has_end (filter (passes handlers) block ++ others) exit ≡ true
+    has_exit block exit ≡ true → has_exit (filter (passes handlers) block ++ others) exit ≡ true
 try-passing handlers block others exit passing h =
     any-left (same_exit exit) (filter (passes handlers) block) others (end-filter (passes handlers) block exit ∙ rw (passing, h) refl)
 
 among-caught : (handlers : Handlers) (block others : List Exit) (o : Outcome) (handle : ℕ → SourceState → Outcome) → Among block o →
-    ((x : ℕ) (t : SourceState) → has_end block (Throw x) ≡ true → Among (filter (passes handlers) block ++ others) (handle x t)) →
+    ((x : ℕ) (t : SourceState) → has_exit block (Throw x) ≡ true → Among (filter (passes handlers) block ++ others) (handle x t)) →
     Among (filter (passes handlers) block ++ others) (caught o handle)
 among-caught handlers block others (Ended (Throw x) r s) handle h onward = onward x s h.among
 among-caught handlers block others (Ended Normal r s) handle h onward = record { among = try-passing handlers block others Normal refl h.among }
@@ -255,23 +255,23 @@ among-caught handlers block others (Ended Break r s) handle h onward = record { 
 among-caught handlers block others (Ended Continue r s) handle h onward = record { among = try-passing handlers block others Continue refl h.among }
 among-caught handlers block others (Stopped stop s) handle h onward = record { among = tt }
 
--- the ends of a call: normal, and the exceptions that the procedure declares
-abbrev pub call_ends : Program → ℕ → List Exit
-call_ends program f = Normal ∷ thrown_ends (declared_by (procedure_at program f).throws)
+-- the exits of a call: normal, and the exceptions that the procedure declares
+abbrev pub call_exits : Program → ℕ → List Exit
+call_exits program f = Normal ∷ thrown_exits (declared_by (procedure_at program f).throws)
 
 abbrev pub CallsAmong : Program → Calls → Type 0
-CallsAmong program calls = (f : ℕ) (vs : List Value) (s : SourceState) → Among (call_ends program f) (calls f vs s)
+CallsAmong program calls = (f : ℕ) (vs : List Value) (s : SourceState) → Among (call_exits program f) (calls f vs s)
 
-pub thrown-left : (xs ys : List ℕ) (exit : Exit) → has_end (thrown_ends xs) exit ≡ true →
-    has_end (thrown_ends (xs ++ ys)) exit ≡ true
-thrown-left xs ys exit h = rw (thrown-append xs ys) (any-left (same_exit exit) (thrown_ends xs) (thrown_ends ys) h)
+pub thrown-left : (xs ys : List ℕ) (exit : Exit) → has_exit (thrown_exits xs) exit ≡ true →
+    has_exit (thrown_exits (xs ++ ys)) exit ≡ true
+thrown-left xs ys exit h = rw (thrown-append xs ys) (any-left (same_exit exit) (thrown_exits xs) (thrown_exits ys) h)
 
-pub thrown-right : (xs ys : List ℕ) (exit : Exit) → has_end (thrown_ends ys) exit ≡ true →
-    has_end (thrown_ends (xs ++ ys)) exit ≡ true
-thrown-right xs ys exit h = rw (thrown-append xs ys) (any-right (same_exit exit) (thrown_ends xs) (thrown_ends ys) h)
+pub thrown-right : (xs ys : List ℕ) (exit : Exit) → has_exit (thrown_exits ys) exit ≡ true →
+    has_exit (thrown_exits (xs ++ ys)) exit ≡ true
+thrown-right xs ys exit h = rw (thrown-append xs ys) (any-right (same_exit exit) (thrown_exits xs) (thrown_exits ys) h)
 
-pub in_rest : (first : Exit) (rest : List Exit) (exit : Exit) → has_end rest exit ≡ true → has_end (first ∷ rest) exit ≡ true
-in_rest first rest exit h = or_right (same_exit exit first) (has_end rest exit) h
+pub in_rest : (first : Exit) (rest : List Exit) (exit : Exit) → has_exit rest exit ≡ true → has_exit (first ∷ rest) exit ≡ true
+in_rest first rest exit h = or_right (same_exit exit first) (has_exit rest exit) h
 
 among-returned_to : (ends : List Exit) (target : Option Variable) (o : Outcome) → Among (Normal ∷ ends) o →
     Among (Normal ∷ ends) (returned_to target o)
@@ -294,9 +294,9 @@ among-received : (numbers : List ℤ) (channel : ℕ) (target : Option Variable)
 among-received [] channel target s = record { among = refl }
 among-received (z ∷ rest) channel target s = record { among = refl }
 
--- what is the normal end or declared stays so in a longer list
-call-more : (xs ys : List ℕ) (exit : Exit) → ((e : Exit) → has_end (thrown_ends xs) e ≡ true → has_end (thrown_ends ys) e ≡ true) →
-    has_end (Normal ∷ thrown_ends xs) exit ≡ true → has_end (Normal ∷ thrown_ends ys) exit ≡ true
+-- what is the normal exit or declared stays so in a longer list
+call-more : (xs ys : List ℕ) (exit : Exit) → ((e : Exit) → has_exit (thrown_exits xs) e ≡ true → has_exit (thrown_exits ys) e ≡ true) →
+    has_exit (Normal ∷ thrown_exits xs) exit ≡ true → has_exit (Normal ∷ thrown_exits ys) exit ≡ true
 call-more xs ys Normal more h = refl
 call-more xs ys Return more h = more Return h
 call-more xs ys Break more h = more Break h
@@ -311,102 +311,102 @@ handler-among ends false later x y P passing h rest = rest passing
 
 mutual
   pub statement-among : (statement : Statement) (program : Program) (calls : Calls) (k : ℕ) → CallsAmong program calls →
-      (s : SourceState) → Among (statement_ends program statement) (statement_meaning calls k statement s)
+      (s : SourceState) → Among (statement_exits program statement) (statement_meaning calls k statement s)
   statement-among (Assign at x e) program calls k h s =
-      among-evaluated (raises e) (Normal ∷ thrown_ends (raises e)) (value_of s e) s (λ v. normally (assigned s x v)) (expression-raises s e)
-      (in_rest Normal (thrown_ends (raises e))) (λ v f.
-      among-first Normal (thrown_ends (raises e)) None (assigned s x v))
+      among-evaluated (raises e) (Normal ∷ thrown_exits (raises e)) (value_of s e) s (λ v. normally (assigned s x v)) (expression-raises s e)
+      (in_rest Normal (thrown_exits (raises e))) (λ v f.
+      among-first Normal (thrown_exits (raises e)) None (assigned s x v))
   statement-among (Clear at slot) program calls k h s = among-first Normal [] None (cleared s slot)
   statement-among (Store at array len index e) program calls k h s =
       let xs : List ℕ = raises index ++ raises e ++ index_raises index len in
-      among-evaluated (raises index) (Normal ∷ thrown_ends xs) (value_of s index) s _ (expression-raises s index)
-      (λ exit f. in_rest Normal (thrown_ends xs) exit (thrown-left (raises index ++ raises e) (index_raises index len) exit
+      among-evaluated (raises index) (Normal ∷ thrown_exits xs) (value_of s index) s _ (expression-raises s index)
+      (λ exit f. in_rest Normal (thrown_exits xs) exit (thrown-left (raises index ++ raises e) (index_raises index len) exit
       (thrown-left (raises index) (raises e) exit f))) (λ v f.
-      among-evaluated (raises e) (Normal ∷ thrown_ends xs) (value_of s e) s _ (expression-raises s e)
-      (λ exit g. in_rest Normal (thrown_ends xs) exit (thrown-left (raises index ++ raises e) (index_raises index len) exit
+      among-evaluated (raises e) (Normal ∷ thrown_exits xs) (value_of s e) s _ (expression-raises s e)
+      (λ exit g. in_rest Normal (thrown_exits xs) exit (thrown-left (raises index ++ raises e) (index_raises index len) exit
       (thrown-right (raises index) (raises e) exit g))) (λ w g.
-      among-evaluated (index_raises index len) (Normal ∷ thrown_ends xs) (checked_index v len) s (λ i. normally (stored s array i w))
+      among-evaluated (index_raises index len) (Normal ∷ thrown_exits xs) (checked_index v len) s (λ i. normally (stored s array i w))
       (raises-checked_index s index len v f)
-      (λ exit i. in_rest Normal (thrown_ends xs) exit (thrown-right (raises index ++ raises e) (index_raises index len) exit i)) (λ i j.
-      among-first Normal (thrown_ends xs) None (stored s array i w))))
+      (λ exit i. in_rest Normal (thrown_exits xs) exit (thrown-right (raises index ++ raises e) (index_raises index len) exit i)) (λ i j.
+      among-first Normal (thrown_exits xs) None (stored s array i w))))
   statement-among (Receive at channel target) program calls k h s = among-received (s.inputs channel) channel target s
   statement-among (Send at channel e) program calls k h s =
-      among-evaluated (raises e) (Normal ∷ thrown_ends (raises e)) (value_of s e) s (λ v. normally (sending channel v s))
-      (expression-raises s e) (in_rest Normal (thrown_ends (raises e))) (λ v f.
-      among-first Normal (thrown_ends (raises e)) None (sending channel v s))
+      among-evaluated (raises e) (Normal ∷ thrown_exits (raises e)) (value_of s e) s (λ v. normally (sending channel v s))
+      (expression-raises s e) (in_rest Normal (thrown_exits (raises e))) (λ v f.
+      among-first Normal (thrown_exits (raises e)) None (sending channel v s))
   statement-among (Call at procedure arguments target) program calls k h s =
       let declared : List ℕ = declared_by (procedure_at program procedure).throws in
       let xs : List ℕ = raises_all arguments ++ declared in
-      among-evaluated (raises_all arguments) (Normal ∷ thrown_ends xs) (values_of s arguments) s
+      among-evaluated (raises_all arguments) (Normal ∷ thrown_exits xs) (values_of s arguments) s
       (λ vs. returned_to target (calls procedure vs s)) (expressions-raise s arguments)
-      (λ exit f. in_rest Normal (thrown_ends xs) exit (thrown-left (raises_all arguments) declared exit f)) (λ vs f.
-      among-returned_to (thrown_ends xs) target (calls procedure vs s)
-      (among-more (Normal ∷ thrown_ends declared) (Normal ∷ thrown_ends xs) (calls procedure vs s)
+      (λ exit f. in_rest Normal (thrown_exits xs) exit (thrown-left (raises_all arguments) declared exit f)) (λ vs f.
+      among-returned_to (thrown_exits xs) target (calls procedure vs s)
+      (among-more (Normal ∷ thrown_exits declared) (Normal ∷ thrown_exits xs) (calls procedure vs s)
       (λ exit g. call-more declared xs exit (thrown-right (raises_all arguments) declared) g) (h procedure vs s)))
   statement-among (If at e then_block else_block) program calls k h s =
-      let yes_ends : List Exit = block_ends program then_block in
-      let no_ends : List Exit = block_ends program else_block in
-      among-evaluated (raises e) (thrown_ends (raises e) ++ yes_ends ++ no_ends) (value_of s e) s
+      let yes_exits : List Exit = block_exits program then_block in
+      let no_exits : List Exit = block_exits program else_block in
+      among-evaluated (raises e) (thrown_exits (raises e) ++ yes_exits ++ no_exits) (value_of s e) s
       (λ v. if truth_in v then block_meaning calls k then_block s else block_meaning calls k else_block s) (expression-raises s e)
-      (λ exit f. any-left (same_exit exit) (thrown_ends (raises e) ++ yes_ends) no_ends
-      (any-left (same_exit exit) (thrown_ends (raises e)) yes_ends f)) (λ v f.
-      among-if (thrown_ends (raises e) ++ yes_ends ++ no_ends) (truth_in v) (block_meaning calls k then_block s) (block_meaning calls k else_block s)
-      (among-left (thrown_ends (raises e) ++ yes_ends) no_ends (block_meaning calls k then_block s)
-      (among-right (thrown_ends (raises e)) yes_ends (block_meaning calls k then_block s) (block-among then_block program calls k h s)))
-      (among-right (thrown_ends (raises e) ++ yes_ends) no_ends (block_meaning calls k else_block s) (block-among else_block program calls k h s)))
+      (λ exit f. any-left (same_exit exit) (thrown_exits (raises e) ++ yes_exits) no_exits
+      (any-left (same_exit exit) (thrown_exits (raises e)) yes_exits f)) (λ v f.
+      among-if (thrown_exits (raises e) ++ yes_exits ++ no_exits) (truth_in v) (block_meaning calls k then_block s) (block_meaning calls k else_block s)
+      (among-left (thrown_exits (raises e) ++ yes_exits) no_exits (block_meaning calls k then_block s)
+      (among-right (thrown_exits (raises e)) yes_exits (block_meaning calls k then_block s) (block-among then_block program calls k h s)))
+      (among-right (thrown_exits (raises e) ++ yes_exits) no_exits (block_meaning calls k else_block s) (block-among else_block program calls k h s)))
   statement-among (While at loop e body) program calls k h s =
-      among-fuel k (raises e) (block_ends program body) (λ t. value_of t e) (block_meaning calls k body) (λ t. expression-raises t e)
+      among-fuel k (raises e) (block_exits program body) (λ t. value_of t e) (block_meaning calls k body) (λ t. expression-raises t e)
       (block-among body program calls k h) s
   statement-among (Leave at exit) program calls k h s = among-first exit [] None s
   statement-among (ReturnWith at None) program calls k h s = among-first Return [] None s
   statement-among (ReturnWith at (Some e)) program calls k h s =
-      among-evaluated (raises e) (Return ∷ thrown_ends (raises e)) (value_of s e) s (λ v. Ended Return (Some v) s) (expression-raises s e)
-      (in_rest Return (thrown_ends (raises e))) (λ v f.
-      among-first Return (thrown_ends (raises e)) (Some v) s)
+      among-evaluated (raises e) (Return ∷ thrown_exits (raises e)) (value_of s e) s (λ v. Ended Return (Some v) s) (expression-raises s e)
+      (in_rest Return (thrown_exits (raises e))) (λ v f.
+      among-first Return (thrown_exits (raises e)) (Some v) s)
   statement-among (Try at block handlers) program calls k h s =
-      let ends : List Exit = block_ends program block in
-      among-caught handlers ends (handlers_ends program handlers) (block_meaning calls k block s) (handlers_meaning calls k handlers)
+      let ends : List Exit = block_exits program block in
+      among-caught handlers ends (handlers_exits program handlers) (block_meaning calls k block s) (handlers_meaning calls k handlers)
       (block-among block program calls k h s) (λ x t f.
-      handlers-among handlers program calls k h (filter (passes handlers) ends ++ handlers_ends program handlers) x t
-      (λ none. try-passing handlers ends (handlers_ends program handlers) (Throw x) (rw none refl) f)
-      (λ exit g. any-right (same_exit exit) (filter (passes handlers) ends) (handlers_ends program handlers) g))
+      handlers-among handlers program calls k h (filter (passes handlers) ends ++ handlers_exits program handlers) x t
+      (λ none. try-passing handlers ends (handlers_exits program handlers) (Throw x) (rw none refl) f)
+      (λ exit g. any-right (same_exit exit) (filter (passes handlers) ends) (handlers_exits program handlers) g))
   statement-among (Nested at block) program calls k h s = block-among block program calls k h s
 
   pub block-among : (block : Block) (program : Program) (calls : Calls) (k : ℕ) → CallsAmong program calls → (s : SourceState) →
-      Among (block_ends program block) (block_meaning calls k block s)
+      Among (block_exits program block) (block_meaning calls k block s)
   block-among Empty program calls k h s = among-first Normal [] None s
   block-among (Then statement rest) program calls k h s =
-      among-after (statement_ends program statement) (block_ends program rest) (statement_meaning calls k statement s)
+      among-after (statement_exits program statement) (block_exits program rest) (statement_meaning calls k statement s)
       (block_meaning calls k rest) (statement-among statement program calls k h s) (block-among rest program calls k h)
 
   handlers-among : (handlers : Handlers) (program : Program) (calls : Calls) (k : ℕ) → CallsAmong program calls →
-      (ends : List Exit) (x : ℕ) (s : SourceState) → (handles handlers x ≡ false → has_end ends (Throw x) ≡ true) →
-      ((exit : Exit) → has_end (handlers_ends program handlers) exit ≡ true → has_end ends exit ≡ true) →
+      (ends : List Exit) (x : ℕ) (s : SourceState) → (handles handlers x ≡ false → has_exit ends (Throw x) ≡ true) →
+      ((exit : Exit) → has_exit (handlers_exits program handlers) exit ≡ true → has_exit ends exit ≡ true) →
       Among ends (handlers_meaning calls k handlers x s)
   handlers-among NoMore program calls k h ends x s passing more = record { among = passing refl }
   handlers-among (Catch at handled body rest) program calls k h ends x s passing more =
       handler-among ends (x == handled) (handles rest x) (block_meaning calls k body s) (handlers_meaning calls k rest x s)
-      (has_end ends (Throw x) ≡ true) passing
-      (among-more (block_ends program body) ends (block_meaning calls k body s)
-      (λ exit f. more exit (any-left (same_exit exit) (block_ends program body) (handlers_ends program rest) f))
+      (has_exit ends (Throw x) ≡ true) passing
+      (among-more (block_exits program body) ends (block_meaning calls k body s)
+      (λ exit f. more exit (any-left (same_exit exit) (block_exits program body) (handlers_exits program rest) f))
       (block-among body program calls k h s))
       (λ onward. handlers-among rest program calls k h ends x s onward
-      (λ exit f. more exit (any-right (same_exit exit) (block_ends program body) (handlers_ends program rest) f)))
+      (λ exit f. more exit (any-right (same_exit exit) (block_exits program body) (handlers_exits program rest) f)))
 
 -- each procedure ends only as it may
 abbrev pub EndsAsDeclared : Program → Type 0
-EndsAsDeclared program = (f : ℕ) → list_all (may_end (procedure_at program f)) (block_ends program (procedure_at program f).body) ≡ true
+EndsAsDeclared program = (f : ℕ) → list_all (may_exit (procedure_at program f)) (block_exits program (procedure_at program f).body) ≡ true
 
 among-leaving : (program : Program) (f : ℕ) (back : SourceState → SourceState) (o : Outcome) → EndsAsDeclared program →
-    Among (block_ends program (procedure_at program f).body) o → Among (call_ends program f) (leaving back o)
+    Among (block_exits program (procedure_at program f).body) o → Among (call_exits program f) (leaving back o)
 among-leaving program f back (Ended Normal r s) declared h = record { among = refl }
 among-leaving program f back (Ended Return r s) declared h = record { among = refl }
 among-leaving program f back (Ended Break r s) declared h =
-    let no : false ≡ true = all-has (may_end (procedure_at program f)) (block_ends program (procedure_at program f).body) Break (declared f) h.among in absurd (cc)
+    let no : false ≡ true = all-has (may_exit (procedure_at program f)) (block_exits program (procedure_at program f).body) Break (declared f) h.among in absurd (cc)
 among-leaving program f back (Ended Continue r s) declared h =
-    let no : false ≡ true = all-has (may_end (procedure_at program f)) (block_ends program (procedure_at program f).body) Continue (declared f) h.among in absurd (cc)
+    let no : false ≡ true = all-has (may_exit (procedure_at program f)) (block_exits program (procedure_at program f).body) Continue (declared f) h.among in absurd (cc)
 among-leaving program f back (Ended (Throw x) r s) declared h =
-    record { among = all-has (may_end (procedure_at program f)) (block_ends program (procedure_at program f).body) (Throw x) (declared f) h.among }
+    record { among = all-has (may_exit (procedure_at program f)) (block_exits program (procedure_at program f).body) (Throw x) (declared f) h.among }
 among-leaving program f back (Stopped stop s) declared h = record { among = tt }
 
 pub calls-among : (program : Program) (k frames : ℕ) → EndsAsDeclared program → CallsAmong program (calls_with program k frames)

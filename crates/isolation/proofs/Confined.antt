@@ -18,16 +18,16 @@ use Rattle.resolved.specs.Program.{Program, ProcedureEntry, procedure_at}
 use Rattle.resolved.specs.Value.{Raises, truth_in, checked_index}
 use Rattle.resolved.specs.SourceState.{SourceState, assigned, stored, cleared, value_of, values_of}
 use Rattle.resolved.specs.Meaning.{Stop, Outcome, Ended, Stopped, normally, after, caught, kept_in, received, sending, returned_to, Calls, statement_meaning, block_meaning, handlers_meaning, state_after}
-use Rattle.resolved.specs.Ends.{same_exit, has_end, raises, thrown_ends, leaves_loop, handles, passes, statement_ends, block_ends, index_can_raise}
+use Rattle.resolved.specs.Exits.{same_exit, has_exit, raises, thrown_exits, leaves_loop, handles, passes, statement_exits, block_exits, index_can_raise}
 use Rattle.resolved.specs.declared.target.Target.{Target}
 use Rattle.resolved.specs.declared.target.Target.TheVariants.{ToEnd, ToThrown, ToValue, ToVariable, ToChannel, ToBegin, ToValue, ToLoop}
-use Rattle.resolved.specs.Labelled.{Scope, ExitLabels, Demand, demand, join_under, label_under, FitsDemands, variable_label, channel_label, result_label, value_label, raise_label, raise_labels, label_if, at_ends, raised_exits, call_exits, any_of, loop_exits, statement_rule, block_rule, handlers_rule, block_exits, target_demand, argument_demands, statement_demands, block_demands, handlers_demands, Labelling, Join, one, label_of, here, LabelAtom}
+use Rattle.resolved.specs.Labelled.{Scope, ExitLabels, Demand, demand, join_under, label_under, FitsDemands, variable_label, channel_label, result_label, value_label, raise_label, raise_labels, label_if, at_exits, raised_exit_labels, call_exit_labels, any_of, loop_exit_labels, statement_rule, block_rule, handlers_rule, block_exit_labels, target_demand, argument_demands, statement_demands, block_demands, handlers_demands, Labelling, Join, one, label_of, here, LabelAtom}
 use Rattle.isolation.proofs.OwnLabel.{own_label}
 use Rattle.lattices.specs.Constraints.{holds}
 use Rattle.labels.specs.LabelLattice.{label_lattice}
 use Rattle.isolation.proofs.Among.{CallsAmong, expression-raises, thrown-among, statement-among, block-among}
 use Rattle.isolation.proofs.Observer.{Reader, View, view_of, AgreeFor, agree-itself, agree-through, agree-unread, agree-unread_input, agree-unread_sending, with_input, unread-left, unread-right, unread-flowing}
-use Rattle.isolation.proofs.Unseen.{hidden_end, hidden_return, Unseen, LoopExits, unseen-weaker, unseen-from, unseen-end, unseen-stop, unseen-evaluated, unseen-if, unseen-after, unseen-fuel, unseen-caught}
+use Rattle.isolation.proofs.Unseen.{hidden_exit, hidden_return, Unseen, LoopExitLabels, unseen-weaker, unseen-from, unseen-end, unseen-stop, unseen-evaluated, unseen-if, unseen-after, unseen-fuel, unseen-caught}
 use Rattle.isolation.proofs.Closed.{read_exits, unseen-closed}
 use Rattle.common.specs.declared.exceptions.TheConstants.{END}
 
@@ -61,9 +61,9 @@ unread-label_if reader test label e unread = rw e unread
 
 -- what is raised is raised at q
 pub unread-raised : {h : PrincipalHierarchy} {labelling : Labelling} (reader : Reader h labelling) (s : SourceState) (e : Expression) (q : Join) (x : ℕ) →
-    value_of s e ≡ Raises x → reader.reads q ≡ false → reader.reads (raised_exits e q (Throw x)) ≡ false
+    value_of s e ≡ Raises x → reader.reads q ≡ false → reader.reads (raised_exit_labels e q (Throw x)) ≡ false
 unread-raised reader s e q x f unread =
-    unread-label_if reader (has_end (thrown_ends (raises e)) (Throw x)) q (thrown-among (raises e) x ((expression-raises s e).among x f)) unread
+    unread-label_if reader (has_exit (thrown_exits (raises e)) (Throw x)) q (thrown-among (raises e) x ((expression-raises s e).among x f)) unread
 
 -- whether an observer reads the value of a procedure
 abbrev pub reads_result : {h : PrincipalHierarchy} {labelling : Labelling} → Reader h labelling → ProcedureEntry → Bool
@@ -72,7 +72,7 @@ reads_result reader procedure = reader.label (result_label procedure.result)
 -- A call ends normally, perhaps with a value, or by an exception; of one of which the observer does not read the label of the end,
 -- no value is seen
 pub data HiddenCall (value : Bool) (exits : Exit → Bool) : Outcome → Type 0 where
-  call_end : (r : Option Value) (t : SourceState) → exits Normal ≡ false → (value ≡ true → r ≡ None) →
+  call_exit : (r : Option Value) (t : SourceState) → exits Normal ≡ false → (value ≡ true → r ≡ None) →
       HiddenCall value exits (Ended Normal r t)
   call_thrown : (x : ℕ) (t : SourceState) → exits (Throw x) ≡ false → HiddenCall value exits (Ended (Throw x) None t)
   call_stop : (stop : Stop) (t : SourceState) → HiddenCall value exits (Stopped stop t)
@@ -96,12 +96,12 @@ pub unseen-returned_to : (view : View) (result value : Bool) (exits more : Exit 
     HiddenCall result exits o → ((exit : Exit) → exits exit ≡ false → more exit ≡ false) →
     (exits Normal ≡ false → (x : Variable) → target ≡ Some x → view.variable x ≡ false) →
     Unseen view value more (state_after o) (returned_to target o)
-unseen-returned_to view result value exits more None o (call_end r t m none) weaker unread = unseen-end view value more t Normal (weaker Normal m)
+unseen-returned_to view result value exits more None o (call_exit r t m none) weaker unread = unseen-end view value more t Normal (weaker Normal m)
 unseen-returned_to view result value exits more None o (call_thrown x t m) weaker unread = unseen-end view value more t (Throw x) (weaker (Throw x) m)
 unseen-returned_to view result value exits more None o (call_stop stop t) weaker unread = unseen-stop view value more t stop
-unseen-returned_to view result value exits more (Some x) o (call_end None t m none) weaker unread = unseen-end view value more t Normal (weaker Normal m)
-unseen-returned_to view result value exits more (Some x) o (call_end (Some v) t m none) weaker unread =
-    record { agree = agree-unread view t x (v ∷ []) (unread m x refl); hidden = hidden_end Normal (assigned t x v) (weaker Normal m) }
+unseen-returned_to view result value exits more (Some x) o (call_exit None t m none) weaker unread = unseen-end view value more t Normal (weaker Normal m)
+unseen-returned_to view result value exits more (Some x) o (call_exit (Some v) t m none) weaker unread =
+    record { agree = agree-unread view t x (v ∷ []) (unread m x refl); hidden = hidden_exit Normal (assigned t x v) (weaker Normal m) }
 unseen-returned_to view result value exits more (Some x) o (call_thrown y t m) weaker unread = unseen-end view value more t (Throw y) (weaker (Throw y) m)
 unseen-returned_to view result value exits more (Some x) o (call_stop stop t) weaker unread = unseen-stop view value more t stop
 
@@ -129,7 +129,7 @@ unseen-received view value exits channel target s (z ∷ rest) unread unread_cha
       agree = agree-through view s (with_input s channel rest) (kept_in target (Number z) (with_input s channel rest))
           (agree-unread_input view s channel rest unread_channel)
           (unseen-kept_in view target (Number z) (with_input s channel rest) unread_target);
-      hidden = hidden_end Normal (kept_in target (Number z) (with_input s channel rest)) (unread Normal);
+      hidden = hidden_exit Normal (kept_in target (Number z) (with_input s channel rest)) (unread Normal);
     }
 
 -- a label that is above one which, joined with it, is not read
@@ -159,7 +159,7 @@ own-unread reader scope pc (If at e then_block else_block) fits unread = unread-
 own-unread {h} {labelling} reader scope pc (While at loop e body) fits unread =
     let l : Join = one (label_of scope.program (ToLoop scope.number loop)) in
     let b : Join = own_label scope pc (While at loop e body) ++ value_label scope e in
-    let x : ExitLabels = block_exits scope b body in
+    let x : ExitLabels = block_exit_labels scope b body in
     unread-left reader l (raise_label scope e)
     (unread-demand reader scope.program at 8 pc (ToLoop scope.number loop) (fits-left h labelling (demand scope.program at 8 pc (ToLoop scope.number loop)) (block_demands scope b body)
     (fits-left h labelling (demand scope.program at 8 pc (ToLoop scope.number loop) ++ block_demands scope b body) (demand scope.program at 8 (x Normal ++ x Continue) (ToLoop scope.number loop)) fits)) unread)
@@ -171,14 +171,14 @@ own-unread reader scope pc (Nested at block) fits unread = unread
 
 -- the exits of a loop by those of its body
 pub loop-read : {h : PrincipalHierarchy} {labelling : Labelling} (reader : Reader h labelling) (raised : ExitLabels) (b : Join) (x : ExitLabels) →
-    LoopExits (read_exits reader x) (λ exit. reader.reads (raised exit ++ loop_exits b x exit))
+    LoopExitLabels (read_exits reader x) (λ exit. reader.reads (raised exit ++ loop_exit_labels b x exit))
 loop-read reader raised b x = record {
   leaving = leaving;
   broken = λ m. unread-right reader (raised Normal) (b ++ x Break) (unread-right reader b (x Break) m);
 }
   where
     leaving : (exit : Exit) → leaves_loop exit ≡ true → reader.reads (x exit) ≡ false →
-        reader.reads (raised exit ++ loop_exits b x exit) ≡ false
+        reader.reads (raised exit ++ loop_exit_labels b x exit) ≡ false
     leaving Normal e m = let i : true ≡ false = sym e in absurd (cc)
     leaving Return e m = unread-right reader (raised Return) (x Return) m
     leaving Break e m = let i : true ≡ false = sym e in absurd (cc)
@@ -195,9 +195,9 @@ unseen-handler view value more exception handled s x y h i = go (exception == ha
     go true e = let same : exception ≡ handled = grind (arith, e) in rw e (h same)
     go false e = rw e (i e)
 
--- each end of a call is above q
+-- each exit of a call is above q
 pub unread-call : {h : PrincipalHierarchy} {labelling : Labelling} (reader : Reader h labelling) (program : Program) (f : ℕ) (q : Join) → reader.reads q ≡ false →
-    (exit : Exit) → reader.reads (call_exits program f q exit) ≡ false
+    (exit : Exit) → reader.reads (call_exit_labels program f q exit) ≡ false
 unread-call reader program f q unread Normal =
     unread-left reader q (label_if (any_of (procedure_at program f).throws) (one (label_of program (ToEnd f)))) unread
 unread-call reader program f q unread Return = unread
@@ -219,11 +219,11 @@ module _ (h : PrincipalHierarchy) (labelling : Labelling) (reader : Reader h lab
         let unread_x : reader.reads (variable_label scope x) ≡ false = unread-demand reader scope.program at 1 (q ++ value_label scope e)
         (ToVariable scope.number x) fits (unread-left reader q (value_label scope e) unread) in
         unseen-evaluated view value exits s (value_of s e) (λ v. normally (assigned s x v)) (λ y f. unread) (λ v f.
-        record { agree = agree-unread view s x (v ∷ []) unread_x; hidden = hidden_end Normal (assigned s x v) unread })
+        record { agree = agree-unread view s x (v ∷ []) unread_x; hidden = hidden_exit Normal (assigned s x v) unread })
     statement-unseen (Clear at slot) pc fits unread s =
         record {
           agree = agree-unread (view_of reader scope) s (Local slot) _ (unread-demand reader scope.program at 2 pc (ToVariable scope.number (Local slot)) fits unread);
-          hidden = hidden_end Normal (cleared s slot) unread;
+          hidden = hidden_exit Normal (cleared s slot) unread;
         }
     statement-unseen (Store at array len index e) pc fits unread s =
         let view = view_of reader scope in
@@ -236,7 +236,7 @@ module _ (h : PrincipalHierarchy) (labelling : Labelling) (reader : Reader h lab
         unseen-evaluated view value exits s (value_of s index) _ (λ y f. unread) (λ v f.
         unseen-evaluated view value exits s (value_of s e) _ (λ y g. unread) (λ w g.
         unseen-evaluated view value exits s (checked_index v len) (λ i. normally (stored s array i w)) (λ y g. unread) (λ i j.
-        record { agree = agree-unread view s array _ unread_array; hidden = hidden_end Normal (stored s array i w) unread })))
+        record { agree = agree-unread view s array _ unread_array; hidden = hidden_exit Normal (stored s array i w) unread })))
     statement-unseen (Receive at channel target) pc fits unread s =
         let view = view_of reader scope in
         let value = reads_result reader (here scope) in
@@ -253,7 +253,7 @@ module _ (h : PrincipalHierarchy) (labelling : Labelling) (reader : Reader h lab
         let unread_channel : reader.label (channel_label scope.program channel) ≡ false = sym (reader.written _) ∙ unread-demand reader scope.program at 5
         (q ++ value_label scope e) (ToChannel channel) fits (unread-left reader q (value_label scope e) unread) in
         unseen-evaluated view value exits s (value_of s e) (λ v. normally (sending channel v s)) (λ y f. unread) (λ v f.
-        record { agree = agree-unread_sending view s channel v unread_channel; hidden = hidden_end Normal (sending channel v s) unread })
+        record { agree = agree-unread_sending view s channel v unread_channel; hidden = hidden_exit Normal (sending channel v s) unread })
     statement-unseen (Call at f arguments target) pc fits unread s =
         let view = view_of reader scope in
         let value = reads_result reader (here scope) in
@@ -261,7 +261,7 @@ module _ (h : PrincipalHierarchy) (labelling : Labelling) (reader : Reader h lab
         let callee = procedure_at scope.program f in
         let exits = read_exits reader (statement_rule scope pc (Call at f arguments target)) in
         let ds = argument_demands scope at q f 0 arguments in
-        let ts = target_demand scope at 6 (call_exits scope.program f q Normal ++ one (label_of scope.program (ToValue f))) target in
+        let ts = target_demand scope at 6 (call_exit_labels scope.program f q Normal ++ one (label_of scope.program (ToValue f))) target in
         let front = fits-left h labelling (demand scope.program at 6 q (ToBegin f) ++ ds) ts fits in
         let unread_begin : reader.reads (one (label_of scope.program (ToBegin f))) ≡ false = unread-demand reader scope.program at 6 q (ToBegin f)
         (fits-left h labelling (demand scope.program at 6 q (ToBegin f)) ds front) unread in
@@ -270,9 +270,9 @@ module _ (h : PrincipalHierarchy) (labelling : Labelling) (reader : Reader h lab
         let call = confines.unseen f vs s unread_begin in
         unseen-from view value exits s (state_after (calls f vs s)) (returned_to target (calls f vs s)) call.agree
         (unseen-returned_to view (reads_result reader callee) value unread_exits exits target (calls f vs s) call.hidden (λ exit m. each exit)
-        (λ m. unread-target reader scope at 6 (call_exits scope.program f q Normal ++ one (label_of scope.program (ToValue f))) target
+        (λ m. unread-target reader scope at 6 (call_exit_labels scope.program f q Normal ++ one (label_of scope.program (ToValue f))) target
         (fits-right h labelling (demand scope.program at 6 q (ToBegin f) ++ ds) ts fits)
-        (unread-left reader (call_exits scope.program f q Normal) (one (label_of scope.program (ToValue f))) (each Normal)))))
+        (unread-left reader (call_exit_labels scope.program f q Normal) (one (label_of scope.program (ToValue f))) (each Normal)))))
     statement-unseen (If at e then_block else_block) pc fits unread s =
         let view = view_of reader scope in
         let value = reads_result reader (here scope) in
@@ -280,26 +280,26 @@ module _ (h : PrincipalHierarchy) (labelling : Labelling) (reader : Reader h lab
         let b : Join = q ++ value_label scope e in
         let unread_b : reader.reads b ≡ false = unread-left reader q (value_label scope e) unread in
         let exits = read_exits reader (statement_rule scope pc (If at e then_block else_block)) in
-        let yes_ends = block_ends scope.program then_block in
-        let no_ends = block_ends scope.program else_block in
-        let yes_exits : ExitLabels = at_ends yes_ends b (block_rule scope b then_block) in
-        let no_exits : ExitLabels = at_ends no_ends b (block_rule scope b else_block) in
+        let yes_exits = block_exits scope.program then_block in
+        let no_exits = block_exits scope.program else_block in
+        let yes_exit_labels : ExitLabels = at_exits yes_exits b (block_rule scope b then_block) in
+        let no_exit_labels : ExitLabels = at_exits no_exits b (block_rule scope b else_block) in
         unseen-evaluated view value exits s (value_of s e)
         (λ v. if truth_in v then block_meaning calls k then_block s else block_meaning calls k else_block s)
-        (λ y f. unread-left reader (raised_exits e q (Throw y) ++ yes_exits (Throw y)) (no_exits (Throw y))
-        (unread-left reader (raised_exits e q (Throw y)) (yes_exits (Throw y)) (unread-raised reader s e q y f unread))) (λ v f.
+        (λ y f. unread-left reader (raised_exit_labels e q (Throw y) ++ yes_exit_labels (Throw y)) (no_exit_labels (Throw y))
+        (unread-left reader (raised_exit_labels e q (Throw y)) (yes_exit_labels (Throw y)) (unread-raised reader s e q y f unread))) (λ v f.
         unseen-if view value exits s (truth_in v) (block_meaning calls k then_block s) (block_meaning calls k else_block s)
-        (unseen-weaker view value (read_exits reader yes_exits) exits s (block_meaning calls k then_block s)
-        (unseen-closed reader view value yes_ends b (block_rule scope b then_block) s (block_meaning calls k then_block s) unread_b
+        (unseen-weaker view value (read_exits reader yes_exit_labels) exits s (block_meaning calls k then_block s)
+        (unseen-closed reader view value yes_exits b (block_rule scope b then_block) s (block_meaning calls k then_block s) unread_b
         (block-among then_block scope.program calls k confines.among s)
         (block-unseen then_block b (fits-left h labelling (block_demands scope b then_block) (block_demands scope b else_block) fits) unread_b s))
-        (λ exit m. unread-left reader (raised_exits e q exit ++ yes_exits exit) (no_exits exit)
-        (unread-right reader (raised_exits e q exit) (yes_exits exit) m)))
-        (unseen-weaker view value (read_exits reader no_exits) exits s (block_meaning calls k else_block s)
-        (unseen-closed reader view value no_ends b (block_rule scope b else_block) s (block_meaning calls k else_block s) unread_b
+        (λ exit m. unread-left reader (raised_exit_labels e q exit ++ yes_exit_labels exit) (no_exit_labels exit)
+        (unread-right reader (raised_exit_labels e q exit) (yes_exit_labels exit) m)))
+        (unseen-weaker view value (read_exits reader no_exit_labels) exits s (block_meaning calls k else_block s)
+        (unseen-closed reader view value no_exits b (block_rule scope b else_block) s (block_meaning calls k else_block s) unread_b
         (block-among else_block scope.program calls k confines.among s)
         (block-unseen else_block b (fits-right h labelling (block_demands scope b then_block) (block_demands scope b else_block) fits) unread_b s))
-        (λ exit m. unread-right reader (raised_exits e q exit ++ yes_exits exit) (no_exits exit) m)))
+        (λ exit m. unread-right reader (raised_exit_labels e q exit ++ yes_exit_labels exit) (no_exit_labels exit) m)))
     statement-unseen (While at loop e body) pc fits unread s =
         let view = view_of reader scope in
         let value = reads_result reader (here scope) in
@@ -307,14 +307,14 @@ module _ (h : PrincipalHierarchy) (labelling : Labelling) (reader : Reader h lab
         let q : Join = own_label scope pc (While at loop e body) in
         let b : Join = q ++ value_label scope e in
         let unread_b : reader.reads b ≡ false = unread-left reader q (value_label scope e) unread in
-        let ends = block_ends scope.program body in
-        let x : ExitLabels = at_ends ends b (block_rule scope b body) in
+        let ends = block_exits scope.program body in
+        let x : ExitLabels = at_exits ends b (block_rule scope b body) in
         let exits = read_exits reader (statement_rule scope pc (While at loop e body)) in
         let front = fits-left h labelling (demand scope.program at 8 pc (ToLoop scope.number loop) ++ block_demands scope b body) (demand scope.program at 8 (x Normal ++ x Continue) (ToLoop scope.number loop)) fits in
         unseen-fuel view value (read_exits reader x) exits k (λ t. value_of t e) (block_meaning calls k body)
-        (λ t y f. unread-left reader (raised_exits e q (Throw y)) (loop_exits b x (Throw y)) (unread-raised reader t e q y f unread))
-        (unread-right reader (raised_exits e q Normal) (b ++ x Break) (unread-left reader b (x Break) unread_b))
-        (loop-read reader (raised_exits e q) b x)
+        (λ t y f. unread-left reader (raised_exit_labels e q (Throw y)) (loop_exit_labels b x (Throw y)) (unread-raised reader t e q y f unread))
+        (unread-right reader (raised_exit_labels e q Normal) (b ++ x Break) (unread-left reader b (x Break) unread_b))
+        (loop-read reader (raised_exit_labels e q) b x)
         (λ t. unseen-closed reader view value ends b (block_rule scope b body) t (block_meaning calls k body t) unread_b
         (block-among body scope.program calls k confines.among t)
         (block-unseen body b (fits-right h labelling (demand scope.program at 8 pc (ToLoop scope.number loop)) (block_demands scope b body) front) unread_b t)) s
@@ -340,8 +340,8 @@ module _ (h : PrincipalHierarchy) (labelling : Labelling) (reader : Reader h lab
     statement-unseen (Try at block handlers) pc fits unread s =
         let view = view_of reader scope in
         let value = reads_result reader (here scope) in
-        let ends = block_ends scope.program block in
-        let x : ExitLabels = at_ends ends pc (block_rule scope pc block) in
+        let ends = block_exits scope.program block in
+        let x : ExitLabels = at_exits ends pc (block_rule scope pc block) in
         let exits = read_exits reader (statement_rule scope pc (Try at block handlers)) in
         let inner = unseen-closed reader view value ends pc (block_rule scope pc block) s (block_meaning calls k block s) unread
         (block-among block scope.program calls k confines.among s)
@@ -357,7 +357,7 @@ module _ (h : PrincipalHierarchy) (labelling : Labelling) (reader : Reader h lab
         (λ exit n. unread-right reader (label_if (passes handlers exit) (x exit)) (handlers_rule scope x handlers exit) n)
         (λ none. others (Throw y) (rw none refl) m)))
     statement-unseen (Nested at block) pc fits unread s =
-        unseen-closed reader (view_of reader scope) (reads_result reader (here scope)) (block_ends scope.program block) pc
+        unseen-closed reader (view_of reader scope) (reads_result reader (here scope)) (block_exits scope.program block) pc
         (block_rule scope pc block) s (block_meaning calls k block s) unread
         (block-among block scope.program calls k confines.among s)
         (block-unseen block pc fits unread s)
@@ -370,8 +370,8 @@ module _ (h : PrincipalHierarchy) (labelling : Labelling) (reader : Reader h lab
     block-unseen (Then statement rest) pc fits unread s =
         let view = view_of reader scope in
         let value = reads_result reader (here scope) in
-        let ends = statement_ends scope.program statement in
-        let x : ExitLabels = at_ends ends pc (statement_rule scope pc statement) in
+        let ends = statement_exits scope.program statement in
+        let x : ExitLabels = at_exits ends pc (statement_rule scope pc statement) in
         let exits = read_exits reader (block_rule scope pc (Then statement rest)) in
         let here = fits-left h labelling (statement_demands scope pc statement) (block_demands scope (x Normal) rest) fits in
         let first = unseen-closed reader view value ends pc (statement_rule scope pc statement) s (statement_meaning calls k statement s) unread
@@ -396,17 +396,17 @@ module _ (h : PrincipalHierarchy) (labelling : Labelling) (reader : Reader h lab
     handlers-unseen (Catch at handled body rest) x fits exception s unread more weaker passing =
         let view = view_of reader scope in
         let value = reads_result reader (here scope) in
-        let ends = block_ends scope.program body in
+        let ends = block_exits scope.program body in
         let pc : Join = x (Throw handled) in
-        let body_exits : ExitLabels = at_ends ends pc (block_rule scope pc body) in
+        let body_exit_labels : ExitLabels = at_exits ends pc (block_rule scope pc body) in
         unseen-handler view value more exception handled s (block_meaning calls k body s) (handlers_meaning calls k rest exception s)
         (λ same.
         let unread_pc : reader.reads pc ≡ false = ap (λ y. reader.reads (x (Throw y))) (sym same) ∙ unread in
-        unseen-weaker view value (read_exits reader body_exits) more s (block_meaning calls k body s)
+        unseen-weaker view value (read_exits reader body_exit_labels) more s (block_meaning calls k body s)
         (unseen-closed reader view value ends pc (block_rule scope pc body) s (block_meaning calls k body s) unread_pc
         (block-among body scope.program calls k confines.among s)
         (block-unseen body pc (fits-left h labelling (block_demands scope pc body) (handlers_demands scope x rest) fits) unread_pc s))
-        (λ exit m. weaker exit (unread-left reader (body_exits exit) (handlers_rule scope x rest exit) m)))
+        (λ exit m. weaker exit (unread-left reader (body_exit_labels exit) (handlers_rule scope x rest exit) m)))
         (λ other. handlers-unseen rest x (fits-right h labelling (block_demands scope pc body) (handlers_demands scope x rest) fits) exception s unread more
-        (λ exit m. weaker exit (unread-right reader (body_exits exit) (handlers_rule scope x rest exit) m))
+        (λ exit m. weaker exit (unread-right reader (body_exit_labels exit) (handlers_rule scope x rest exit) m))
         (λ none. passing (rw (other, none) refl)))

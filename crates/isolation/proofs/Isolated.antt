@@ -14,9 +14,9 @@ use Rattle.resolved.specs.Tree.{Empty}
 use Rattle.resolved.specs.Program.{Program, ChannelEntry, ProcedureEntry, procedure_at, channel_at, slot_at}
 use Rattle.resolved.specs.SourceState.{SourceState, World, cells}
 use Rattle.resolved.specs.Meaning.{Deep, Outcome, leaving, Stopped, entering, first_cells_of_slots, block_meaning, calls_with, first_state, channel_numbers, numbers_by, run_within, state_after}
-use Rattle.resolved.specs.Ends.{block_ends}
+use Rattle.resolved.specs.Exits.{block_exits}
 use Rattle.resolved.specs.declared.target.Target.TheVariants.{ToBegin}
-use Rattle.resolved.specs.Labelled.{parameter_label, Scope, OfLocal, Join, one, written_or, label_of, join_under, Labelling, FitsDemands, channel_label, block_rule, block_exits, block_demands, end_demands, procedure_demands, demands_from, program_demands}
+use Rattle.resolved.specs.Labelled.{parameter_label, Scope, OfLocal, Join, one, written_or, label_of, join_under, Labelling, FitsDemands, channel_label, block_rule, block_exit_labels, block_demands, exit_demands, procedure_demands, demands_from, program_demands}
 use Rattle.lattices.specs.Constraints.{Written}
 use Rattle.isolation.proofs.Grows.{calls-grow}
 use Rattle.isolation.proofs.Among.{EndsAsDeclared, calls-among, block-among}
@@ -115,14 +115,14 @@ module _ (program : Program) (labelling : Labelling) (accepted : Accepted progra
   body-fits : (f : ℕ) → FitsDemands program.hierarchy labelling (block_demands (inside f) (begin f) (procedure_at program f).body)
   body-fits f =
       fits-left program.hierarchy labelling (block_demands (inside f) (begin f) (procedure_at program f).body)
-      (end_demands (inside f) (block_ends program (procedure_at program f).body)
-      (block_exits (inside f) (begin f) (procedure_at program f).body)) (accepted.fits f)
+      (exit_demands (inside f) (block_exits program (procedure_at program f).body)
+      (block_exit_labels (inside f) (begin f) (procedure_at program f).body)) (accepted.fits f)
 
-  ends-fit : (f : ℕ) → FitsDemands program.hierarchy labelling (end_demands (inside f) (block_ends program (procedure_at program f).body) (block_exits (inside f) (begin f) (procedure_at program f).body))
+  ends-fit : (f : ℕ) → FitsDemands program.hierarchy labelling (exit_demands (inside f) (block_exits program (procedure_at program f).body) (block_exit_labels (inside f) (begin f) (procedure_at program f).body))
   ends-fit f =
       fits-right program.hierarchy labelling (block_demands (inside f) (begin f) (procedure_at program f).body)
-      (end_demands (inside f) (block_ends program (procedure_at program f).body)
-      (block_exits (inside f) (begin f) (procedure_at program f).body)) (accepted.fits f)
+      (exit_demands (inside f) (block_exits program (procedure_at program f).body)
+      (block_exit_labels (inside f) (begin f) (procedure_at program f).body)) (accepted.fits f)
 
   -- calls at a begin label that the observer does not read
   pub calls-confine : (k frames : ℕ) (caller : ℕ) (labels : Labelling) →
@@ -141,7 +141,7 @@ module _ (program : Program) (labelling : Labelling) (accepted : Accepted progra
         let callee : ProcedureEntry = procedure_at program f in
         let calls = calls_with program k frames in
         let u : SourceState = entering callee vs s in
-        unseen-leaving callee (block_ends program callee.body) (view_of (under reader labelling) (inside f))
+        unseen-leaving callee (block_exits program callee.body) (view_of (under reader labelling) (inside f))
         (view_of (under reader labels) (record { program = program; number = caller })) (reads_result (under reader labelling) callee)
         (read_exits (under reader labelling) (block_rule (inside f) (begin f) callee.body)) s u (block_meaning calls k callee.body u) (accepted.declared f)
         (λ t. agree-kept_home reader program caller f labels labelling vs s t)
@@ -171,7 +171,7 @@ module _ (program : Program) (labelling : Labelling) (accepted : Accepted progra
         let callee : ProcedureEntry = procedure_at program f in
         let calls = calls_with program k frames in
         let further = calls_with program m frames in
-        let ends = block_ends program callee.body in
+        let ends = block_exits program callee.body in
         let inner = view_of (under reader labelling) (inside f) in
         let outer = view_of (under reader labels) (record { program = program; number = caller }) in
         let value = reads_result (under reader labelling) callee in
@@ -184,7 +184,7 @@ module _ (program : Program) (labelling : Labelling) (accepted : Accepted progra
         related_call-weaker outer value (read_exits (under reader labelling) (declared_label program f))
         (read_exits (under reader labels) (declared_label program f)) (leaving (home s) o) (leaving (home t) p)
         (declared-under reader labels labelling program f)
-        (related-leaving (under reader labelling) (inside f) ends (block_exits (inside f) (begin f) callee.body) inner outer value s t o p
+        (related-leaving (under reader labelling) (inside f) ends (block_exit_labels (inside f) (begin f) callee.body) inner outer value s t o p
         (accepted.declared f) (ends-fit f)
         (λ s' t' within. agree-home reader program caller f labels labelling s t s' t' agree within)
         (λ xs. refl) among among'

@@ -5,19 +5,19 @@ use Rattle.resolved.specs.SourceState.{SourceState}
 use Rattle.principals.specs.ActsFor.{PrincipalHierarchy}
 use Rattle.resolved.specs.Program.{Program}
 use Rattle.resolved.specs.Meaning.{Outcome, Ended, Stopped, statement_meaning, calls_with, state_after, frame_limit}
-use Rattle.resolved.specs.Ends.{statement_ends}
-use Rattle.resolved.specs.EndFaults.{end_faults}
-use Rattle.resolved.specs.Labelled.{Scope, here, Labelling, ExitLabels, Labelled, statement_rule, statement_exits, result_label}
+use Rattle.resolved.specs.Exits.{statement_exits}
+use Rattle.resolved.specs.ExitFaults.{exit_faults}
+use Rattle.resolved.specs.Labelled.{Scope, here, Labelling, ExitLabels, Labelled, statement_rule, statement_exit_labels, result_label}
 use Rattle.resolved.specs.Isolated.{Isolated}
-use Rattle.isolation.specs.Confinement.{SameFor, UnreadEnd, StatementsAreConfined, PossibleEndsAreUnread}
+use Rattle.isolation.specs.Confinement.{SameFor, UnreadExit, StatementsAreConfined, PossibleEndsAreUnread}
 use Rattle.isolation.specs.TwoRuns.{OutcomesAgree, StatementsAgree}
 use Rattle.isolation.specs.Larger.{IsolatedCarried}
 use Rattle.labels.specs.Carried.{KeepsActsFor}
 use Rattle.isolation.proofs.Among.{statement-among}
 use Rattle.isolation.proofs.Declared.{ends-as-declared}
 use Rattle.isolation.proofs.Observer.{under, view_of, AgreeFor, agree-back}
-use Rattle.isolation.proofs.Unseen.{Hidden, hidden_end, hidden_return, hidden_stop}
-use Rattle.isolation.proofs.Related.{Related, same_end, same_return, apart, first_stops, second_stops, agree-prefix}
+use Rattle.isolation.proofs.Unseen.{Hidden, hidden_exit, hidden_return, hidden_stop}
+use Rattle.isolation.proofs.Related.{Related, agreed_exit, same_return, apart, first_stops, second_stops, agree-prefix}
 use Rattle.isolation.proofs.Closed.{read_exits, closed-unread, unseen-closed, related-closed}
 use Rattle.isolation.proofs.Confined.{reads_result, own-unread, statement-unseen}
 use Rattle.isolation.proofs.Unread.{statement-ends-unread}
@@ -25,15 +25,15 @@ use Rattle.isolation.proofs.Secure.{statement-secure}
 use Rattle.isolation.proofs.Isolated.{Accepted, procedure-fits, calls-confine, calls-secure, runs-prefix}
 use Rattle.isolation.proofs.Readers.{principal-reader, carried-reader}
 
-accepted-from : (program : Program) → end_faults program ≡ [] → (labelled : Labelled program) → Accepted program labelled.0
+accepted-from : (program : Program) → exit_faults program ≡ [] → (labelled : Labelled program) → Accepted program labelled.0
 accepted-from program faults labelled = record {
   declared = ends-as-declared program faults;
   fits = procedure-fits program labelled.0 labelled.1;
 }
 
 unread-end : (scope : Scope) (labelling : Labelling) (p : ℕ) (exits : ExitLabels) (value : Bool) (o : Outcome) →
-    Hidden value (read_exits (under (principal-reader scope.program.hierarchy p) labelling) exits) o → UnreadEnd scope labelling p exits o
-unread-end scope labelling p exits value o (hidden_end exit t m) = m
+    Hidden value (read_exits (under (principal-reader scope.program.hierarchy p) labelling) exits) o → UnreadExit scope labelling p exits o
+unread-end scope labelling p exits value o (hidden_exit exit t m) = m
 unread-end scope labelling p exits value o (hidden_return r t m none) = m
 unread-end scope labelling p exits value o (hidden_stop stop t) = tt
 
@@ -44,19 +44,19 @@ confined scope labelling faults labelled p pc unread statement fits frames k s =
     let calls = calls_with scope.program k frames in
     let confines = calls-confine scope.program labelled.0 accepted (principal-reader scope.program.hierarchy p) k frames scope.number labelling in
     let o : Outcome = statement_meaning calls k statement s in
-    let unseen = unseen-closed reader (view_of reader scope) (reads_result reader (here scope)) (statement_ends scope.program statement) pc
+    let unseen = unseen-closed reader (view_of reader scope) (reads_result reader (here scope)) (statement_exits scope.program statement) pc
     (statement_rule scope pc statement) s o unread
     (statement-among statement scope.program calls k confines.among s)
     (statement-unseen scope.program.hierarchy labelling reader scope calls k confines statement pc fits (own-unread reader scope pc statement fits unread) s) in (
       record { variables = unseen.agree.variables; inputs = unseen.agree.inputs; sent = unseen.agree.sent },
-      unread-end scope labelling p (statement_exits scope pc statement) (reads_result reader (here scope)) o unseen.hidden,
+      unread-end scope labelling p (statement_exit_labels scope pc statement) (reads_result reader (here scope)) o unseen.hidden,
     )
 
-pub isolated : (program : Program) → end_faults program ≡ [] → Labelled program → Isolated program
+pub isolated : (program : Program) → exit_faults program ≡ [] → Labelled program → Isolated program
 isolated program faults labelled p first second agree k m =
     runs-prefix program labelled.0 (accepted-from program faults labelled) (principal-reader program.hierarchy p) first second agree frame_limit k m
 
-pub isolated-carried : (program : Program) (larger : PrincipalHierarchy) (carry : ℕ → ℕ) → end_faults program ≡ [] →
+pub isolated-carried : (program : Program) (larger : PrincipalHierarchy) (carry : ℕ → ℕ) → exit_faults program ≡ [] →
     Labelled program → KeepsActsFor program.hierarchy larger carry → IsolatedCarried program larger carry
 isolated-carried program larger carry faults labelled keeps p first second agree k m =
     runs-prefix program labelled.0 (accepted-from program faults labelled)
@@ -65,7 +65,7 @@ isolated-carried program larger carry faults labelled keeps p first second agree
 pub ends-unread : (scope : Scope) (labelling : Labelling) → PossibleEndsAreUnread scope labelling
 ends-unread scope labelling p pc unread in_loop statement faults fits exit among =
     let reader = under (principal-reader scope.program.hierarchy p) labelling in
-    closed-unread reader (statement_ends scope.program statement) pc (statement_rule scope pc statement) exit (λ one. unread) among
+    closed-unread reader (statement_exits scope.program statement) pc (statement_rule scope pc statement) exit (λ one. unread) among
     (statement-ends-unread scope.program.hierarchy labelling reader scope statement pc in_loop faults fits unread exit among)
 
 -- from what is read as a test to the same for a principal, and back
@@ -77,28 +77,28 @@ agree-from : (scope : Scope) (labelling : Labelling) (p : ℕ) (s t : SourceStat
     AgreeFor (view_of (under (principal-reader scope.program.hierarchy p) labelling) scope) s t
 agree-from scope labelling p s t same = record { variables = same.variables; inputs = same.inputs; sent = same.sent }
 
--- two outcomes of which the principal reads the label of neither end
+-- two outcomes of which the principal reads the label of neither exit
 apart-agree : (scope : Scope) (labelling : Labelling) (p : ℕ) (exits : ExitLabels) (value : Bool) →
     value ≡ may_read scope.program.hierarchy p (result_label (here scope).result) → (o q : Outcome) →
     Hidden value (read_exits (under (principal-reader scope.program.hierarchy p) labelling) exits) o →
     Hidden value (read_exits (under (principal-reader scope.program.hierarchy p) labelling) exits) q →
     AgreeFor (view_of (under (principal-reader scope.program.hierarchy p) labelling) scope) (state_after o) (state_after q) →
     OutcomesAgree scope labelling p exits o q
-apart-agree scope labelling p exits value is o q (hidden_end exit s m) (hidden_end other t n) agree = (
+apart-agree scope labelling p exits value is o q (hidden_exit exit s m) (hidden_exit other t n) agree = (
   same-from scope labelling p s t agree,
   λ reads. let i : true ≡ false = sym reads ∙ m in absurd (cc),
   λ reads. let i : true ≡ false = sym reads
       ∙ n in absurd (cc),
   λ reads. refl,
 )
-apart-agree scope labelling p exits value is o q (hidden_end exit s m) (hidden_return r t n none) agree = (
+apart-agree scope labelling p exits value is o q (hidden_exit exit s m) (hidden_return r t n none) agree = (
   same-from scope labelling p s t agree,
   λ reads. let i : true ≡ false = sym reads ∙ m in absurd (cc),
   λ reads. let i : true ≡ false = sym reads
       ∙ n in absurd (cc),
   λ reads. sym (none (is ∙ reads)),
 )
-apart-agree scope labelling p exits value is o q (hidden_return r s m none) (hidden_end other t n) agree = (
+apart-agree scope labelling p exits value is o q (hidden_return r s m none) (hidden_exit other t n) agree = (
   same-from scope labelling p s t agree,
   λ reads. let i : true ≡ false = sym reads ∙ m in absurd (cc),
   λ reads. let i : true ≡ false = sym reads
@@ -107,11 +107,11 @@ apart-agree scope labelling p exits value is o q (hidden_return r s m none) (hid
 )
 apart-agree scope labelling p exits value is o q (hidden_return r s m none) (hidden_return r' t n none') agree =
     (same-from scope labelling p s t agree, λ reads. refl, λ reads. refl, λ reads. none (is ∙ reads) ∙ sym (none' (is ∙ reads)))
-apart-agree scope labelling p exits value is o q (hidden_stop stop s) (hidden_end other t n) agree = agree-prefix
+apart-agree scope labelling p exits value is o q (hidden_stop stop s) (hidden_exit other t n) agree = agree-prefix
     (view_of (under (principal-reader scope.program.hierarchy p) labelling) scope) s t agree
 apart-agree scope labelling p exits value is o q (hidden_stop stop s) (hidden_return r t n none) agree = agree-prefix
     (view_of (under (principal-reader scope.program.hierarchy p) labelling) scope) s t agree
-apart-agree scope labelling p exits value is o q (hidden_end exit s m) (hidden_stop stop t) agree =
+apart-agree scope labelling p exits value is o q (hidden_exit exit s m) (hidden_stop stop t) agree =
     agree-prefix (view_of (under (principal-reader scope.program.hierarchy p) labelling) scope) t s
     (agree-back (view_of (under (principal-reader scope.program.hierarchy p) labelling) scope) s t agree)
 apart-agree scope labelling p exits value is o q (hidden_return r s m none) (hidden_stop stop t) agree =
@@ -124,7 +124,7 @@ outcomes-agree : (scope : Scope) (labelling : Labelling) (p : ℕ) (exits : Exit
     Related (view_of (under (principal-reader scope.program.hierarchy p) labelling) scope)
     (reads_result (under (principal-reader scope.program.hierarchy p) labelling) (here scope))
     (read_exits (under (principal-reader scope.program.hierarchy p) labelling) exits) o q → OutcomesAgree scope labelling p exits o q
-outcomes-agree scope labelling p exits o q (same_end exit s t agree) = (same-from scope labelling p s t agree, λ reads. refl, λ reads. refl, λ reads. refl)
+outcomes-agree scope labelling p exits o q (agreed_exit exit s t agree) = (same-from scope labelling p s t agree, λ reads. refl, λ reads. refl, λ reads. refl)
 outcomes-agree scope labelling p exits o q (same_return r r' s t agree same) = (same-from scope labelling p s t agree, λ reads. refl, λ reads. refl, same)
 outcomes-agree scope labelling p exits o q (apart _ _ h i agree) =
     apart-agree scope labelling p exits (reads_result (under (principal-reader scope.program.hierarchy p) labelling) (here scope)) refl o q h i agree
@@ -142,8 +142,8 @@ statements-agree scope labelling faults labelled p pc statement fits frames k m 
     let secures = calls-secure scope.program labelled.0 accepted (principal-reader scope.program.hierarchy p) k m frames scope.number labelling in
     let o : Outcome = statement_meaning calls k statement s in
     let q : Outcome = statement_meaning further m statement t in
-    outcomes-agree scope labelling p (statement_exits scope pc statement) o q
-    (related-closed reader (view_of reader scope) (reads_result reader (here scope)) (statement_ends scope.program statement) pc
+    outcomes-agree scope labelling p (statement_exit_labels scope pc statement) o q
+    (related-closed reader (view_of reader scope) (reads_result reader (here scope)) (statement_exits scope.program statement) pc
     (statement_rule scope pc statement) o q
     (statement-among statement scope.program calls k secures.first.among s) (statement-among statement scope.program further m secures.second.among t)
     (statement-secure scope.program.hierarchy labelling reader scope calls further k m secures statement pc fits s t (agree-from scope labelling p s t same)))

@@ -1,4 +1,4 @@
--- More fuel changes no end that was reached, and takes nothing back of what was sent.
+-- More fuel changes no exit that was reached, and takes nothing back of what was sent.
 use Rattle.std.proofs.Common.{◌≡◌, refl, ℕ, zero, suc, ◌≤◌, Bool, true, false, List, arith}
 use Rattle.std.specs.Prelude.{Option, Some, None, if◌then◌else◌, ◌==◌}
 use Rattle.labels.specs.Sent.{IsPrefix}

@@ -1,6 +1,6 @@
 -- The label at which a statement has evaluated its own expressions, and at which these raise exceptions.
 use Rattle.std.specs.Prelude.{◌++◌, Some}
-use Rattle.resolved.specs.Ends.{index_can_raise}
+use Rattle.resolved.specs.Exits.{index_can_raise}
 use Rattle.resolved.specs.Tree.{Statement, Assign, Store, Receive, Send, Call, If, While, ReturnWith}
 use Rattle.resolved.specs.declared.target.Target.TheVariants.{ToChannel, ToLoop}
 use Rattle.resolved.specs.Labelled.{Scope, Join, one, label_of, label_if, value_label, raise_label, raise_labels}

@@ -1,6 +1,6 @@
 -- Two runs from states that are the same for an observer: they end in the same way in such states, or it reads the label of
--- neither end; and what it sees of a run that was stopped is a prefix of what it sees of the other.
-use Rattle.std.proofs.Common.{◌≡◌, refl, sym, ap, ◌∙◌, ℕ, zero, suc, Bool, true, false, List, [], ◌⊎◌, inl, inr}
+-- neither exit; and what it sees of a run that was stopped is a prefix of what it sees of the other.
+use Rattle.std.proofs.Common.{◌≡◌, refl, sym, ap, ◌∙◌, ℕ, zero, suc, Bool, true, false, List, []}
 use Rattle.std.specs.Prelude.{Option, None, if◌then◌else◌}
 use Rattle.std.proofs.lemmas.List.{append-nil}
 use Rattle.std.proofs.lemmas.List.Elements.{filter-append}
@@ -13,15 +13,15 @@ use Rattle.resolved.specs.Tree.{Handlers}
 use Rattle.resolved.specs.Value.{Evaluated, Yields, Raises, truth_in}
 use Rattle.resolved.specs.SourceState.{SourceState}
 use Rattle.resolved.specs.Meaning.{Stop, OutOfFuel, Outcome, Ended, Stopped, normally, thrown, after, evaluated, looped, fuel, caught, state_after}
-use Rattle.resolved.specs.Ends.{same_exit, passes}
+use Rattle.resolved.specs.Exits.{same_exit, passes}
 use Rattle.labels.proofs.Prefixes.{prefix-through}
 use Rattle.isolation.proofs.Grows.{Grows, grows-itself, grows-after, grows-looped, grows-fuel, grows-caught}
 use Rattle.isolation.proofs.Observer.{View, shown, AgreeFor, agree-across, agree-back}
 use Rattle.isolation.proofs.Values.{Alike, both_give, both_raise, SameIf}
-use Rattle.isolation.proofs.Unseen.{Hidden, hidden-weaker, Unseen, LoopExits, unseen-after, unseen-looped, unseen-turn_zero, unseen-turn_suc, unseen-caught}
+use Rattle.isolation.proofs.Unseen.{Hidden, hidden-weaker, Unseen, LoopExitLabels, unseen-after, unseen-looped, unseen-turn_zero, unseen-turn_suc, unseen-caught}
 
 pub data Related (view : View) (value : Bool) (exits : Exit → Bool) : Outcome → Outcome → Type 0 where
-  same_end : (exit : Exit) (s t : SourceState) → AgreeFor view s t → Related view value exits (Ended exit None s) (Ended exit None t)
+  agreed_exit : (exit : Exit) (s t : SourceState) → AgreeFor view s t → Related view value exits (Ended exit None s) (Ended exit None t)
   same_return : (r q : Option Value) (s t : SourceState) → AgreeFor view s t → (value ≡ true → r ≡ q) →
       Related view value exits (Ended Return r s) (Ended Return q t)
   apart : (o p : Outcome) → Hidden value exits o → Hidden value exits p → AgreeFor view (state_after o) (state_after p) →
@@ -57,7 +57,7 @@ pub related-evaluated : {A B : Type 0} (P : A → B → Type 0) (view : View) (v
     Alike P e f → ((v : A) (w : B) → e ≡ Yields v → f ≡ Yields w → P v w → Related view value exits (next v) (further w)) →
     Related view value exits (evaluated e s next) (evaluated f t further)
 related-evaluated P view value exits s t e f next further agree (both_give v w h) rest = rest v w refl refl h
-related-evaluated P view value exits s t e f next further agree (both_raise x) rest = same_end (Throw x) s t agree
+related-evaluated P view value exits s t e f next further agree (both_raise x) rest = agreed_exit (Throw x) s t agree
 
 pub related-if : (view : View) (value : Bool) (exits : Exit → Bool) (b c : Bool) (x y x' y' : Outcome) → b ≡ c →
     Related view value exits x x' → Related view value exits y y' →
@@ -67,7 +67,7 @@ related-if view value exits false c x y x' y' e h i = rw (← e) i
 
 pub related-weaker : (view : View) (value : Bool) (exits more : Exit → Bool) (o p : Outcome) → Related view value exits o p →
     ((exit : Exit) → exits exit ≡ false → more exit ≡ false) → Related view value more o p
-related-weaker view value exits more o p (same_end exit s t h) weaker = same_end exit s t h
+related-weaker view value exits more o p (agreed_exit exit s t h) weaker = agreed_exit exit s t h
 related-weaker view value exits more o p (same_return r q s t h i) weaker = same_return r q s t h i
 related-weaker view value exits more o p (apart _ _ h i j) weaker =
     apart o p (hidden-weaker value exits more o h weaker) (hidden-weaker value exits more p i weaker) j
@@ -88,11 +88,11 @@ pub related-after : (view : View) (value : Bool) (exits more : Exit → Bool) (o
     (exits Normal ≡ false → (t : SourceState) → Unseen view value more t (next t)) →
     (exits Normal ≡ false → (t : SourceState) → Unseen view value more t (further t)) → WaysOn view value more next further →
     Related view value more (after o next) (after p further)
-related-after view value exits more o p next further (same_end Normal s t h) others first second ways = ways.related s t h
-related-after view value exits more o p next further (same_end Return s t h) others first second ways = same_end Return s t h
-related-after view value exits more o p next further (same_end Break s t h) others first second ways = same_end Break s t h
-related-after view value exits more o p next further (same_end Continue s t h) others first second ways = same_end Continue s t h
-related-after view value exits more o p next further (same_end (Throw x) s t h) others first second ways = same_end (Throw x) s t h
+related-after view value exits more o p next further (agreed_exit Normal s t h) others first second ways = ways.related s t h
+related-after view value exits more o p next further (agreed_exit Return s t h) others first second ways = agreed_exit Return s t h
+related-after view value exits more o p next further (agreed_exit Break s t h) others first second ways = agreed_exit Break s t h
+related-after view value exits more o p next further (agreed_exit Continue s t h) others first second ways = agreed_exit Continue s t h
+related-after view value exits more o p next further (agreed_exit (Throw x) s t h) others first second ways = agreed_exit (Throw x) s t h
 related-after view value exits more o p next further (same_return r q s t h i) others first second ways = same_return r q s t h i
 related-after view value exits more o p next further (apart _ _ h i j) others first second ways =
     both-unseen view value more (state_after o) (state_after p) (after o next) (after p further) j
@@ -108,13 +108,13 @@ grown-looped o next h = grows-looped (state_after o) o next (grows-itself (state
 
 -- the body of a loop whose label the observer reads, which cannot come back where it does not read how
 pub related-looped : (view : View) (value : Bool) (inner more : Exit → Bool) (o p : Outcome) (again further : SourceState → Outcome) →
-    Related view value inner o p → LoopExits inner more → (inner Normal ≡ false → ⊥) → (inner Continue ≡ false → ⊥) →
+    Related view value inner o p → LoopExitLabels inner more → (inner Normal ≡ false → ⊥) → (inner Continue ≡ false → ⊥) →
     WaysOn view value more again further → Related view value more (looped o again) (looped p further)
-related-looped view value inner more o p again further (same_end Normal s t h) loop normal continued ways = ways.related s t h
-related-looped view value inner more o p again further (same_end Return s t h) loop normal continued ways = same_end Return s t h
-related-looped view value inner more o p again further (same_end Break s t h) loop normal continued ways = same_end Normal s t h
-related-looped view value inner more o p again further (same_end Continue s t h) loop normal continued ways = ways.related s t h
-related-looped view value inner more o p again further (same_end (Throw x) s t h) loop normal continued ways = same_end (Throw x) s t h
+related-looped view value inner more o p again further (agreed_exit Normal s t h) loop normal continued ways = ways.related s t h
+related-looped view value inner more o p again further (agreed_exit Return s t h) loop normal continued ways = agreed_exit Return s t h
+related-looped view value inner more o p again further (agreed_exit Break s t h) loop normal continued ways = agreed_exit Normal s t h
+related-looped view value inner more o p again further (agreed_exit Continue s t h) loop normal continued ways = ways.related s t h
+related-looped view value inner more o p again further (agreed_exit (Throw x) s t h) loop normal continued ways = agreed_exit (Throw x) s t h
 related-looped view value inner more o p again further (same_return r q s t h i) loop normal continued ways = same_return r q s t h i
 related-looped view value inner more o p again further (apart _ _ h i j) loop normal continued ways =
     both-unseen view value more (state_after o) (state_after p) (looped o again) (looped p further) j
@@ -140,7 +140,7 @@ out-second view value exits s t o h grows =
 pub record LoopRead (view : View) (value : Bool) (inner more : Exit → Bool) (condition : SourceState → Evaluated Value)
     (body further : SourceState → Outcome) : Type 0 where
   pub condition_alike : (s t : SourceState) → AgreeFor view s t → Alike (SameIf true) (condition s) (condition t)
-  pub loop : LoopExits inner more
+  pub loop : LoopExitLabels inner more
   pub normal : inner Normal ≡ false → ⊥
   pub continued : inner Continue ≡ false → ⊥
   pub ways : WaysOn view value inner body further
@@ -155,7 +155,7 @@ related-fuel view value inner more condition body further h zero zero s t agree 
     related-if view value more (truth_in v) (truth_in w) (Stopped OutOfFuel s) (normally s) (Stopped OutOfFuel t) (normally t)
     (ap (λ x. truth_in x) (same refl))
     (out-first view value more s t (Stopped OutOfFuel t) agree (grows-itself t t refl (Stopped OutOfFuel t) refl))
-    (same_end Normal s t agree))
+    (agreed_exit Normal s t agree))
 related-fuel view value inner more condition body further h zero (suc m) s t agree =
     related-evaluated (SameIf true) view value more s t (condition s) (condition t)
     (λ v. if truth_in v then Stopped OutOfFuel s else normally s)
@@ -166,7 +166,7 @@ related-fuel view value inner more condition body further h zero (suc m) s t agr
     (out-first view value more s t (looped (further t) (fuel m condition further)) agree
     (grows-looped t (further t) (fuel m condition further) (h.ways.grows_second t)
     (grows-fuel m condition further h.ways.grows_second)))
-    (same_end Normal s t agree))
+    (agreed_exit Normal s t agree))
 related-fuel view value inner more condition body further h (suc k) zero s t agree =
     related-evaluated (SameIf true) view value more s t (condition s) (condition t)
     (λ v. if truth_in v then looped (body s) (fuel k condition body) else normally s) (λ v. if truth_in v then Stopped OutOfFuel t else normally t)
@@ -175,7 +175,7 @@ related-fuel view value inner more condition body further h (suc k) zero s t agr
     (normally t) (ap (λ x. truth_in x) (same refl))
     (out-second view value more s t (looped (body s) (fuel k condition body)) agree
     (grows-looped s (body s) (fuel k condition body) (h.ways.grows_first s) (grows-fuel k condition body h.ways.grows_first)))
-    (same_end Normal s t agree))
+    (agreed_exit Normal s t agree))
 related-fuel view value inner more condition body further h (suc k) (suc m) s t agree =
     related-evaluated (SameIf true) view value more s t (condition s) (condition t)
     (λ v. if truth_in v then looped (body s) (fuel k condition body) else normally s)
@@ -190,13 +190,13 @@ related-fuel view value inner more condition body further h (suc k) (suc m) s t 
       grows_first = grows-fuel k condition body h.ways.grows_first;
       grows_second = grows-fuel m condition further h.ways.grows_second;
     }))
-    (same_end Normal s t agree))
+    (agreed_exit Normal s t agree))
 
 -- a loop whose condition the observer does not read although it reads the loop's label and whether the condition raises an
 -- exception: its body cannot come back
 pub record LoopUnread (view : View) (value : Bool) (inner more : Exit → Bool) (b : Bool) (condition : SourceState → Evaluated Value)
     (body : SourceState → Outcome) : Type 0 where
-  pub loop : LoopExits inner more
+  pub loop : LoopExitLabels inner more
   pub over : more Normal ≡ false
   pub normal : inner Normal ≡ false → ⊥
   pub continued : inner Continue ≡ false → ⊥
@@ -228,7 +228,7 @@ related-once view value inner more b condition body further h i k m s t agree al
         both-unseen view value more s t (fuel k condition body s) (fuel m condition further t) agree
         (unseen-once view value inner more b condition body h k s v e) (unseen-once view value inner more b condition further i m t w f)
     go o p e f (both_raise x) =
-        rw (fuel-raised k condition body s x e, fuel-raised m condition further t x f) (same_end (Throw x) s t agree)
+        rw (fuel-raised k condition body s x e, fuel-raised m condition further t x f) (agreed_exit (Throw x) s t agree)
 
 grown-caught : (o : Outcome) (handle : ℕ → SourceState → Outcome) → ((x : ℕ) (s : SourceState) → Grows s (handle x s)) →
     Grows (state_after o) (caught o handle)
@@ -246,11 +246,11 @@ pub related-caught : (view : View) (value : Bool) (handlers : Handlers) (inner m
     ((x : ℕ) (t : SourceState) → inner (Throw x) ≡ false → Unseen view value more t (handle x t)) →
     ((x : ℕ) (t : SourceState) → inner (Throw x) ≡ false → Unseen view value more t (further x t)) →
     HandlersOn view value more handle further → Related view value more (caught o handle) (caught p further)
-related-caught view value handlers inner more o p handle further (same_end Normal s t h) others first second ways = same_end Normal s t h
-related-caught view value handlers inner more o p handle further (same_end Return s t h) others first second ways = same_end Return s t h
-related-caught view value handlers inner more o p handle further (same_end Break s t h) others first second ways = same_end Break s t h
-related-caught view value handlers inner more o p handle further (same_end Continue s t h) others first second ways = same_end Continue s t h
-related-caught view value handlers inner more o p handle further (same_end (Throw x) s t h) others first second ways = ways.related x s t h
+related-caught view value handlers inner more o p handle further (agreed_exit Normal s t h) others first second ways = agreed_exit Normal s t h
+related-caught view value handlers inner more o p handle further (agreed_exit Return s t h) others first second ways = agreed_exit Return s t h
+related-caught view value handlers inner more o p handle further (agreed_exit Break s t h) others first second ways = agreed_exit Break s t h
+related-caught view value handlers inner more o p handle further (agreed_exit Continue s t h) others first second ways = agreed_exit Continue s t h
+related-caught view value handlers inner more o p handle further (agreed_exit (Throw x) s t h) others first second ways = ways.related x s t h
 related-caught view value handlers inner more o p handle further (same_return r q s t h i) others first second ways = same_return r q s t h i
 related-caught view value handlers inner more o p handle further (apart _ _ h i j) others first second ways =
     both-unseen view value more (state_after o) (state_after p) (caught o handle) (caught p further) j

@@ -13,17 +13,17 @@ use Rattle.resolved.specs.Program.{Program, procedure_at}
 use Rattle.resolved.specs.Value.{truth_in, checked_index, zero_value, base_of}
 use Rattle.resolved.specs.SourceState.{SourceState, assigned, stored, cleared, cells, value_of, values_of}
 use Rattle.resolved.specs.Meaning.{Ended, normally, kept_in, received, sending, returned_to, Calls, statement_meaning, block_meaning, handlers_meaning}
-use Rattle.resolved.specs.Ends.{same_exit, passes, statement_ends, block_ends, index_can_raise}
+use Rattle.resolved.specs.Exits.{same_exit, passes, statement_exits, block_exits, index_can_raise}
 use Rattle.resolved.specs.declared.target.Target.{Target}
 use Rattle.resolved.specs.declared.target.Target.TheVariants.{ToParameter, ToValue, ToVariable, ToChannel, ToBegin, ToValue, ToLoop}
-use Rattle.resolved.specs.Labelled.{Scope, ExitLabels, demand, FitsDemands, variable_label, value_label, raise_label, raise_labels, label_if, at_ends, raised_exits, call_exits, statement_rule, block_rule, handlers_rule, target_demand, argument_demands, statement_demands, block_demands, handlers_demands, Labelling, Join, one, label_of, here}
+use Rattle.resolved.specs.Labelled.{Scope, ExitLabels, demand, FitsDemands, variable_label, value_label, raise_label, raise_labels, label_if, at_exits, raised_exit_labels, call_exit_labels, statement_rule, block_rule, handlers_rule, target_demand, argument_demands, statement_demands, block_demands, handlers_demands, Labelling, Join, one, label_of, here}
 use Rattle.isolation.proofs.OwnLabel.{own_label}
 use Rattle.isolation.proofs.Grows.{CallsGrow, block-grows, handlers-grow}
 use Rattle.isolation.proofs.Among.{statement-among, block-among}
 use Rattle.isolation.proofs.Observer.{Reader, View, view_of, AgreeFor, agree-with_cells, agree-with_input, agree-sending, with_input, read-left, read-right, unread-left, unread-right}
 use Rattle.isolation.proofs.Values.{SameIf, index-alike, expression-alike, ArgumentsAlike, no_arguments, one_more, arguments-alike, read-label_if}
 use Rattle.isolation.proofs.Unseen.{unseen-weaker, unseen-if}
-use Rattle.isolation.proofs.Related.{Related, same_end, same_return, both-unseen, related-evaluated, related-if, related-weaker, related-after, related-fuel, related-once, related-caught}
+use Rattle.isolation.proofs.Related.{Related, agreed_exit, same_return, both-unseen, related-evaluated, related-if, related-weaker, related-after, related-fuel, related-once, related-caught}
 use Rattle.isolation.proofs.Closed.{read_exits, unseen-closed, related-closed}
 use Rattle.isolation.proofs.Confined.{Confines, reads_result, fits-left, fits-right, fits-one, unread-label_if, unread-target, loop-read, statement-unseen, block-unseen, handlers-unseen}
 use Rattle.isolation.proofs.Calls.{RelatedCall, related-returned_to, declared_label}
@@ -68,7 +68,7 @@ by-reading false unread read = unread refl
 
 -- the exits that a callee declares are among those of the call
 unread-declared : {h : PrincipalHierarchy} {labelling : Labelling} (reader : Reader h labelling) (program : Program) (callee : ℕ) (q : Join) (exit : Exit) →
-    reader.reads (declared_label program callee exit) ≡ false → reader.reads (call_exits program callee q exit) ≡ false
+    reader.reads (declared_label program callee exit) ≡ false → reader.reads (call_exit_labels program callee q exit) ≡ false
 unread-declared reader program callee q Normal m = unread-right reader q (declared_label program callee Normal) m
 unread-declared reader program callee q Return m = let i : true ≡ false = sym reader.nothing ∙ m in absurd (cc)
 unread-declared reader program callee q Break m = let i : true ≡ false = sym reader.nothing ∙ m in absurd (cc)
@@ -91,9 +91,9 @@ agree-kept_in view (Some x) v s t agree = agree-with_cells view s t x (v ∷ [])
 related-received : (view : View) (value : Bool) (exits : Exit →
     Bool) (channel : ℕ) (target : Option Variable) (s t : SourceState) (numbers others : List ℤ) → numbers ≡ others → AgreeFor view s t →
     Related view value exits (received numbers channel target s) (received others channel target t)
-related-received view value exits channel target s t numbers [] e agree = rw e (same_end (Throw END) s t agree)
+related-received view value exits channel target s t numbers [] e agree = rw e (agreed_exit (Throw END) s t agree)
 related-received view value exits channel target s t numbers (z ∷ rest) e agree =
-    rw e (same_end Normal (kept_in target (Number z) (with_input s channel rest)) (kept_in target (Number z) (with_input t channel rest))
+    rw e (agreed_exit Normal (kept_in target (Number z) (with_input s channel rest)) (kept_in target (Number z) (with_input t channel rest))
     (agree-kept_in view target (Number z) (with_input s channel rest) (with_input t channel rest) (agree-with_input view s t channel rest agree)))
 
 module _ (h : PrincipalHierarchy) (labelling : Labelling) (reader : Reader h labelling) (scope : Scope) (calls further : Calls) (k m : ℕ)
@@ -123,11 +123,11 @@ module _ (h : PrincipalHierarchy) (labelling : Labelling) (reader : Reader h lab
         related-evaluated (SameIf (reader.reads (value_label scope e))) view value exits s t (value_of s e) (value_of t e)
         (λ v. normally (assigned s x v)) (λ v. normally (assigned t x v)) agree
         (expression-alike reader scope s t agree e (read-right reader pc (raise_label scope e) read)) (λ v w f g same.
-        same_end Normal (assigned s x v) (assigned t x w) (agree-with_cells view s t x (v ∷ []) (w ∷ []) agree (λ reads.
+        agreed_exit Normal (assigned s x v) (assigned t x w) (agree-with_cells view s t x (v ∷ []) (w ∷ []) agree (λ reads.
         ap (λ u. u ∷ []) (same (read-right reader q (value_label scope e)
         (read-demand reader scope.program at 1 (q ++ value_label scope e) (ToVariable scope.number x) fits reads)))))))
     statement-secure (Clear at slot) pc fits s t agree =
-        same_end Normal (cleared s slot) (cleared t slot) (agree-with_cells (view_of reader scope) s t (Local slot) _ _ agree
+        agreed_exit Normal (cleared s slot) (cleared t slot) (agree-with_cells (view_of reader scope) s t (Local slot) _ _ agree
         (λ reads. ap (λ l. map (λ v. zero_value (base_of v)) l) (agree.variables (Local slot) reads)))
     statement-secure (Store at array len index e) pc fits s t agree =
         let view = view_of reader scope in
@@ -150,7 +150,7 @@ module _ (h : PrincipalHierarchy) (labelling : Labelling) (reader : Reader h lab
         related-evaluated (SameIf (reader.reads vi)) view value exits s t (checked_index v len) (checked_index v' len)
         (λ i. normally (stored s array i w)) (λ i. normally (stored t array i w')) agree
         (index-alike s t index len (reader.reads vi) v v' covered f f' same_index) (λ i j d d' same_place.
-        same_end Normal (stored s array i w) (stored t array j w')
+        agreed_exit Normal (stored s array i w) (stored t array j w')
         (agree-with_cells view s t array (slice_set (cells s array) i w) (slice_set (cells t array) j w') agree (λ reads.
         let all = read-demand reader scope.program at 3 (q ++ vi ++ ve) (ToVariable scope.number array) fits reads in
         let left = read-left reader (q ++ vi) ve all in
@@ -171,7 +171,7 @@ module _ (h : PrincipalHierarchy) (labelling : Labelling) (reader : Reader h lab
         related-evaluated (SameIf (reader.reads (value_label scope e))) view value exits s t (value_of s e) (value_of t e)
         (λ v. normally (sending channel v s)) (λ v. normally (sending channel v t)) agree
         (expression-alike reader scope s t agree e (read-right reader pc (raise_label scope e) read)) (λ v w f g same.
-        same_end Normal (sending channel v s) (sending channel w t) (agree-sending view s t channel v w agree (λ reads.
+        agreed_exit Normal (sending channel v s) (sending channel w t) (agree-sending view s t channel v w agree (λ reads.
         same (read-right reader q (value_label scope e) (read-demand reader scope.program at 5 (q ++ value_label scope e)
         (ToChannel channel) fits (reader.written _ ∙ reads)))))))
     statement-secure (Call at f arguments target) pc fits s t agree =
@@ -181,7 +181,7 @@ module _ (h : PrincipalHierarchy) (labelling : Labelling) (reader : Reader h lab
         let callee = procedure_at scope.program f in
         let exits = read_exits reader (statement_rule scope pc (Call at f arguments target)) in
         let ds = argument_demands scope at q f 0 arguments in
-        let left : Join = call_exits scope.program f q Normal ++ one (label_of scope.program (ToValue f)) in
+        let left : Join = call_exit_labels scope.program f q Normal ++ one (label_of scope.program (ToValue f)) in
         let ts = target_demand scope at 6 left target in
         let front = fits-left h labelling (demand scope.program at 6 q (ToBegin f) ++ ds) ts fits in
         let last = fits-right h labelling (demand scope.program at 6 q (ToBegin f) ++ ds) ts fits in
@@ -194,9 +194,9 @@ module _ (h : PrincipalHierarchy) (labelling : Labelling) (reader : Reader h lab
         (secures.related f vs ws s t agree (λ n reads. parameters-from reader scope at q f 0 arguments vs ws
         (fits-right h labelling (demand scope.program at 6 q (ToBegin f)) ds front) same n n (omega arith) reads))
         (λ exit u. unread-declared reader scope.program f q exit u)
-        (λ u. unread-target reader scope at 6 left target last (unread-left reader (call_exits scope.program f q Normal) (one (label_of scope.program (ToValue f)))
+        (λ u. unread-target reader scope at 6 left target last (unread-left reader (call_exit_labels scope.program f q Normal) (one (label_of scope.program (ToValue f)))
         (unread-declared reader scope.program f q Normal u)))
-        (λ x e reads. sym (reader.written _) ∙ read-right reader (call_exits scope.program f q Normal) (one (label_of scope.program (ToValue f)))
+        (λ x e reads. sym (reader.written _) ∙ read-right reader (call_exit_labels scope.program f q Normal) (one (label_of scope.program (ToValue f)))
         (target-read reader scope at 6 left target last x e reads))))
     statement-secure (If at e then_block else_block) pc fits s t agree =
         let view = view_of reader scope in
@@ -204,16 +204,16 @@ module _ (h : PrincipalHierarchy) (labelling : Labelling) (reader : Reader h lab
         let q : Join = own_label scope pc (If at e then_block else_block) in
         let b : Join = q ++ value_label scope e in
         let exits = read_exits reader (statement_rule scope pc (If at e then_block else_block)) in
-        let yes_ends = block_ends scope.program then_block in
-        let no_ends = block_ends scope.program else_block in
-        let yes_exits : ExitLabels = at_ends yes_ends b (block_rule scope b then_block) in
-        let no_exits : ExitLabels = at_ends no_ends b (block_rule scope b else_block) in
+        let yes_exits = block_exits scope.program then_block in
+        let no_exits = block_exits scope.program else_block in
+        let yes_exit_labels : ExitLabels = at_exits yes_exits b (block_rule scope b then_block) in
+        let no_exit_labels : ExitLabels = at_exits no_exits b (block_rule scope b else_block) in
         let yes_fits = fits-left h labelling (block_demands scope b then_block) (block_demands scope b else_block) fits in
         let no_fits = fits-right h labelling (block_demands scope b then_block) (block_demands scope b else_block) fits in
-        let yes_more : (exit : Exit) → reader.reads (yes_exits exit) ≡ false → exits exit ≡ false = λ exit u. unread-left reader
-        (raised_exits e q exit ++ yes_exits exit) (no_exits exit) (unread-right reader (raised_exits e q exit) (yes_exits exit) u) in
-        let no_more : (exit : Exit) → reader.reads (no_exits exit) ≡ false → exits exit ≡ false = λ exit u. unread-right reader
-        (raised_exits e q exit ++ yes_exits exit) (no_exits exit) u in
+        let yes_more : (exit : Exit) → reader.reads (yes_exit_labels exit) ≡ false → exits exit ≡ false = λ exit u. unread-left reader
+        (raised_exit_labels e q exit ++ yes_exit_labels exit) (no_exit_labels exit) (unread-right reader (raised_exit_labels e q exit) (yes_exit_labels exit) u) in
+        let no_more : (exit : Exit) → reader.reads (no_exit_labels exit) ≡ false → exits exit ≡ false = λ exit u. unread-right reader
+        (raised_exit_labels e q exit ++ yes_exit_labels exit) (no_exit_labels exit) u in
         by-reading (reader.reads q) (both-hidden (If at e then_block else_block) pc fits s t agree) (λ read.
         related-evaluated (SameIf (reader.reads (value_label scope e))) view value exits s t (value_of s e) (value_of t e)
         (λ v. if truth_in v then block_meaning calls k then_block s else block_meaning calls k else_block s)
@@ -225,32 +225,32 @@ module _ (h : PrincipalHierarchy) (labelling : Labelling) (reader : Reader h lab
         both-unseen view value exits s t (if truth_in v then block_meaning calls k then_block s else block_meaning calls k else_block s)
         (if truth_in w then block_meaning further m then_block t else block_meaning further m else_block t) agree
         (unseen-if view value exits s (truth_in v) (block_meaning calls k then_block s) (block_meaning calls k else_block s)
-        (unseen-weaker view value (read_exits reader yes_exits) exits s (block_meaning calls k then_block s)
-        (unseen-closed reader view value yes_ends b (block_rule scope b then_block) s (block_meaning calls k then_block s) unread_b
+        (unseen-weaker view value (read_exits reader yes_exit_labels) exits s (block_meaning calls k then_block s)
+        (unseen-closed reader view value yes_exits b (block_rule scope b then_block) s (block_meaning calls k then_block s) unread_b
         (block-among then_block scope.program calls k secures.first.among s)
         (block-unseen h labelling reader scope calls k secures.first then_block b yes_fits unread_b s)) yes_more)
-        (unseen-weaker view value (read_exits reader no_exits) exits s (block_meaning calls k else_block s)
-        (unseen-closed reader view value no_ends b (block_rule scope b else_block) s (block_meaning calls k else_block s) unread_b
+        (unseen-weaker view value (read_exits reader no_exit_labels) exits s (block_meaning calls k else_block s)
+        (unseen-closed reader view value no_exits b (block_rule scope b else_block) s (block_meaning calls k else_block s) unread_b
         (block-among else_block scope.program calls k secures.first.among s)
         (block-unseen h labelling reader scope calls k secures.first else_block b no_fits unread_b s)) no_more))
         (unseen-if view value exits t (truth_in w) (block_meaning further m then_block t) (block_meaning further m else_block t)
-        (unseen-weaker view value (read_exits reader yes_exits) exits t (block_meaning further m then_block t)
-        (unseen-closed reader view value yes_ends b (block_rule scope b then_block) t (block_meaning further m then_block t) unread_b
+        (unseen-weaker view value (read_exits reader yes_exit_labels) exits t (block_meaning further m then_block t)
+        (unseen-closed reader view value yes_exits b (block_rule scope b then_block) t (block_meaning further m then_block t) unread_b
         (block-among then_block scope.program further m secures.second.among t)
         (block-unseen h labelling reader scope further m secures.second then_block b yes_fits unread_b t)) yes_more)
-        (unseen-weaker view value (read_exits reader no_exits) exits t (block_meaning further m else_block t)
-        (unseen-closed reader view value no_ends b (block_rule scope b else_block) t (block_meaning further m else_block t) unread_b
+        (unseen-weaker view value (read_exits reader no_exit_labels) exits t (block_meaning further m else_block t)
+        (unseen-closed reader view value no_exits b (block_rule scope b else_block) t (block_meaning further m else_block t) unread_b
         (block-among else_block scope.program further m secures.second.among t)
         (block-unseen h labelling reader scope further m secures.second else_block b no_fits unread_b t)) no_more)))
         (λ seen.
         related-if view value exits (truth_in v) (truth_in w) (block_meaning calls k then_block s) (block_meaning calls k else_block s)
         (block_meaning further m then_block t) (block_meaning further m else_block t) (ap (λ x. truth_in x) (same seen))
-        (related-weaker view value (read_exits reader yes_exits) exits (block_meaning calls k then_block s) (block_meaning further m then_block t)
-        (related-closed reader view value yes_ends b (block_rule scope b then_block) (block_meaning calls k then_block s)
+        (related-weaker view value (read_exits reader yes_exit_labels) exits (block_meaning calls k then_block s) (block_meaning further m then_block t)
+        (related-closed reader view value yes_exits b (block_rule scope b then_block) (block_meaning calls k then_block s)
         (block_meaning further m then_block t) (block-among then_block scope.program calls k secures.first.among s)
         (block-among then_block scope.program further m secures.second.among t) (block-secure then_block b yes_fits s t agree)) yes_more)
-        (related-weaker view value (read_exits reader no_exits) exits (block_meaning calls k else_block s) (block_meaning further m else_block t)
-        (related-closed reader view value no_ends b (block_rule scope b else_block) (block_meaning calls k else_block s)
+        (related-weaker view value (read_exits reader no_exit_labels) exits (block_meaning calls k else_block s) (block_meaning further m else_block t)
+        (related-closed reader view value no_exits b (block_rule scope b else_block) (block_meaning calls k else_block s)
         (block_meaning further m else_block t) (block-among else_block scope.program calls k secures.first.among s)
         (block-among else_block scope.program further m secures.second.among t) (block-secure else_block b no_fits s t agree)) no_more))))
     statement-secure (While at loop e body) pc fits s t agree =
@@ -259,13 +259,13 @@ module _ (h : PrincipalHierarchy) (labelling : Labelling) (reader : Reader h lab
         let l : Join = one (label_of scope.program (ToLoop scope.number loop)) in
         let q : Join = own_label scope pc (While at loop e body) in
         let b : Join = q ++ value_label scope e in
-        let ends = block_ends scope.program body in
-        let x : ExitLabels = at_ends ends b (block_rule scope b body) in
+        let ends = block_exits scope.program body in
+        let x : ExitLabels = at_exits ends b (block_rule scope b body) in
         let exits = read_exits reader (statement_rule scope pc (While at loop e body)) in
         let front = fits-left h labelling (demand scope.program at 8 pc (ToLoop scope.number loop) ++ block_demands scope b body) (demand scope.program at 8 (x Normal ++ x Continue) (ToLoop scope.number loop)) fits in
         let body_fits = fits-right h labelling (demand scope.program at 8 pc (ToLoop scope.number loop)) (block_demands scope b body) front in
         let back = fits-right h labelling (demand scope.program at 8 pc (ToLoop scope.number loop) ++ block_demands scope b body) (demand scope.program at 8 (x Normal ++ x Continue) (ToLoop scope.number loop)) fits in
-        let loop_exits_read = loop-read reader (raised_exits e q) b x in
+        let loop_exit_labels_read = loop-read reader (raised_exit_labels e q) b x in
         by-reading (reader.reads q) (both-hidden (While at loop e body) pc fits s t agree) (λ read.
         let read_l : reader.reads l ≡ true = read-left reader l (raise_label scope e) read in
         let read_r : reader.reads (raise_label scope e) ≡ true = read-right reader l (raise_label scope e) read in
@@ -277,11 +277,11 @@ module _ (h : PrincipalHierarchy) (labelling : Labelling) (reader : Reader h lab
         by-reading (reader.reads (value_label scope e))
         (λ unread.
         let unread_b : reader.reads b ≡ false = unread-right reader q (value_label scope e) unread in
-        let over : exits Normal ≡ false = unread-right reader (raised_exits e q Normal) (b ++ x Break) (unread-left reader b (x Break) unread_b) in
+        let over : exits Normal ≡ false = unread-right reader (raised_exit_labels e q Normal) (b ++ x Break) (unread-left reader b (x Break) unread_b) in
         related-once view value (read_exits reader x) exits (reader.reads (value_label scope e)) (λ u. value_of u e)
         (block_meaning calls k body) (block_meaning further m body)
         (record {
-          loop = loop_exits_read;
+          loop = loop_exit_labels_read;
           over = over;
           normal = normal;
           continued = continued;
@@ -291,7 +291,7 @@ module _ (h : PrincipalHierarchy) (labelling : Labelling) (reader : Reader h lab
               (block-unseen h labelling reader scope calls k secures.first body b body_fits unread_b u);
         })
         (record {
-          loop = loop_exits_read;
+          loop = loop_exit_labels_read;
           over = over;
           normal = normal;
           continued = continued;
@@ -305,7 +305,7 @@ module _ (h : PrincipalHierarchy) (labelling : Labelling) (reader : Reader h lab
         related-fuel view value (read_exits reader x) exits (λ u. value_of u e) (block_meaning calls k body) (block_meaning further m body)
         (record {
           condition_alike = λ u u' same. rw seen at (expression-alike reader scope u u' same e read_r);
-          loop = loop_exits_read;
+          loop = loop_exit_labels_read;
           normal = normal;
           continued = continued;
           ways = record {
@@ -317,8 +317,8 @@ module _ (h : PrincipalHierarchy) (labelling : Labelling) (reader : Reader h lab
           };
         })
         k m s t agree))
-    statement-secure (Leave at exit) pc fits s t agree = same_end exit s t agree
-    statement-secure (ReturnWith at None) pc fits s t agree = same_end Return s t agree
+    statement-secure (Leave at exit) pc fits s t agree = agreed_exit exit s t agree
+    statement-secure (ReturnWith at None) pc fits s t agree = agreed_exit Return s t agree
     statement-secure (ReturnWith at (Some e)) pc fits s t agree =
         let view = view_of reader scope in
         let value = reads_result reader (here scope) in
@@ -334,8 +334,8 @@ module _ (h : PrincipalHierarchy) (labelling : Labelling) (reader : Reader h lab
     statement-secure (Try at block handlers) pc fits s t agree =
         let view = view_of reader scope in
         let value = reads_result reader (here scope) in
-        let ends = block_ends scope.program block in
-        let x : ExitLabels = at_ends ends pc (block_rule scope pc block) in
+        let ends = block_exits scope.program block in
+        let x : ExitLabels = at_exits ends pc (block_rule scope pc block) in
         let exits = read_exits reader (statement_rule scope pc (Try at block handlers)) in
         let block_fits = fits-left h labelling (block_demands scope pc block) (handlers_demands scope x handlers) fits in
         let handlers_fit = fits-right h labelling (block_demands scope pc block) (handlers_demands scope x handlers) fits in
@@ -360,7 +360,7 @@ module _ (h : PrincipalHierarchy) (labelling : Labelling) (reader : Reader h lab
           grows_second = handlers-grow handlers further m secures.grows_second;
         })
     statement-secure (Nested at block) pc fits s t agree =
-        related-closed reader (view_of reader scope) (reads_result reader (here scope)) (block_ends scope.program block) pc
+        related-closed reader (view_of reader scope) (reads_result reader (here scope)) (block_exits scope.program block) pc
         (block_rule scope pc block) (block_meaning calls k block s) (block_meaning further m block t)
         (block-among block scope.program calls k secures.first.among s) (block-among block scope.program further m secures.second.among t)
         (block-secure block pc fits s t agree)
@@ -369,12 +369,12 @@ module _ (h : PrincipalHierarchy) (labelling : Labelling) (reader : Reader h lab
         AgreeFor (view_of reader scope) s t →
         Related (view_of reader scope) (reads_result reader (here scope)) (read_exits reader (block_rule scope pc block))
         (block_meaning calls k block s) (block_meaning further m block t)
-    block-secure Empty pc fits s t agree = same_end Normal s t agree
+    block-secure Empty pc fits s t agree = agreed_exit Normal s t agree
     block-secure (Then statement rest) pc fits s t agree =
         let view = view_of reader scope in
         let value = reads_result reader (here scope) in
-        let ends = statement_ends scope.program statement in
-        let x : ExitLabels = at_ends ends pc (statement_rule scope pc statement) in
+        let ends = statement_exits scope.program statement in
+        let x : ExitLabels = at_exits ends pc (statement_rule scope pc statement) in
         let exits = read_exits reader (block_rule scope pc (Then statement rest)) in
         let here = fits-left h labelling (statement_demands scope pc statement) (block_demands scope (x Normal) rest) fits in
         let later = fits-right h labelling (statement_demands scope pc statement) (block_demands scope (x Normal) rest) fits in
@@ -403,19 +403,19 @@ module _ (h : PrincipalHierarchy) (labelling : Labelling) (reader : Reader h lab
         ((exit : Exit) → reader.reads (handlers_rule scope x handlers exit) ≡ false → exits exit ≡ false) →
         Related (view_of reader scope) (reads_result reader (here scope)) exits (handlers_meaning calls k handlers exception s)
         (handlers_meaning further m handlers exception t)
-    handlers-secure NoMore x fits exception s t agree exits more = same_end (Throw exception) s t agree
+    handlers-secure NoMore x fits exception s t agree exits more = agreed_exit (Throw exception) s t agree
     handlers-secure (Catch at handled body rest) x fits exception s t agree exits more =
         let view = view_of reader scope in
         let value = reads_result reader (here scope) in
-        let ends = block_ends scope.program body in
+        let ends = block_exits scope.program body in
         let pc : Join = x (Throw handled) in
-        let body_exits : ExitLabels = at_ends ends pc (block_rule scope pc body) in
+        let body_exit_labels : ExitLabels = at_exits ends pc (block_rule scope pc body) in
         related-if view value exits (exception == handled) (exception == handled) (block_meaning calls k body s)
         (handlers_meaning calls k rest exception s) (block_meaning further m body t) (handlers_meaning further m rest exception t) refl
-        (related-weaker view value (read_exits reader body_exits) exits (block_meaning calls k body s) (block_meaning further m body t)
+        (related-weaker view value (read_exits reader body_exit_labels) exits (block_meaning calls k body s) (block_meaning further m body t)
         (related-closed reader view value ends pc (block_rule scope pc body) (block_meaning calls k body s) (block_meaning further m body t)
         (block-among body scope.program calls k secures.first.among s) (block-among body scope.program further m secures.second.among t)
         (block-secure body pc (fits-left h labelling (block_demands scope pc body) (handlers_demands scope x rest) fits) s t agree))
-        (λ exit u. more exit (unread-left reader (body_exits exit) (handlers_rule scope x rest exit) u)))
+        (λ exit u. more exit (unread-left reader (body_exit_labels exit) (handlers_rule scope x rest exit) u)))
         (handlers-secure rest x (fits-right h labelling (block_demands scope pc body) (handlers_demands scope x rest) fits) exception s t agree exits
-        (λ exit u. more exit (unread-right reader (body_exits exit) (handlers_rule scope x rest exit) u)))
+        (λ exit u. more exit (unread-right reader (body_exit_labels exit) (handlers_rule scope x rest exit) u)))

@@ -8,13 +8,13 @@ use Rattle.resolved.specs.Tree.{Handlers}
 use Rattle.resolved.specs.Value.{Evaluated, Yields, Raises, truth_in}
 use Rattle.resolved.specs.SourceState.{SourceState}
 use Rattle.resolved.specs.Meaning.{Stop, OutOfFuel, Outcome, Ended, Stopped, normally, after, evaluated, looped, fuel, caught, state_after}
-use Rattle.resolved.specs.Ends.{same_exit, leaves_loop, passes}
+use Rattle.resolved.specs.Exits.{same_exit, leaves_loop, passes}
 use Rattle.isolation.proofs.Observer.{View, AgreeFor, agree-itself, agree-through}
 
--- An outcome of which the observer does not read the label, where `exits` says which labels of ends it reads, and `value`
+-- An outcome of which the observer does not read the label, where `exits` says which labels of exits it reads, and `value`
 -- whether it reads that of a returned value: then none was returned. Only a return gives a value
 pub data Hidden (value : Bool) (exits : Exit → Bool) : Outcome → Type 0 where
-  hidden_end : (exit : Exit) (t : SourceState) → exits exit ≡ false → Hidden value exits (Ended exit None t)
+  hidden_exit : (exit : Exit) (t : SourceState) → exits exit ≡ false → Hidden value exits (Ended exit None t)
   hidden_return : (r : Option Value) (t : SourceState) → exits Return ≡ false → (value ≡ true → r ≡ None) →
       Hidden value exits (Ended Return r t)
   hidden_stop : (stop : Stop) (t : SourceState) → Hidden value exits (Stopped stop t)
@@ -26,7 +26,7 @@ pub record Unseen (view : View) (value : Bool) (exits : Exit → Bool) (s : Sour
 
 pub hidden-weaker : (value : Bool) (exits more : Exit → Bool) (o : Outcome) → Hidden value exits o →
     ((exit : Exit) → exits exit ≡ false → more exit ≡ false) → Hidden value more o
-hidden-weaker value exits more o (hidden_end exit t m) weaker = hidden_end exit t (weaker exit m)
+hidden-weaker value exits more o (hidden_exit exit t m) weaker = hidden_exit exit t (weaker exit m)
 hidden-weaker value exits more o (hidden_return r t m none) weaker = hidden_return r t (weaker Return m) none
 hidden-weaker value exits more o (hidden_stop stop t) weaker = hidden_stop stop t
 
@@ -40,7 +40,7 @@ unseen-from view value exits s t o h i = record { agree = agree-through view s t
 
 pub unseen-end : (view : View) (value : Bool) (exits : Exit → Bool) (s : SourceState) (exit : Exit) → exits exit ≡ false →
     Unseen view value exits s (Ended exit None s)
-unseen-end view value exits s exit m = record { agree = agree-itself view s; hidden = hidden_end exit s m }
+unseen-end view value exits s exit m = record { agree = agree-itself view s; hidden = hidden_exit exit s m }
 
 pub unseen-stop : (view : View) (value : Bool) (exits : Exit → Bool) (s : SourceState) (stop : Stop) →
     Unseen view value exits s (Stopped stop s)
@@ -60,29 +60,29 @@ unseen-if view value exits s false x y h i = i
 pub unseen-after : (view : View) (value : Bool) (exits more : Exit → Bool) (o : Outcome) (next : SourceState → Outcome) →
     Hidden value exits o → ((exit : Exit) → same_exit Normal exit ≡ false → exits exit ≡ false → more exit ≡ false) →
     ((t : SourceState) → exits Normal ≡ false → Unseen view value more t (next t)) → Unseen view value more (state_after o) (after o next)
-unseen-after view value exits more o next (hidden_end Normal t m) others rest = rest t m
-unseen-after view value exits more o next (hidden_end Return t m) others rest = unseen-end view value more t Return (others Return refl m)
-unseen-after view value exits more o next (hidden_end Break t m) others rest = unseen-end view value more t Break (others Break refl m)
-unseen-after view value exits more o next (hidden_end Continue t m) others rest = unseen-end view value more t Continue (others Continue refl m)
-unseen-after view value exits more o next (hidden_end (Throw x) t m) others rest = unseen-end view value more t (Throw x) (others (Throw x) refl m)
+unseen-after view value exits more o next (hidden_exit Normal t m) others rest = rest t m
+unseen-after view value exits more o next (hidden_exit Return t m) others rest = unseen-end view value more t Return (others Return refl m)
+unseen-after view value exits more o next (hidden_exit Break t m) others rest = unseen-end view value more t Break (others Break refl m)
+unseen-after view value exits more o next (hidden_exit Continue t m) others rest = unseen-end view value more t Continue (others Continue refl m)
+unseen-after view value exits more o next (hidden_exit (Throw x) t m) others rest = unseen-end view value more t (Throw x) (others (Throw x) refl m)
 unseen-after view value exits more o next (hidden_return r t m none) others rest =
     record { agree = agree-itself view t; hidden = hidden_return r t (others Return refl m) none }
 unseen-after view value exits more o next (hidden_stop stop t) others rest = unseen-stop view value more t stop
 
--- the body of a loop, by the exits of its ends: what leaves the loop, what ends it, and what comes back
-pub record LoopExits (body more : Exit → Bool) : Type 0 where
+-- the body of a loop, by the exits of its body: what leaves the loop, what ends it, and what comes back
+pub record LoopExitLabels (body more : Exit → Bool) : Type 0 where
   pub leaving : (exit : Exit) → leaves_loop exit ≡ true → body exit ≡ false → more exit ≡ false
   pub broken : body Break ≡ false → more Normal ≡ false
 
 pub unseen-looped : (view : View) (value : Bool) (body more : Exit → Bool) (o : Outcome) (again : SourceState → Outcome) →
-    Hidden value body o → LoopExits body more → ((t : SourceState) → body Normal ≡ false → Unseen view value more t (again t)) →
+    Hidden value body o → LoopExitLabels body more → ((t : SourceState) → body Normal ≡ false → Unseen view value more t (again t)) →
     ((t : SourceState) → body Continue ≡ false → Unseen view value more t (again t)) → Unseen view value more (state_after o) (looped o again)
-unseen-looped view value body more o again (hidden_end Normal t m) loop normal continued = normal t m
-unseen-looped view value body more o again (hidden_end Return t m) loop normal continued = unseen-end view value more t Return
+unseen-looped view value body more o again (hidden_exit Normal t m) loop normal continued = normal t m
+unseen-looped view value body more o again (hidden_exit Return t m) loop normal continued = unseen-end view value more t Return
     (loop.leaving Return refl m)
-unseen-looped view value body more o again (hidden_end Break t m) loop normal continued = unseen-end view value more t Normal (loop.broken m)
-unseen-looped view value body more o again (hidden_end Continue t m) loop normal continued = continued t m
-unseen-looped view value body more o again (hidden_end (Throw x) t m) loop normal continued = unseen-end view value more t (Throw x)
+unseen-looped view value body more o again (hidden_exit Break t m) loop normal continued = unseen-end view value more t Normal (loop.broken m)
+unseen-looped view value body more o again (hidden_exit Continue t m) loop normal continued = continued t m
+unseen-looped view value body more o again (hidden_exit (Throw x) t m) loop normal continued = unseen-end view value more t (Throw x)
     (loop.leaving (Throw x) refl m)
 unseen-looped view value body more o again (hidden_return r t m none) loop normal continued =
     record { agree = agree-itself view t; hidden = hidden_return r t (loop.leaving Return refl m) none }
@@ -99,7 +99,7 @@ unseen-turn_zero view value more condition body s raised over =
 
 pub unseen-turn_suc : (view : View) (value : Bool) (inner more : Exit → Bool) (k : ℕ) (condition : SourceState →
     Evaluated Value) (body : SourceState → Outcome) (s : SourceState) → ((x : ℕ) → condition s ≡ Raises x → more (Throw x) ≡ false) →
-    more Normal ≡ false → LoopExits inner more → Unseen view value inner s (body s) →
+    more Normal ≡ false → LoopExitLabels inner more → Unseen view value inner s (body s) →
     ((t : SourceState) → inner Normal ≡ false → Unseen view value more t (fuel k condition body t)) →
     ((t : SourceState) → inner Continue ≡ false → Unseen view value more t (fuel k condition body t)) →
     Unseen view value more s (fuel (suc k) condition body s)
@@ -113,7 +113,7 @@ unseen-turn_suc view value inner more k condition body s raised over loop once n
 -- a loop of which nothing is seen, its condition included
 pub unseen-fuel : (view : View) (value : Bool) (inner more : Exit → Bool) (k : ℕ) (condition : SourceState →
     Evaluated Value) (body : SourceState → Outcome) → ((t : SourceState) (x : ℕ) → condition t ≡ Raises x → more (Throw x) ≡ false) →
-    more Normal ≡ false → LoopExits inner more → ((t : SourceState) → Unseen view value inner t (body t)) → (s : SourceState) →
+    more Normal ≡ false → LoopExitLabels inner more → ((t : SourceState) → Unseen view value inner t (body t)) → (s : SourceState) →
     Unseen view value more s (fuel k condition body s)
 unseen-fuel view value inner more zero condition body raised over loop each s =
     unseen-turn_zero view value more condition body s (raised s) over
@@ -126,12 +126,12 @@ pub unseen-caught : (view : View) (value : Bool) (handlers : Handlers) (inner mo
     Outcome) → Hidden value inner o → ((exit : Exit) → passes handlers exit ≡ true → inner exit ≡ false → more exit ≡ false) →
     ((x : ℕ) (t : SourceState) → inner (Throw x) ≡ false → Unseen view value more t (handle x t)) →
     Unseen view value more (state_after o) (caught o handle)
-unseen-caught view value handlers inner more o handle (hidden_end Normal t m) others rest = unseen-end view value more t Normal (others Normal refl m)
-unseen-caught view value handlers inner more o handle (hidden_end Return t m) others rest = unseen-end view value more t Return (others Return refl m)
-unseen-caught view value handlers inner more o handle (hidden_end Break t m) others rest = unseen-end view value more t Break (others Break refl m)
-unseen-caught view value handlers inner more o handle (hidden_end Continue t m) others rest = unseen-end view value more t Continue
+unseen-caught view value handlers inner more o handle (hidden_exit Normal t m) others rest = unseen-end view value more t Normal (others Normal refl m)
+unseen-caught view value handlers inner more o handle (hidden_exit Return t m) others rest = unseen-end view value more t Return (others Return refl m)
+unseen-caught view value handlers inner more o handle (hidden_exit Break t m) others rest = unseen-end view value more t Break (others Break refl m)
+unseen-caught view value handlers inner more o handle (hidden_exit Continue t m) others rest = unseen-end view value more t Continue
     (others Continue refl m)
-unseen-caught view value handlers inner more o handle (hidden_end (Throw x) t m) others rest = rest x t m
+unseen-caught view value handlers inner more o handle (hidden_exit (Throw x) t m) others rest = rest x t m
 unseen-caught view value handlers inner more o handle (hidden_return r t m none) others rest =
     record { agree = agree-itself view t; hidden = hidden_return r t (others Return refl m) none }
 unseen-caught view value handlers inner more o handle (hidden_stop stop t) others rest = unseen-stop view value more t stop

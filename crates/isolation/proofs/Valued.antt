@@ -8,9 +8,9 @@ use Rattle.resolved.specs.Program.{Program, ProcedureEntry, ResultEntry}
 use Rattle.resolved.specs.Value.{base_of}
 use Rattle.resolved.specs.SourceState.{SourceState}
 use Rattle.resolved.specs.Meaning.{Outcome, Ended, Stopped, leaving, entering, calls_with, block_meaning}
-use Rattle.resolved.specs.Ends.{has_end, block_ends}
-use Rattle.resolved.specs.EndFaults.{fault_unless, may_end, block_faults, procedure_faults}
-use Rattle.resolved.specs.declared.fault.EndRefusalKind.TheVariants.{NoValueReturned, Undeclared}
+use Rattle.resolved.specs.Exits.{has_exit, block_exits}
+use Rattle.resolved.specs.ExitFaults.{fault_unless, may_exit, block_faults, procedure_faults}
+use Rattle.resolved.specs.declared.fault.ExitRefusalKind.TheVariants.{NoValueReturned, Undeclared}
 use Rattle.resolved.specs.WellFormed.{has_result, same_base}
 use Rattle.resolved.specs.Kinds.{OutcomeFits}
 use Rattle.resolved.proofs.WellFormedParts.{ProcedureParts, procedure_there, procedure_at_is}
@@ -26,16 +26,16 @@ use Rattle.resolved.proofs.Exits.{no_fault-test}
 
 -- a procedure with a value does not end normally
 no-normal : (program : Program) (procedure : ProcedureEntry) (value : ResultEntry) → procedure_faults program procedure ≡ [] → procedure.result ≡ Some value →
-    has_end (block_ends program procedure.body) Normal ≡ false
+    has_exit (block_exits program procedure.body) Normal ≡ false
 no-normal program procedure value h is =
-    let ends : List Exit = block_ends program procedure.body in
+    let ends : List Exit = block_exits program procedure.body in
     let before = (append_empty
-    (block_faults program false true procedure.body ++ fault_unless (not (is_some procedure.result && has_end ends Normal)) NoValueReturned procedure.at)
-    (fault_unless (list_all (may_end procedure) ends) Undeclared procedure.at) h).0 in
+    (block_faults program false true procedure.body ++ fault_unless (not (is_some procedure.result && has_exit ends Normal)) NoValueReturned procedure.at)
+    (fault_unless (list_all (may_exit procedure) ends) Undeclared procedure.at) h).0 in
     let own = (append_empty (block_faults program false true procedure.body)
-    (fault_unless (not (is_some procedure.result && has_end ends Normal)) NoValueReturned procedure.at) before).1 in
-    turned (has_end ends Normal) (sym (ap (λ (r : Option ResultEntry). not (is_some r && has_end ends Normal)) is)
-    ∙ no_fault-test (not (is_some procedure.result && has_end ends Normal)) NoValueReturned procedure.at own)
+    (fault_unless (not (is_some procedure.result && has_exit ends Normal)) NoValueReturned procedure.at) before).1 in
+    turned (has_exit ends Normal) (sym (ap (λ (r : Option ResultEntry). not (is_some r && has_exit ends Normal)) is)
+    ∙ no_fault-test (not (is_some procedure.result && has_exit ends Normal)) NoValueReturned procedure.at own)
   where
     turned : (b : Bool) → not (true && b) ≡ true → b ≡ false
     turned false e = refl
@@ -51,7 +51,7 @@ faultless-there program (first ∷ rest) none (suc f) callee there =
     faultless-there program rest (append_empty (procedure_faults program first) (flat_map (procedure_faults program) rest) none).1 f callee there
 
 leaving-gives : (program : Program) (callee : ProcedureEntry) (value : ResultEntry) (back : SourceState → SourceState) (o : Outcome) → callee.result ≡ Some value →
-    has_end (block_ends program callee.body) Normal ≡ false → Among (block_ends program callee.body) o → ReturnsSome o →
+    has_exit (block_exits program callee.body) Normal ≡ false → Among (block_exits program callee.body) o → ReturnsSome o →
     OutcomeFits program callee Return callee.result o → GivesValue value.base (leaving back o)
 leaving-gives program callee value back (Ended Normal r t) is never among some fits = let no : true ≡ false = sym among.among ∙ never in absurd (cc)
 leaving-gives program callee value back (Ended Return None t) is never among some fits = absurd some

@@ -11,7 +11,7 @@ use Rattle.resolved.specs.declared.expression.Connective.{Connective}
 use Rattle.resolved.specs.Tree.{Expression, Integer, Logical, Read, Element, Unary, Binary, Short}
 use Rattle.resolved.specs.Value.{Evaluated, Yields, Raises, then_with, number_in, literal_number, unless_zero, prefix_value, operator_value, decides, in_range, position_of, checked_index}
 use Rattle.resolved.specs.SourceState.{SourceState, cells, cell_at, value_of, values_of}
-use Rattle.resolved.specs.Ends.{index_can_raise, divisor_can_raise, is_division, raises}
+use Rattle.resolved.specs.Exits.{index_can_raise, divisor_can_raise, is_division, raises}
 use Rattle.resolved.specs.Labelled.{Scope, variable_label, value_label, raise_label, raise_labels, label_if, any_of, Labelling, Join}
 use Rattle.isolation.proofs.Among.{RaisesAmong, expression-raises, index-in_range, divisor-not_zero}
 use Rattle.isolation.proofs.Observer.{Reader, view_of, AgreeFor, read-left, read-right}

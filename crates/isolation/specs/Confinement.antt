@@ -1,5 +1,5 @@
 -- Confinement: what a labelled statement may do at a program-counter label that a principal may not read.
--- Source: confinement of Volpano, Smith and Irvine 1996; with a label for each end as in JFlow (Myers 1999).
+-- Source: confinement of Volpano, Smith and Irvine 1996; with a label for each exit as in JFlow (Myers 1999).
 use Rattle.std.specs.Prelude.{◌≡◌, ℕ, List, [], Bool, IsTrue, IsFalse}
 use Rattle.common.specs.declared.sent.Pair.{Pair}
 use Rattle.labels.specs.Label.{Label, may_read}
@@ -9,9 +9,9 @@ use Rattle.resolved.specs.declared.statement.Exit.{Exit}
 use Rattle.resolved.specs.Tree.{Statement}
 use Rattle.resolved.specs.SourceState.{SourceState, cells}
 use Rattle.resolved.specs.Meaning.{Outcome, Ended, Stopped, state_after, statement_meaning, calls_with}
-use Rattle.resolved.specs.Ends.{has_end, statement_ends}
-use Rattle.resolved.specs.EndFaults.{end_faults, inner_faults}
-use Rattle.resolved.specs.Labelled.{Scope, Labelling, Join, ExitLabels, FitsDemands, Labelled, join_under, variable_label, channel_label, statement_demands, statement_exits}
+use Rattle.resolved.specs.Exits.{has_exit, statement_exits}
+use Rattle.resolved.specs.ExitFaults.{exit_faults, inner_faults}
+use Rattle.resolved.specs.Labelled.{Scope, Labelling, Join, ExitLabels, FitsDemands, Labelled, join_under, variable_label, channel_label, statement_demands, statement_exit_labels}
 
 -- whether a principal may read a label, and what it sees in a state of what was sent, under the program's own hierarchy
 abbrev pub reads : Scope → (p : ℕ) → Label → Bool
@@ -30,28 +30,28 @@ pub record SameFor (scope : Scope) (labelling : Labelling) (p : ℕ) (before aft
   pub inputs : (channel : ℕ) → IsTrue (reads scope p (channel_label scope.program channel)) → before.inputs channel ≡ after.inputs channel
   pub sent : sees scope p before ≡ sees scope p after
 
--- the label of the end that was reached, if one was, is one that the principal may not read
-abbrev pub UnreadEnd : Scope → Labelling → (p : ℕ) → ExitLabels → Outcome → Type 0
-UnreadEnd scope labelling p exits (Ended exit returned s) = IsFalse (reads_under scope labelling p (exits exit))
-UnreadEnd scope labelling p exits (Stopped stop s) = Unit {0}
+-- the label of the exit that was reached, if one was, is one that the principal may not read
+abbrev pub UnreadExit : Scope → Labelling → (p : ℕ) → ExitLabels → Outcome → Type 0
+UnreadExit scope labelling p exits (Ended exit returned s) = IsFalse (reads_under scope labelling p (exits exit))
+UnreadExit scope labelling p exits (Stopped stop s) = Unit {0}
 
--- in a labelled program without a fault of its ends, a labelled statement at a label that a principal may not read changes nothing
+-- in a labelled program without a fault of its exits, a labelled statement at a label that a principal may not read changes nothing
 -- that the principal may read, and ends at a label that it may not read; also where it is stopped
 abbrev pub StatementsAreConfined : Scope → Labelling → Type 0
 StatementsAreConfined scope labelling =
-    end_faults scope.program ≡ [] → Labelled scope.program
+    exit_faults scope.program ≡ [] → Labelled scope.program
     → (p : ℕ) (pc : Join) → IsFalse (reads_under scope labelling p pc)
     → (statement : Statement) → FitsDemands scope.program.hierarchy labelling (statement_demands scope pc statement)
     → (frames k : ℕ) (s : SourceState)
     → SameFor scope labelling p s (state_after (statement_meaning (calls_with scope.program k frames) k statement s))
-    × UnreadEnd scope labelling p (statement_exits scope pc statement)
+    × UnreadExit scope labelling p (statement_exit_labels scope pc statement)
     (statement_meaning (calls_with scope.program k frames) k statement s)
 
--- each possible end of such a statement, if that has no fault of its ends, has a label that the principal may not read
+-- each possible exit of such a statement, if that has no fault of its exits, has a label that the principal may not read
 abbrev pub PossibleEndsAreUnread : Scope → Labelling → Type 0
 PossibleEndsAreUnread scope labelling =
     (p : ℕ) (pc : Join) → IsFalse (reads_under scope labelling p pc)
     → (in_loop : Bool) (statement : Statement) → inner_faults scope.program in_loop statement ≡ []
     → FitsDemands scope.program.hierarchy labelling (statement_demands scope pc statement)
-    → (exit : Exit) → IsTrue (has_end (statement_ends scope.program statement) exit)
-    → IsFalse (reads_under scope labelling p (statement_exits scope pc statement exit))
+    → (exit : Exit) → IsTrue (has_exit (statement_exits scope.program statement) exit)
+    → IsFalse (reads_under scope labelling p (statement_exit_labels scope pc statement exit))

@@ -1,4 +1,4 @@
--- What the laws of runs say: which ends a statement comes to, and how a run goes on with more fuel.
+-- What the laws of runs say: which exits a statement comes to, and how a run goes on with more fuel.
 -- Source: our own.
 use Rattle.std.specs.Prelude.{◌≡◌, ℕ, ◌≤◌, List, [], ◌∷◌, Some, None, IsTrue, slice_get}
 use Rattle.labels.specs.Sent.{IsPrefix}
@@ -11,32 +11,32 @@ use Rattle.resolved.specs.Program.{Program, ProcedureEntry, ResultEntry, procedu
 use Rattle.resolved.specs.Value.{base_of}
 use Rattle.resolved.specs.SourceState.{World, SourceState}
 use Rattle.resolved.specs.Meaning.{Outcome, Ended, Stopped, OutOfFuel, Deep, state_after, statement_meaning, block_meaning, calls_with, run_within, sent_by}
-use Rattle.resolved.specs.Ends.{has_end, thrown_ends, declared_by, statement_ends, block_ends}
-use Rattle.resolved.specs.EndFaults.{end_faults}
+use Rattle.resolved.specs.Exits.{has_exit, thrown_exits, declared_by, statement_exits, block_exits}
+use Rattle.resolved.specs.ExitFaults.{exit_faults}
 use Rattle.resolved.specs.WellFormed.{parameters_of, well_formed}
 use Rattle.resolved.specs.Kinds.{ArgumentsFit, StateFits}
 
--- the end that was reached, if one was, is one of these
-abbrev pub EndsAmong : List Exit → Outcome → Type 0
-EndsAmong ends (Ended exit returned s) = IsTrue (has_end ends exit)
-EndsAmong ends (Stopped stop s) = Unit {0}
+-- the exit that was reached, if one was, is one of these
+abbrev pub ExitsAmong : List Exit → Outcome → Type 0
+ExitsAmong exits (Ended exit returned s) = IsTrue (has_exit exits exit)
+ExitsAmong exits (Stopped stop s) = Unit {0}
 
--- in a program without a fault of its ends, each end that a statement or a block comes to is one of its possible ends
+-- in a program without a fault of its exits, each exit that a statement or a block comes to is one of its possible exits
 abbrev pub StatementsEndAsTheyMay : Program → Type 0
 StatementsEndAsTheyMay program =
-    end_faults program ≡ [] → (frames k : ℕ) (statement : Statement) (s : SourceState)
-    → EndsAmong (statement_ends program statement) (statement_meaning (calls_with program k frames) k statement s)
+    exit_faults program ≡ [] → (frames k : ℕ) (statement : Statement) (s : SourceState)
+    → ExitsAmong (statement_exits program statement) (statement_meaning (calls_with program k frames) k statement s)
 
 abbrev pub BlocksEndAsTheyMay : Program → Type 0
 BlocksEndAsTheyMay program =
-    end_faults program ≡ [] → (frames k : ℕ) (block : Block) (s : SourceState)
-    → EndsAmong (block_ends program block) (block_meaning (calls_with program k frames) k block s)
+    exit_faults program ≡ [] → (frames k : ℕ) (block : Block) (s : SourceState)
+    → ExitsAmong (block_exits program block) (block_meaning (calls_with program k frames) k block s)
 
 -- and a call ends normally or by an exception that its procedure declares
 abbrev pub CallsEndAsDeclared : Program → Type 0
 CallsEndAsDeclared program =
-    end_faults program ≡ [] → (frames k f : ℕ) (arguments : List Value) (s : SourceState)
-    → EndsAmong (Normal ∷ thrown_ends (declared_by (procedure_at program f).throws)) (calls_with program k frames f arguments s)
+    exit_faults program ≡ [] → (frames k f : ℕ) (arguments : List Value) (s : SourceState)
+    → ExitsAmong (Normal ∷ thrown_exits (declared_by (procedure_at program f).throws)) (calls_with program k frames f arguments s)
 
 -- a call that ended normally gave a value of this base type
 abbrev pub GivesValue : Base → Outcome → Type 0
@@ -49,10 +49,10 @@ GivesValue base (Ended (Throw exception) returned s) = Unit {0}
 GivesValue base (Stopped stop s) = Unit {0}
 
 -- so does each call of a procedure with a value, with arguments that fit its parameters, from a state that fits some caller, in a
--- well-formed program without a fault of its ends
+-- well-formed program without a fault of its exits
 abbrev pub CallsGiveTheirValue : Program → Type 0
 CallsGiveTheirValue program =
-    IsTrue (well_formed program) → end_faults program ≡ []
+    IsTrue (well_formed program) → exit_faults program ≡ []
     → (f : ℕ) (callee : ProcedureEntry) (value : ResultEntry) → slice_get program.procedures f ≡ Some callee → callee.result ≡ Some value
     → (caller : ProcedureEntry) (s : SourceState) → StateFits program caller s
     → (arguments : List Value) → ArgumentsFit (parameters_of callee) arguments

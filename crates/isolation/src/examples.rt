@@ -1,7 +1,7 @@
 //! The definitions are not empty: programs that the rules accept, one that they refuse, and what two runs show.
 
 ghost use Rattle.isolation.specs.Examples.{bob, bob_sees, comes, for_alice, relay, sends, two_principals, waiting};
-ghost use Rattle.resolved.specs.EndFaults.{end_faults};
+ghost use Rattle.resolved.specs.ExitFaults.{exit_faults};
 ghost use Rattle.resolved.specs.Isolated.{Agree, Isolated};
 ghost use Rattle.resolved.specs.Labelled.{Labelled, channel_label};
 ghost use Rattle.resolved.specs.Meaning.{sent_by};
@@ -10,7 +10,7 @@ ghost use Rattle.std.specs.Prelude.{[], ℕ, pos, ◌≡◌};
 /// A program that sends what it received from an input of Alice to an output of Alice is labelled, and sends it. With the empty
 /// label on that output in place of Alice's it has no labelling, and is not isolated.
 pub fn a_label_decides()
-    ensures faultless { end_faults (relay for_alice) ≡ [] }
+    ensures faultless { exit_faults (relay for_alice) ≡ [] }
     ensures labelled { Labelled (relay for_alice) }
     ensures sent { sent_by (relay for_alice) (comes (pos 5)) 1 ≡ sends (pos 5) }
     ensures refused { Labelled (relay []) → ⊥ }
@@ -20,7 +20,7 @@ pub fn a_label_decides()
 /// A labelled program whose runs on two worlds that agree for Bob show him lists of different lengths, with whatever fuel: a
 /// loop that waits for ever on a number of Alice keeps it from sending.
 pub fn lists_may_differ_in_length()
-    ensures faultless { end_faults waiting ≡ [] }
+    ensures faultless { exit_faults waiting ≡ [] }
     ensures labelled { Labelled waiting }
     ensures agree { Agree two_principals (channel_label waiting) waiting bob
         (comes (pos 0)) (comes (pos 1)) }

@@ -3,17 +3,17 @@
 ghost use Rattle.isolation.specs.Runs.{BlocksEndAsTheyMay, CallsEndAsDeclared, CallsGiveTheirValue, RunsGoOn, SentOnlyGrows, SentStaysSent, StatementsEndAsTheyMay};
 ghost use Rattle.resolved.specs.Program.{Program};
 
-/// Each end that the meaning gives a statement or a block is one of its possible ends, in every program without a fault of its
-/// ends, from every state, with every amount of fuel and number of frames. A call ends normally or by an exception that its procedure
+/// Each exit that the meaning gives a statement or a block is one of its possible exits, in every program without a fault of its
+/// exits, from every state, with every amount of fuel and number of frames. A call ends normally or by an exception that its procedure
 /// declares.
-pub fn ends_are_possible()
+pub fn exits_are_possible()
     ensures statements { (program : Program) → StatementsEndAsTheyMay program }
     ensures blocks { (program : Program) → BlocksEndAsTheyMay program }
     ensures calls { (program : Program) → CallsEndAsDeclared program }
 {}
 
 /// A call of a procedure with a value that ends normally gives one, of the procedure's base type, in every well-formed program without
-/// a fault of its ends, with every amount of fuel and number of frames.
+/// a fault of its exits, with every amount of fuel and number of frames.
 pub fn calls_give_their_value()
     ensures { (program : Program) → CallsGiveTheirValue program }
 {}
@@ -23,7 +23,7 @@ pub fn sent_stays_sent()
     ensures { (program : Program) → SentStaysSent program }
 {}
 
-/// More fuel changes no end that was reached, and adds to what was sent at its end only.
+/// More fuel changes no exit that was reached, and adds to what was sent at its end only.
 pub fn more_fuel_goes_on()
     ensures runs { (program : Program) → RunsGoOn program }
     ensures sent { (program : Program) → SentOnlyGrows program }

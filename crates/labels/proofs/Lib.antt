@@ -11,6 +11,7 @@ pub mod Meaning
 pub mod Names
 pub mod Merge
 pub mod Order
+pub mod PieceBits
 pub mod Prefixes
 pub mod Present
 pub mod Tests

@@ -89,6 +89,9 @@ max-one (suc zero) (suc zero) h k = refl
 max-one (suc zero) (suc (suc b)) h k = absurd (omega (arith, k))
 max-one (suc (suc a)) b h k = absurd (omega (arith, h))
 
+pub word-joined-bit : (a b k : ℕ) → (bit_at (bit_or a b) k == 1) ≡ (bit_at a k == 1 || bit_at b k == 1)
+word-joined-bit a b k = ap (λ x. x == 1) (bit_at_or a b k) ∙ max-one (bit_at a k) (bit_at b k) (bit_at-lt a k) (bit_at-lt b k)
+
 pub joined-bit : (words others joined : List ℕ) (n : ℕ) → word joined (n / 64) ≡ bit_or (word words (n / 64)) (word others (n / 64)) →
     has_bit joined n ≡ (has_bit words n || has_bit others n)
 joined-bit words others joined n e =

@@ -6,6 +6,7 @@ pub mod Inside
 pub mod Label
 pub mod LabelTable
 pub mod LabelLattice
+pub mod Pieces
 pub mod PolicyOrder
 pub mod Printed
 pub mod Row

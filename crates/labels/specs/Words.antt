@@ -1,6 +1,6 @@
 -- Sets of numbers in words of 64 bits, and how the words of one are joined into those of another.
 -- Source: our own.
-use Rattle.std.specs.Prelude.{◌≡◌, ◌≢◌, ℕ, zero, suc, ◌+◌, ◌<◌, ◌≤◌, ◌/◌, ◌%◌, ◌^◌, List, [], ◌∷◌, length, Bool, true, false, ◌==◌, slice_index_or, bit_and, bit_or, IsTrue, Option, Some, None}
+use Rattle.std.specs.Prelude.{◌≡◌, ◌≢◌, ℕ, zero, suc, ◌+◌, ◌*◌, ◌<◌, ◌≤◌, ◌/◌, ◌%◌, ◌^◌, List, [], ◌∷◌, length, Bool, true, false, ◌==◌, slice_index_or, bit_and, bit_or, IsTrue, Option, Some, None}
 use Rattle.std.specs.Int.{bit_at}
 use Rattle.labels.specs.declared.rows.Row.TheInside.{Inside}
 
@@ -11,6 +11,12 @@ word words j = slice_index_or words j 0
 -- each word has 64 bits
 abbrev pub AreWords : List ℕ → Type 0
 AreWords words = (j : ℕ) → word words j < 2 ^ 64
+
+-- a piece: the words, 32 at most, that stand there
+pub record IsCut (words : List ℕ) (number : ℕ) (piece : List ℕ) : Type 0 where
+  pub each : (j : ℕ) → j < 32 → word piece j ≡ word words (32 * number + j)
+  pub short : length piece ≤ 32
+  pub fits : 32 * number ≤ length words → 32 * number + length piece ≤ length words
 
 -- whether the bit of a number is set
 abbrev pub has_bit : List ℕ → ℕ → Bool
@@ -49,6 +55,13 @@ pub record AreJoined (old others new : List ℕ) (first last : ℕ) (grew : Bool
   pub before : (j : ℕ) → j < first → word new j ≡ word old j
   pub after : (j : ℕ) → last ≤ j → word new j ≡ word old j
   pub grow : GrowBetween old others first last grew
+
+-- this many words, from a place on, are joined with others, and the other words stay
+pub record AreJoinedAt (old others new : List ℕ) (at count : ℕ) : Type 0 where
+  pub same : length new ≡ length old
+  pub joined : (j : ℕ) → j < count → word new (at + j) ≡ bit_or (word old (at + j)) (word others j)
+  pub before : (j : ℕ) → j < at → word new j ≡ word old j
+  pub after : (j : ℕ) → at + count ≤ j → word new j ≡ word old j
 
 -- the words below a place keep the bits that others have too, and the other words stay
 pub record AreMet (old others new : List ℕ) (last : ℕ) : Type 0 where

@@ -142,12 +142,10 @@ impl Comparisons<'_> {
             (label_at self.old.labels label) (label_at self.old.labels to)) labels.now) }
     {
         let to = number_inside(self.under.entries, to as usize);
-        let Some(mut kept) = self.kept.take() else {
+        let Some(kept) = &mut self.kept else {
             return Ok(self.under.first_above(labels, to));
         };
-        let all = self.under.all_flow(&mut kept, labels, to)?;
-        self.kept = Some(kept);
-        if all {
+        if self.under.all_flow(kept, labels, to)? {
             return Ok(None);
         }
         Ok(self.under.first_above(labels, to))

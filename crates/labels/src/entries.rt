@@ -8,6 +8,7 @@ ghost use Rattle.std.specs.Option.{option_copied};
 ghost use Rattle.std.specs.Prelude.{All, Contains, IfOk, IfSome, IsTrue, None, OnOk, ℕ, length, ◌<◌, ◌||◌, ◌↔◌, ◌≡◌, ◌≤◌};
 
 use crate::joins::append;
+use crate::pieces::PieceRow;
 use crate::policies::Policy;
 use crate::rows::Row;
 use principals::Hierarchy;
@@ -30,7 +31,7 @@ pub(crate) struct Key {
 #[derive(Debug, Drop)]
 pub(crate) struct Entry {
     pub key: Key,
-    pub row: Option<Row>,
+    pub row: Option<PieceRow>,
 }
 
 // The own policies of the entry with a number.
@@ -42,7 +43,7 @@ pub(crate) fn own_at(entries: &[Entry], number: usize) -> &[Policy]
 }
 
 // The row of the entry with a number, if it has one.
-pub(crate) fn row_at(entries: &[Entry], number: usize) -> Option<&Row>
+pub(crate) fn row_at(entries: &[Entry], number: usize) -> Option<&PieceRow>
     requires { number < length entries.now }
     ensures { numbers_in (option_copied result) ≡ row_at entries.now number }
 {
@@ -61,7 +62,7 @@ fn add_parts(row: &mut Row, entries: &[Entry], label: usize)
     row.set(label);
     match row_at(entries, label) {
         None => {}
-        Some(more) => row.include(more),
+        Some(more) => more.include_in(row),
     }
 }
 
@@ -100,6 +101,34 @@ pub(crate) fn row_of(
         add_parts(&mut row, entries, *label as usize);
     }
     Ok(Some(row))
+}
+
+/// A row in pieces, of which it shares some with that of the last of some labels and with that of the last entry; none where there is
+/// no row.
+pub(crate) fn in_pieces(
+    alloc: Global,
+    entries: &[Entry],
+    named: &[u32],
+    row: &Option<Row>,
+) -> Result<Option<PieceRow>, AllocError>
+    ensures { IfOk result (λ pieced. numbers_in pieced ≡ numbers_in row.now) }
+{
+    let Some(row) = row else {
+        return Ok(None);
+    };
+    let near = row_of_last(entries, named);
+    let last = match entries.last() {
+        None => None,
+        Some(entry) => entry.row.as_ref(),
+    };
+    Ok(Some(PieceRow::of(alloc, row, near, last)?))
+}
+
+// The row of the last of some labels, if there is one.
+fn row_of_last<'a>(entries: &'a [Entry], named: &[u32]) -> Option<&'a PieceRow> {
+    let number = named.last()?;
+    let entry = entries.get(*number as usize)?;
+    entry.row.as_ref()
 }
 
 /// The same for numbers of which some may be outside: these stand for the least label.
@@ -315,7 +344,7 @@ fn uncovered_own<'a>(
 }
 
 // The least number, from one on, that is in a row and not in another one.
-pub(crate) fn next_beyond(row: &Row, other: Option<&Row>, from: usize) -> Option<usize>
+pub(crate) fn next_beyond(row: &PieceRow, other: Option<&PieceRow>, from: usize) -> Option<usize>
     ensures { FirstBeyond row.now (numbers_in (option_copied other.entry)) from result }
 {
     match other {

@@ -7,8 +7,11 @@ ghost use Rattle.std.specs.Arc.{arc_slice_items};
 ghost use Rattle.std.specs.Prelude.{All, Contains, IfOk, IfSome, IsTrue, None, OnErr, OnOk, [], length, nat_lt, ℕ, ◌&&◌, ◌++◌, ◌+◌, ◌<◌, ◌^◌, ◌↔◌, ◌∷◌, ◌≡◌, ◌≤◌, ◌⊎◌};
 
 use crate::comparing::Comparisons;
-use crate::entries::{Entry, Key, find_uncovered, joined_row, number_inside, policies_of, row_of};
+use crate::entries::{
+    Entry, Key, find_uncovered, in_pieces, joined_row, number_inside, policies_of, row_of,
+};
 use crate::label_sets::{Label, each_once};
+use crate::pieces::PieceRow;
 use crate::policies::Policy;
 use crate::rows::Row;
 use principals::Hierarchy;
@@ -21,7 +24,8 @@ use std::sync::ArcSlice;
 /// their numbers.
 ///
 /// Each label is held as its text says: its own policies, and the numbers of the labels that it names. So the memory that it takes is
-/// in proportion to its text and, beside that, one bit for each number up to the greatest that it names.
+/// in proportion to its text and, beside that, one bit for each number up to the greatest that it names, but for the pieces of these
+/// bits that a label which it names has too.
 #[derive(Debug, Drop)]
 pub struct LabelTable {
     entries: Vec<Entry>,
@@ -98,12 +102,12 @@ fn find_same(
 }
 
 // Whether two rows, of which either may be missing, are the same.
-fn is_same_row(row: &Option<Row>, other: &Option<Row>) -> bool
+fn is_same_row(row: &Option<PieceRow>, other: &Option<Row>) -> bool
     ensures { IsTrue result → numbers_in row.now ≡ numbers_in other.now }
 {
     match (row, other) {
         (None, None) => true,
-        (Some(row), Some(other)) => row.is_same(other),
+        (Some(row), Some(other)) => row.is_row(other),
         _ => false,
     }
 }
@@ -186,9 +190,10 @@ impl LabelTable {
         if let Some(number) = find_same(self.entries.as_slice(), &self.numbers, &key, &row) {
             return Ok(number);
         }
+        let held = in_pieces(alloc, self.entries.as_slice(), key.named.as_slice(), &row)?;
         let number = self.entries.len() as u32;
         self.numbers.insert(key.clone()?, number)?;
-        self.entries.push(Entry { key, row })?;
+        self.entries.push(Entry { key, row: held })?;
         Ok(number)
     }
 

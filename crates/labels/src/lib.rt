@@ -9,6 +9,7 @@ pub mod label_sets;
 pub mod label_tables;
 pub mod laws;
 mod left_side;
+mod pieces;
 pub mod policies;
 mod policy_bits;
 pub mod printed;

@@ -1,13 +1,25 @@
 //! Sets of numbers below a bound, a bit for each number.
 ghost use Rattle.labels.specs.Row.{FirstBeyond, Includes, has, union};
-ghost use Rattle.std.specs.Prelude.{IfOk, IsTrue, [], false, length, replicate, set, true, ℕ, ◌&&◌, ◌<◌, ◌||◌, ◌↔◌, ◌≡◌, ◌≢◌, ◌≤◌};
+ghost use Rattle.labels.specs.Words.{has_bit};
+ghost use Rattle.std.specs.Prelude.{Bool, IfOk, IsTrue, List, [], false, length, replicate, set, true, ℕ, ◌&&◌, ◌*◌, ◌+◌, ◌/◌, ◌<◌, ◌||◌, ◌↔◌, ◌≡◌, ◌≢◌, ◌≤◌};
 
 use crate::words::{
-    covers_words, first_bit, first_new, has_any_bit, has_bit, join_words, meet_words,
+    covers_words, cut, first_bit, first_new, has_any_bit, has_bit, join_words, join_words_at,
+    meet_words,
 };
 use smallvec::SmallVec;
 use std::alloc::{AllocError, Global};
 use std::marker::Model;
+
+/// A set of numbers whose words can be looked at piece by piece.
+pub(crate) trait InPieces {
+    ghost numbers: { Self → List Bool };
+
+    /// The words of a piece, none where there is no such piece.
+    fn piece(&self, number: usize) -> &[u64]
+        ensures { (i : ℕ) → i < 2048 → has_bit result.now i
+            ≡ has (numbers self.now) (2048 * number + i) };
+}
 
 /// A set of numbers below `n`. A contract sees it as `n` truth values: of each number whether it is in the set.
 #[derive(Debug, Drop)]
@@ -111,6 +123,29 @@ impl Row {
         join_words(self.words.as_mut_slice(), others);
     }
 
+    // The words of a piece.
+    pub(crate) fn cut(&self, number: usize) -> &[u64]
+        ensures bits { (i : ℕ) → i < 2048 → has_bit result.now i
+            ≡ has self.now (2048 * number + i) }
+        ensures short { length result.now ≤ 32 }
+        ensures fits { 2048 * number ≤ length self.now
+            → 32 * number + length result.now ≤ length self.now / 64 + 1 }
+    {
+        cut(self.words.as_slice(), number)
+    }
+
+    // Adds the numbers whose bits are set in words that stand in place of those from one on. No other number is below the bound.
+    pub(crate) fn include_words(&mut self, at: usize, others: &[u64])
+        requires fits { at + length others.now ≤ length self.old / 64 + 1 }
+        requires clear { (i : ℕ) → length self.old ≤ 64 * at + i → has_bit others.now i ≡ false }
+        ensures bound { length self.new ≡ length self.old }
+        ensures before { (i : ℕ) → i < 64 * at → has self.new i ≡ has self.old i }
+        ensures from { (i : ℕ) → has self.new (64 * at + i)
+            ≡ (has self.old (64 * at + i) || has_bit others.now i) }
+    {
+        join_words_at(self.words.as_mut_slice(), at, others);
+    }
+
     /// Keeps the numbers that are in the other set too. Precondition: both have the same bound.
     pub fn meet(&mut self, other: &Row)
         requires { length self.old ≡ length other.now }
@@ -153,5 +188,13 @@ impl Row {
         ensures { FirstBeyond self.now [] from result }
     {
         first_bit(self.words.as_slice(), from, self.n)
+    }
+}
+
+impl InPieces for Row {
+    ghost numbers = { λ row. row };
+
+    fn piece(&self, number: usize) -> &[u64] {
+        self.cut(number)
     }
 }

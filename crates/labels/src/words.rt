@@ -1,8 +1,22 @@
 //! Words of bits: joined and compared four at a time.
-ghost use Rattle.labels.specs.Words.{AreJoined, AreMet, AreWords, FirstNew, GrowBetween, has_bit, word};
+ghost use Rattle.labels.specs.Words.{AreJoined, AreJoinedAt, AreMet, AreWords, FirstNew, GrowBetween, IsCut, has_bit, word};
 ghost use Rattle.std.specs.Prelude.{[], length, not, ◌*◌, ◌+◌, ◌/◌, ◌<◌, ◌≡◌, ◌≤◌};
 
 use std::simd::prelude::*;
+
+/// A piece has this many words.
+pub(crate) const PIECE: usize = 32;
+
+/// The words of a piece, none where there is no such piece.
+pub(crate) fn cut(words: &[u64], number: usize) -> &[u64]
+    ensures { IsCut words.now number result.now }
+{
+    if number > words.len() / PIECE {
+        return &[];
+    }
+    let rest = &words[number * PIECE..];
+    &rest[..rest.len().min(PIECE)]
+}
 
 /// Whether the bit of a number is set.
 pub(crate) fn has_bit(words: &[u64], i: usize) -> bool
@@ -53,6 +67,16 @@ fn join_one(words: &mut [u64], others: &[u64], at: usize) -> bool
     let joined = before | others[at];
     words[at] = joined;
     joined != before
+}
+
+/// Joins words into these ones, from a place on.
+pub(crate) fn join_words_at(words: &mut [u64], at: usize, others: &[u64])
+    requires { at + length others.now ≤ length words.old }
+    ensures { AreJoinedAt words.old others.now words.new at (length others.now) }
+{
+    for k in 0..others.len() {
+        words[at + k] |= others[k];
+    }
 }
 
 /// Keeps the bits that as many other words have too.
@@ -132,14 +156,13 @@ pub(crate) fn has_any_bit(words: &[u64], i: usize) -> bool
 /// The least number, from one on and below another one, whose bit is set here and not in other words. A word without such a number
 /// costs one step.
 pub(crate) fn first_new(words: &[u64], others: &[u64], from: usize, to: usize) -> Option<usize>
-    requires { to / 64 < length words.now }
     ensures { FirstNew words.now others.now from to result }
 {
     let mut i = from;
     while i < to {
         if i % 64 == 0 && !has_more(words, others, i / 64) {
             i += (to - i).min(64);
-        } else if has_bit(words, i) && !has_any_bit(others, i) {
+        } else if has_any_bit(words, i) && !has_any_bit(others, i) {
             return Some(i);
         } else {
             i += 1;

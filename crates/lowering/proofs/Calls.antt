@@ -9,8 +9,8 @@ use Rattle.resolved.specs.declared.statement.Exit.TheVariants.{Normal, Return, B
 use Rattle.resolved.specs.Program.{Program, ProcedureEntry, ResultEntry, procedure_at}
 use Rattle.resolved.specs.SourceState as source
 use Rattle.resolved.specs.Value.{base_of}
-use Rattle.resolved.specs.Ends.{thrown_ends, declared_by}
-use Rattle.resolved.specs.EndFaults.{end_faults}
+use Rattle.resolved.specs.Exits.{thrown_exits, declared_by}
+use Rattle.resolved.specs.ExitFaults.{exit_faults}
 use Rattle.resolved.specs.Meaning.{Outcome, Ended, Stopped, Deep, OutOfFuel, leaving, entering, calls_with, block_meaning}
 use Rattle.resolved.specs.WellFormed.{well_formed, parameters_of, has_result, same_base}
 use Rattle.resolved.specs.Kinds.{StateFits, OutcomeFits, ArgumentsFit}
@@ -18,7 +18,7 @@ use Rattle.resolved.proofs.WellFormedParts.{ProcedureParts, procedure_at_is}
 use Rattle.resolved.proofs.WellFormedParts as parts
 use Rattle.resolved.proofs.Sound.States.{entering_fits}
 use Rattle.resolved.proofs.Sound.Meanings.{calls_keep, meaning_keeps_types}
-use Rattle.isolation.specs.Runs.{EndsAmong, GivesValue}
+use Rattle.isolation.specs.Runs.{ExitsAmong, GivesValue}
 use Rattle.isolation.proofs.Among.{calls-among}
 use Rattle.isolation.proofs.Declared.{ends-as-declared}
 use Rattle.isolation.proofs.Valued.{calls-give}
@@ -46,7 +46,7 @@ use Rattle.resolved.proofs.Exits.{thrown-break, thrown-continue}
 abbrev pub nowhere : ℕ → Option ℕ
 nowhere exception = None
 
-module _ (program : Program) (formed : well_formed program ≡ true) (none : end_faults program ≡ []) (world : source.World) (k : ℕ) where
+module _ (program : Program) (formed : well_formed program ≡ true) (none : exit_faults program ≡ []) (world : source.World) (k : ℕ) where
   -- the body of a procedure from its begin on
   pub body-run : (d f : ℕ) (entry : ProcedureEntry) (there : slice_get program.procedures f ≡ Some entry) (callers : List Caller) (s : source.SourceState)
       → CallsRun (setting_of program formed world f entry there callers) (calls_with program k d) k → StateFits program entry s
@@ -124,7 +124,7 @@ module _ (program : Program) (formed : well_formed program ≡ true) (none : end
     -- a call that the machine makes comes back, or ends, as the body of the procedure does
     body-called : (q : ℕ) (callee : ProcedureEntry) (found : slice_get program.procedures q ≡ Some callee) (d : ℕ) (inner : source.SourceState) (result : Option ResultEntry) (o : Outcome)
         → callee.result ≡ result → block_meaning (calls_with program k d) k callee.body inner ≡ o
-        → OutcomeFits program callee Return callee.result o → EndsAmong (Normal ∷ thrown_ends (declared_by callee.throws)) (leaving back o)
+        → OutcomeFits program callee Return callee.result o → ExitsAmong (Normal ∷ thrown_exits (declared_by callee.throws)) (leaving back o)
         → ((value : ResultEntry) → result ≡ Some value → GivesValue value.base (leaving back o))
         → Runs (setting_of program formed world q callee found (waiting ∷ callers)) no_loop nowhere k
         (position (setting_of program formed world q callee found (waiting ∷ callers)) 0 [] inner) (0 + block_size program callee.body) o
@@ -208,9 +208,9 @@ module _ (program : Program) (formed : well_formed program ≡ true) (none : end
       let leave : Outcome → Outcome = leaving (λ t. record t { locals = s.locals }) in
       let whole : calls_with program k (suc d) q vs s ≡ leave o =
       ap (λ (p : ProcedureEntry). leave (block_meaning (calls_with program k d) k p.body (entering p vs s))) is in
-      let among : EndsAmong (Normal ∷ thrown_ends (declared_by callee.throws)) (leave o) =
-      subst (λ (x : Outcome). EndsAmong (Normal ∷ thrown_ends (declared_by callee.throws)) x) whole
-      (subst (λ (p : ProcedureEntry). EndsAmong (Normal ∷ thrown_ends (declared_by p.throws)) (calls_with program k (suc d) q vs s)) is
+      let among : ExitsAmong (Normal ∷ thrown_exits (declared_by callee.throws)) (leave o) =
+      subst (λ (x : Outcome). ExitsAmong (Normal ∷ thrown_exits (declared_by callee.throws)) x) whole
+      (subst (λ (p : ProcedureEntry). ExitsAmong (Normal ∷ thrown_exits (declared_by p.throws)) (calls_with program k (suc d) q vs s)) is
       (calls-among program k (suc d) (ends-as-declared program none) q vs s).among) in
       let called : Called g k (position g' 0 [] inner) at callee.result (leave o) =
       body-called f entry there callers at s q callee found d inner callee.result o refl refl

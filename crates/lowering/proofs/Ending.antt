@@ -1,5 +1,5 @@
 -- Code that does not end normally by its form does not go on after its last instruction; and a form that may end normally has a normal
--- end, so that a procedure with a value, which has none, has no return without one.
+-- exit, so that a procedure with a value, which has none, has no return without one.
 use Rattle.std.proofs.Common.{◌≡◌, refl, sym, ap, ◌∙◌, subst, ℕ, zero, suc, ◌+◌, ◌<◌, ◌⊎◌, inl, inr, Bool, true, false, not, ◌&&◌, ◌||◌, List, [], ◌∷◌, ◌++◌, length, Option, Some, None, slice_get, arith, append-nil}
 use Rattle.std.specs.Prelude.{filter, if◌then◌else◌}
 use Rattle.std.proofs.lemmas.List.Folds.{list_any-append}
@@ -10,9 +10,9 @@ use Rattle.resolved.specs.declared.statement.Exit.TheVariants.{Normal, Return, B
 use Rattle.resolved.specs.declared.expression.Base.TheVariants.{Boolean}
 use Rattle.resolved.specs.Tree.{Expression, Statement, Assign, Clear, Store, Receive, Send, Call, If, While, Leave, ReturnWith, Try, Nested, Block, Empty, Then, Handlers, NoMore, Catch, place_of}
 use Rattle.resolved.specs.Program.{Program, ProcedureEntry}
-use Rattle.resolved.specs.Ends.{same_exit, has_end, raises, thrown_ends, passes, then_ends, statement_ends, block_ends, handlers_ends}
-use Rattle.resolved.specs.EndFaults.{fault_unless, may_stand, inner_faults, block_faults, handlers_faults}
-use Rattle.resolved.specs.declared.fault.EndRefusalKind.TheVariants.{OutsideLoop, Unreachable, NeverRaised}
+use Rattle.resolved.specs.Exits.{same_exit, has_exit, raises, thrown_exits, passes, then_exits, statement_exits, block_exits, handlers_exits}
+use Rattle.resolved.specs.ExitFaults.{fault_unless, may_stand, inner_faults, block_faults, handlers_faults}
+use Rattle.resolved.specs.declared.fault.ExitRefusalKind.TheVariants.{OutsideLoop, Unreachable, NeverRaised}
 use Rattle.resolved.specs.WellFormed.{has_base, is_exception, statement_fits, block_fits, handlers_fit}
 use Rattle.modules.specs.declared.instruction.Instruction.{Instruction}
 use Rattle.modules.specs.declared.instruction.Instruction.TheVariants as instruction
@@ -106,10 +106,10 @@ module _ (program : Program) (procedure : ProcedureEntry) where
         let beyond = position + block_size program block + jump_size (jumps_after block handlers) in
         let end = beyond + handlers_size program handlers in
         let parts = and_parts (block_fits program procedure block) (handlers_fit program procedure handlers) fits in
-        let none = append_empty (block_faults program in_loop true block) (handlers_faults program in_loop (block_ends program block) handlers) faults in
+        let none = append_empty (block_faults program in_loop true block) (handlers_faults program in_loop (block_exits program block) handlers) faults in
         let ends = or_parts (block_falls block) (handlers_fall handlers) falls in
         beyond-stops loop end beyond block (block_code program loop position block) handlers ends.0 (block-stops loop in_loop true position block parts.0 none.0 ends.0)
-        (handlers-stop loop in_loop end beyond (block_ends program block) handlers parts.1 none.1 ends.1)
+        (handlers-stop loop in_loop end beyond (block_exits program block) handlers parts.1 none.1 ends.1)
     statement-stops loop in_loop position (Nested mark block) fits faults falls = block-stops loop in_loop true position block fits faults falls
     statement-stops loop in_loop position _ fits faults falls = absurd (let no : true ≡ false = falls in cc)
 
@@ -121,7 +121,7 @@ module _ (program : Program) (procedure : ProcedureEntry) where
         let code = statement_code program loop position statement in
         let first = fault_unless (may_stand in_loop statement) OutsideLoop (place_of statement) in
         let second = fault_unless reached Unreachable (place_of statement) in
-        let goes = has_end (statement_ends program statement) Normal in
+        let goes = has_exit (statement_exits program statement) Normal in
         let later = append_empty (first ++ second ++ inner_faults program in_loop statement) (block_faults program in_loop goes rest) faults in
         let here = append_empty (first ++ second) (inner_faults program in_loop statement) later.0 in
         let parts = and_parts (statement_fits program procedure statement) (block_fits program procedure rest) fits in
@@ -139,7 +139,7 @@ module _ (program : Program) (procedure : ProcedureEntry) where
         let beyond = position + block_size program body + jump_size (jumps_after body rest) in
         let parts = and_parts (is_exception program exception && block_fits program procedure body) (handlers_fit program procedure rest) fits in
         let body_fits : block_fits program procedure body ≡ true = (and_parts (is_exception program exception) (block_fits program procedure body) parts.0).1 in
-        let raised = fault_unless (has_end ends (Throw exception)) NeverRaised mark in
+        let raised = fault_unless (has_exit ends (Throw exception)) NeverRaised mark in
         let others = filter (λ exit. not (same_exit (Throw exception) exit)) ends in
         let later = append_empty (raised ++ block_faults program in_loop true body) (handlers_faults program in_loop others rest) faults in
         let here = append_empty raised (block_faults program in_loop true body) later.0 in
@@ -148,21 +148,21 @@ module _ (program : Program) (procedure : ProcedureEntry) where
         (block-stops loop in_loop true position body body_fits here.1 both_end.0)
         (handlers-stop loop in_loop end beyond others rest parts.1 later.1 both_end.1))
 
--- ---- normal ends
-some-left : (xs ys : List Exit) → has_end xs Normal ≡ true → has_end (xs ++ ys) Normal ≡ true
-some-left xs ys h = list_any-append (same_exit Normal) xs ys ∙ ap (λ b. b || has_end ys Normal) h
+-- ---- normal exits
+some-left : (xs ys : List Exit) → has_exit xs Normal ≡ true → has_exit (xs ++ ys) Normal ≡ true
+some-left xs ys h = list_any-append (same_exit Normal) xs ys ∙ ap (λ b. b || has_exit ys Normal) h
 
-some-right : (xs ys : List Exit) → has_end ys Normal ≡ true → has_end (xs ++ ys) Normal ≡ true
-some-right xs ys h = list_any-append (same_exit Normal) xs ys ∙ (ap (λ b. has_end xs Normal || b) h ∙ or-true (has_end xs Normal))
+some-right : (xs ys : List Exit) → has_exit ys Normal ≡ true → has_exit (xs ++ ys) Normal ≡ true
+some-right xs ys h = list_any-append (same_exit Normal) xs ys ∙ (ap (λ b. has_exit xs Normal || b) h ∙ or-true (has_exit xs Normal))
 
-then-normal : (first rest : List Exit) → has_end first Normal ≡ true → has_end rest Normal ≡ true → has_end (then_ends first rest) Normal ≡ true
+then-normal : (first rest : List Exit) → has_exit first Normal ≡ true → has_exit rest Normal ≡ true → has_exit (then_exits first rest) Normal ≡ true
 then-normal first rest h k =
-    subst (λ (b : Bool). has_end (if b then filter (λ exit. not (same_exit Normal exit)) first ++ rest else first) Normal ≡ true) (sym h)
+    subst (λ (b : Bool). has_exit (if b then filter (λ exit. not (same_exit Normal exit)) first ++ rest else first) Normal ≡ true) (sym h)
     (some-right (filter (λ exit. not (same_exit Normal exit)) first) rest k)
 
 module _ (program : Program) where
   mutual
-    statement-normal : (statement : Statement) → statement_falls statement ≡ true → has_end (statement_ends program statement) Normal ≡ true
+    statement-normal : (statement : Statement) → statement_falls statement ≡ true → has_exit (statement_exits program statement) Normal ≡ true
     statement-normal (Assign mark x e) falls = refl
     statement-normal (Clear mark slot) falls = refl
     statement-normal (Store mark array size index e) falls = refl
@@ -170,32 +170,32 @@ module _ (program : Program) where
     statement-normal (Send mark channel e) falls = refl
     statement-normal (Call mark f arguments target) falls = refl
     statement-normal (If mark e then_block else_block) falls =
-        let raised = thrown_ends (raises e) in
+        let raised = thrown_exits (raises e) in
         elim (or_cases (block_falls then_block) (block_falls else_block) falls) [
-          | inl h ↦ some-left (raised ++ block_ends program then_block) (block_ends program else_block) (some-right raised (block_ends program then_block) (block-normal then_block h))
-          | inr h ↦ some-right (raised ++ block_ends program then_block) (block_ends program else_block) (block-normal else_block h)
+          | inl h ↦ some-left (raised ++ block_exits program then_block) (block_exits program else_block) (some-right raised (block_exits program then_block) (block-normal then_block h))
+          | inr h ↦ some-right (raised ++ block_exits program then_block) (block_exits program else_block) (block-normal else_block h)
         ]
     statement-normal (While mark loop e body) falls = refl
     statement-normal (Leave mark exit) falls = absurd (let no : false ≡ true = falls in cc)
     statement-normal (ReturnWith mark e) falls = absurd (let no : false ≡ true = falls in cc)
     statement-normal (Try mark block handlers) falls =
-        let tried = filter (passes handlers) (block_ends program block) in
+        let tried = filter (passes handlers) (block_exits program block) in
         elim (or_cases (block_falls block) (handlers_fall handlers) falls) [
-          | inl h ↦ some-left tried (handlers_ends program handlers) (end-filter (passes handlers) (block_ends program block) Normal ∙ block-normal block h)
-          | inr h ↦ some-right tried (handlers_ends program handlers) (handlers-normal handlers h)
+          | inl h ↦ some-left tried (handlers_exits program handlers) (end-filter (passes handlers) (block_exits program block) Normal ∙ block-normal block h)
+          | inr h ↦ some-right tried (handlers_exits program handlers) (handlers-normal handlers h)
         ]
     statement-normal (Nested mark block) falls = block-normal block falls
 
-    pub block-normal : (block : Block) → block_falls block ≡ true → has_end (block_ends program block) Normal ≡ true
+    pub block-normal : (block : Block) → block_falls block ≡ true → has_exit (block_exits program block) Normal ≡ true
     block-normal Empty falls = refl
     block-normal (Then statement rest) falls =
         let parts = and_parts (statement_falls statement) (block_falls rest) falls in
-        then-normal (statement_ends program statement) (block_ends program rest) (statement-normal statement parts.0) (block-normal rest parts.1)
+        then-normal (statement_exits program statement) (block_exits program rest) (statement-normal statement parts.0) (block-normal rest parts.1)
 
-    handlers-normal : (handlers : Handlers) → handlers_fall handlers ≡ true → has_end (handlers_ends program handlers) Normal ≡ true
+    handlers-normal : (handlers : Handlers) → handlers_fall handlers ≡ true → has_exit (handlers_exits program handlers) Normal ≡ true
     handlers-normal NoMore falls = absurd (let no : false ≡ true = falls in cc)
     handlers-normal (Catch mark exception body rest) falls =
         elim (or_cases (block_falls body) (handlers_fall rest) falls) [
-          | inl h ↦ some-left (block_ends program body) (handlers_ends program rest) (block-normal body h)
-          | inr h ↦ some-right (block_ends program body) (handlers_ends program rest) (handlers-normal rest h)
+          | inl h ↦ some-left (block_exits program body) (handlers_exits program rest) (block-normal body h)
+          | inr h ↦ some-right (block_exits program body) (handlers_exits program rest) (handlers-normal rest h)
         ]

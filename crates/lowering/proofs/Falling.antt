@@ -1,4 +1,4 @@
--- Normal ends by form, where one of two decides.
+-- Normal exits by form, where one of two decides.
 use Rattle.std.proofs.Common.{◌≡◌, sym, ap, ◌∙◌, List, [], ◌∷◌, length, ◌<◌, Bool, true, false, ◌||◌, arith}
 use Rattle.std.proofs.Math.Bool.{and-true, and-false}
 use Rattle.resolved.specs.declared.statement.Statement as S

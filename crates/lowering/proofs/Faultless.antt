@@ -1,4 +1,4 @@
--- The module of a well-formed program without a fault of its ends has no fault: the verifier takes it, and no run of it is stuck.
+-- The module of a well-formed program without a fault of its exits has no fault: the verifier takes it, and no run of it is stuck.
 use Rattle.std.proofs.Common.{◌≡◌, refl, sym, ap, ◌∙◌, subst, ℕ, suc, ◌+◌, Bool, true, false, not, ◌&&◌, List, [], ◌∷◌, ◌++◌, map, Option, Some, None, slice_get, append-nil}
 use Rattle.std.specs.Prelude.{is_some}
 use Rattle.std.specs.List.{list_all}
@@ -8,9 +8,9 @@ use Rattle.resolved.specs.declared.expression.Variable.{Variable}
 use Rattle.resolved.specs.declared.expression.Variable.TheVariants.{Global, Local}
 use Rattle.resolved.specs.declared.statement.Exit.TheVariants.{Normal}
 use Rattle.resolved.specs.Program.{Program, ProcedureEntry, ResultEntry}
-use Rattle.resolved.specs.Ends.{has_end, block_ends}
-use Rattle.resolved.specs.EndFaults.{fault_unless, block_faults, may_end, procedure_faults, end_faults}
-use Rattle.resolved.specs.declared.fault.EndRefusalKind.TheVariants.{NoValueReturned, Undeclared}
+use Rattle.resolved.specs.Exits.{has_exit, block_exits}
+use Rattle.resolved.specs.ExitFaults.{fault_unless, block_faults, may_exit, procedure_faults, exit_faults}
+use Rattle.resolved.specs.declared.fault.ExitRefusalKind.TheVariants.{NoValueReturned, Undeclared}
 use Rattle.resolved.specs.WellFormed.{variable_type, well_formed, block_fits}
 use Rattle.resolved.proofs.WellFormedParts as parts
 use Rattle.modules.specs.Contents.{ChannelContents, ProcedureContents, ModuleContents}
@@ -82,25 +82,25 @@ module _ (program : Program) (formed : well_formed program ≡ true) (entry : Pr
 
   body-faults : block_faults program false true entry.body ≡ []
   body-faults =
-      let ends = block_ends program entry.body in
-      let value = fault_unless (not (is_some entry.result && has_end ends Normal)) NoValueReturned entry.at in
-      let declared = fault_unless (list_all (may_end entry) ends) Undeclared entry.at in
+      let ends = block_exits program entry.body in
+      let value = fault_unless (not (is_some entry.result && has_exit ends Normal)) NoValueReturned entry.at in
+      let declared = fault_unless (list_all (may_exit entry) ends) Undeclared entry.at in
       (append_empty (block_faults program false true entry.body) value
       (append_empty (block_faults program false true entry.body ++ value) declared faults).0).0
 
-  value-test : not (is_some entry.result && has_end (block_ends program entry.body) Normal) ≡ true
+  value-test : not (is_some entry.result && has_exit (block_exits program entry.body) Normal) ≡ true
   value-test =
-      let ends = block_ends program entry.body in
-      let test = not (is_some entry.result && has_end ends Normal) in
+      let ends = block_exits program entry.body in
+      let test = not (is_some entry.result && has_exit ends Normal) in
       let value = fault_unless test NoValueReturned entry.at in
-      let declared = fault_unless (list_all (may_end entry) ends) Undeclared entry.at in
+      let declared = fault_unless (list_all (may_exit entry) ends) Undeclared entry.at in
       no_fault-test test NoValueReturned entry.at
       (append_empty (block_faults program false true entry.body) value
       (append_empty (block_faults program false true entry.body ++ value) declared faults).0).1
 
   -- a body that may end normally is that of a procedure without a value
   no-value : block_falls entry.body ≡ true → returned_kind entry.result ≡ None
-  no-value falls = by entry.result (has_end (block_ends program entry.body) Normal) (block-normal program entry.body falls) value-test
+  no-value falls = by entry.result (has_exit (block_exits program entry.body) Normal) (block-normal program entry.body falls) value-test
     where
       by : (result : Option ResultEntry) (ends : Bool) → ends ≡ true → not (is_some result && ends) ≡ true → returned_kind result ≡ None
       by None ends h test = refl
@@ -147,7 +147,7 @@ procedures-right m number (g ∷ graphs) sound =
     ap (λ l. l ++ fixed.handler_refusals m number (laid_out_procedure g) (laid_out_procedure g).handlers ++ rest) (sound-instructions m g s number)
     ∙ (ap (λ l. l ++ rest) (sound-handlers m g s number) ∙ procedures-right m (number + 1) graphs (λ k h e. sound (suc k) h e))
 
-sound-at : (program : Program) → well_formed program ≡ true → end_faults program ≡ [] → (k : ℕ) (g : ProcedureContents)
+sound-at : (program : Program) → well_formed program ≡ true → exit_faults program ≡ [] → (k : ℕ) (g : ProcedureContents)
     → slice_get (graph_of program).procedures k ≡ Some g → Sound (laid_out (graph_of program)) g
 sound-at program formed none k g e =
     let from = there_map_only (procedure_contents program) program.procedures k g e in

@@ -15,9 +15,9 @@ use Rattle.resolved.specs.declared.statement.Exit.{Exit}
 use Rattle.resolved.specs.declared.statement.Exit.TheVariants.{Normal, Return, Break, Continue, Throw}
 use Rattle.resolved.specs.Tree.{Expression, Integer, Logical, Read, Element, Unary, Binary, Short, Statement, Assign, Clear, Store, Receive, Send, Call, If, While, Leave, ReturnWith, Try, Nested, Block, Empty, Then, Handlers, NoMore, Catch, place_of}
 use Rattle.resolved.specs.Program.{Program, ResultEntry, procedure_at}
-use Rattle.resolved.specs.Ends.{same_exit, has_end, statement_ends, block_ends}
-use Rattle.resolved.specs.EndFaults.{fault_unless, may_stand, inner_faults, block_faults, handlers_faults}
-use Rattle.resolved.specs.declared.fault.EndRefusalKind.TheVariants.{OutsideLoop, Unreachable, NeverRaised}
+use Rattle.resolved.specs.Exits.{same_exit, has_exit, statement_exits, block_exits}
+use Rattle.resolved.specs.ExitFaults.{fault_unless, may_stand, inner_faults, block_faults, handlers_faults}
+use Rattle.resolved.specs.declared.fault.ExitRefusalKind.TheVariants.{OutsideLoop, Unreachable, NeverRaised}
 use Rattle.modules.specs.declared.instruction.Instruction.{Instruction}
 use Rattle.modules.specs.declared.instruction.Instruction.TheVariants as instruction
 use Rattle.lowering.specs.Expressions.{load_of, store_of, load_element_of, store_element_of, prefix_instruction, operator_instruction, value_size, value_code, rest_of_short, arguments_size, arguments_code, tested, deciding, branch_size, branch_code, test_code}
@@ -218,11 +218,11 @@ module _ (program : Program) where
         let j = jumps_after block handlers in
         let k = jump_size j in
         let z = handlers_size program handlers in
-        let none = append_empty (block_faults program in_loop true block) (handlers_faults program in_loop (block_ends program block) handlers) faults in
+        let none = append_empty (block_faults program in_loop true block) (handlers_faults program in_loop (block_exits program block) handlers) faults in
         ahead-both p m (block_code program loop p block) _ (block-sized program loop p block)
         (block-ahead loop in_loop true p block none.0 (sooner (p + m) (p + (m + (k + z))) in_loop loop (omega arith) loops))
         (ahead-both (p + m) k (jump_code j (p + m + k + z)) _ (jump-sized j (p + m + k + z)) (jump-ahead (p + m) j (p + m + k + z) (omega arith))
-        (handlers-ahead loop in_loop (p + m + k + z) (p + m + k) (block_ends program block) handlers none.1 refl
+        (handlers-ahead loop in_loop (p + m + k + z) (p + m + k) (block_exits program block) handlers none.1 refl
         (sooner (p + m + k + z) (p + (m + (k + z))) in_loop loop (omega arith) loops)))
     statement-ahead loop in_loop p (Nested at block) stands faults loops = block-ahead loop in_loop true p block faults loops
 
@@ -234,7 +234,7 @@ module _ (program : Program) where
         let z = block_size program rest in
         let first = fault_unless (may_stand in_loop statement) OutsideLoop (place_of statement) in
         let second = fault_unless reached Unreachable (place_of statement) in
-        let goes = has_end (statement_ends program statement) Normal in
+        let goes = has_exit (statement_exits program statement) Normal in
         let later = append_empty (first ++ second ++ inner_faults program in_loop statement) (block_faults program in_loop goes rest) faults in
         let here = append_empty (first ++ second) (inner_faults program in_loop statement) later.0 in
         let stands = no_fault-test (may_stand in_loop statement) OutsideLoop (place_of statement) (append_empty first second here.0).0 in
@@ -250,7 +250,7 @@ module _ (program : Program) where
         let j = jumps_after body rest in
         let k = jump_size j in
         let z = handlers_size program rest in
-        let raised = fault_unless (has_end ends (Throw exception)) NeverRaised at in
+        let raised = fault_unless (has_exit ends (Throw exception)) NeverRaised at in
         let others = filter (λ exit. not (same_exit (Throw exception) exit)) ends in
         let later = append_empty (raised ++ block_faults program in_loop true body) (handlers_faults program in_loop others rest) faults in
         let here = append_empty raised (block_faults program in_loop true body) later.0 in

@@ -11,9 +11,9 @@ use Rattle.resolved.specs.declared.statement.Exit.{Exit}
 use Rattle.resolved.specs.declared.statement.Exit.TheVariants.{Normal, Return, Break, Continue, Throw}
 use Rattle.resolved.specs.Tree.{Expression, Statement, Assign, Clear, Store, Receive, Send, Call, If, While, Leave, ReturnWith, Try, Nested, Block, Empty, Then, Handlers, NoMore, Catch, place_of}
 use Rattle.resolved.specs.Program.{Program, ProcedureEntry, ResultEntry, procedure_at}
-use Rattle.resolved.specs.Ends.{same_exit, has_end, statement_ends, block_ends}
-use Rattle.resolved.specs.EndFaults.{fault_unless, may_stand, inner_faults, block_faults, handlers_faults, may_end, procedure_faults, end_faults}
-use Rattle.resolved.specs.declared.fault.EndRefusalKind.TheVariants.{OutsideLoop, Unreachable, NeverRaised, NoValueReturned, Undeclared}
+use Rattle.resolved.specs.Exits.{same_exit, has_exit, statement_exits, block_exits}
+use Rattle.resolved.specs.ExitFaults.{fault_unless, may_stand, inner_faults, block_faults, handlers_faults, may_exit, procedure_faults, exit_faults}
+use Rattle.resolved.specs.declared.fault.ExitRefusalKind.TheVariants.{OutsideLoop, Unreachable, NeverRaised, NoValueReturned, Undeclared}
 use Rattle.resolved.specs.WellFormed.{has_base, is_exception, statement_fits, block_fits, handlers_fit, procedure_fits}
 use Rattle.resolved.proofs.WellFormedParts.{program_parts, procedure_parts, passes_at}
 use Rattle.modules.specs.declared.instruction.Instruction.{Instruction}
@@ -158,13 +158,13 @@ module _ (program : Program) (procedure : ProcedureEntry) (n : ℕ) where
         let within : p + (b + (y + (k + z))) ≤ n = ends.within in
         let first : block_falls then_block ≡ true → p + (b + (y + (k + z))) < n = λ h. ends.strict (or_left (block_falls then_block) (block_falls else_block) h) in
         let second : block_falls else_block ≡ true → p + (b + (y + (k + z))) < n = λ h. ends.strict (or_right (block_falls then_block) (block_falls else_block) h) in
-        let yes_ends : EndsIn n (p + b + y) (block_falls then_block) = record { within = omega (arith, within); strict = λ h. omega (arith, first h) } in
-        let no_ends : EndsIn n (p + b + y + k + z) (block_falls else_block) = record { within = omega (arith, within); strict = λ h. omega (arith, second h) } in
+        let yes_exits : EndsIn n (p + b + y) (block_falls then_block) = record { within = omega (arith, within); strict = λ h. omega (arith, first h) } in
+        let no_exits : EndsIn n (p + b + y + k + z) (block_falls else_block) = record { within = omega (arith, within); strict = λ h. omega (arith, second h) } in
         let over : j ≡ true → p + b + y + k + z < n = λ h. omega (arith, first (and_parts (block_falls then_block) (not (is_empty else_block)) h).0) in
-        placed-both (plain (branch-below e false p (p + b + y + k) n (inside program then_block (p + b) n yes_ends) (inside program else_block (p + b + y + k) n no_ends)))
-        (placed-both (block-placed loop in_loop true (p + b) then_block yes_fits no_fault.0 loops yes_ends)
+        placed-both (plain (branch-below e false p (p + b + y + k) n (inside program then_block (p + b) n yes_exits) (inside program else_block (p + b + y + k) n no_exits)))
+        (placed-both (block-placed loop in_loop true (p + b) then_block yes_fits no_fault.0 loops yes_exits)
         (placed-both (plain (jump-below n j (p + b + y + k + z) over))
-        (block-placed loop in_loop true (p + b + y + k) else_block parts.1 no_fault.1 loops no_ends)))
+        (block-placed loop in_loop true (p + b + y + k) else_block parts.1 no_fault.1 loops no_exits)))
     statement-placed loop in_loop p (While at number e body) fits stands faults loops ends =
         let m = block_size program body in
         let b = branch_size true e in
@@ -186,14 +186,14 @@ module _ (program : Program) (procedure : ProcedureEntry) (n : ℕ) where
         let k = jump_size j in
         let z = handlers_size program handlers in
         let parts = and_parts (block_fits program procedure block) (handlers_fit program procedure handlers) fits in
-        let no_fault = append_empty (block_faults program in_loop true block) (handlers_faults program in_loop (block_ends program block) handlers) faults in
+        let no_fault = append_empty (block_faults program in_loop true block) (handlers_faults program in_loop (block_exits program block) handlers) faults in
         let within : p + (m + (k + z)) ≤ n = ends.within in
         let first : block_falls block ≡ true → p + (m + (k + z)) < n = λ h. ends.strict (or_left (block_falls block) (handlers_fall handlers) h) in
         let second : handlers_fall handlers ≡ true → p + (m + (k + z)) < n = λ h. ends.strict (or_right (block_falls block) (handlers_fall handlers) h) in
         let over : j ≡ true → p + m + k + z < n = λ h. omega (arith, first (and_parts (block_falls block) (not (is_none_left handlers)) h).0) in
         placed-both (block-placed loop in_loop true p block parts.0 no_fault.0 loops (record { within = omega (arith, within); strict = λ h. omega (arith, first h) }))
         (placed-both (plain (jump-below n j (p + m + k + z) over))
-        (handlers-placed loop in_loop p (p + m) (p + m + k + z) (p + m + k) (block_ends program block) handlers parts.1 no_fault.1 loops (omega (arith, within)) refl
+        (handlers-placed loop in_loop p (p + m) (p + m + k + z) (p + m + k) (block_exits program block) handlers parts.1 no_fault.1 loops (omega (arith, within)) refl
         (record { within = omega (arith, within); strict = λ h. omega (arith, second h) })))
     statement-placed loop in_loop p (Nested at block) fits stands faults loops ends = block-placed loop in_loop true p block fits faults loops ends
 
@@ -206,7 +206,7 @@ module _ (program : Program) (procedure : ProcedureEntry) (n : ℕ) where
         let z = block_size program rest in
         let first = fault_unless (may_stand in_loop statement) OutsideLoop (place_of statement) in
         let second = fault_unless reached Unreachable (place_of statement) in
-        let goes_on = has_end (statement_ends program statement) Normal in
+        let goes_on = has_exit (statement_exits program statement) Normal in
         let later = append_empty (first ++ second ++ inner_faults program in_loop statement) (block_faults program in_loop goes_on rest) faults in
         let here = append_empty (first ++ second) (inner_faults program in_loop statement) later.0 in
         let stands = no_fault-test (may_stand in_loop statement) OutsideLoop (place_of statement) (append_empty first second here.0).0 in
@@ -233,20 +233,20 @@ module _ (program : Program) (procedure : ProcedureEntry) (n : ℕ) where
         let z = handlers_size program rest in
         let parts = and_parts (is_exception program exception && block_fits program procedure body) (handlers_fit program procedure rest) fits in
         let body_fits : block_fits program procedure body ≡ true = (and_parts (is_exception program exception) (block_fits program procedure body) parts.0).1 in
-        let raised = fault_unless (has_end ends (Throw exception)) NeverRaised at in
+        let raised = fault_unless (has_exit ends (Throw exception)) NeverRaised at in
         let others = filter (λ exit. not (same_exit (Throw exception) exit)) ends in
         let later = append_empty (raised ++ block_faults program in_loop true body) (handlers_faults program in_loop others rest) faults in
         let here = append_empty raised (block_faults program in_loop true body) later.0 in
         let is : p + (m + (k + z)) ≡ beyond = size in
         let first : block_falls body ≡ true → beyond < n = λ h. last.strict (or_left (block_falls body) (handlers_fall rest) h) in
-        let body_ends : EndsIn n (p + m) (block_falls body) = record { within = omega (arith, is, last.within); strict = λ h. omega (arith, is, first h) } in
-        let placed = placed-both (block-placed loop in_loop true p body body_fits here.1 loops body_ends)
+        let body_exits : EndsIn n (p + m) (block_falls body) = record { within = omega (arith, is, last.within); strict = λ h. omega (arith, is, first h) } in
+        let placed = placed-both (block-placed loop in_loop true p body body_fits here.1 loops body_exits)
         (placed-both (plain (jump-below n j beyond (λ h. first (and_parts (block_falls body) (not (is_none_left rest)) h).0)))
         (handlers-placed loop in_loop start end beyond (p + m + k) others rest parts.1 later.1 loops tried (omega (arith, is))
         (record { within = last.within; strict = λ h. last.strict (or_right (block_falls body) (handlers_fall rest) h) }))) in
         record {
           code = placed.code;
-          entries = All-append (IsHandlerIn n) (entry_of start end exception p) _ (entry-in n start end exception p tried (inside program body p n body_ends)) placed.entries;
+          entries = All-append (IsHandlerIn n) (entry_of start end exception p) _ (entry-in n start end exception p tried (inside program body p n body_exits)) placed.entries;
         }
 
 -- ---- procedures and programs
@@ -273,13 +273,13 @@ faultless-at program (procedure ∷ rest) zero d h below = (append_empty (proced
 faultless-at program (procedure ∷ rest) (suc k) d h below =
     faultless-at program rest k d (append_empty (procedure_faults program procedure) (flat_map (procedure_faults program) rest) h).1 (omega (arith, below))
 
-pub body-faultless : (program : Program) (k : ℕ) (d : ProcedureEntry) → end_faults program ≡ [] → k < length program.procedures
+pub body-faultless : (program : Program) (k : ℕ) (d : ProcedureEntry) → exit_faults program ≡ [] → k < length program.procedures
     → block_faults program false true (get_or program.procedures k d).body ≡ []
 body-faultless program k d none below =
     let procedure = get_or program.procedures k d in
-    let ends = block_ends program procedure.body in
-    let value = fault_unless (not (is_some procedure.result && has_end ends Normal)) NoValueReturned procedure.at in
-    let declared = fault_unless (list_all (may_end procedure) ends) Undeclared procedure.at in
+    let ends = block_exits program procedure.body in
+    let value = fault_unless (not (is_some procedure.result && has_exit ends Normal)) NoValueReturned procedure.at in
+    let declared = fault_unless (list_all (may_exit procedure) ends) Undeclared procedure.at in
     let faults = append_empty (block_faults program false true procedure.body ++ value) declared (faultless-at program program.procedures k d none below) in
     (append_empty (block_faults program false true procedure.body) value faults.0).0
 

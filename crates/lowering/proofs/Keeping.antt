@@ -3,7 +3,7 @@ use Rattle.std.proofs.Common.{◌≡◌, ℕ, ◌⊎◌, inl, inr, List, [], Opt
 use Rattle.common.specs.declared.sent.Pair.{Pair}
 use Rattle.labels.specs.Sent.{IsPrefix}
 use Rattle.labels.proofs.Prefixes.{prefix-itself}
-use Rattle.resolved.specs.EndFaults.{end_faults}
+use Rattle.resolved.specs.ExitFaults.{exit_faults}
 use Rattle.resolved.specs.Program.{Program}
 use Rattle.resolved.specs.SourceState as source
 use Rattle.resolved.specs.Meaning as meaning
@@ -81,7 +81,7 @@ still p (suc w) (suc m) from state reached few =
     let rest : Still p m (machine.step p from) state.sent = still p w m (machine.step p from) state reached (omega (arith, few)) in
     record { sends = rest.sends; runs = rest.runs }
 
-module _ (program : Program) (formed : well_formed program ≡ true) (none : end_faults program ≡ []) where
+module _ (program : Program) (formed : well_formed program ≡ true) (none : exit_faults program ≡ []) where
   abbrev p : machine.MachineCode
   p = graph_program (unthreaded_graph program)
 

@@ -31,7 +31,7 @@ Runs g loop h k from end (Ended (Throw exception) returned t) = Leads g.p from (
 Runs g loop h k from end (Stopped Deep t) = Leads g.p from (machine.Ended machine.Deep t.sent)
 Runs g loop h k from end (Stopped OutOfFuel t) = Waits g.p k from t.sent
 
--- no normal end
+-- no normal exit
 abbrev pub NotNormal : Outcome → Type 0
 NotNormal (Ended Normal returned t) = ⊥
 NotNormal (Ended Return returned t) = Unit {0}
@@ -63,7 +63,7 @@ module _ (g : Setting) (loop : Loop) (h : ℕ → Option ℕ) (k : ℕ) where
   pub runs-at : (from : Machine) (mid end : ℕ) (o : Outcome) → mid ≡ end → Runs g loop h k from mid o → Runs g loop h k from end o
   runs-at from mid end o e run = subst (λ (q : ℕ). Runs g loop h k from q o) e run
 
-  -- another end of code that does not end normally
+  -- another exit of code that does not end normally
   pub runs-elsewhere : (from : Machine) (mid end : ℕ) (o : Outcome) → NotNormal o → Runs g loop h k from mid o → Runs g loop h k from end o
   runs-elsewhere from mid end (Ended Normal returned t) not run = absurd not
   runs-elsewhere from mid end (Ended Return returned t) not run = run
@@ -73,7 +73,7 @@ module _ (g : Setting) (loop : Loop) (h : ℕ → Option ℕ) (k : ℕ) where
   runs-elsewhere from mid end (Stopped Deep t) not run = run
   runs-elsewhere from mid end (Stopped OutOfFuel t) not run = run
 
-  -- a further way from the normal end
+  -- a further way from the normal exit
   pub runs-on : (from : Machine) (mid end : ℕ) (o : Outcome) → Runs g loop h k from mid o
       → ((t : source.SourceState) → Leads g.p (position g mid [] t) (position g end [] t)) → Runs g loop h k from end o
   runs-on from mid end (Ended Normal returned t) run each = leads-through g.p from _ _ run (each t)

@@ -17,8 +17,8 @@ use Rattle.common.proofs.Cases.{none_there}
 use Rattle.resolved.specs.Program.{Program, ProcedureEntry, ResultEntry, GlobalEntry, ChannelEntry, procedure_at}
 use Rattle.resolved.specs.SourceState as source
 use Rattle.resolved.specs.Value.{base_of}
-use Rattle.resolved.specs.Ends.{thrown_ends, declared_by}
-use Rattle.resolved.specs.EndFaults.{end_faults}
+use Rattle.resolved.specs.Exits.{thrown_exits, declared_by}
+use Rattle.resolved.specs.ExitFaults.{exit_faults}
 use Rattle.resolved.specs.Meaning as meaning
 use Rattle.resolved.specs.Meaning.{Outcome, Ended, Stopped, Deep, OutOfFuel, leaving, entering, calls_with, block_meaning, state_after, first_cells_of_globals, channel_numbers, numbers_by}
 use Rattle.resolved.specs.WellFormed.{well_formed, parameters_of, has_result, same_base, main_fits, first_fits, size_fits, label_fits, is_zero_value}
@@ -28,7 +28,7 @@ use Rattle.resolved.proofs.WellFormedParts as parts
 use Rattle.resolved.proofs.Sound.Values.{same_base_is}
 use Rattle.resolved.proofs.Sound.Meanings.{meaning_keeps_types}
 use Rattle.resolved.proofs.Sound.Runs.{runs_begin_typed}
-use Rattle.isolation.specs.Runs.{EndsAmong}
+use Rattle.isolation.specs.Runs.{ExitsAmong}
 use Rattle.isolation.proofs.Among.{calls-among}
 use Rattle.isolation.proofs.Declared.{ends-as-declared}
 use Rattle.modules.specs.declared.value.Cell.{Cell}
@@ -123,11 +123,11 @@ pub record GoesOn (p : machine.MachineCode) (k : ℕ) (from : Machine) (o : Outc
   pub no_end : ending_of o ≡ None
   pub waits : Waits p k from (state_after o).sent
 
-module _ (program : Program) (formed : well_formed program ≡ true) (none : end_faults program ≡ []) (world : source.World) (k : ℕ) where
+module _ (program : Program) (formed : well_formed program ≡ true) (none : exit_faults program ≡ []) (world : source.World) (k : ℕ) where
   module _ (main : ProcedureEntry) (there : slice_get program.procedures program.main ≡ Some main) (nothing : main.result ≡ None) where
     ends-by : (s : source.SourceState) (back : source.SourceState → source.SourceState) (o : Outcome) → block_meaning (calls_with program k 511) k main.body s ≡ o
         → ((t : source.SourceState) → (back t).sent ≡ t.sent) → OutcomeFits program main Return main.result o
-        → EndsAmong (Normal ∷ thrown_ends (declared_by main.throws)) (leaving back o)
+        → ExitsAmong (Normal ∷ thrown_exits (declared_by main.throws)) (leaving back o)
         → Runs (setting_of program formed world program.main main there []) no_loop nowhere k (position (setting_of program formed world program.main main there []) 0 [] s) (0 + block_size program main.body) o
         → Comes (setting_of program formed world program.main main there []).p (position (setting_of program formed world program.main main there []) 0 [] s) (leaving back o)
         ⊎ GoesOn (setting_of program formed world program.main main there []).p k (position (setting_of program formed world program.main main there []) 0 [] s) (leaving back o)
@@ -161,9 +161,9 @@ module _ (program : Program) (formed : well_formed program ≡ true) (none : end
       let o : Outcome = block_meaning (calls_with program k 511) k main.body s in
       let whole : calls_with program k 512 program.main [] first ≡ leaving back o =
       ap (λ (p : ProcedureEntry). leaving back (block_meaning (calls_with program k 511) k p.body (entering p [] first))) is in
-      let among : EndsAmong (Normal ∷ thrown_ends (declared_by main.throws)) (leaving back o) =
-      subst (λ (x : Outcome). EndsAmong (Normal ∷ thrown_ends (declared_by main.throws)) x) whole
-      (subst (λ (p : ProcedureEntry). EndsAmong (Normal ∷ thrown_ends (declared_by p.throws)) (calls_with program k 512 program.main [] first)) is
+      let among : ExitsAmong (Normal ∷ thrown_exits (declared_by main.throws)) (leaving back o) =
+      subst (λ (x : Outcome). ExitsAmong (Normal ∷ thrown_exits (declared_by main.throws)) x) whole
+      (subst (λ (p : ProcedureEntry). ExitsAmong (Normal ∷ thrown_exits (declared_by p.throws)) (calls_with program k 512 program.main [] first)) is
       (calls-among program k 512 (ends-as-declared program none) program.main [] first).among) in
       let done = ends-by main there (none_there main.result two.1) s back o refl (λ t. refl) (meaning_keeps_types program formed main main.body body.body_fits 511 k s fit) among
       (body-run program formed none world k 511 program.main main there [] s (calls-run program formed none world k 511 program.main main there [] refl) fit) in

@@ -12,9 +12,9 @@ use Rattle.resolved.specs.declared.statement.Exit.TheVariants.{Normal, Return, B
 use Rattle.common.specs.declared.direction.Direction.TheVariants.{Input, Output}
 use Rattle.resolved.specs.Tree.{Expression, Statement, Assign, Clear, Store, Receive, Send, Call, If, While, Leave, ReturnWith, Try, Nested, Block, Empty, Then, Handlers, NoMore, Catch, place_of}
 use Rattle.resolved.specs.Program.{Program, ProcedureEntry, ResultEntry, SlotEntry, procedure_at}
-use Rattle.resolved.specs.Ends.{same_exit, has_end, statement_ends, block_ends}
-use Rattle.resolved.specs.EndFaults.{fault_unless, may_stand, inner_faults, block_faults, handlers_faults}
-use Rattle.resolved.specs.declared.fault.EndRefusalKind.TheVariants.{OutsideLoop, Unreachable, NeverRaised}
+use Rattle.resolved.specs.Exits.{same_exit, has_exit, statement_exits, block_exits}
+use Rattle.resolved.specs.ExitFaults.{fault_unless, may_stand, inner_faults, block_faults, handlers_faults}
+use Rattle.resolved.specs.declared.fault.ExitRefusalKind.TheVariants.{OutsideLoop, Unreachable, NeverRaised}
 use Rattle.resolved.specs.WellFormed.{VariableType, variable_type, has_base, same_base, scalar_by, array_by, target_by, has_result, channel_is, parameters_of, arguments_match, call_matches, is_array, is_exception, may_leave_by, statement_fits, block_fits, handlers_fit}
 use Rattle.resolved.proofs.WellFormedParts.{procedure_at_is}
 use Rattle.resolved.proofs.Sound.Values.{same_base_is}
@@ -330,12 +330,12 @@ module _ (program : Program) (procedure : ProcedureEntry) (m : ModuleContents) (
         let z = handlers_size program handlers in
         let beyond = position + n + k + z in
         let parts = and_parts (block_fits program procedure block) (handlers_fit program procedure handlers) fits in
-        let none = append_empty (block_faults program in_loop true block) (handlers_faults program in_loop (block_ends program block) handlers) faults in
+        let none = append_empty (block_faults program in_loop true block) (handlers_faults program in_loop (block_exits program block) handlers) faults in
         try-settles m p whole position n k z j (block_code program loop position block) (handlers_code program loop beyond (position + n + k) handlers)
         (block_table program position block) (handlers_table program position (position + n) (position + n + k) handlers) (LoopFlows m p whole in_loop loop)
         (block-sized program loop position block) (jump-sized j beyond) (handlers-sized program loop beyond (position + n + k) handlers)
         (block-settles loop in_loop true position block parts.0 none.0)
-        (handlers-settle loop in_loop position (position + n) beyond (position + n + k) (block_ends program block) handlers parts.1 none.1)
+        (handlers-settle loop in_loop position (position + n) beyond (position + n + k) (block_exits program block) handlers parts.1 none.1)
     statement-settles loop in_loop position (Nested mark block) fits stands faults = block-settles loop in_loop true position block fits faults
 
     pub block-settles : (loop : Loop) (in_loop reached : Bool) (position : ℕ) (block : Block) → block_fits program procedure block ≡ true
@@ -345,7 +345,7 @@ module _ (program : Program) (procedure : ProcedureEntry) (m : ModuleContents) (
     block-settles loop in_loop reached position (Then statement rest) fits faults =
         let first = fault_unless (may_stand in_loop statement) OutsideLoop (place_of statement) in
         let second = fault_unless reached Unreachable (place_of statement) in
-        let goes_on = has_end (statement_ends program statement) Normal in
+        let goes_on = has_exit (statement_exits program statement) Normal in
         let later = append_empty (first ++ second ++ inner_faults program in_loop statement) (block_faults program in_loop goes_on rest) faults in
         let here = append_empty (first ++ second) (inner_faults program in_loop statement) later.0 in
         let stands = no_fault-test (may_stand in_loop statement) OutsideLoop (place_of statement) (append_empty first second here.0).0 in
@@ -365,7 +365,7 @@ module _ (program : Program) (procedure : ProcedureEntry) (m : ModuleContents) (
         let k = jump_size j in
         let parts = and_parts (is_exception program exception && block_fits program procedure body) (handlers_fit program procedure rest) fits in
         let first = and_parts (is_exception program exception) (block_fits program procedure body) parts.0 in
-        let raised = fault_unless (has_end ends (Throw exception)) NeverRaised mark in
+        let raised = fault_unless (has_exit ends (Throw exception)) NeverRaised mark in
         let others = filter (λ exit. not (same_exit (Throw exception) exit)) ends in
         let later = append_empty (raised ++ block_faults program in_loop true body) (handlers_faults program in_loop others rest) faults in
         let here = append_empty raised (block_faults program in_loop true body) later.0 in

@@ -1,6 +1,6 @@
 -- Private: the code of statements, and the handlers that stand for their catches.
 -- A loop has its test at the bottom: `jump test; body; test: go back to the body if true`. Each `try` has its block first and then its
--- handlers' bodies, which code jumps over that ends normally. No code is made for an end that cannot occur.
+-- handlers' bodies, which code jumps over that ends normally. No code is made for an exit that cannot occur.
 -- Source: our own; the handler table is that of the Java virtual machine, inner handlers first.
 use Rattle.std.specs.Prelude.{ℕ, ◌+◌, Bool, true, false, not, ◌&&◌, ◌||◌, List, [], ◌∷◌, ◌++◌, Option, Some, None, nat_lt, if◌then◌else◌}
 use Rattle.resolved.specs.declared.expression.Variable.{Variable}
@@ -18,7 +18,7 @@ pub record Loop : Type 0 where
   pub beyond : ℕ
   pub test : ℕ
 
--- ---- normal ends
+-- ---- normal exits
 -- whether a statement, block or handler may end normally, by its form alone
 abbrev mutual
   pub statement_falls : Statement → Bool

@@ -10,7 +10,7 @@ use Rattle.resolved.specs.Meaning.{Outcome, Ended, Stopped, Deep, OutOfFuel, run
 use Rattle.modules.specs.Machine as machine
 
 -- how a machine ends where a program does so; none for a run that is out of fuel, which has not ended, and for a `break` or a
--- `continue` out of a procedure, which no program has that is free of faults of its ends
+-- `continue` out of a procedure, which no program has that is free of faults of its exits
 abbrev pub ending_of : Outcome → Option machine.Ending
 ending_of (Ended Normal returned s) = Some machine.Finished
 ending_of (Ended Return returned s) = Some machine.Finished

@@ -6,7 +6,7 @@ ghost use Rattle.lowering.specs.Graphs.{graph_of};
 ghost use Rattle.lowering.specs.Interface.{HasInterfaceOf};
 ghost use Rattle.lowering.specs.SameMeaning.{SameMeaning};
 ghost use Rattle.resolved.specs.CoreOf.{program_of};
-ghost use Rattle.resolved.specs.EndFaults.{end_faults};
+ghost use Rattle.resolved.specs.ExitFaults.{exit_faults};
 ghost use Rattle.resolved.specs.Names.{HasNames};
 ghost use Rattle.std.specs.Prelude.{All, IfOk, [], ◌≡◌};
 ghost use Rattle.verifier.specs.Refusals.{IsNotRefused};
@@ -45,7 +45,7 @@ pub fn lower(alloc: Global, checked: &Checked) -> Result<Graph, AllocError>
 
 // The graph of a program, of which no statement ends where it must not, and whose names are such as a module file holds.
 fn make_graph(alloc: Global, core: &Core) -> Result<Graph, AllocError>
-    requires ends { end_faults (program_of core.now) ≡ [] }
+    requires ends { exit_faults (program_of core.now) ≡ [] }
     requires names { HasNames (program_of core.now) }
     ensures { IfOk result (λ graph. graph ≡ graph_of (program_of core.now)) }
 {

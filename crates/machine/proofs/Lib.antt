@@ -14,5 +14,6 @@ pub mod Growing
 pub mod Switching
 pub mod OpenCells
 pub mod Entering
+pub mod Preparing
 pub mod Looping
 pub mod Dispatching

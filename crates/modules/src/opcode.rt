@@ -99,10 +99,10 @@ pub fn entry_of(instruction: Instruction) -> OpcodeEntry
         Instruction::LoadGlobalElement(slot) => numbered_entry(0x0a, "GALOAD", slot),
         Instruction::StoreGlobalElement(slot) => numbered_entry(0x0b, "GASTORE", slot),
         Instruction::Clear(slot) => numbered_entry(0x0c, "CLEAR", slot),
-        Instruction::Compute(operator) => arithmetic_row(operator),
+        Instruction::Compute(operator) => arithmetic_entry(operator),
         Instruction::Negate => plain_entry(Version::One, 0x15, "NEG"),
         Instruction::Not => plain_entry(Version::One, 0x16, "NOT"),
-        Instruction::Compare(comparison) => comparison_row(comparison),
+        Instruction::Compare(comparison) => comparison_entry(comparison),
         Instruction::SameBoolean => plain_entry(Version::One, 0x1d, "BEQ"),
         Instruction::OtherBoolean => plain_entry(Version::One, 0x1e, "BNE"),
         Instruction::Jump(target) => numbered_entry(0x20, "JUMP", target),
@@ -116,7 +116,7 @@ pub fn entry_of(instruction: Instruction) -> OpcodeEntry
     }
 }
 
-fn arithmetic_row(operator: Arithmetic) -> OpcodeEntry
+fn arithmetic_entry(operator: Arithmetic) -> OpcodeEntry
     ensures since { result.since ≡ (arithmetic_opcode operator).0 }
     ensures byte { result.byte ≡ (arithmetic_opcode operator).1 }
     ensures name { result.name.now ≡ (arithmetic_opcode operator).2 }
@@ -137,7 +137,7 @@ fn arithmetic_row(operator: Arithmetic) -> OpcodeEntry
     }
 }
 
-fn comparison_row(comparison: Comparison) -> OpcodeEntry
+fn comparison_entry(comparison: Comparison) -> OpcodeEntry
     ensures since { result.since ≡ Version.One }
     ensures byte { result.byte ≡ (comparison_opcode comparison).0 }
     ensures name { result.name.now ≡ (comparison_opcode comparison).1 }

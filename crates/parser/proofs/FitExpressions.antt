@@ -6,7 +6,7 @@ use Rattle.lexer.specs.declared.token.Kind.TheVariants as kinds
 use Rattle.syntax.specs.declared.tree.BinaryOperator.{BinaryOperator}
 use Rattle.syntax.specs.declared.line.Line.{Line}
 use Rattle.syntax.specs.Form.{Form, level, only}
-use Rattle.syntax.specs.Grammar.{optional, chain, chains, lines, after_line, others_of, grouped, name, index, integer, variable, parenthesised, primary, signed, unary, expression, variable_tree, operand_of, expressions, arguments}
+use Rattle.syntax.specs.Grammar.{optional, chain, chains, lines, after_line, others_of, grouped, name, index, integer, variable, parenthesised, primary, signed, unary, expression, variable_tree, operand_of, arguments, some}
 use Rattle.syntax.specs.Nesting.{IsNestedExpression}
 use Rattle.syntax.specs.Nodes.{expression_nodes}
 use Rattle.syntax.specs.Symbol.{Expression, Arguments}
@@ -175,8 +175,7 @@ module _ (fits : ℕ → Type 0) (word : List ℕ → Type 0) (number : ℕ → 
     pub unary_symbol_fits : (tree : ExpressionTree) (k : ℕ) → Having unary tree k → Fitted tree k
     unary_symbol_fits tree k h = unary_fits tree k h
 
-    pub expressions_fit : (trees : List ExpressionTree) (k : ℕ) → Having expressions trees k → FitExpressions fits word number room trees k
-    unfolding expressions
+    pub expressions_fit : (trees : List ExpressionTree) (k : ℕ) → Having (some kinds.Comma expression) trees k → FitExpressions fits word number room trees k
     expressions_fit trees k h =
         some_fit fits word number room kinds.Comma expression Written expression_nodes (IsNestedExpression room) expression_fits trees k h
 

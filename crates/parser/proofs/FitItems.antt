@@ -6,7 +6,7 @@ use Rattle.std.proofs.lemmas.List.Elements.{All-nil}
 use Rattle.lexer.specs.declared.token.Kind.TheVariants as kinds
 use Rattle.common.specs.declared.direction.Direction.{Direction}
 use Rattle.syntax.specs.Form.{Form, many, ◌·◌}
-use Rattle.syntax.specs.Grammar.{at, key, ◌◂◌, base, name, optional_label, label, direction, channel, exception, negative_constant, constant, global_value, global, valued, written_result, parameter, parameters, end_label, thrown, thrown_list, some_throws, throws, procedure, item, program}
+use Rattle.syntax.specs.Grammar.{at, key, ◌◂◌, base, name, label, direction, channel, exception, negative_constant, constant, global_value, global, valued, written_result, parameter, thrown, some_throws, throws, procedure, item, program, optional, some, ◌▸◌, thrown_list}
 use Rattle.syntax.specs.Nesting.{IsNestedItem, IsNested}
 use Rattle.syntax.specs.Nodes.{optional_label_nodes, written_result_nodes, parameter_nodes, thrown_nodes, item_nodes, program_nodes}
 use Rattle.syntax.specs.Tree.{LabelTree, ConstantTree, GlobalValueTree, WrittenResultTree, ParameterTree, ThrownTree, ItemTree, ProgramTree}
@@ -136,13 +136,11 @@ module _ (fits : ℕ → Type 0) (word : List ℕ → Type 0) (number : ℕ → 
         nested = tt;
       })
 
-  parameters_fit : (trees : List ParameterTree) (k : ℕ) → Having parameters trees k → Fit (All (IsWrittenParameter fits word number) trees) (sum_by parameter_nodes trees) (All Nothing trees) k
-  unfolding parameters
+  parameters_fit : (trees : List ParameterTree) (k : ℕ) → Having (some kinds.Comma parameter) trees k → Fit (All (IsWrittenParameter fits word number) trees) (sum_by parameter_nodes trees) (All Nothing trees) k
   parameters_fit trees k h =
       some_fit fits word number room kinds.Comma parameter (IsWrittenParameter fits word number) parameter_nodes Nothing parameter_fits trees k h
 
-  end_label_fits : (tree : Option LabelTree) (k : ℕ) → Having end_label tree k → Fit (IsWrittenOptionalLabel fits word number tree) (optional_label_nodes tree) (Nothing tree) k
-  unfolding end_label
+  end_label_fits : (tree : Option LabelTree) (k : ℕ) → Having (optional (kinds.Colon ▸ label)) tree k → Fit (IsWrittenOptionalLabel fits word number tree) (optional_label_nodes tree) (Nothing tree) k
   end_label_fits tree k (inl h) =
       let inner = from_after fits word number room kinds.Colon label h.0 k h.1 in
       let one = label_fits fits word number room h.0 inner.0 inner.1 in
@@ -190,9 +188,9 @@ module _ (fits : ℕ → Type 0) (word : List ℕ → Type 0) (number : ℕ → 
       let a = h.1 in
       let b = a.2 in
       let c = b.2 in
-      let close = from_before fits word number room (written_result · name · optional_label ◂ kinds.OpenParenthesis · parameters) kinds.CloseParenthesis h.0.0.0.0 c.0 c.2 in
+      let close = from_before fits word number room (written_result · name · optional label ◂ kinds.OpenParenthesis · some kinds.Comma parameter) kinds.CloseParenthesis h.0.0.0.0 c.0 c.2 in
       let d = close.1 in
-      let front = from_before fits word number room (written_result · name · optional_label) kinds.OpenParenthesis h.0.0.0.0.0 d.0 d.2 in
+      let front = from_before fits word number room (written_result · name · optional label) kinds.OpenParenthesis h.0.0.0.0.0 d.0 d.2 in
       let e = front.1 in
       let f = e.2 in
       let answers = result_fits h.0.0.0.0.0.0.0 f.0 f.2 in

@@ -8,7 +8,7 @@ use Rattle.lexer.specs.declared.token.Kind.{Kind}
 use Rattle.lexer.specs.declared.token.Kind.TheVariants as kinds
 use Rattle.syntax.specs.declared.tree.BaseType.{BaseType}
 use Rattle.syntax.specs.Form.{Form, ◌·◌, only, shape, same_kind}
-use Rattle.syntax.specs.Grammar.{at, ◌▸◌, name, readers, optional_readers, component, components, label, optional_label, base, integer, truth, size}
+use Rattle.syntax.specs.Grammar.{at, ◌▸◌, name, component, label, base, integer, truth, size, optional, some, readers}
 use Rattle.syntax.specs.Nodes.{component_nodes, label_nodes, optional_label_nodes}
 use Rattle.syntax.specs.Tree.{NameTree, ComponentTree, component_of, LabelTree, SizeTree}
 use Rattle.syntax.specs.Written.{IsWrittenName, IsWrittenComponent, IsWrittenLabel, IsWrittenOptionalLabel, IsWrittenSize}
@@ -45,18 +45,17 @@ module _ (fits : ℕ → Type 0) (word : List ℕ → Type 0) (number : ℕ → 
         nested = tt;
       })
 
-  readers_fit : (trees : List NameTree) (k : ℕ) → Having readers trees k → Fit (All (IsWrittenName fits word number) trees) (sum_by (λ one. 1) trees) (All Nothing trees) k
-  unfolding readers
+  readers_fit : (trees : List NameTree) (k : ℕ) → Having (some kinds.Comma name) trees k → Fit (All (IsWrittenName fits word number) trees) (sum_by (λ one. 1) trees) (All Nothing trees) k
   readers_fit trees k h = some_fit fits word number room kinds.Comma name (IsWrittenName fits word number) (λ one. 1) Nothing name_fits trees k h
 
   abbrev FitComponent : ComponentTree → ℕ → Type 0
   FitComponent tree k = Fit (IsWrittenComponent fits word number tree) (component_nodes tree) (Nothing tree) k
 
   -- a name, and readers after it or none
-  with_readers : (owner : NameTree) (found : Option (List NameTree)) (i j : ℕ) → Fit (IsWrittenName fits word number owner) 1 (Nothing owner) i → Having optional_readers found j → FitComponent (component_of owner found) (i + j)
-  unfolding optional_readers
+  with_readers : (owner : NameTree) (found : Option (List NameTree)) (i j : ℕ) → Fit (IsWrittenName fits word number owner) 1 (Nothing owner) i → Having readers found j → FitComponent (component_of owner found) (i + j)
+  unfolding readers
   with_readers owner found i j front (inl h) =
-      let inner = from_after fits word number room kinds.Colon readers h.0 j h.1 in
+      let inner = from_after fits word number room kinds.Colon (some kinds.Comma name) h.0 j h.1 in
       let others = readers_fit h.0 inner.0 inner.1 in
       subst (λ (o : Option (List NameTree)). FitComponent (component_of owner o) (i + j)) (sym h.2) (record {
         written = (front.written, others.written);
@@ -76,15 +75,14 @@ module _ (fits : ℕ → Type 0) (word : List ℕ → Type 0) (number : ℕ → 
       let both = h.1 in
       subst (λ t. FitComponent t k) (sym h.2) (subst (FitComponent (component_of h.0.0 h.0.1)) (sym both.4) (with_readers h.0.0 h.0.1 both.0 both.1 (name_fits h.0.0 both.0 both.2) both.3))
 
-  components_fit : (trees : List ComponentTree) (k : ℕ) → Having components trees k → Fit (All (IsWrittenComponent fits word number) trees) (sum_by component_nodes trees) (All Nothing trees) k
-  unfolding components
+  components_fit : (trees : List ComponentTree) (k : ℕ) → Having (some kinds.Semicolon component) trees k → Fit (All (IsWrittenComponent fits word number) trees) (sum_by component_nodes trees) (All Nothing trees) k
   components_fit trees k h =
       some_fit fits word number room kinds.Semicolon component (IsWrittenComponent fits word number) component_nodes Nothing component_fits trees k h
 
   pub label_fits : (tree : LabelTree) (k : ℕ) → Having label tree k → Fit (IsWrittenLabel fits word number tree) (1 + label_nodes tree) (Nothing tree) k
   unfolding label
   label_fits tree k h =
-      let inner = from_before fits word number room (at kinds.OpenBrace · components) kinds.CloseBrace h.0 k h.1 in
+      let inner = from_before fits word number room (at kinds.OpenBrace · some kinds.Semicolon component) kinds.CloseBrace h.0 k h.1 in
       let both = inner.1 in
       let here = from_at fits word number room kinds.OpenBrace h.0.0 both.0 both.2 in
       let list = components_fit h.0.1 both.1 both.3 in
@@ -94,8 +92,7 @@ module _ (fits : ℕ → Type 0) (word : List ℕ → Type 0) (number : ℕ → 
         nested = tt;
       })
 
-  pub optional_label_fits : (tree : Option LabelTree) (k : ℕ) → Having optional_label tree k → Fit (IsWrittenOptionalLabel fits word number tree) (optional_label_nodes tree) (Nothing tree) k
-  unfolding optional_label
+  pub optional_label_fits : (tree : Option LabelTree) (k : ℕ) → Having (optional label) tree k → Fit (IsWrittenOptionalLabel fits word number tree) (optional_label_nodes tree) (Nothing tree) k
   optional_label_fits tree k (inl h) =
       let one = label_fits h.0 k h.1 in
       subst (λ t. Fit (IsWrittenOptionalLabel fits word number t) (optional_label_nodes t) (Nothing t) k) (sym h.2) (record { written = one.written; few = omega (arith, one.few); nested = tt })

@@ -1,17 +1,15 @@
 -- Statements and blocks fit, and so do the trees of all symbols.
-use Rattle.std.proofs.Common.{◌≡◌, ℕ, pred, ◌+◌, ◌≤◌, ◌<◌, List, [], ◌∷◌, sym, subst, inl, inr, sum_by, arith}
+use Rattle.std.proofs.Common.{◌≡◌, ℕ, ◌+◌, ◌≤◌, List, [], ◌∷◌, sym, subst, inl, inr, arith}
 use Rattle.std.specs.Prelude.{Option, None, Some}
-use Rattle.std.specs.List.{All}
 use Rattle.lexer.specs.declared.token.Kind.{Kind}
 use Rattle.lexer.specs.declared.token.Kind.TheVariants as kinds
-use Rattle.syntax.specs.declared.tree.BaseType.{BaseType}
-use Rattle.syntax.specs.Form.{Form, level, ◌·◌, only}
-use Rattle.syntax.specs.Grammar.{at, ◌▸◌, ◌◂◌, base, optional_label, name, index, expression, call, right, size, declare, declare_array, assign, assign_element, call_statement, block, condition, otherwise, catch, catches, receive, send, conditional, while_statement, break_statement, continue_statement, throw_statement, returned, return_statement, attempt, nested, statement, production}
+use Rattle.syntax.specs.Form.{Form, level, ◌·◌, only, ◌gives◌}
+use Rattle.syntax.specs.Grammar.{at, ◌▸◌, ◌◂◌, base, name, index, expression, call, right, size, declare, declare_array, assign, assign_element, call_statement, block, condition, catch, catches, receive, send, conditional, while_statement, break_statement, continue_statement, throw_statement, return_statement, attempt, statement, production, optional, label}
 use Rattle.syntax.specs.Nesting.{IsNestedExpression, IsNestedOptionalExpression, IsNestedCall, IsNestedRight, IsNestedStatement, IsNestedBlock, AreNestedCatches}
-use Rattle.syntax.specs.Nodes.{optional_label_nodes, expression_nodes, optional_expression_nodes, call_nodes, right_nodes, statement_nodes, block_nodes, catches_nodes}
+use Rattle.syntax.specs.Nodes.{expression_nodes, optional_expression_nodes, call_nodes, right_nodes, statement_nodes, block_nodes, catches_nodes}
 use Rattle.syntax.specs.Symbol.{Symbol, Expression, Unary, Operands, Arguments, Statements, tree_of}
-use Rattle.syntax.specs.Tree.{NameTree, LabelTree, ExpressionTree, CallTree, RightTree, StatementTree, BlockTree, CatchTree, if_tree, catches_of}
-use Rattle.syntax.specs.Written.{IsWrittenName, IsWrittenOptionalLabel, IsWrittenExpression, IsWrittenOptionalExpression, IsWrittenCall, IsWrittenRight, IsWrittenSize, IsWrittenStatement, IsWrittenBlock, AreWrittenCatches}
+use Rattle.syntax.specs.Tree.{NameTree, ExpressionTree, CallTree, RightTree, StatementTree, BlockTree, CatchTree, if_tree, catches_of, NestedTree}
+use Rattle.syntax.specs.Written.{IsWrittenName, IsWrittenExpression, IsWrittenOptionalExpression, IsWrittenCall, IsWrittenRight, IsWrittenStatement, IsWrittenBlock, AreWrittenCatches}
 use Rattle.parser.proofs.Holds.{Each}
 use Rattle.parser.proofs.Fits.{Fit, Fits, Has, FitStatements, from_at, from_after, from_before}
 use Rattle.parser.proofs.FitLabels.{name_fits, optional_label_fits, base_fits, size_fits}
@@ -95,7 +93,7 @@ module _ (fits : ℕ → Type 0) (word : List ℕ → Type 0) (number : ℕ → 
   declare_fits : (tree : StatementTree) (k : ℕ) → Having declare tree k → FitStatement tree k
   unfolding declare
   declare_fits tree k h =
-      let line = from_before fits word number room (base · optional_label · name · kinds.Assign ▸ right) kinds.Semicolon h.0 k h.1 in
+      let line = from_before fits word number room (base · optional label · name · kinds.Assign ▸ right) kinds.Semicolon h.0 k h.1 in
       let a = line.1 in
       let b = a.2 in
       let c = b.2 in
@@ -113,7 +111,7 @@ module _ (fits : ℕ → Type 0) (word : List ℕ → Type 0) (number : ℕ → 
   declare_array_fits : (tree : StatementTree) (k : ℕ) → Having declare_array tree k → FitStatement tree k
   unfolding declare_array
   declare_array_fits tree k h =
-      let line = from_before fits word number room (base · optional_label · name · size) kinds.Semicolon h.0 k h.1 in
+      let line = from_before fits word number room (base · optional label · name · size) kinds.Semicolon h.0 k h.1 in
       let a = line.1 in
       let b = a.2 in
       let c = b.2 in
@@ -198,8 +196,7 @@ module _ (fits : ℕ → Type 0) (word : List ℕ → Type 0) (number : ℕ → 
   abbrev FitOtherwise : Option BlockTree → ℕ → Type 0
   FitOtherwise tree k = Fit (OtherwiseWritten tree) (otherwise_nodes tree) (OtherwiseNested tree) k
 
-  otherwise_fits : (tree : Option BlockTree) (k : ℕ) → Having otherwise tree k → FitOtherwise tree k
-  unfolding otherwise
+  otherwise_fits : (tree : Option BlockTree) (k : ℕ) → Having (optional (kinds.Else ▸ block)) tree k → FitOtherwise tree k
   otherwise_fits tree k (inl h) =
       let inner = from_after fits word number room kinds.Else block h.0 k h.1 in
       let body = block_fits h.0 inner.0 inner.1 in
@@ -268,8 +265,7 @@ module _ (fits : ℕ → Type 0) (word : List ℕ → Type 0) (number : ℕ → 
   FitReturned tree k =
       Fit (IsWrittenOptionalExpression fits word number tree) (optional_expression_nodes tree) (IsNestedOptionalExpression room tree) k
 
-  returned_fits : (tree : Option ExpressionTree) (k : ℕ) → Having returned tree k → FitReturned tree k
-  unfolding returned
+  returned_fits : (tree : Option ExpressionTree) (k : ℕ) → Having (optional expression) tree k → FitReturned tree k
   returned_fits tree k (inl h) =
       let one = expression_fits fits word number room h.0 k h.1 in
       subst (λ t. FitReturned t k) (sym h.2) (record { written = one.written; few = one.few; nested = one.nested })
@@ -279,7 +275,7 @@ module _ (fits : ℕ → Type 0) (word : List ℕ → Type 0) (number : ℕ → 
   return_fits : (tree : StatementTree) (k : ℕ) → Having return_statement tree k → FitStatement tree k
   unfolding return_statement
   return_fits tree k h =
-      let line = from_before fits word number room (at kinds.Return · returned) kinds.Semicolon h.0 k h.1 in
+      let line = from_before fits word number room (at kinds.Return · optional expression) kinds.Semicolon h.0 k h.1 in
       let both = line.1 in
       let keyword = from_at fits word number room kinds.Return h.0.0 both.0 both.2 in
       let value = returned_fits h.0.1 both.1 both.3 in
@@ -344,8 +340,7 @@ module _ (fits : ℕ → Type 0) (word : List ℕ → Type 0) (number : ℕ → 
         nested = (body.nested, list.nested);
       })
 
-  nested_fits : (tree : StatementTree) (k : ℕ) → Having nested tree k → FitStatement tree k
-  unfolding nested
+  nested_fits : (tree : StatementTree) (k : ℕ) → Having (block gives NestedTree) tree k → FitStatement tree k
   nested_fits tree k h =
       let body = block_fits h.0 k h.1 in
       subst (λ t. FitStatement t k) (sym h.2) (record { written = body.written; few = body.few; nested = body.nested })

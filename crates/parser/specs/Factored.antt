@@ -5,8 +5,8 @@ use Rattle.std.specs.Prelude.{ℕ, List, Option}
 use Rattle.lexer.specs.declared.token.Kind.TheVariants as kinds
 use Rattle.syntax.specs.declared.tree.BaseType.{BaseType}
 use Rattle.syntax.specs.Form.{Form, ◌·◌, ◌or◌, ◌gives◌}
-use Rattle.syntax.specs.Grammar.{◌▸◌, ◌◂◌, base, optional_label, name, size, index, expression, arguments, receive, send, conditional, while_statement, break_statement, continue_statement, throw_statement, return_statement, attempt, nested}
-use Rattle.syntax.specs.Tree.{NameTree, LabelTree, ExpressionTree, RightTree, SizeTree, StatementTree, DeclareTree, DeclareArrayTree, AssignTree, AssignElementTree, CallTree'}
+use Rattle.syntax.specs.Grammar.{◌▸◌, ◌◂◌, base, label, name, size, index, expression, arguments, receive, send, conditional, while_statement, break_statement, continue_statement, throw_statement, return_statement, attempt, optional, block}
+use Rattle.syntax.specs.Tree.{NameTree, LabelTree, ExpressionTree, RightTree, SizeTree, StatementTree, DeclareTree, DeclareArrayTree, AssignTree, AssignElementTree, CallTree', NestedTree}
 
 -- what stands after the name of a local, and after the name that a statement begins with
 pub data FirstTree : Type 0 where
@@ -35,7 +35,7 @@ first_with value =
 
 abbrev pub declare_with : Form RightTree → Form StatementTree
 declare_with value =
-    base · optional_label · name · first_with value ◂ kinds.Semicolon
+    base · optional label · name · first_with value ◂ kinds.Semicolon
     gives λ ((((at, base), label), name), first). local_tree at base label name first
 
 -- after the name that a statement begins with stands a value, an index with a value, or arguments
@@ -62,4 +62,4 @@ statement_with value =
     or throw_statement
     or return_statement
     or attempt
-    or nested
+    or block gives NestedTree

@@ -2,7 +2,7 @@ ghost use Rattle.std.specs.Prelude.{◌≡◌, ℕ, map};
 ghost use Rattle.lexer.specs.Terminal.{terminals_of};
 ghost use Rattle.lexer.specs.declared.token.Kind.TheVariants.{Comma, Assign, Colon, Minus};
 ghost use Rattle.syntax.specs.Form.{many, ◌·◌, ◌gives◌};
-ghost use Rattle.syntax.specs.Grammar.{constant, negative_constant, global_value, channel, exception, global, written_result, parameter, parameters, end_label, thrown, thrown_list, throws, some_throws, procedure, direction, valued, item, label, separated, ◌▸◌};
+ghost use Rattle.syntax.specs.Grammar.{constant, negative_constant, global_value, channel, exception, global, written_result, parameter, thrown, throws, some_throws, procedure, direction, valued, item, label, separated, ◌▸◌, optional, some, thrown_list};
 ghost use Rattle.syntax.specs.Tree.{label_tree, optional_label_tree, constant_tree, global_value_tree, written_result_tree, parameter_tree, thrown_tree, item_tree};
 ghost use Rattle.parser.specs.Reading.{IsRead, read, kind_at, begins_item};
 
@@ -226,7 +226,7 @@ impl<'t, 'a> Parser<'t, 'a> {
     #[tactic(auto, using(crate::proofs::Items::parameters_reads))]
     fn parse_parameters(&mut self) -> Result<Vec<Parameter<'a>>, ParseFault>
         ensures { (room : ℕ) → IsRead (λ parameters. map parameter_tree parameters.items) result
-            self.new.rest.now (read room parameters (terminals_of self.old.rest.now)) }
+            self.new.rest.now (read room (some Comma parameter) (terminals_of self.old.rest.now)) }
     {
         match self.kind() {
             Kind::Int | Kind::Boolean => self.parse_some_parameters(),
@@ -246,7 +246,7 @@ impl<'t, 'a> Parser<'t, 'a> {
     #[tactic(auto, using(crate::proofs::Items::end_label_reads))]
     fn parse_end_label(&mut self) -> Result<Option<WrittenLabel<'a>>, ParseFault>
         ensures { (room : ℕ) → IsRead optional_label_tree result self.new.rest.now
-            (read room end_label (terminals_of self.old.rest.now)) }
+            (read room (optional (Colon ▸ label)) (terminals_of self.old.rest.now)) }
     {
         if self.is_at(Kind::Colon) {
             let label = self.parse_label_after_colon()?;

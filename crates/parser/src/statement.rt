@@ -2,8 +2,8 @@ ghost use Rattle.std.specs.Prelude.{◌≡◌, ◌++◌, ◌∷◌, [], ℕ, OnO
 ghost use Rattle.lexer.specs.Terminal.{terminals_of};
 ghost use Rattle.lexer.specs.declared.token.Kind.TheVariants.{Comma, Else, Assign, OpenParenthesis};
 ghost use Rattle.syntax.specs.Form.{many, ◌·◌, ◌gives◌};
-ghost use Rattle.syntax.specs.Grammar.{expression, expressions, arguments, integer, condition, size, receive, send, conditional, while_statement, break_statement, continue_statement, throw_statement, return_statement, returned, attempt, nested, block, otherwise, catch, catches, index, separated, ◌▸◌, ◌◂◌};
-ghost use Rattle.syntax.specs.Tree.{name_tree, optional_label_tree, expression_tree, optional_expression_tree, right_tree, size_tree, statement_tree, block_tree, optional_block_tree, catch_tree};
+ghost use Rattle.syntax.specs.Grammar.{expression, arguments, integer, condition, size, receive, send, conditional, while_statement, break_statement, continue_statement, throw_statement, return_statement, attempt, block, catch, catches, index, separated, ◌▸◌, ◌◂◌, optional, some};
+ghost use Rattle.syntax.specs.Tree.{name_tree, optional_label_tree, expression_tree, optional_expression_tree, right_tree, size_tree, statement_tree, block_tree, optional_block_tree, catch_tree, NestedTree};
 ghost use Rattle.parser.specs.Factored.{AtIndexTree};
 ghost use Rattle.parser.specs.Reading.{IsRead, read, maps, right_read, right_after, is_at, first_read, first_tree, after_read, after_tree, declare_read, named_read, statement_read, begins_statement, begins_expression, kind_at};
 
@@ -166,7 +166,7 @@ impl<'t, 'a> Parser<'t, 'a> {
     #[tactic(auto, using(crate::proofs::Blocks::returned_reads))]
     fn parse_returned(&mut self, room: u32) -> Result<Option<Expression<'a>>, ParseFault>
         ensures { IsRead optional_expression_tree result self.new.rest.now
-            (read room returned (terminals_of self.old.rest.now)) }
+            (read room (optional expression) (terminals_of self.old.rest.now)) }
     {
         if self.is_at_expression() {
             let value = self.parse_expression(room)?;
@@ -253,7 +253,7 @@ impl<'t, 'a> Parser<'t, 'a> {
     #[tactic(auto, using(crate::proofs::Blocks::otherwise_reads))]
     fn parse_otherwise(&mut self, room: u32) -> Result<Option<Block<'a>>, ParseFault>
         ensures { IsRead optional_block_tree result self.new.rest.now
-            (read room otherwise (terminals_of self.old.rest.now)) }
+            (read room (optional (Else ▸ block)) (terminals_of self.old.rest.now)) }
     {
         if self.is_at(Kind::Else) {
             let block = self.parse_else_block(room)?;
@@ -334,10 +334,10 @@ impl<'t, 'a> Parser<'t, 'a> {
     }
 
     #[cycle(statement)]
-    #[tactic(auto, unfolding(syntax::specs::Grammar::nested, crate::specs::Reading::read))]
+    #[tactic(auto, unfolding(crate::specs::Reading::read))]
     fn parse_nested(&mut self, room: u32) -> Result<Statement<'a>, ParseFault>
         ensures { IsRead statement_tree result self.new.rest.now
-            (read room nested (terminals_of self.old.rest.now)) }
+            (read room (block gives NestedTree) (terminals_of self.old.rest.now)) }
     {
         let body = self.parse_block(room)?;
         Ok(Statement::make_nested(body))
@@ -393,7 +393,7 @@ impl<'t, 'a> Parser<'t, 'a> {
     #[tactic(auto, using(crate::proofs::Blocks::expressions_reads))]
     fn parse_expressions(&mut self, room: u32) -> Result<Vec<Expression<'a>>, ParseFault>
         ensures { IsRead (λ list. map expression_tree list.items) result self.new.rest.now
-            (read room expressions (terminals_of self.old.rest.now)) }
+            (read room (some Comma expression) (terminals_of self.old.rest.now)) }
     {
         if self.is_at_expression() {
             return self.parse_some_expressions(room);

@@ -1,8 +1,8 @@
--- Lists of ends that are alike.
+-- Lists of exits that are alike.
 use Rattle.std.proofs.Common.{◌≡◌, refl, sym, ap, ◌∙◌, subst, suc, List, [], ◌∷◌, ◌++◌, map, set, length, append_assoc, append-nil}
 use Rattle.resolved.specs.declared.statement.Exit.{Exit}
 use Rattle.resolved.specs.declared.statement.Exit.TheVariants.{Normal, Return, Break, Continue, Throw}
-use Rattle.path_map.specs.EndsOf.{SameEnds}
+use Rattle.path_map.specs.EndsOf.{SameExits}
 use Rattle.path_map.specs.Exits.{exits_of, thrown_in}
 use Rattle.path_map.specs.Paths.{AreAlike}
 use Rattle.path_map.proofs.Summary.{raised-same, throws-in}
@@ -26,7 +26,7 @@ alike-append (x ∷ xs) [] zs a = absurd a
 alike-append (x ∷ xs) (y ∷ ys) zs a = (a.0, alike-append xs ys zs a.1)
 
 pub alike-set : (old now : List (List Exit)) (p : List Exit) (ps : List (List Exit)) (x y : List Exit)
-    → AreAlike now (old ++ p ∷ ps) → SameEnds x y → AreAlike (set now (length old) x) (old ++ y ∷ ps)
+    → AreAlike now (old ++ p ∷ ps) → SameExits x y → AreAlike (set now (length old) x) (old ++ y ∷ ps)
 alike-set [] [] p ps x y a same = absurd a
 alike-set [] (n ∷ now) p ps x y a same = (same, a.1)
 alike-set (o ∷ old) [] p ps x y a same = absurd a
@@ -55,8 +55,8 @@ alike-end now zs all = subst (λ xs. AreAlike xs zs) (append-nil now) all
 pub alike-nil : (xs : List (List Exit)) → AreAlike xs (xs ++ [])
 alike-nil xs = subst (λ ys. AreAlike xs ys) (sym (append-nil xs)) (alike-refl xs)
 
--- the same ends have one summary
-pub exits-same : (xs ys : List Exit) → SameEnds xs ys → exits_of xs ≡ exits_of ys
+-- the same exits have one summary
+pub exits-same : (xs ys : List Exit) → SameExits xs ys → exits_of xs ≡ exits_of ys
 exits-same xs ys same =
     rw (
       same Normal,

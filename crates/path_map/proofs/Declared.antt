@@ -12,7 +12,7 @@ use Rattle.labels.specs.Label.{Label}
 use Rattle.resolved.specs.CoreOf.{program_of}
 use Rattle.resolved.specs.Program.{procedure_at}
 use Rattle.resolved.specs.ProgramOf.{procedure_entry, thrown_entry}
-use Rattle.resolved.specs.Ends.{declared_by}
+use Rattle.resolved.specs.Exits.{declared_by}
 use Rattle.path_map.specs.declared.members.ExceptionSet.{ExceptionSet}
 use Rattle.path_map.specs.Rows.{AreDeclaredRows, HasBound, HaveBound, no_row, says}
 use Rattle.path_map.specs.Exceptions.{exceptions_of, is_one_of}

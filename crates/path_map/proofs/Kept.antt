@@ -1,4 +1,4 @@
--- What is kept of the ends of statements and blocks, and what they are in it.
+-- What is kept of the exits of statements and blocks, and what they are in it.
 use Rattle.std.proofs.Common.{◌≡◌, ◌≢◌, refl, sym, ap, ◌∙◌, subst, ℕ, zero, suc, ◌<◌, ◌≤◌, List, [], ◌∷◌, ◌++◌, Bool, true, false, ◌&&◌, ◌||◌, map, filter, set, length, get_or, arith, ltb}
 use Rattle.std.specs.Prelude.{◌==◌, slice_index_or}
 use Rattle.std.proofs.lemmas.Bool.{eqb-true, eqb-false, ne_eqb, ltb-true, ltb-false}
@@ -6,20 +6,20 @@ use Rattle.std.proofs.Math.Bool.{or-false, and-true, and-false}
 use Rattle.std.proofs.lemmas.List.{get_or_past, length-map}
 use Rattle.resolved.specs.declared.statement.Exit.{Exit}
 use Rattle.resolved.specs.declared.statement.Exit.TheVariants.{Normal, Return, Break, Continue, Throw}
-use Rattle.resolved.specs.Ends.{same_exit, has_end, thrown_ends}
+use Rattle.resolved.specs.Exits.{same_exit, has_exit, thrown_exits}
 use Rattle.path_map.specs.declared.exits.Raised.{Raised}
 use Rattle.path_map.specs.declared.exits.Raised.TheVariants.{Nothing, One, Several}
 use Rattle.path_map.specs.Exits.{Exits}
 use Rattle.path_map.specs.declared.members.ExceptionSet.{ExceptionSet}
 use Rattle.path_map.specs.declared.keeping.KeptRow.{KeptRow}
-use Rattle.path_map.specs.declared.table.EndsEntry.{EndsEntry}
+use Rattle.path_map.specs.declared.table.ExitsEntry.{ExitsEntry}
 use Rattle.path_map.specs.Exits.{exits_of, raised_by, thrown_in}
-use Rattle.path_map.specs.Entries.{exceptions_at, end_if, entry_ends, IsKept, AreKept, RowsGrow, IsRowFor, HasExits, IsPut}
+use Rattle.path_map.specs.Entries.{exceptions_at, end_if, entry_exits, IsKept, AreKept, RowsGrow, IsRowFor, HasExits, IsPut}
 use Rattle.path_map.specs.Listed.{below, listed}
 use Rattle.path_map.specs.RowLists.{row_at}
 use Rattle.path_map.specs.Joins.{only_raised}
 use Rattle.path_map.specs.PathMaps.{value_at}
-use Rattle.path_map.specs.ThrownEnds.{is_raised}
+use Rattle.path_map.specs.ThrownExits.{is_raised}
 use Rattle.path_map.specs.Exceptions.{is_one_of}
 use Rattle.path_map.specs.declared.members.SetForm.{SetForm}
 use Rattle.path_map.specs.declared.members.SetForm.TheVariants.{Empty, Single, Many}
@@ -67,28 +67,28 @@ listed-has set e = go (ltb e set.bound) refl
         let far : set.bound ≤ e = ltb-false e set.bound f in
         listed-before (members set) set.bound e far ∙ sym (inside-below set.bound set.kept set.inside e far)
 
--- the ends of an entry
+-- the exits of an entry
 if-has : (test : Bool) (x : Exit) (rest : List Exit) (exit : Exit)
-    → has_end (end_if test x ++ rest) exit ≡ ((test && same_exit exit x) || has_end rest exit)
+    → has_exit (end_if test x ++ rest) exit ≡ ((test && same_exit exit x) || has_exit rest exit)
 if-has true x rest exit = refl
 if-has false x rest exit = refl
 
-module _ (rows : List KeptRow) (entry : EndsEntry) where
+module _ (rows : List KeptRow) (entry : ExitsEntry) where
   raised : List ℕ
   raised = exceptions_at rows entry.row entry.exits.raised
 
-  each : (exit : Exit) → has_end (entry_ends rows entry) exit
+  each : (exit : Exit) → has_exit (entry_exits rows entry) exit
       ≡ ((entry.exits.normal && same_exit exit Normal) || ((entry.exits.returns && same_exit exit Return)
-      || ((entry.exits.breaks && same_exit exit Break) || ((entry.exits.continues && same_exit exit Continue) || has_end (thrown_ends raised) exit))))
+      || ((entry.exits.breaks && same_exit exit Break) || ((entry.exits.continues && same_exit exit Continue) || has_exit (thrown_exits raised) exit))))
   unfolding raised
   each exit =
-      if-has entry.exits.normal Normal (end_if entry.exits.returns Return ++ (end_if entry.exits.breaks Break ++ (end_if entry.exits.continues Continue ++ thrown_ends raised))) exit
+      if-has entry.exits.normal Normal (end_if entry.exits.returns Return ++ (end_if entry.exits.breaks Break ++ (end_if entry.exits.continues Continue ++ thrown_exits raised))) exit
       ∙ ap (λ b. (entry.exits.normal && same_exit exit Normal) || b)
-      (if-has entry.exits.returns Return (end_if entry.exits.breaks Break ++ (end_if entry.exits.continues Continue ++ thrown_ends raised)) exit
+      (if-has entry.exits.returns Return (end_if entry.exits.breaks Break ++ (end_if entry.exits.continues Continue ++ thrown_exits raised)) exit
       ∙ ap (λ b. (entry.exits.returns && same_exit exit Return) || b)
-      (if-has entry.exits.breaks Break (end_if entry.exits.continues Continue ++ thrown_ends raised) exit
+      (if-has entry.exits.breaks Break (end_if entry.exits.continues Continue ++ thrown_exits raised) exit
       ∙ ap (λ b. (entry.exits.breaks && same_exit exit Break) || b)
-      (if-has entry.exits.continues Continue (thrown_ends raised) exit)))
+      (if-has entry.exits.continues Continue (thrown_exits raised) exit)))
 
   sure : (n r b c x : Bool) → x ≡ false → ((n && true) || ((r && false) || ((b && false) || ((c && false) || x)))) ≡ n
   sure n r b c x none = rw (and-true n, and-false r, and-false b, and-false c, none) (or-false n)
@@ -105,30 +105,30 @@ module _ (rows : List KeptRow) (entry : EndsEntry) where
   last : (n r b c x : Bool) → ((n && false) || ((r && false) || ((b && false) || ((c && false) || x)))) ≡ x
   last n r b c x = rw (and-false n, and-false r, and-false b, and-false c) refl
 
-  pub entry-normal : has_end (entry_ends rows entry) Normal ≡ entry.exits.normal
+  pub entry-normal : has_exit (entry_exits rows entry) Normal ≡ entry.exits.normal
   entry-normal =
-      each Normal ∙ sure entry.exits.normal entry.exits.returns entry.exits.breaks entry.exits.continues (has_end (thrown_ends raised) Normal)
+      each Normal ∙ sure entry.exits.normal entry.exits.returns entry.exits.breaks entry.exits.continues (has_exit (thrown_exits raised) Normal)
       (none-thrown Normal (λ _. refl) raised)
 
-  pub entry-returns : has_end (entry_ends rows entry) Return ≡ entry.exits.returns
+  pub entry-returns : has_exit (entry_exits rows entry) Return ≡ entry.exits.returns
   entry-returns =
-      each Return ∙ second entry.exits.normal entry.exits.returns entry.exits.breaks entry.exits.continues (has_end (thrown_ends raised) Return)
+      each Return ∙ second entry.exits.normal entry.exits.returns entry.exits.breaks entry.exits.continues (has_exit (thrown_exits raised) Return)
       (none-thrown Return (λ _. refl) raised)
 
-  pub entry-breaks : has_end (entry_ends rows entry) Break ≡ entry.exits.breaks
+  pub entry-breaks : has_exit (entry_exits rows entry) Break ≡ entry.exits.breaks
   entry-breaks =
-      each Break ∙ third entry.exits.normal entry.exits.returns entry.exits.breaks entry.exits.continues (has_end (thrown_ends raised) Break)
+      each Break ∙ third entry.exits.normal entry.exits.returns entry.exits.breaks entry.exits.continues (has_exit (thrown_exits raised) Break)
       (none-thrown Break (λ _. refl) raised)
 
-  pub entry-continues : has_end (entry_ends rows entry) Continue ≡ entry.exits.continues
+  pub entry-continues : has_exit (entry_exits rows entry) Continue ≡ entry.exits.continues
   entry-continues =
-      each Continue ∙ fourth entry.exits.normal entry.exits.returns entry.exits.breaks entry.exits.continues (has_end (thrown_ends raised) Continue)
+      each Continue ∙ fourth entry.exits.normal entry.exits.returns entry.exits.breaks entry.exits.continues (has_exit (thrown_exits raised) Continue)
       (none-thrown Continue (λ _. refl) raised)
 
-  pub entry-raised : (e : ℕ) → throws (entry_ends rows entry) e ≡ is_one_of (exceptions_at rows entry.row entry.exits.raised) e
+  pub entry-raised : (e : ℕ) → throws (entry_exits rows entry) e ≡ is_one_of (exceptions_at rows entry.row entry.exits.raised) e
   unfolding raised
   entry-raised e =
-      each (Throw e) ∙ (last entry.exits.normal entry.exits.returns entry.exits.breaks entry.exits.continues (has_end (thrown_ends raised) (Throw e))
+      each (Throw e) ∙ (last entry.exits.normal entry.exits.returns entry.exits.breaks entry.exits.continues (has_exit (thrown_exits raised) (Throw e))
       ∙ throws-thrown raised e)
 
 -- more rows
@@ -139,34 +139,34 @@ exceptions-same old new row (One e) same = refl
 exceptions-same old new row Several same = same
 
 module _ (old new : List KeptRow) (grown : RowsGrow old new) where
-  ends-same : (entry : EndsEntry) → IsKept old entry → entry_ends new entry ≡ entry_ends old entry
+  ends-same : (entry : ExitsEntry) → IsKept old entry → entry_exits new entry ≡ entry_exits old entry
   ends-same entry kept =
       ap (λ es. end_if entry.exits.normal Normal ++ (end_if entry.exits.returns Return ++ (end_if entry.exits.breaks Break
-      ++ (end_if entry.exits.continues Continue ++ thrown_ends es))))
+      ++ (end_if entry.exits.continues Continue ++ thrown_exits es))))
       (exceptions-same old new entry.row entry.exits.raised (grown.same entry.row kept.there))
 
-  one-grown : (entry : EndsEntry) → IsKept old entry → IsKept new entry
+  one-grown : (entry : ExitsEntry) → IsKept old entry → IsKept new entry
   one-grown entry kept = record {
     there = omega (arith, kept.there, grown.more);
     summary = kept.summary ∙ ap exits_of (sym (ends-same entry kept));
   }
 
-  pub view-grown : (entries : List EndsEntry) → AreKept old entries → map (entry_ends new) entries ≡ map (entry_ends old) entries
+  pub view-grown : (entries : List ExitsEntry) → AreKept old entries → map (entry_exits new) entries ≡ map (entry_exits old) entries
   view-grown [] kept = refl
   view-grown (entry ∷ entries) kept = rw (ends-same entry kept.0, view-grown entries kept.1) refl
 
-  pub kept-grown : (entries : List EndsEntry) → AreKept old entries → AreKept new entries
+  pub kept-grown : (entries : List ExitsEntry) → AreKept old entries → AreKept new entries
   kept-grown [] kept = tt
   kept-grown (entry ∷ entries) kept = (one-grown entry kept.0, kept-grown entries kept.1)
 
--- the ends of an entry, as its path map has them
+-- the exits of an entry, as its path map has them
 raised-among : (rows : List KeptRow) (row : ℕ) (raised : Raised) (x : ℕ) → is_raised raised rows row x ≡ is_one_of (exceptions_at rows row raised) x
 raised-among rows row Nothing x = refl
 raised-among rows row (One only) x = sym (or-false (x == only))
 raised-among rows row Several x = refl
 
-pub entry-value : (rows : List KeptRow) (entry : EndsEntry) (exit : Exit)
-    → value_at (λ (raised : Raised). is_raised entry.exits.raised rows entry.row) entry.exits exit ≡ has_end (entry_ends rows entry) exit
+pub entry-value : (rows : List KeptRow) (entry : ExitsEntry) (exit : Exit)
+    → value_at (λ (raised : Raised). is_raised entry.exits.raised rows entry.row) entry.exits exit ≡ has_exit (entry_exits rows entry) exit
 entry-value rows entry Normal = sym (entry-normal rows entry)
 entry-value rows entry Return = sym (entry-returns rows entry)
 entry-value rows entry Break = sym (entry-breaks rows entry)
@@ -174,53 +174,53 @@ entry-value rows entry Continue = sym (entry-continues rows entry)
 entry-value rows entry (Throw x) = raised-among rows entry.row entry.exits.raised x ∙ sym (entry-raised rows entry x)
 
 -- more entries
-pub kept-append : (rows : List KeptRow) (entries : List EndsEntry) (entry : EndsEntry) → AreKept rows entries → IsKept rows entry → AreKept rows (entries ++ entry ∷ [])
+pub kept-append : (rows : List KeptRow) (entries : List ExitsEntry) (entry : ExitsEntry) → AreKept rows entries → IsKept rows entry → AreKept rows (entries ++ entry ∷ [])
 kept-append rows [] entry kept one = (one, tt)
 kept-append rows (x ∷ entries) entry kept one = (kept.0, kept-append rows entries entry kept.1 one)
 
-kept-set : (rows : List KeptRow) (entries : List EndsEntry) (at : ℕ) (entry : EndsEntry) → AreKept rows entries → IsKept rows entry → AreKept rows (set entries at entry)
+kept-set : (rows : List KeptRow) (entries : List ExitsEntry) (at : ℕ) (entry : ExitsEntry) → AreKept rows entries → IsKept rows entry → AreKept rows (set entries at entry)
 kept-set rows [] at entry kept one = tt
 kept-set rows (x ∷ entries) zero entry kept one = (one, kept.1)
 kept-set rows (x ∷ entries) (suc at) entry kept one = (kept.0, kept-set rows entries at entry kept.1 one)
 
-view-set : (rows : List KeptRow) (entries : List EndsEntry) (at : ℕ) (entry : EndsEntry)
-    → map (entry_ends rows) (set entries at entry) ≡ set (map (entry_ends rows) entries) at (entry_ends rows entry)
+view-set : (rows : List KeptRow) (entries : List ExitsEntry) (at : ℕ) (entry : ExitsEntry)
+    → map (entry_exits rows) (set entries at entry) ≡ set (map (entry_exits rows) entries) at (entry_exits rows entry)
 view-set rows [] at entry = refl
 view-set rows (x ∷ entries) zero entry = refl
-view-set rows (x ∷ entries) (suc at) entry = ap (λ xs. entry_ends rows x ∷ xs) (view-set rows entries at entry)
+view-set rows (x ∷ entries) (suc at) entry = ap (λ xs. entry_exits rows x ∷ xs) (view-set rows entries at entry)
 
-pub exits-at : (rows : List KeptRow) (entries : List EndsEntry) (number : ℕ) (none : EndsEntry) → AreKept rows entries → number < length entries
-    → (get_or entries number none).exits ≡ exits_of (slice_index_or (map (entry_ends rows) entries) number [])
+pub exits-at : (rows : List KeptRow) (entries : List ExitsEntry) (number : ℕ) (none : ExitsEntry) → AreKept rows entries → number < length entries
+    → (get_or entries number none).exits ≡ exits_of (slice_index_or (map (entry_exits rows) entries) number [])
 exits-at rows [] number none kept there = absurd (omega arith)
 exits-at rows (x ∷ entries) zero none kept there = kept.0.summary
 exits-at rows (x ∷ entries) (suc number) none kept there = exits-at rows entries number none kept.1 (omega arith)
 
 -- an entry that is read
-kept-at : (rows : List KeptRow) (entries : List EndsEntry) (number : ℕ) (none : EndsEntry) → AreKept rows entries → number < length entries
+kept-at : (rows : List KeptRow) (entries : List ExitsEntry) (number : ℕ) (none : ExitsEntry) → AreKept rows entries → number < length entries
     → (get_or entries number none).row < length rows
 kept-at rows [] number none kept there = absurd (omega arith)
 kept-at rows (x ∷ entries) zero none kept there = kept.0.there
 kept-at rows (x ∷ entries) (suc number) none kept there = kept-at rows entries number none kept.1 (omega arith)
 
-ends-at : (rows : List KeptRow) (entries : List EndsEntry) (number : ℕ) (none : EndsEntry) → number < length entries
-    → entry_ends rows (get_or entries number none) ≡ slice_index_or (map (entry_ends rows) entries) number []
+ends-at : (rows : List KeptRow) (entries : List ExitsEntry) (number : ℕ) (none : ExitsEntry) → number < length entries
+    → entry_exits rows (get_or entries number none) ≡ slice_index_or (map (entry_exits rows) entries) number []
 ends-at rows [] number none there = absurd (omega arith)
 ends-at rows (x ∷ entries) zero none there = refl
 ends-at rows (x ∷ entries) (suc number) none there = ends-at rows entries number none (omega arith)
 
-module _ (rows : List KeptRow) (entries : List EndsEntry) (found : List (List Exit)) (number : ℕ) (entry none : EndsEntry)
-    (is : entry ≡ get_or entries number none) (view : map (entry_ends rows) entries ≡ found) (there : number < length found) where
+module _ (rows : List KeptRow) (entries : List ExitsEntry) (found : List (List Exit)) (number : ℕ) (entry none : ExitsEntry)
+    (is : entry ≡ get_or entries number none) (view : map (entry_exits rows) entries ≡ found) (there : number < length found) where
   inside : number < length entries
-  inside = omega (arith, there, ap length view, length-map entries (entry_ends rows))
+  inside = omega (arith, there, ap length view, length-map entries (entry_exits rows))
 
   pub row-inside : AreKept rows entries → entry.row < length rows
-  row-inside kept = subst (λ (e : EndsEntry). e.row < length rows) (sym is) (kept-at rows entries number none kept inside)
+  row-inside kept = subst (λ (e : ExitsEntry). e.row < length rows) (sym is) (kept-at rows entries number none kept inside)
 
-  pub end-found : (exit : Exit) → has_end (entry_ends rows entry) exit ≡ has_end (slice_index_or found number []) exit
+  pub end-found : (exit : Exit) → has_exit (entry_exits rows entry) exit ≡ has_exit (slice_index_or found number []) exit
   end-found exit =
-      ap (λ (e : EndsEntry). has_end (entry_ends rows e) exit) is
-      ∙ (ap (λ ends. has_end ends exit) (ends-at rows entries number none inside)
-      ∙ ap (λ v. has_end (slice_index_or v number []) exit) view)
+      ap (λ (e : ExitsEntry). has_exit (entry_exits rows e) exit) is
+      ∙ (ap (λ ends. has_exit ends exit) (ends-at rows entries number none inside)
+      ∙ ap (λ v. has_exit (slice_index_or v number []) exit) view)
 
 -- an entry that is written
 one-exception : (set : ℕ → Bool) (x e : ℕ) → IsSummaryOf set (One x) → ((e == x) || false) ≡ set e
@@ -233,7 +233,7 @@ one-exception set x e only = go (e == x) refl (set e) refl
 
 module _ (rows : List KeptRow) (exits : Exits) (set : ℕ → Bool) (row : ℕ) (raised : Raised) (there : row < length rows) (sum : IsSummaryOf set raised)
     (of : raised ≡ Several → (e : ℕ) → is_one_of (row_at rows row) e ≡ set e) where
-  written : EndsEntry
+  written : ExitsEntry
   written = record { exits = record exits { raised = raised }; row = row }
 
   written-members : (r : Raised) → raised ≡ r → (e : ℕ) → is_one_of (exceptions_at rows row r) e ≡ set e
@@ -241,7 +241,7 @@ module _ (rows : List KeptRow) (exits : Exits) (set : ℕ → Bool) (row : ℕ) 
   written-members (One x) is e = one-exception set x e (subst (IsSummaryOf set) is sum)
   written-members Several is e = of is e
 
-  pub written-has : HasExits exits set (entry_ends rows (record { exits = record exits { raised = raised }; row = row }))
+  pub written-has : HasExits exits set (entry_exits rows (record { exits = record exits { raised = raised }; row = row }))
   unfolding written
   written-has = record {
     normal = entry-normal rows written;
@@ -254,7 +254,7 @@ module _ (rows : List KeptRow) (exits : Exits) (set : ℕ → Bool) (row : ℕ) 
   pub written-kept : IsKept rows (record { exits = record exits { raised = raised }; row = row })
   unfolding written
   written-kept =
-      let ends : List Exit = entry_ends rows written in
+      let ends : List Exit = entry_exits rows written in
       let is : raised ≡ raised_by (thrown_in ends) =
       summary-is (thrown_in ends) set (λ e. throws-in ends e ∙ written-has.raised e) raised sum in
       record {
@@ -263,19 +263,19 @@ module _ (rows : List KeptRow) (exits : Exits) (set : ℕ → Bool) (row : ℕ) 
             rw (written-has.normal, written-has.returns, written-has.breaks, written-has.continues, sym is) refl;
       }
 
-module _ (old new : List KeptRow) (entries : List EndsEntry) (at : ℕ) (exits given : Exits) (raises : ℕ → Bool) (row : ℕ) (raised : Raised)
+module _ (old new : List KeptRow) (entries : List ExitsEntry) (at : ℕ) (exits given : Exits) (raises : ℕ → Bool) (row : ℕ) (raised : Raised)
     (grown : RowsGrow old new) (kept : AreKept old entries) (of : IsRowFor raises raised new row) (sum : IsSummaryOf raises raised)
     (is : given ≡ record exits { raised = raised }) where
-  pub put-is : IsPut at exits raises (map (entry_ends old) entries) (map (entry_ends new) (set entries at (record { exits = given; row = row })))
+  pub put-is : IsPut at exits raises (map (entry_exits old) entries) (map (entry_exits new) (set entries at (record { exits = given; row = row })))
   put-is =
-      let entry : EndsEntry = record { exits = record exits { raised = raised }; row = row } in
-      subst (λ (x : Exits). IsPut at exits raises (map (entry_ends old) entries) (map (entry_ends new) (set entries at (record { exits = x; row = row })))) (sym is)
+      let entry : ExitsEntry = record { exits = record exits { raised = raised }; row = row } in
+      subst (λ (x : Exits). IsPut at exits raises (map (entry_exits old) entries) (map (entry_exits new) (set entries at (record { exits = x; row = row })))) (sym is)
       (record {
-        ends = entry_ends new entry;
+        ends = entry_exits new entry;
         has = written-has new exits raises row raised of.there sum of.same;
         written =
             view-set new entries at entry
-            ∙ ap (λ xs. set xs at (entry_ends new entry)) (view-grown old new grown entries kept);
+            ∙ ap (λ xs. set xs at (entry_exits new entry)) (view-grown old new grown entries kept);
       })
 
   pub put-kept : AreKept new (set entries at (record { exits = given; row = row }))

@@ -1,24 +1,24 @@
--- The ends of the statements and blocks of a program, each by its number.
+-- The exits of the statements and blocks of a program, each by its number.
 use Rattle.std.proofs.Common.{◌≡◌, refl, sym, ap, ◌∙◌, subst, ℕ, zero, suc, List, [], ◌∷◌, ◌++◌, map, length, flat_map}
 use Rattle.std.specs.Prelude.{Some, slice_get, slice_index_or}
 use Rattle.std.proofs.lemmas.List.{map-append}
 use Rattle.resolved.specs.declared.statement.Exit.{Exit}
 use Rattle.resolved.specs.Tree.{Statement, Assign, Clear, Store, Receive, Send, Call, If, While, Leave, ReturnWith, Try, Nested, Block, Empty, Then, Handlers, NoMore, Catch}
 use Rattle.resolved.specs.Program.{Program, ProcedureEntry}
-use Rattle.resolved.specs.Ends.{statement_ends}
-use Rattle.path_map.specs.EndsOf.{SameEnds, AreEndsOf, piece_ends}
+use Rattle.resolved.specs.Exits.{statement_exits}
+use Rattle.path_map.specs.EndsOf.{SameExits, AreEndsOf, piece_exits}
 use Rattle.path_map.specs.Paths.{AreAlike, inner_paths, rest_paths, handlers_paths, block_paths, program_paths}
 use Rattle.path_map.specs.Pieces.{Piece, OfStatement, OfBlock, pieces_in_statement, pieces_in_block, pieces_in_handlers, program_pieces}
 
 module _ (program : Program) where
   abbrev ends_of : List Piece → List (List Exit)
-  ends_of pieces = map (piece_ends program) pieces
+  ends_of pieces = map (piece_exits program) pieces
 
   both-parts : (xs ys : List Piece) (ps qs : List (List Exit)) → ends_of xs ≡ ps → ends_of ys ≡ qs → ends_of (xs ++ ys) ≡ ps ++ qs
-  both-parts xs ys ps qs first second = map-append (piece_ends program) xs ys ∙ (ap (λ zs. zs ++ ends_of ys) first ∙ ap (λ zs. ps ++ zs) second)
+  both-parts xs ys ps qs first second = map-append (piece_exits program) xs ys ∙ (ap (λ zs. zs ++ ends_of ys) first ∙ ap (λ zs. ps ++ zs) second)
 
-  one-more : (piece : Piece) (xs : List Piece) (ps : List (List Exit)) → ends_of xs ≡ ps → ends_of (piece ∷ xs) ≡ piece_ends program piece ∷ ps
-  one-more piece xs ps rest = ap (λ zs. piece_ends program piece ∷ zs) rest
+  one-more : (piece : Piece) (xs : List Piece) (ps : List (List Exit)) → ends_of xs ≡ ps → ends_of (piece ∷ xs) ≡ piece_exits program piece ∷ ps
+  one-more piece xs ps rest = ap (λ zs. piece_exits program piece ∷ zs) rest
 
   mutual
     in-statement : (statement : Statement) → ends_of (pieces_in_statement statement) ≡ inner_paths program statement
@@ -46,7 +46,7 @@ module _ (program : Program) where
     in-block Empty = refl
     in-block (Then statement rest) =
         both-parts (OfStatement statement ∷ pieces_in_statement statement) (pieces_in_block rest)
-        (statement_ends program statement ∷ inner_paths program statement) (rest_paths program rest)
+        (statement_exits program statement ∷ inner_paths program statement) (rest_paths program rest)
         (one-more (OfStatement statement) (pieces_in_statement statement) (inner_paths program statement) (in-statement statement)) (in-block rest)
 
     in-handlers : (handlers : Handlers) → ends_of (pieces_in_handlers handlers) ≡ handlers_paths program handlers
@@ -66,27 +66,27 @@ module _ (program : Program) where
       (one-more (OfBlock procedure.body) (pieces_in_block procedure.body) (rest_paths program procedure.body) (in-block procedure.body))
       (in-procedures rest)
 
-  pub pieces-paths : map (piece_ends program) (program_pieces program) ≡ program_paths program
+  pub pieces-paths : map (piece_exits program) (program_pieces program) ≡ program_paths program
   pieces-paths = in-procedures program.procedures
 
   -- from all in one list to each by its number, and back
-  as-many : (found : List (List Exit)) (pieces : List Piece) → AreAlike found (map (piece_ends program) pieces) → length found ≡ length pieces
+  as-many : (found : List (List Exit)) (pieces : List Piece) → AreAlike found (map (piece_exits program) pieces) → length found ≡ length pieces
   as-many [] [] alike = refl
   as-many [] (piece ∷ pieces) alike = absurd alike
   as-many (x ∷ found) [] alike = absurd alike
   as-many (x ∷ found) (piece ∷ pieces) alike = ap suc (as-many found pieces alike.1)
 
-  each-same : (found : List (List Exit)) (pieces : List Piece) → AreAlike found (map (piece_ends program) pieces)
-      → (number : ℕ) (piece : Piece) → slice_get pieces number ≡ Some piece → SameEnds (slice_index_or found number []) (piece_ends program piece)
+  each-same : (found : List (List Exit)) (pieces : List Piece) → AreAlike found (map (piece_exits program) pieces)
+      → (number : ℕ) (piece : Piece) → slice_get pieces number ≡ Some piece → SameExits (slice_index_or found number []) (piece_exits program piece)
   each-same found [] alike number piece is = absurd (cc)
   each-same [] (other ∷ pieces) alike number piece is = absurd alike
   each-same (x ∷ found) (other ∷ pieces) alike zero piece is =
-      let same : other ≡ piece = cc in subst (λ p. SameEnds x (piece_ends program p)) same alike.0
+      let same : other ≡ piece = cc in subst (λ p. SameExits x (piece_exits program p)) same alike.0
   each-same (x ∷ found) (other ∷ pieces) alike (suc number) piece is = each-same found pieces alike.1 number piece is
 
   all-alike : (found : List (List Exit)) (pieces : List Piece) → length found ≡ length pieces
-      → ((number : ℕ) (piece : Piece) → slice_get pieces number ≡ Some piece → SameEnds (slice_index_or found number []) (piece_ends program piece))
-      → AreAlike found (map (piece_ends program) pieces)
+      → ((number : ℕ) (piece : Piece) → slice_get pieces number ≡ Some piece → SameExits (slice_index_or found number []) (piece_exits program piece))
+      → AreAlike found (map (piece_exits program) pieces)
   all-alike [] [] many each = tt
   all-alike [] (piece ∷ pieces) many each = absurd (cc)
   all-alike (x ∷ found) [] many each = absurd (cc)
@@ -95,7 +95,7 @@ module _ (program : Program) where
 
   pub ends-found : (found : List (List Exit)) → AreAlike found (program_paths program) → AreEndsOf program found
   ends-found found alike =
-      let pieces : AreAlike found (map (piece_ends program) (program_pieces program)) =
+      let pieces : AreAlike found (map (piece_exits program) (program_pieces program)) =
       subst (λ paths. AreAlike found paths) (sym pieces-paths) alike in
       record {
         as_many = as-many found (program_pieces program) pieces;

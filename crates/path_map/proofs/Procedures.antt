@@ -18,15 +18,15 @@ use Rattle.resolved.specs.declared.tables.Procedure.{Procedure}
 use Rattle.labels.specs.Label.{Label}
 use Rattle.resolved.specs.Program.{Program, ProcedureEntry}
 use Rattle.resolved.specs.ProgramOf.{result_entry, procedure_entry}
-use Rattle.resolved.specs.Ends.{has_end, declared_by, block_ends}
-use Rattle.resolved.specs.EndFaults.{fault_unless, may_end, block_faults, procedure_faults}
-use Rattle.resolved.specs.declared.fault.EndRefusalKind.TheVariants.{NoValueReturned, Undeclared}
+use Rattle.resolved.specs.Exits.{has_exit, declared_by, block_exits}
+use Rattle.resolved.specs.ExitFaults.{fault_unless, may_exit, block_faults, procedure_faults}
+use Rattle.resolved.specs.declared.fault.ExitRefusalKind.TheVariants.{NoValueReturned, Undeclared}
 use Rattle.path_map.specs.declared.exits.Raised.TheVariants.{Several}
 use Rattle.path_map.specs.Exits.{Exits}
 use Rattle.common.specs.declared.fault.OrNoMemory.{OrNoMemory}
 use Rattle.common.specs.declared.fault.OrNoMemory.TheVariants.{Refused}
 use Rattle.common.specs.Answers.{IfRefused}
-use Rattle.resolved.specs.declared.fault.EndRefusal.{EndRefusal}
+use Rattle.resolved.specs.declared.fault.ExitRefusal.{ExitRefusal}
 use Rattle.path_map.specs.FirstFault.{IsFirstEndFault}
 use Rattle.path_map.specs.Exits.{exits_of, raised_by}
 use Rattle.path_map.specs.Joins.{join_raised}
@@ -40,7 +40,7 @@ use Rattle.path_map.proofs.Alike.{alike-refl, alike-step, alike-end}
 use Rattle.path_map.proofs.Walking.{first-left}
 use Rattle.resolved.proofs.Exits.{all-has}
 
-not-all : (f : Exit → Bool) (ends : List Exit) (x : Exit) → has_end ends x ≡ true → f x ≡ false → list_all f ends ≡ false
+not-all : (f : Exit → Bool) (ends : List Exit) (x : Exit) → has_exit ends x ≡ true → f x ≡ false → list_all f ends ≡ false
 not-all f ends x there is = go (list_all f ends) refl
   where
     go : (b : Bool) → list_all f ends ≡ b → list_all f ends ≡ false
@@ -48,32 +48,32 @@ not-all f ends x there is = go (list_all f ends) refl
     go true e = absurd (let no : true ≡ false = sym (all-has f ends x e there) ∙ is in cc)
 
 module _ (procedure : ProcedureEntry) where
-  throw-ends : (e : ℕ) → may_end procedure (Throw e) ≡ is_one_of (declared_by procedure.throws) e
+  throw-ends : (e : ℕ) → may_exit procedure (Throw e) ≡ is_one_of (declared_by procedure.throws) e
   throw-ends e = throws-thrown (declared_by procedure.throws) e
 
-  all-end : (ends : List Exit) → has_end ends Break ≡ false → has_end ends Continue ≡ false
-      → ((e : ℕ) → throws ends e ≡ true → is_one_of (declared_by procedure.throws) e ≡ true) → list_all (may_end procedure) ends ≡ true
+  all-end : (ends : List Exit) → has_exit ends Break ≡ false → has_exit ends Continue ≡ false
+      → ((e : ℕ) → throws ends e ≡ true → is_one_of (declared_by procedure.throws) e ≡ true) → list_all (may_exit procedure) ends ≡ true
   all-end [] b c each = refl
   all-end (Normal ∷ ends) b c each = all-end ends b c each
   all-end (Return ∷ ends) b c each = all-end ends b c each
   all-end (Break ∷ ends) b c each = absurd (let no : true ≡ false = b in cc)
   all-end (Continue ∷ ends) b c each = absurd (let no : true ≡ false = c in cc)
   all-end (Throw e ∷ ends) b c each =
-      ap (λ t. t && list_all (may_end procedure) ends) (throw-ends e ∙ each e (ap (λ t. t || throws ends e) (same-number e)))
+      ap (λ t. t && list_all (may_exit procedure) ends) (throw-ends e ∙ each e (ap (λ t. t || throws ends e) (same-number e)))
       ∙ all-end ends b c (λ x there. each x (ap (λ t. (x == e) || t) there ∙ or-true (x == e)))
 
   pub may-all : (ends : List Exit) (set : ℕ → Bool) (declared : Bool) → ((e : ℕ) → set e ≡ throws ends e)
       → AreDeclared set (declared_by procedure.throws) declared
-      → list_all (may_end procedure) ends ≡ not (has_end ends Break || (has_end ends Continue || not declared))
-  may-all ends set declared same are = go (has_end ends Break) refl (has_end ends Continue) refl declared are
+      → list_all (may_exit procedure) ends ≡ not (has_exit ends Break || (has_exit ends Continue || not declared))
+  may-all ends set declared same are = go (has_exit ends Break) refl (has_exit ends Continue) refl declared are
     where
-      go : (b : Bool) → has_end ends Break ≡ b → (c : Bool) → has_end ends Continue ≡ c → (d : Bool) → AreDeclared set (declared_by procedure.throws) d
-          → list_all (may_end procedure) ends ≡ not (has_end ends Break || (has_end ends Continue || not d))
-      go true e c f d are = rw e (not-all (may_end procedure) ends Break e refl)
-      go false e true f d are = rw (e, f) (not-all (may_end procedure) ends Continue f refl)
+      go : (b : Bool) → has_exit ends Break ≡ b → (c : Bool) → has_exit ends Continue ≡ c → (d : Bool) → AreDeclared set (declared_by procedure.throws) d
+          → list_all (may_exit procedure) ends ≡ not (has_exit ends Break || (has_exit ends Continue || not d))
+      go true e c f d are = rw e (not-all (may_exit procedure) ends Break e refl)
+      go false e true f d are = rw (e, f) (not-all (may_exit procedure) ends Continue f refl)
       go false e false f true are = rw (e, f) (all-end ends e f (λ x there. are x (same x ∙ there)))
       go false e false f false are =
-          rw (e, f) (not-all (may_end procedure) ends (Throw are.exception) (sym (same are.exception) ∙ are.has) (throw-ends are.exception ∙ are.none))
+          rw (e, f) (not-all (may_exit procedure) ends (Throw are.exception) (sym (same are.exception) ∙ are.has) (throw-ends are.exception ∙ are.none))
 
 -- whether there is a result
 some-result : (labels : List Label) (result : Option ResultType) → is_some (result_entry labels result) ≡ is_some result
@@ -85,51 +85,51 @@ some-value labels result normal = ap (λ some. some && normal) (some-result labe
 
 -- the faults of a procedure
 module _ (program : Program) (procedure : ProcedureEntry) where
-  pub body-first : (fault : OrNoMemory EndRefusal) → IfRefused (IsFirstEndFault (block_faults program false true procedure.body)) fault → IfRefused (IsFirstEndFault (procedure_faults program procedure)) fault
+  pub body-first : (fault : OrNoMemory ExitRefusal) → IfRefused (IsFirstEndFault (block_faults program false true procedure.body)) fault → IfRefused (IsFirstEndFault (procedure_faults program procedure)) fault
   body-first fault first =
       first-left (block_faults program false true procedure.body
-      ++ fault_unless (not (is_some procedure.result && has_end (block_ends program procedure.body) Normal)) NoValueReturned procedure.at)
-      (fault_unless (list_all (may_end procedure) (block_ends program procedure.body)) Undeclared procedure.at) fault
+      ++ fault_unless (not (is_some procedure.result && has_exit (block_exits program procedure.body) Normal)) NoValueReturned procedure.at)
+      (fault_unless (list_all (may_exit procedure) (block_exits program procedure.body)) Undeclared procedure.at) fault
       (first-left (block_faults program false true procedure.body)
-      (fault_unless (not (is_some procedure.result && has_end (block_ends program procedure.body) Normal)) NoValueReturned procedure.at) fault first)
+      (fault_unless (not (is_some procedure.result && has_exit (block_exits program procedure.body) Normal)) NoValueReturned procedure.at) fault first)
 
   pub no-value-first : block_faults program false true procedure.body ≡ []
-      → (is_some procedure.result && has_end (block_ends program procedure.body) Normal) ≡ true
+      → (is_some procedure.result && has_exit (block_exits program procedure.body) Normal) ≡ true
       → IfRefused (IsFirstEndFault (procedure_faults program procedure)) (Refused (record { kind = NoValueReturned; at = procedure.at }))
   no-value-first clean value = rw (clean, value) refl
 
   pub undeclared-first : block_faults program false true procedure.body ≡ []
-      → (is_some procedure.result && has_end (block_ends program procedure.body) Normal) ≡ false
-      → list_all (may_end procedure) (block_ends program procedure.body) ≡ false
+      → (is_some procedure.result && has_exit (block_exits program procedure.body) Normal) ≡ false
+      → list_all (may_exit procedure) (block_exits program procedure.body) ≡ false
       → IfRefused (IsFirstEndFault (procedure_faults program procedure)) (Refused (record { kind = Undeclared; at = procedure.at }))
   undeclared-first clean value ends = rw (clean, value, ends) refl
 
   pub no-faults : block_faults program false true procedure.body ≡ []
-      → (is_some procedure.result && has_end (block_ends program procedure.body) Normal) ≡ false
-      → list_all (may_end procedure) (block_ends program procedure.body) ≡ true
+      → (is_some procedure.result && has_exit (block_exits program procedure.body) Normal) ≡ false
+      → list_all (may_exit procedure) (block_exits program procedure.body) ≡ true
       → procedure_faults program procedure ≡ []
   no-faults clean value ends = rw (clean, value, ends) refl
 
--- what a walk along a procedure's body has found of its ends
+-- what a walk along a procedure's body has found of its exits
 pub record Ended (program : Program) (procedure : ProcedureEntry) (raised : ℕ → Bool) (exits : Exits) : Type 0 where
-  pub summary : exits ≡ exits_of (block_ends program procedure.body)
-  pub same : (e : ℕ) → raised e ≡ throws (block_ends program procedure.body) e
+  pub summary : exits ≡ exits_of (block_exits program procedure.body)
+  pub same : (e : ℕ) → raised e ≡ throws (block_exits program procedure.body) e
   pub clean : block_faults program false true procedure.body ≡ []
-  pub value : (is_some procedure.result && has_end (block_ends program procedure.body) Normal) ≡ (is_some procedure.result && exits.normal)
+  pub value : (is_some procedure.result && has_exit (block_exits program procedure.body) Normal) ≡ (is_some procedure.result && exits.normal)
 
 pub walked : (labels : List Label) (program : Program) (procedure : Procedure) (body : List S.Statement) (old new : List (List Exit)) (none raised : ℕ → Bool) (exits : Exits)
     → body ≡ procedure.body.items → ((e : ℕ) → none e ≡ false)
-    → IsFound (block_ends program (block_of body)) (block_paths program (block_of body)) old new none raised exits
+    → IsFound (block_exits program (block_of body)) (block_paths program (block_of body)) old new none raised exits
     → block_faults program false true (block_of body) ≡ []
     → Ended program (procedure_entry labels procedure) raised exits
 walked labels program procedure body old new none raised exits lent empty found clean =
-    let summary : exits ≡ exits_of (block_ends program (block_of procedure.body.items)) =
-    found.summary ∙ ap (λ list. exits_of (block_ends program (block_of list))) lent in
+    let summary : exits ≡ exits_of (block_exits program (block_of procedure.body.items)) =
+    found.summary ∙ ap (λ list. exits_of (block_exits program (block_of list))) lent in
     record {
       summary = summary;
       same = λ e.
-          found.raised.has e ∙ ap (λ b. b || throws (block_ends program (block_of body)) e) (empty e)
-          ∙ ap (λ list. throws (block_ends program (block_of list)) e) lent;
+          found.raised.has e ∙ ap (λ b. b || throws (block_exits program (block_of body)) e) (empty e)
+          ∙ ap (λ list. throws (block_exits program (block_of list)) e) lent;
       clean = sym (ap (λ list. block_faults program false true (block_of list)) lent) ∙ clean;
       value = ap (λ (x : Exits). is_some (result_entry labels procedure.result) && x.normal) (sym summary);
     }
@@ -137,9 +137,9 @@ walked labels program procedure body old new none raised exits lent empty found 
 pub all-may-end : (labels : List Label) (program : Program) (procedure : Procedure) (list : List Thrown) (raised : ℕ → Bool) (exits : Exits) (declared : Bool)
     → list ≡ procedure.throws.items → Ended program (procedure_entry labels procedure) raised exits
     → AreDeclared raised (exceptions_of list) declared
-    → list_all (may_end (procedure_entry labels procedure)) (block_ends program (block_of procedure.body.items)) ≡ not (exits.breaks || (exits.continues || not declared))
+    → list_all (may_exit (procedure_entry labels procedure)) (block_exits program (block_of procedure.body.items)) ≡ not (exits.breaks || (exits.continues || not declared))
 all-may-end labels program procedure list raised exits declared lent ended are =
-    may-all (procedure_entry labels procedure) (block_ends program (block_of procedure.body.items)) raised declared ended.same
+    may-all (procedure_entry labels procedure) (block_exits program (block_of procedure.body.items)) raised declared ended.same
     (subst (λ exceptions. AreDeclared raised exceptions declared) (ap exceptions_of lent ∙ sym (declared-same labels procedure.throws.items)) are)
     ∙ ap (λ (x : Exits). not (x.breaks || (x.continues || not declared))) (sym ended.summary)
 
@@ -158,7 +158,7 @@ module _ (program : Program) (all : List ProcedureEntry) where
     faults = refl;
   }
 
-  pub beside-first : (procedure : ProcedureEntry) (tail : List ProcedureEntry) (now : List (List Exit)) (fault : OrNoMemory EndRefusal) → WithEnds program all (procedure ∷ tail) now
+  pub beside-first : (procedure : ProcedureEntry) (tail : List ProcedureEntry) (now : List (List Exit)) (fault : OrNoMemory ExitRefusal) → WithEnds program all (procedure ∷ tail) now
       → IfRefused (IsFirstEndFault (procedure_faults program procedure)) fault → IfRefused (IsFirstEndFault (flat_map (procedure_faults program) all)) fault
   beside-first procedure tail now fault along first =
       subst (λ faults. IfRefused (IsFirstEndFault faults) fault) along.faults

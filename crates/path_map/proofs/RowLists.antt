@@ -3,10 +3,10 @@ use Rattle.std.proofs.Common.{◌≡◌, refl, sym, ap, ◌∙◌, ℕ, zero, su
 use Rattle.std.specs.Prelude.{◌==◌, if◌then◌else◌, Option, Some, None}
 use Rattle.std.proofs.lemmas.Bool.{eqb-true}
 use Rattle.std.proofs.lemmas.List.{get_or_append_left, get_or_past, get_or_push, length_push}
-use Rattle.std.proofs.Math.Bool.{or-false, and-true, and-false}
+use Rattle.std.proofs.Math.Bool.{and-true, and-false}
 use Rattle.path_map.specs.declared.keeping.KeptRow.{KeptRow}
-use Rattle.path_map.specs.declared.keeping.RowForm.{RowForm}
-use Rattle.path_map.specs.declared.keeping.RowForm.TheVariants.{Whole}
+use Rattle.path_map.specs.declared.keeping.KeptForm.{KeptForm}
+use Rattle.path_map.specs.declared.keeping.KeptForm.TheVariants.{Whole}
 use Rattle.path_map.specs.declared.members.ExceptionSet.{ExceptionSet}
 use Rattle.path_map.specs.Entries.{IsRowOf, RowsGrow}
 use Rattle.path_map.specs.Exceptions.{is_one_of}
@@ -87,7 +87,7 @@ lists-at lists (row ∷ rows) (suc k) none there =
     let at : length lists + suc k ≡ length (lists ++ own ∷ []) + k = omega (arith, length_push lists own) in
     ap (λ n. get_or (lists_after (lists ++ own ∷ []) rows) n []) at ∙ lists-at (lists ++ own ∷ []) rows k none (omega (arith, there))
 
-pub row-form : (rows : List KeptRow) (k : ℕ) (row : KeptRow) (form : RowForm) → k < length rows → row ≡ get_or rows k row → row.form ≡ form
+pub row-form : (rows : List KeptRow) (k : ℕ) (row : KeptRow) (form : KeptForm) → k < length rows → row ≡ get_or rows k row → row.form ≡ form
     → row_at rows k ≡ form_list (lists_after [] (take k rows)) form
 row-form rows k row form there is same =
     let at : length {A = List ℕ} [] + k ≡ k = omega arith in
@@ -158,19 +158,3 @@ changed-row rows before k a n bound (Some base) (Some set) is first change = rec
       ∙ (ap (λ b. if e == n then not b else b) (first.same e)
       ∙ (sym (changed-list n (row_at before a) e) ∙ ap (λ list. is_one_of list e) (sym is)));
 }
-
--- a set in which an exception is where it was not
-pub change-out : (old new : ℕ → Bool) (n : ℕ) → old n ≡ true → ((e : ℕ) → new e ≡ (old e && not (e == n))) → (e : ℕ) → new e ≡ changed_has n old e
-change-out old new n there left e = left e ∙ go (e == n) refl
-  where
-    go : (same : Bool) → (e == n) ≡ same → (old e && not (e == n)) ≡ changed_has n old e
-    go true g = let at : old e ≡ true = ap old (eqb-true e n g) ∙ there in rw (g, at) refl
-    go false g = rw g (and-true (old e))
-
-pub change-in : (old middle new : ℕ → Bool) (n : ℕ) → old n ≡ false → ((e : ℕ) → middle e ≡ (old e && not (e == n))) → ((e : ℕ) → new e ≡ (middle e || (e == n)))
-    → (e : ℕ) → new e ≡ changed_has n old e
-change-in old middle new n none left added e = added e ∙ (ap (λ b. b || (e == n)) (left e) ∙ go (e == n) refl)
-  where
-    go : (same : Bool) → (e == n) ≡ same → ((old e && not (e == n)) || (e == n)) ≡ changed_has n old e
-    go true g = let at : old e ≡ false = ap old (eqb-true e n g) ∙ none in rw (g, at) refl
-    go false g = rw g (or-false (old e && true) ∙ and-true (old e))

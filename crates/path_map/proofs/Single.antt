@@ -1,15 +1,15 @@
--- The one end of ends, by their summary.
+-- The one exit of exits, by their summary.
 use Rattle.std.proofs.Common.{◌≡◌, refl, sym, ap, ◌∙◌, ℕ, List, [], ◌∷◌, Bool, true, false, not, ◌&&◌, ◌||◌, map}
 use Rattle.std.specs.Prelude.{◌==◌, if◌then◌else◌, Option, Some, None, is_some}
 use Rattle.std.specs.List.{list_all}
 use Rattle.resolved.specs.declared.statement.Exit.{Exit}
 use Rattle.resolved.specs.declared.statement.Exit.TheVariants.{Normal, Return, Break, Continue, Throw}
-use Rattle.resolved.specs.Ends.{same_exit, has_end, one_end}
-use Rattle.resolved.specs.Labelled.{as_one_end}
+use Rattle.resolved.specs.Exits.{same_exit, has_exit, one_exit}
+use Rattle.resolved.specs.Labelled.{as_one_exit}
 use Rattle.path_map.specs.declared.exits.Raised.{Raised}
 use Rattle.path_map.specs.declared.exits.Raised.TheVariants.{Nothing, One, Several}
 use Rattle.path_map.specs.Exits.{Exits}
-use Rattle.path_map.specs.Exits.{thrown_in, raised_by, exits_of, single_end}
+use Rattle.path_map.specs.Exits.{thrown_in, raised_by, exits_of, single_exit}
 
 abbrev pub single_of : (normal returns breaks continues : Bool) → Raised → Option Exit
 single_of true false false false Nothing = Some Normal
@@ -51,16 +51,16 @@ some-raised e es = go (list_all (λ other. e == other) es)
     go false = refl
 
 all-normal : (ends : List Exit) → list_all (same_exit Normal) ends
-    ≡ (not (has_end ends Return) && (not (has_end ends Break) && (not (has_end ends Continue) && is_nothing (raised_by (thrown_in ends)))))
+    ≡ (not (has_exit ends Return) && (not (has_exit ends Break) && (not (has_exit ends Continue) && is_nothing (raised_by (thrown_in ends)))))
 unfolding is_nothing
 all-normal [] = refl
 all-normal (Normal ∷ ends) = all-normal ends
 all-normal (Return ∷ ends) = refl
-all-normal (Break ∷ ends) = second-out (has_end ends Return) (has_end ends Continue) (is_nothing (raised_by (thrown_in ends)))
-all-normal (Continue ∷ ends) = third-out (has_end ends Return) (has_end ends Break) (is_nothing (raised_by (thrown_in ends)))
+all-normal (Break ∷ ends) = second-out (has_exit ends Return) (has_exit ends Continue) (is_nothing (raised_by (thrown_in ends)))
+all-normal (Continue ∷ ends) = third-out (has_exit ends Return) (has_exit ends Break) (is_nothing (raised_by (thrown_in ends)))
 all-normal (Throw e ∷ ends) =
-    nothing-else (has_end ends Return) (has_end ends Break) (has_end ends Continue)
-    ∙ ap (λ b. not (has_end ends Return) && (not (has_end ends Break) && (not (has_end ends Continue) && b))) (some-raised e (thrown_in ends))
+    nothing-else (has_exit ends Return) (has_exit ends Break) (has_exit ends Continue)
+    ∙ ap (λ b. not (has_exit ends Return) && (not (has_exit ends Break) && (not (has_exit ends Continue) && b))) (some-raised e (thrown_in ends))
 
 first-normal : (a b c : Bool) (r : Raised) → (if not a && (not b && (not c && is_nothing r)) then Some Normal else None) ≡ single_of true a b c r
 unfolding is_nothing
@@ -90,16 +90,16 @@ first-normal false false false (One e) = refl
 first-normal false false false Several = refl
 
 all-return : (ends : List Exit) → list_all (same_exit Return) ends
-    ≡ (not (has_end ends Normal) && (not (has_end ends Break) && (not (has_end ends Continue) && is_nothing (raised_by (thrown_in ends)))))
+    ≡ (not (has_exit ends Normal) && (not (has_exit ends Break) && (not (has_exit ends Continue) && is_nothing (raised_by (thrown_in ends)))))
 unfolding is_nothing
 all-return [] = refl
 all-return (Normal ∷ ends) = refl
 all-return (Return ∷ ends) = all-return ends
-all-return (Break ∷ ends) = second-out (has_end ends Normal) (has_end ends Continue) (is_nothing (raised_by (thrown_in ends)))
-all-return (Continue ∷ ends) = third-out (has_end ends Normal) (has_end ends Break) (is_nothing (raised_by (thrown_in ends)))
+all-return (Break ∷ ends) = second-out (has_exit ends Normal) (has_exit ends Continue) (is_nothing (raised_by (thrown_in ends)))
+all-return (Continue ∷ ends) = third-out (has_exit ends Normal) (has_exit ends Break) (is_nothing (raised_by (thrown_in ends)))
 all-return (Throw e ∷ ends) =
-    nothing-else (has_end ends Normal) (has_end ends Break) (has_end ends Continue)
-    ∙ ap (λ b. not (has_end ends Normal) && (not (has_end ends Break) && (not (has_end ends Continue) && b))) (some-raised e (thrown_in ends))
+    nothing-else (has_exit ends Normal) (has_exit ends Break) (has_exit ends Continue)
+    ∙ ap (λ b. not (has_exit ends Normal) && (not (has_exit ends Break) && (not (has_exit ends Continue) && b))) (some-raised e (thrown_in ends))
 
 first-return : (a b c : Bool) (r : Raised) → (if not a && (not b && (not c && is_nothing r)) then Some Return else None) ≡ single_of a true b c r
 unfolding is_nothing
@@ -129,16 +129,16 @@ first-return false false false (One e) = refl
 first-return false false false Several = refl
 
 all-break : (ends : List Exit) → list_all (same_exit Break) ends
-    ≡ (not (has_end ends Normal) && (not (has_end ends Return) && (not (has_end ends Continue) && is_nothing (raised_by (thrown_in ends)))))
+    ≡ (not (has_exit ends Normal) && (not (has_exit ends Return) && (not (has_exit ends Continue) && is_nothing (raised_by (thrown_in ends)))))
 unfolding is_nothing
 all-break [] = refl
 all-break (Normal ∷ ends) = refl
-all-break (Return ∷ ends) = second-out (has_end ends Normal) (has_end ends Continue) (is_nothing (raised_by (thrown_in ends)))
+all-break (Return ∷ ends) = second-out (has_exit ends Normal) (has_exit ends Continue) (is_nothing (raised_by (thrown_in ends)))
 all-break (Break ∷ ends) = all-break ends
-all-break (Continue ∷ ends) = third-out (has_end ends Normal) (has_end ends Return) (is_nothing (raised_by (thrown_in ends)))
+all-break (Continue ∷ ends) = third-out (has_exit ends Normal) (has_exit ends Return) (is_nothing (raised_by (thrown_in ends)))
 all-break (Throw e ∷ ends) =
-    nothing-else (has_end ends Normal) (has_end ends Return) (has_end ends Continue)
-    ∙ ap (λ b. not (has_end ends Normal) && (not (has_end ends Return) && (not (has_end ends Continue) && b))) (some-raised e (thrown_in ends))
+    nothing-else (has_exit ends Normal) (has_exit ends Return) (has_exit ends Continue)
+    ∙ ap (λ b. not (has_exit ends Normal) && (not (has_exit ends Return) && (not (has_exit ends Continue) && b))) (some-raised e (thrown_in ends))
 
 first-break : (a b c : Bool) (r : Raised) → (if not a && (not b && (not c && is_nothing r)) then Some Break else None) ≡ single_of a b true c r
 unfolding is_nothing
@@ -168,16 +168,16 @@ first-break false false false (One e) = refl
 first-break false false false Several = refl
 
 all-continue : (ends : List Exit) → list_all (same_exit Continue) ends
-    ≡ (not (has_end ends Normal) && (not (has_end ends Return) && (not (has_end ends Break) && is_nothing (raised_by (thrown_in ends)))))
+    ≡ (not (has_exit ends Normal) && (not (has_exit ends Return) && (not (has_exit ends Break) && is_nothing (raised_by (thrown_in ends)))))
 unfolding is_nothing
 all-continue [] = refl
 all-continue (Normal ∷ ends) = refl
-all-continue (Return ∷ ends) = second-out (has_end ends Normal) (has_end ends Break) (is_nothing (raised_by (thrown_in ends)))
-all-continue (Break ∷ ends) = third-out (has_end ends Normal) (has_end ends Return) (is_nothing (raised_by (thrown_in ends)))
+all-continue (Return ∷ ends) = second-out (has_exit ends Normal) (has_exit ends Break) (is_nothing (raised_by (thrown_in ends)))
+all-continue (Break ∷ ends) = third-out (has_exit ends Normal) (has_exit ends Return) (is_nothing (raised_by (thrown_in ends)))
 all-continue (Continue ∷ ends) = all-continue ends
 all-continue (Throw e ∷ ends) =
-    nothing-else (has_end ends Normal) (has_end ends Return) (has_end ends Break)
-    ∙ ap (λ b. not (has_end ends Normal) && (not (has_end ends Return) && (not (has_end ends Break) && b))) (some-raised e (thrown_in ends))
+    nothing-else (has_exit ends Normal) (has_exit ends Return) (has_exit ends Break)
+    ∙ ap (λ b. not (has_exit ends Normal) && (not (has_exit ends Return) && (not (has_exit ends Break) && b))) (some-raised e (thrown_in ends))
 
 first-continue : (a b c : Bool) (r : Raised) → (if not a && (not b && (not c && is_nothing r)) then Some Continue else None) ≡ single_of a b c true r
 unfolding is_nothing
@@ -207,22 +207,22 @@ first-continue false false false (One e) = refl
 first-continue false false false Several = refl
 
 all-throw : (x : ℕ) (ends : List Exit) → list_all (same_exit (Throw x)) ends
-    ≡ (not (has_end ends Normal) && (not (has_end ends Return) && (not (has_end ends Break) && (not (has_end ends Continue) && list_all (λ other. x == other) (thrown_in ends)))))
+    ≡ (not (has_exit ends Normal) && (not (has_exit ends Return) && (not (has_exit ends Break) && (not (has_exit ends Continue) && list_all (λ other. x == other) (thrown_in ends)))))
 all-throw x [] = refl
 all-throw x (Normal ∷ ends) = refl
-all-throw x (Return ∷ ends) = go (has_end ends Normal)
+all-throw x (Return ∷ ends) = go (has_exit ends Normal)
   where
     go : (a : Bool) → false ≡ (not a && false)
     go true = refl
     go false = refl
-all-throw x (Break ∷ ends) = go (has_end ends Normal) (has_end ends Return)
+all-throw x (Break ∷ ends) = go (has_exit ends Normal) (has_exit ends Return)
   where
     go : (a b : Bool) → false ≡ (not a && (not b && false))
     go true b = refl
     go false true = refl
     go false false = refl
-all-throw x (Continue ∷ ends) = nothing-else (has_end ends Normal) (has_end ends Return) (has_end ends Break)
-all-throw x (Throw y ∷ ends) = go (x == y) (has_end ends Normal) (has_end ends Return) (has_end ends Break) (has_end ends Continue) (all-throw x ends)
+all-throw x (Continue ∷ ends) = nothing-else (has_exit ends Normal) (has_exit ends Return) (has_exit ends Break)
+all-throw x (Throw y ∷ ends) = go (x == y) (has_exit ends Normal) (has_exit ends Return) (has_exit ends Break) (has_exit ends Continue) (all-throw x ends)
   where
     go : (same a b c d : Bool) → list_all (same_exit (Throw x)) ends ≡ (not a && (not b && (not c && (not d && list_all (λ other. x == other) (thrown_in ends)))))
         → (same && list_all (same_exit (Throw x)) ends)
@@ -269,29 +269,29 @@ first-throw x false false false true false = refl
 first-throw x false false false false true = refl
 first-throw x false false false false false = refl
 
-pub single-is : (ends : List Exit) → single_end ends ≡ single_summary (exits_of ends)
+pub single-is : (ends : List Exit) → single_exit ends ≡ single_summary (exits_of ends)
 single-is [] = refl
 single-is (Normal ∷ ends) =
     ap (λ b. if b then Some Normal else None) (all-normal ends)
-    ∙ first-normal (has_end ends Return) (has_end ends Break) (has_end ends Continue) (raised_by (thrown_in ends))
+    ∙ first-normal (has_exit ends Return) (has_exit ends Break) (has_exit ends Continue) (raised_by (thrown_in ends))
 single-is (Return ∷ ends) =
     ap (λ b. if b then Some Return else None) (all-return ends)
-    ∙ first-return (has_end ends Normal) (has_end ends Break) (has_end ends Continue) (raised_by (thrown_in ends))
+    ∙ first-return (has_exit ends Normal) (has_exit ends Break) (has_exit ends Continue) (raised_by (thrown_in ends))
 single-is (Break ∷ ends) =
     ap (λ b. if b then Some Break else None) (all-break ends)
-    ∙ first-break (has_end ends Normal) (has_end ends Return) (has_end ends Continue) (raised_by (thrown_in ends))
+    ∙ first-break (has_exit ends Normal) (has_exit ends Return) (has_exit ends Continue) (raised_by (thrown_in ends))
 single-is (Continue ∷ ends) =
     ap (λ b. if b then Some Continue else None) (all-continue ends)
-    ∙ first-continue (has_end ends Normal) (has_end ends Return) (has_end ends Break) (raised_by (thrown_in ends))
+    ∙ first-continue (has_exit ends Normal) (has_exit ends Return) (has_exit ends Break) (raised_by (thrown_in ends))
 single-is (Throw x ∷ ends) =
     ap (λ b. if b then Some (Throw x) else None) (all-throw x ends)
-    ∙ first-throw x (has_end ends Normal) (has_end ends Return) (has_end ends Break) (has_end ends Continue) (list_all (λ other. x == other) (thrown_in ends))
+    ∙ first-throw x (has_exit ends Normal) (has_exit ends Return) (has_exit ends Break) (has_exit ends Continue) (list_all (λ other. x == other) (thrown_in ends))
 
 -- the answer of a function that finds it
-pub answer : (summary : Exits) (found : Option Exit) → found ≡ single_summary summary → (ends : List Exit) → summary ≡ exits_of ends → found ≡ single_end ends
+pub answer : (summary : Exits) (found : Option Exit) → found ≡ single_summary summary → (ends : List Exit) → summary ≡ exits_of ends → found ≡ single_exit ends
 answer summary found is ends e = is ∙ (ap single_summary e ∙ sym (single-is ends))
 
-pub one-is : (ends : List Exit) → is_some (single_end ends) ≡ one_end ends
+pub one-is : (ends : List Exit) → is_some (single_exit ends) ≡ one_exit ends
 one-is [] = refl
 one-is (exit ∷ ends) = go (list_all (same_exit exit) ends)
   where
@@ -299,11 +299,11 @@ one-is (exit ∷ ends) = go (list_all (same_exit exit) ends)
     go true = refl
     go false = refl
 
--- for a procedure, where a normal end and a return are one
-normal-joined : (ends : List Exit) → has_end (map as_one_end ends) Normal ≡ (has_end ends Normal || has_end ends Return)
+-- for a procedure, where a normal exit and a return are one
+normal-joined : (ends : List Exit) → has_exit (map as_one_exit ends) Normal ≡ (has_exit ends Normal || has_exit ends Return)
 normal-joined [] = refl
 normal-joined (Normal ∷ ends) = refl
-normal-joined (Return ∷ ends) = go (has_end ends Normal)
+normal-joined (Return ∷ ends) = go (has_exit ends Normal)
   where
     go : (a : Bool) → true ≡ (a || true)
     go true = refl
@@ -312,7 +312,7 @@ normal-joined (Break ∷ ends) = normal-joined ends
 normal-joined (Continue ∷ ends) = normal-joined ends
 normal-joined (Throw e ∷ ends) = normal-joined ends
 
-return-joined : (ends : List Exit) → has_end (map as_one_end ends) Return ≡ false
+return-joined : (ends : List Exit) → has_exit (map as_one_exit ends) Return ≡ false
 return-joined [] = refl
 return-joined (Normal ∷ ends) = return-joined ends
 return-joined (Return ∷ ends) = return-joined ends
@@ -320,7 +320,7 @@ return-joined (Break ∷ ends) = return-joined ends
 return-joined (Continue ∷ ends) = return-joined ends
 return-joined (Throw e ∷ ends) = return-joined ends
 
-break-joined : (ends : List Exit) → has_end (map as_one_end ends) Break ≡ has_end ends Break
+break-joined : (ends : List Exit) → has_exit (map as_one_exit ends) Break ≡ has_exit ends Break
 break-joined [] = refl
 break-joined (Normal ∷ ends) = break-joined ends
 break-joined (Return ∷ ends) = break-joined ends
@@ -328,7 +328,7 @@ break-joined (Break ∷ ends) = refl
 break-joined (Continue ∷ ends) = break-joined ends
 break-joined (Throw e ∷ ends) = break-joined ends
 
-continue-joined : (ends : List Exit) → has_end (map as_one_end ends) Continue ≡ has_end ends Continue
+continue-joined : (ends : List Exit) → has_exit (map as_one_exit ends) Continue ≡ has_exit ends Continue
 continue-joined [] = refl
 continue-joined (Normal ∷ ends) = continue-joined ends
 continue-joined (Return ∷ ends) = continue-joined ends
@@ -336,7 +336,7 @@ continue-joined (Break ∷ ends) = continue-joined ends
 continue-joined (Continue ∷ ends) = refl
 continue-joined (Throw e ∷ ends) = continue-joined ends
 
-thrown-joined : (ends : List Exit) → thrown_in (map as_one_end ends) ≡ thrown_in ends
+thrown-joined : (ends : List Exit) → thrown_in (map as_one_exit ends) ≡ thrown_in ends
 thrown-joined [] = refl
 thrown-joined (Normal ∷ ends) = thrown-joined ends
 thrown-joined (Return ∷ ends) = thrown-joined ends
@@ -345,12 +345,12 @@ thrown-joined (Continue ∷ ends) = thrown-joined ends
 thrown-joined (Throw e ∷ ends) = ap (λ es. e ∷ es) (thrown-joined ends)
 
 pub joined-is : (summary : Exits) (ends : List Exit) → summary ≡ exits_of ends
-    → record summary { normal = summary.normal || summary.returns; returns = false } ≡ exits_of (map as_one_end ends)
+    → record summary { normal = summary.normal || summary.returns; returns = false } ≡ exits_of (map as_one_exit ends)
 joined-is summary ends is =
     ap (λ (x : Exits). record x { normal = x.normal || x.returns; returns = false }) is
     ∙ sym (rw (normal-joined ends, return-joined ends, break-joined ends, continue-joined ends, thrown-joined ends) refl)
 
--- several ends have no single one
+-- several exits have no single one
 pub more-normal : (r : Raised) → (r ≡ Nothing → ⊥) → None ≡ single_of true false false false r
 more-normal Nothing more = absurd (more refl)
 more-normal (One e) more = refl

@@ -1,4 +1,4 @@
--- The summary of ends, of lists that are put together.
+-- The summary of exits, of lists that are put together.
 use Rattle.std.proofs.Common.{◌≡◌, ◌≢◌, refl, sym, ap, ◌∙◌, ℕ, List, [], ◌∷◌, ◌++◌, Bool, true, false, not, ◌&&◌, ◌||◌, filter, append_assoc}
 use Rattle.std.specs.Prelude.{◌==◌, if◌then◌else◌}
 use Rattle.std.specs.List.{list_all}
@@ -8,7 +8,7 @@ use Rattle.std.proofs.lemmas.List.Folds.{list_any-append, list_all-append}
 use Rattle.resolved.specs.declared.statement.Exit.{Exit}
 use Rattle.resolved.specs.declared.statement.Exit.TheVariants.{Normal, Return, Break, Continue, Throw}
 use Rattle.resolved.specs.Tree.{Handlers}
-use Rattle.resolved.specs.Ends.{same_exit, has_end, thrown_ends, then_ends, leaves_loop, handles, passes}
+use Rattle.resolved.specs.Exits.{same_exit, has_exit, thrown_exits, then_exits, leaves_loop, handles, passes}
 use Rattle.path_map.specs.declared.exits.Raised.{Raised}
 use Rattle.path_map.specs.declared.exits.Raised.TheVariants.{Nothing, One, Several}
 use Rattle.path_map.specs.Exits.{Exits}
@@ -58,7 +58,7 @@ raised-append (x ∷ xs) ys = go (list_all (λ other. x == other) xs) refl
     go false e = rw (list_all-append (λ other. x == other) xs ys, e) refl
     go true e = rw (list_all-append (λ other. x == other) xs ys, e) (first-with x ys)
 
--- ends that are put together
+-- exits that are put together
 pub exits-append : (xs ys : List Exit) → exits_of (xs ++ ys) ≡ join (exits_of xs) (exits_of ys)
 exits-append xs ys =
     rw (
@@ -70,20 +70,20 @@ exits-append xs ys =
       raised-append (thrown_in xs) (thrown_in ys),
     ) refl
 
--- exceptions as ends
-pub thrown-thrown : (es : List ℕ) → thrown_in (thrown_ends es) ≡ es
+-- exceptions as exits
+pub thrown-thrown : (es : List ℕ) → thrown_in (thrown_exits es) ≡ es
 thrown-thrown [] = refl
 thrown-thrown (e ∷ es) = ap (λ rest. e ∷ rest) (thrown-thrown es)
 
-pub throws-thrown : (es : List ℕ) (e : ℕ) → throws (thrown_ends es) e ≡ is_one_of es e
+pub throws-thrown : (es : List ℕ) (e : ℕ) → throws (thrown_exits es) e ≡ is_one_of es e
 throws-thrown [] e = refl
 throws-thrown (x ∷ es) e = ap (λ b. (e == x) || b) (throws-thrown es e)
 
-pub none-thrown : (exit : Exit) → ((e : ℕ) → same_exit exit (Throw e) ≡ false) → (es : List ℕ) → has_end (thrown_ends es) exit ≡ false
+pub none-thrown : (exit : Exit) → ((e : ℕ) → same_exit exit (Throw e) ≡ false) → (es : List ℕ) → has_exit (thrown_exits es) exit ≡ false
 none-thrown exit differs [] = refl
 none-thrown exit differs (e ∷ es) = rw (differs e) (none-thrown exit differs es)
 
-pub exits-thrown : (es : List ℕ) → exits_of (thrown_ends es) ≡ only_raised (raised_by es)
+pub exits-thrown : (es : List ℕ) → exits_of (thrown_exits es) ≡ only_raised (raised_by es)
 exits-thrown es =
     rw (
       none-thrown Normal (λ _. refl) es,
@@ -93,7 +93,7 @@ exits-thrown es =
       thrown-thrown es,
     ) refl
 
--- the exceptions of ends, by tests
+-- the exceptions of exits, by tests
 pub throws-in : (ends : List Exit) (e : ℕ) → is_one_of (thrown_in ends) e ≡ throws ends e
 throws-in [] e = refl
 throws-in (Normal ∷ ends) e = throws-in ends e
@@ -255,10 +255,10 @@ normal-out (Throw e ∷ ends) =
     ∙ ap (λ x. join (exits_of (Throw e ∷ [])) x) (normal-out ends)
     ∙ ap (λ (x : Exits). record x { normal = false }) (sym (exits-append (Throw e ∷ []) ends))
 
-pub exits-then : (first rest : List Exit) → exits_of (then_ends first rest) ≡ after (exits_of first) (exits_of rest)
-exits-then first rest = go (has_end first Normal) refl
+pub exits-then : (first rest : List Exit) → exits_of (then_exits first rest) ≡ after (exits_of first) (exits_of rest)
+exits-then first rest = go (has_exit first Normal) refl
   where
-    go : (b : Bool) → has_end first Normal ≡ b → exits_of (then_ends first rest) ≡ after (exits_of first) (exits_of rest)
+    go : (b : Bool) → has_exit first Normal ≡ b → exits_of (then_exits first rest) ≡ after (exits_of first) (exits_of rest)
     go false e = rw e (ap (λ b. record (exits_of first) { normal = b }) e)
     go true e =
         rw e (exits-append (filter (λ exit. not (same_exit Normal exit)) first) rest
@@ -272,10 +272,10 @@ throws-out (Break ∷ ends) e = throws-out ends e
 throws-out (Continue ∷ ends) e = throws-out ends e
 throws-out (Throw x ∷ ends) e = ap (λ b. (e == x) || b) (throws-out ends e)
 
-pub throws-then : (first rest : List Exit) (e : ℕ) → throws (then_ends first rest) e ≡ (throws first e || (has_end first Normal && throws rest e))
-throws-then first rest e = go (has_end first Normal) refl
+pub throws-then : (first rest : List Exit) (e : ℕ) → throws (then_exits first rest) e ≡ (throws first e || (has_exit first Normal && throws rest e))
+throws-then first rest e = go (has_exit first Normal) refl
   where
-    go : (b : Bool) → has_end first Normal ≡ b → throws (then_ends first rest) e ≡ (throws first e || (has_end first Normal && throws rest e))
+    go : (b : Bool) → has_exit first Normal ≡ b → throws (then_exits first rest) e ≡ (throws first e || (has_exit first Normal && throws rest e))
     go false f = rw f (sym (or-false (throws first e)))
     go true f =
         rw f (list_any-append (same_exit (Throw e)) (filter (λ exit. not (same_exit Normal exit)) first) rest
@@ -290,7 +290,7 @@ thrown-loop (Break ∷ ends) = thrown-loop ends
 thrown-loop (Continue ∷ ends) = thrown-loop ends
 thrown-loop (Throw e ∷ ends) = ap (λ es. e ∷ es) (thrown-loop ends)
 
-return-loop : (ends : List Exit) → has_end (filter leaves_loop ends) Return ≡ has_end ends Return
+return-loop : (ends : List Exit) → has_exit (filter leaves_loop ends) Return ≡ has_exit ends Return
 return-loop [] = refl
 return-loop (Normal ∷ ends) = return-loop ends
 return-loop (Return ∷ ends) = refl
@@ -298,7 +298,7 @@ return-loop (Break ∷ ends) = return-loop ends
 return-loop (Continue ∷ ends) = return-loop ends
 return-loop (Throw e ∷ ends) = return-loop ends
 
-break-loop : (ends : List Exit) → has_end (filter leaves_loop ends) Break ≡ false
+break-loop : (ends : List Exit) → has_exit (filter leaves_loop ends) Break ≡ false
 break-loop [] = refl
 break-loop (Normal ∷ ends) = break-loop ends
 break-loop (Return ∷ ends) = break-loop ends
@@ -306,7 +306,7 @@ break-loop (Break ∷ ends) = break-loop ends
 break-loop (Continue ∷ ends) = break-loop ends
 break-loop (Throw e ∷ ends) = break-loop ends
 
-continue-loop : (ends : List Exit) → has_end (filter leaves_loop ends) Continue ≡ false
+continue-loop : (ends : List Exit) → has_exit (filter leaves_loop ends) Continue ≡ false
 continue-loop [] = refl
 continue-loop (Normal ∷ ends) = continue-loop ends
 continue-loop (Return ∷ ends) = continue-loop ends
@@ -325,11 +325,11 @@ loop-throws (Break ∷ ends) e = loop-throws ends e
 loop-throws (Continue ∷ ends) e = loop-throws ends e
 loop-throws (Throw x ∷ ends) e = ap (λ b. (e == x) || b) (loop-throws ends e)
 
-pub loop-thrown : (es : List ℕ) (ends : List Exit) → filter leaves_loop (thrown_ends es ++ ends) ≡ thrown_ends es ++ filter leaves_loop ends
+pub loop-thrown : (es : List ℕ) (ends : List Exit) → filter leaves_loop (thrown_exits es ++ ends) ≡ thrown_exits es ++ filter leaves_loop ends
 loop-thrown [] ends = refl
 loop-thrown (e ∷ es) ends = ap (λ rest. Throw e ∷ rest) (loop-thrown es ends)
 
--- the summary of the ends that pass handlers
+-- the summary of the exits that pass handlers
 pub throws-pass : (handlers : Handlers) (ends : List Exit) (e : ℕ)
     → throws (filter (passes handlers) ends) e ≡ (throws ends e && not (handles handlers e))
 throws-pass handlers [] e = refl
@@ -351,7 +351,7 @@ throws-pass handlers (Throw x ∷ ends) e = go (handles handlers x) refl (e == x
         rw (f, g) (rest ∙ rw taken (and-false (throws ends e)))
 
 module _ (handlers : Handlers) where
-  normal-pass : (ends : List Exit) → has_end (filter (passes handlers) ends) Normal ≡ has_end ends Normal
+  normal-pass : (ends : List Exit) → has_exit (filter (passes handlers) ends) Normal ≡ has_exit ends Normal
   normal-pass [] = refl
   normal-pass (Normal ∷ ends) = refl
   normal-pass (Return ∷ ends) = normal-pass ends
@@ -359,12 +359,12 @@ module _ (handlers : Handlers) where
   normal-pass (Continue ∷ ends) = normal-pass ends
   normal-pass (Throw e ∷ ends) = go (handles handlers e) refl (normal-pass ends)
     where
-      go : (b : Bool) → handles handlers e ≡ b → has_end (filter (passes handlers) ends) Normal ≡ has_end ends Normal
-          → has_end (filter (passes handlers) (Throw e ∷ ends)) Normal ≡ has_end ends Normal
+      go : (b : Bool) → handles handlers e ≡ b → has_exit (filter (passes handlers) ends) Normal ≡ has_exit ends Normal
+          → has_exit (filter (passes handlers) (Throw e ∷ ends)) Normal ≡ has_exit ends Normal
       go true f rest = rw f rest
       go false f rest = rw f rest
 
-  return-pass : (ends : List Exit) → has_end (filter (passes handlers) ends) Return ≡ has_end ends Return
+  return-pass : (ends : List Exit) → has_exit (filter (passes handlers) ends) Return ≡ has_exit ends Return
   return-pass [] = refl
   return-pass (Normal ∷ ends) = return-pass ends
   return-pass (Return ∷ ends) = refl
@@ -372,12 +372,12 @@ module _ (handlers : Handlers) where
   return-pass (Continue ∷ ends) = return-pass ends
   return-pass (Throw e ∷ ends) = go (handles handlers e) refl (return-pass ends)
     where
-      go : (b : Bool) → handles handlers e ≡ b → has_end (filter (passes handlers) ends) Return ≡ has_end ends Return
-          → has_end (filter (passes handlers) (Throw e ∷ ends)) Return ≡ has_end ends Return
+      go : (b : Bool) → handles handlers e ≡ b → has_exit (filter (passes handlers) ends) Return ≡ has_exit ends Return
+          → has_exit (filter (passes handlers) (Throw e ∷ ends)) Return ≡ has_exit ends Return
       go true f rest = rw f rest
       go false f rest = rw f rest
 
-  break-pass : (ends : List Exit) → has_end (filter (passes handlers) ends) Break ≡ has_end ends Break
+  break-pass : (ends : List Exit) → has_exit (filter (passes handlers) ends) Break ≡ has_exit ends Break
   break-pass [] = refl
   break-pass (Normal ∷ ends) = break-pass ends
   break-pass (Return ∷ ends) = break-pass ends
@@ -385,12 +385,12 @@ module _ (handlers : Handlers) where
   break-pass (Continue ∷ ends) = break-pass ends
   break-pass (Throw e ∷ ends) = go (handles handlers e) refl (break-pass ends)
     where
-      go : (b : Bool) → handles handlers e ≡ b → has_end (filter (passes handlers) ends) Break ≡ has_end ends Break
-          → has_end (filter (passes handlers) (Throw e ∷ ends)) Break ≡ has_end ends Break
+      go : (b : Bool) → handles handlers e ≡ b → has_exit (filter (passes handlers) ends) Break ≡ has_exit ends Break
+          → has_exit (filter (passes handlers) (Throw e ∷ ends)) Break ≡ has_exit ends Break
       go true f rest = rw f rest
       go false f rest = rw f rest
 
-  continue-pass : (ends : List Exit) → has_end (filter (passes handlers) ends) Continue ≡ has_end ends Continue
+  continue-pass : (ends : List Exit) → has_exit (filter (passes handlers) ends) Continue ≡ has_exit ends Continue
   continue-pass [] = refl
   continue-pass (Normal ∷ ends) = continue-pass ends
   continue-pass (Return ∷ ends) = continue-pass ends
@@ -398,8 +398,8 @@ module _ (handlers : Handlers) where
   continue-pass (Continue ∷ ends) = refl
   continue-pass (Throw e ∷ ends) = go (handles handlers e) refl (continue-pass ends)
     where
-      go : (b : Bool) → handles handlers e ≡ b → has_end (filter (passes handlers) ends) Continue ≡ has_end ends Continue
-          → has_end (filter (passes handlers) (Throw e ∷ ends)) Continue ≡ has_end ends Continue
+      go : (b : Bool) → handles handlers e ≡ b → has_exit (filter (passes handlers) ends) Continue ≡ has_exit ends Continue
+          → has_exit (filter (passes handlers) (Throw e ∷ ends)) Continue ≡ has_exit ends Continue
       go true f rest = rw f rest
       go false f rest = rw f rest
 

@@ -9,13 +9,13 @@ use Rattle.resolved.specs.declared.statement.Exit.{Exit}
 use Rattle.resolved.specs.declared.statement.Exit.TheVariants.{Normal, Return, Break, Continue, Throw}
 use Rattle.resolved.specs.Tree.{Statement, Block, Empty, Then, Handlers, NoMore, Catch, place_of}
 use Rattle.resolved.specs.Program.{Program}
-use Rattle.resolved.specs.Ends.{same_exit, has_end, thrown_ends, then_ends, leaves_loop, handles, passes, statement_ends, block_ends, handlers_ends}
-use Rattle.resolved.specs.EndFaults.{may_stand, inner_faults, block_faults, handlers_faults}
-use Rattle.resolved.specs.declared.fault.EndRefusal.{EndRefusal}
+use Rattle.resolved.specs.Exits.{same_exit, has_exit, thrown_exits, then_exits, leaves_loop, handles, passes, statement_exits, block_exits, handlers_exits}
+use Rattle.resolved.specs.ExitFaults.{may_stand, inner_faults, block_faults, handlers_faults}
+use Rattle.resolved.specs.declared.fault.ExitRefusal.{ExitRefusal}
 use Rattle.path_map.specs.declared.exits.Raised.{Raised}
 use Rattle.path_map.specs.declared.exits.Raised.TheVariants.{Nothing}
 use Rattle.path_map.specs.Exits.{Exits}
-use Rattle.resolved.specs.declared.fault.EndRefusalKind.TheVariants as kind
+use Rattle.resolved.specs.declared.fault.ExitRefusalKind.TheVariants as kind
 use Rattle.common.specs.declared.fault.OrNoMemory.{OrNoMemory}
 use Rattle.common.specs.declared.fault.OrNoMemory.TheVariants.{NoMemory, Refused}
 use Rattle.common.specs.Answers.{IfRefused}
@@ -27,7 +27,7 @@ use Rattle.path_map.specs.Exceptions.{is_one_of}
 use Rattle.path_map.specs.Sets.{IsSum, IsSummaryOf, throws}
 use Rattle.path_map.specs.Walks.{IsFound, AreThrown, AreLeft}
 use Rattle.path_map.proofs.Summary.{exits-append, exits-assoc, exits-then, throws-then, after-assoc, after-normal, join-none, loop-summary, loop-throws, exits-pass, throws-pass, throws-in, throws-thrown, exits-thrown, raised-same, raised-append, summary-is}
-use Rattle.path_map.specs.EndsOf.{SameEnds}
+use Rattle.path_map.specs.EndsOf.{SameExits}
 use Rattle.path_map.specs.Entries.{HasExits, IsPut}
 use Rattle.path_map.proofs.Alike.{alike-refl, alike-set, alike-length, alike-both, alike-step, alike-end, alike-nil}
 use Rattle.path_map.proofs.Rows.{not-more}
@@ -47,7 +47,7 @@ pub sum-none : (a : ℕ → Bool) → IsSum a (λ e. false) a
 sum-none a = record { has = λ e. sym (or-false (a e)) }
 
 put-same : (ends : List Exit) (own : ℕ → Bool) (found : Exits) (written : List Exit) → found ≡ exits_of ends
-    → ((e : ℕ) → own e ≡ throws ends e) → HasExits found own written → SameEnds written ends
+    → ((e : ℕ) → own e ≡ throws ends e) → HasExits found own written → SameExits written ends
 put-same ends own found written is own-is has Normal = has.normal ∙ ap (λ (x : Exits). x.normal) is
 put-same ends own found written is own-is has Return = has.returns ∙ ap (λ (x : Exits). x.returns) is
 put-same ends own found written is own-is has Break = has.breaks ∙ ap (λ (x : Exits). x.breaks) is
@@ -146,30 +146,30 @@ module _ (b h : List Exit) (handlers : Handlers) (pb ph : List (List Exit)) (e0 
       }
 
 -- the first of faults that are put together
-pub first-left : (a b : List EndRefusal) (fault : OrNoMemory EndRefusal) → IfRefused (IsFirstEndFault a) fault → IfRefused (IsFirstEndFault (a ++ b)) fault
+pub first-left : (a b : List ExitRefusal) (fault : OrNoMemory ExitRefusal) → IfRefused (IsFirstEndFault a) fault → IfRefused (IsFirstEndFault (a ++ b)) fault
 first-left a b NoMemory first = tt
 first-left [] b (Refused refusal) first = absurd (cc)
 first-left (x ∷ a) b (Refused refusal) first = first
 
-pub first-right : (a b : List EndRefusal) (fault : OrNoMemory EndRefusal) → a ≡ [] → IfRefused (IsFirstEndFault b) fault → IfRefused (IsFirstEndFault (a ++ b)) fault
+pub first-right : (a b : List ExitRefusal) (fault : OrNoMemory ExitRefusal) → a ≡ [] → IfRefused (IsFirstEndFault b) fault → IfRefused (IsFirstEndFault (a ++ b)) fault
 first-right a b fault none first = subst (λ xs. IfRefused (IsFirstEndFault (xs ++ b)) fault) (sym none) first
 
-pub none-both : (a b : List EndRefusal) → a ≡ [] → b ≡ [] → a ++ b ≡ []
+pub none-both : (a b : List ExitRefusal) → a ≡ [] → b ≡ [] → a ++ b ≡ []
 none-both a b p q = ap (λ xs. xs ++ b) p ∙ q
 
 -- along the statements of a block: what was found so far, with what is to come, is what is found of the block
 pub record Along (program : Program) (in_loop : Bool) (block tail : Block) (old now : List (List Exit)) (had has : ℕ → Bool) (so_far : Exits) : Type 0 where
-  pub summary : after so_far (exits_of (block_ends program tail)) ≡ exits_of (block_ends program block)
+  pub summary : after so_far (exits_of (block_exits program tail)) ≡ exits_of (block_exits program block)
   pub entries : AreAlike (now ++ rest_paths program tail) (old ++ rest_paths program block)
-  pub raised : (e : ℕ) → (has e || (so_far.normal && throws (block_ends program tail) e)) ≡ (had e || throws (block_ends program block) e)
+  pub raised : (e : ℕ) → (has e || (so_far.normal && throws (block_exits program tail) e)) ≡ (had e || throws (block_exits program block) e)
   pub faults : block_faults program in_loop so_far.normal tail ≡ block_faults program in_loop true block
 
 module _ (program : Program) (in_loop : Bool) (block : Block) (old : List (List Exit)) (had : ℕ → Bool) where
   pub along-begin : (so_far : Exits) → so_far ≡ record (only_raised Nothing) { normal = true } → Along program in_loop block block old old had had so_far
   along-begin so_far is = record {
-    summary = ap (λ (x : Exits). after x (exits_of (block_ends program block))) is;
+    summary = ap (λ (x : Exits). after x (exits_of (block_exits program block))) is;
     entries = alike-refl (old ++ rest_paths program block);
-    raised = λ e. ap (λ (x : Exits). had e || (x.normal && throws (block_ends program block) e)) is;
+    raised = λ e. ap (λ (x : Exits). had e || (x.normal && throws (block_exits program block) e)) is;
     faults = ap (λ (x : Exits). block_faults program in_loop x.normal block) is;
   }
 
@@ -187,19 +187,19 @@ module _ (program : Program) (in_loop : Bool) (block : Block) (old : List (List 
         subst (λ faults. IfRefused (IsFirstEndFault faults) (Refused (record { kind = kind.Unreachable; at = place_of statement }))) along.faults
         (rw (stands, reached) refl)
 
-    pub inside : may_stand in_loop statement ≡ true → so_far.normal ≡ true → (fault : OrNoMemory EndRefusal) → IfRefused (IsFirstEndFault (inner_faults program in_loop statement)) fault
+    pub inside : may_stand in_loop statement ≡ true → so_far.normal ≡ true → (fault : OrNoMemory ExitRefusal) → IfRefused (IsFirstEndFault (inner_faults program in_loop statement)) fault
         → IfRefused (IsFirstEndFault (block_faults program in_loop true block)) fault
     inside stands reached fault first =
         subst (λ faults. IfRefused (IsFirstEndFault faults) fault) along.faults
-        (rw (stands, reached) (first-left (inner_faults program in_loop statement) (block_faults program in_loop (has_end (statement_ends program statement) Normal) tail) fault first))
+        (rw (stands, reached) (first-left (inner_faults program in_loop statement) (block_faults program in_loop (has_exit (statement_exits program statement) Normal) tail) fault first))
 
     pub along-step : may_stand in_loop statement ≡ true → so_far.normal ≡ true → (next : List (List Exit)) (more : ℕ → Bool) (found : Exits)
-        → IsFound (statement_ends program statement) (statement_paths program statement) now next has more found
+        → IsFound (statement_exits program statement) (statement_paths program statement) now next has more found
         → inner_faults program in_loop statement ≡ [] → Along program in_loop block tail old next had more (after so_far found)
     along-step stands reached next more found piece clean =
-        let ends : List Exit = statement_ends program statement in
-        let rest : List Exit = block_ends program tail in
-        let goes_on : (after so_far found).normal ≡ has_end ends Normal = rw reached (ap (λ (x : Exits). x.normal) piece.summary) in
+        let ends : List Exit = statement_exits program statement in
+        let rest : List Exit = block_exits program tail in
+        let goes_on : (after so_far found).normal ≡ has_exit ends Normal = rw reached (ap (λ (x : Exits). x.normal) piece.summary) in
         record {
           summary =
               ap (λ x. after (after so_far x) (exits_of rest)) piece.summary
@@ -210,10 +210,10 @@ module _ (program : Program) (in_loop : Bool) (block : Block) (old : List (List 
               alike-step next now (statement_paths program statement) (rest_paths program tail) (old ++ rest_paths program block) piece.entries along.entries;
           raised = λ e.
               ap (λ b. more e || (b && throws rest e)) goes_on
-              ∙ ap (λ b. b || (has_end ends Normal && throws rest e)) (piece.raised.has e)
-              ∙ or_assoc (has e) (throws ends e) (has_end ends Normal && throws rest e)
+              ∙ ap (λ b. b || (has_exit ends Normal && throws rest e)) (piece.raised.has e)
+              ∙ or_assoc (has e) (throws ends e) (has_exit ends Normal && throws rest e)
               ∙ ap (λ b. has e || b) (sym (throws-then ends rest e))
-              ∙ ap (λ b. has e || (b && throws (then_ends ends rest) e)) (sym reached)
+              ∙ ap (λ b. has e || (b && throws (then_exits ends rest) e)) (sym reached)
               ∙ along.raised e;
           faults =
               ap (λ b. block_faults program in_loop b tail) goes_on
@@ -222,7 +222,7 @@ module _ (program : Program) (in_loop : Bool) (block : Block) (old : List (List 
         }
 
   pub along-end : (now : List (List Exit)) (has : ℕ → Bool) (so_far : Exits) → Along program in_loop block Empty old now had has so_far
-      → IsFound (block_ends program block) (rest_paths program block) old now had has so_far
+      → IsFound (block_exits program block) (rest_paths program block) old now had has so_far
   along-end now has so_far along = record {
     summary = after-normal so_far ∙ along.summary;
     entries = alike-end now (old ++ rest_paths program block) along.entries;
@@ -230,15 +230,15 @@ module _ (program : Program) (in_loop : Bool) (block : Block) (old : List (List 
   }
 
 -- along handlers: what the walk has taken out of the inner set, and the faults that are to come
-pub record Remaining (program : Program) (in_loop : Bool) (faults : List EndRefusal) (row : ℕ → Bool) (tail : Handlers) : Type 0 where
+pub record Remaining (program : Program) (in_loop : Bool) (faults : List ExitRefusal) (row : ℕ → Bool) (tail : Handlers) : Type 0 where
   pub ends : List Exit
   pub are : AreThrown row ends
   pub same : handlers_faults program in_loop ends tail ≡ faults
 
 pub record Handling (program : Program) (in_loop : Bool) (handlers tail : Handlers) (old now : List (List Exit)) (had has was row : ℕ → Bool) (so_far : Exits) : Type 0 where
-  pub summary : join so_far (exits_of (handlers_ends program tail)) ≡ exits_of (handlers_ends program handlers)
+  pub summary : join so_far (exits_of (handlers_exits program tail)) ≡ exits_of (handlers_exits program handlers)
   pub entries : AreAlike (now ++ handlers_paths program tail) (old ++ handlers_paths program handlers)
-  pub raised : (e : ℕ) → (has e || throws (handlers_ends program tail) e) ≡ (had e || throws (handlers_ends program handlers) e)
+  pub raised : (e : ℕ) → (has e || throws (handlers_exits program tail) e) ≡ (had e || throws (handlers_exits program handlers) e)
   pub left : (e : ℕ) → (row e && not (handles tail e)) ≡ (was e && not (handles handlers e))
   pub remaining : (ends : List Exit) → AreThrown was ends → Remaining program in_loop (handlers_faults program in_loop ends handlers) row tail
 
@@ -268,7 +268,7 @@ throws-without h (Throw x ∷ ends) e = go (h == x) refl (e == x) refl (throws-w
 module _ (program : Program) (in_loop : Bool) (handlers : Handlers) (old : List (List Exit)) (had was : ℕ → Bool) where
   pub handling-begin : (so_far : Exits) → so_far ≡ only_raised Nothing → Handling program in_loop handlers handlers old old had had was was so_far
   handling-begin so_far is = record {
-    summary = ap (λ x. join x (exits_of (handlers_ends program handlers))) is;
+    summary = ap (λ x. join x (exits_of (handlers_exits program handlers))) is;
     entries = alike-refl (old ++ handlers_paths program handlers);
     raised = λ e. refl;
     left = λ e. refl;
@@ -285,7 +285,7 @@ module _ (program : Program) (in_loop : Bool) (handlers : Handlers) (old : List 
         let none : throws there.ends handled ≡ false = sym (there.are.has handled) ∙ absent in
         subst (λ faults. IfRefused (IsFirstEndFault faults) (Refused (record { kind = kind.NeverRaised; at = at }))) there.same (rw none refl)
 
-    pub in-handler : row handled ≡ true → (fault : OrNoMemory EndRefusal) → IfRefused (IsFirstEndFault (block_faults program in_loop true body)) fault
+    pub in-handler : row handled ≡ true → (fault : OrNoMemory ExitRefusal) → IfRefused (IsFirstEndFault (block_faults program in_loop true body)) fault
         → (ends : List Exit) → AreThrown was ends → IfRefused (IsFirstEndFault (handlers_faults program in_loop ends handlers)) fault
     in-handler present fault first ends are =
         let there = along.remaining ends are in
@@ -295,12 +295,12 @@ module _ (program : Program) (in_loop : Bool) (handlers : Handlers) (old : List 
         (handlers_faults program in_loop (filter (λ exit. not (same_exit (Throw handled) exit)) there.ends) tail) fault first))
 
     pub handling-step : row handled ≡ true → (next : List (List Exit)) (more : ℕ → Bool) (found : Exits)
-        → IsFound (block_ends program body) (block_paths program body) now next has more found
+        → IsFound (block_exits program body) (block_paths program body) now next has more found
         → block_faults program in_loop true body ≡ []
         → Handling program in_loop handlers tail old next had more was taken (join so_far found)
     handling-step present next more found piece clean =
-        let ends : List Exit = block_ends program body in
-        let rest : List Exit = handlers_ends program tail in
+        let ends : List Exit = block_exits program body in
+        let rest : List Exit = handlers_exits program tail in
         record {
           summary =
               ap (λ x. join (join so_far x) (exits_of rest)) piece.summary
@@ -332,7 +332,7 @@ module _ (program : Program) (in_loop : Bool) (handlers : Handlers) (old : List 
         }
 
   pub handling-end : (now : List (List Exit)) (has row : ℕ → Bool) (so_far : Exits) → Handling program in_loop handlers NoMore old now had has was row so_far
-      → IsFound (handlers_ends program handlers) (handlers_paths program handlers) old now had has so_far
+      → IsFound (handlers_exits program handlers) (handlers_paths program handlers) old now had has so_far
   handling-end now has row so_far along = record {
     summary = sym (join-none so_far) ∙ along.summary;
     entries = alike-end now (old ++ handlers_paths program handlers) along.entries;
@@ -345,35 +345,35 @@ module _ (listed exceptions : List ℕ) (same : (e : ℕ) → is_one_of listed e
   raised-is : raised ≡ raised_by exceptions
   raised-is = is ∙ raised-same listed exceptions same
 
-  sum-is : IsSum had (throws (thrown_ends exceptions)) has
-  sum-is = sum-same had has (is_one_of listed) (throws (thrown_ends exceptions)) sum (λ e. throws-thrown exceptions e ∙ sym (same e))
+  sum-is : IsSum had (throws (thrown_exits exceptions)) has
+  sum-is = sum-same had has (is_one_of listed) (throws (thrown_exits exceptions)) sum (λ e. throws-thrown exceptions e ∙ sym (same e))
 
-  pub raising-found : exits ≡ only_raised raised → IsFound (thrown_ends exceptions) [] entries entries had has exits
+  pub raising-found : exits ≡ only_raised raised → IsFound (thrown_exits exceptions) [] entries entries had has exits
   raising-found made = record {
     summary = made ∙ (ap only_raised raised-is ∙ sym (exits-thrown exceptions));
     entries = alike-nil entries;
     raised = sum-is;
   }
 
-  pub going-found : exits ≡ record (only_raised raised) { normal = true } → IsFound (Normal ∷ thrown_ends exceptions) [] entries entries had has exits
+  pub going-found : exits ≡ record (only_raised raised) { normal = true } → IsFound (Normal ∷ thrown_exits exceptions) [] entries entries had has exits
   going-found made = record {
     summary = made ∙ ap (λ (x : Exits). record x { normal = true }) (ap only_raised raised-is ∙ sym (exits-thrown exceptions));
     entries = alike-nil entries;
-    raised = sum-same had has (throws (thrown_ends exceptions)) (throws (Normal ∷ thrown_ends exceptions)) sum-is (λ e. refl);
+    raised = sum-same had has (throws (thrown_exits exceptions)) (throws (Normal ∷ thrown_exits exceptions)) sum-is (λ e. refl);
   }
 
-  pub returning-found : exits ≡ record (only_raised raised) { returns = true } → IsFound (Return ∷ thrown_ends exceptions) [] entries entries had has exits
+  pub returning-found : exits ≡ record (only_raised raised) { returns = true } → IsFound (Return ∷ thrown_exits exceptions) [] entries entries had has exits
   returning-found made = record {
     summary = made ∙ ap (λ (x : Exits). record x { returns = true }) (ap only_raised raised-is ∙ sym (exits-thrown exceptions));
     entries = alike-nil entries;
-    raised = sum-same had has (throws (thrown_ends exceptions)) (throws (Return ∷ thrown_ends exceptions)) sum-is (λ e. refl);
+    raised = sum-same had has (throws (thrown_exits exceptions)) (throws (Return ∷ thrown_exits exceptions)) sum-is (λ e. refl);
   }
 
 -- a call: what its arguments raise, and what the procedure declares
 pub call-found : (listed exceptions declared : List ℕ) (same : (e : ℕ) → is_one_of listed e ≡ is_one_of exceptions e) (own other : Raised)
     → own ≡ raised_by listed → other ≡ raised_by declared → (had mid has : ℕ → Bool) → IsSum had (is_one_of listed) mid → IsSum mid (is_one_of declared) has
     → (exits : Exits) (entries : List (List Exit)) → exits ≡ record (only_raised (join_raised own other)) { normal = true }
-    → IsFound (Normal ∷ thrown_ends (exceptions ++ declared)) [] entries entries had has exits
+    → IsFound (Normal ∷ thrown_exits (exceptions ++ declared)) [] entries entries had has exits
 call-found listed exceptions declared same own other own_is other_is had mid has first second exits entries made =
     going-found (exceptions ++ declared) (exceptions ++ declared) (λ e. refl) (join_raised own other)
     (ap (λ r. join_raised r other) (own_is ∙ raised-same listed exceptions same) ∙ ap (λ r. join_raised (raised_by exceptions) r) other_is

@@ -1,15 +1,15 @@
--- What is kept of the ends of statements and blocks: a summary, and the number of a row of exceptions, where they are
+-- What is kept of the exits of statements and blocks: a summary, and the number of a row of exceptions, where they are
 -- several.
 -- Source: our own.
 use Rattle.std.specs.Prelude.{◌≡◌, ℕ, ◌<◌, ◌≤◌, List, [], ◌∷◌, ◌++◌, Bool, length, set, if◌then◌else◌, Option, Some, None, ⊤}
 use Rattle.resolved.specs.declared.statement.Exit.{Exit}
 use Rattle.resolved.specs.declared.statement.Exit.TheVariants.{Normal, Return, Break, Continue}
-use Rattle.resolved.specs.Ends.{has_end, thrown_ends}
+use Rattle.resolved.specs.Exits.{has_exit, thrown_exits}
 use Rattle.path_map.specs.declared.exits.Raised.{Raised}
 use Rattle.path_map.specs.declared.exits.Raised.TheVariants.{Nothing, One, Several}
 use Rattle.path_map.specs.Exits.{Exits}
 use Rattle.path_map.specs.declared.keeping.KeptRow.{KeptRow}
-use Rattle.path_map.specs.declared.table.EndsEntry.{EndsEntry}
+use Rattle.path_map.specs.declared.table.ExitsEntry.{ExitsEntry}
 use Rattle.path_map.specs.Exits.{exits_of}
 use Rattle.path_map.specs.Exceptions.{is_one_of}
 use Rattle.path_map.specs.RowLists.{row_at}
@@ -21,22 +21,22 @@ exceptions_at rows row Nothing = []
 exceptions_at rows row (One exception) = exception ∷ []
 exceptions_at rows row Several = row_at rows row
 
--- the ends of an entry
+-- the exits of an entry
 abbrev pub end_if : Bool → Exit → List Exit
 end_if test exit = if test then exit ∷ [] else []
 
-abbrev pub entry_ends : List KeptRow → EndsEntry → List Exit
-entry_ends rows entry =
+abbrev pub entry_exits : List KeptRow → ExitsEntry → List Exit
+entry_exits rows entry =
     end_if entry.exits.normal Normal ++ (end_if entry.exits.returns Return
     ++ (end_if entry.exits.breaks Break ++ (end_if entry.exits.continues Continue
-    ++ thrown_ends (exceptions_at rows entry.row entry.exits.raised))))
+    ++ thrown_exits (exceptions_at rows entry.row entry.exits.raised))))
 
--- an entry whose row is there, and whose summary is that of its ends
-pub record IsKept (rows : List KeptRow) (entry : EndsEntry) : Type 0 where
+-- an entry whose row is there, and whose summary is that of its exits
+pub record IsKept (rows : List KeptRow) (entry : ExitsEntry) : Type 0 where
   pub there : entry.row < length rows
-  pub summary : entry.exits ≡ exits_of (entry_ends rows entry)
+  pub summary : entry.exits ≡ exits_of (entry_exits rows entry)
 
-abbrev pub AreKept : List KeptRow → List EndsEntry → Type 0
+abbrev pub AreKept : List KeptRow → List ExitsEntry → Type 0
 AreKept rows [] = ⊤
 AreKept rows (entry ∷ rest) = IsKept rows entry × AreKept rows rest
 
@@ -60,12 +60,12 @@ pub record IsRowFor (set : ℕ → Bool) (summary : Raised) (rows : List KeptRow
   pub there : row < length rows
   pub same : summary ≡ Several → (exception : ℕ) → is_one_of (row_at rows row) exception ≡ set exception
 
--- ends with these four that are no exception, and the exceptions of a set
+-- exits with these four that are no exception, and the exceptions of a set
 pub record HasExits (exits : Exits) (set : ℕ → Bool) (ends : List Exit) : Type 0 where
-  pub normal : has_end ends Normal ≡ exits.normal
-  pub returns : has_end ends Return ≡ exits.returns
-  pub breaks : has_end ends Break ≡ exits.breaks
-  pub continues : has_end ends Continue ≡ exits.continues
+  pub normal : has_exit ends Normal ≡ exits.normal
+  pub returns : has_exit ends Return ≡ exits.returns
+  pub breaks : has_exit ends Break ≡ exits.breaks
+  pub continues : has_exit ends Continue ≡ exits.continues
   pub raised : (exception : ℕ) → throws ends exception ≡ set exception
 
 -- a table in which one entry was written

@@ -1,8 +1,8 @@
--- Private: how summaries of ends are put together.
+-- Private: how summaries of exits are put together.
 -- Source: our own.
 use Rattle.std.specs.Prelude.{ℕ, List, [], true, false, ◌==◌, ◌||◌, if◌then◌else◌, Option, Some, None}
 use Rattle.resolved.specs.Tree.{Expression}
-use Rattle.resolved.specs.Ends.{raises}
+use Rattle.resolved.specs.Exits.{raises}
 use Rattle.path_map.specs.declared.exits.Raised.{Raised}
 use Rattle.path_map.specs.declared.exits.Raised.TheVariants.{Nothing, One, Several}
 use Rattle.path_map.specs.Exits.{Exits, for_all}
@@ -15,7 +15,7 @@ join_raised (One exception) (One other) = if exception == other then One excepti
 join_raised (One exception) Several = Several
 join_raised Several other = Several
 
--- of the ends of two lists
+-- of the exits of two lists
 abbrev pub join : Exits → Exits → Exits
 join first other = record {
   normal = first.normal || other.normal;
@@ -25,11 +25,11 @@ join first other = record {
   raised = join_raised first.raised other.raised;
 }
 
--- of the ends of what is done after a first statement
+-- of the exits of what is done after a first statement
 abbrev pub after : Exits → Exits → Exits
 after first rest = if first.normal then join (record first { normal = false }) rest else first
 
--- of no end, and of some exceptions alone
+-- of no exit, and of some exceptions alone
 abbrev pub only_raised : Raised → Exits
 only_raised = for_all false
 

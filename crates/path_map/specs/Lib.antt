@@ -12,5 +12,5 @@ pub mod Rows
 pub mod Listed
 pub mod RowLists
 pub mod Entries
-pub mod ThrownEnds
+pub mod ThrownExits
 pub mod Walks

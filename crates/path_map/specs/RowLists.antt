@@ -3,8 +3,8 @@
 use Rattle.std.specs.Prelude.{◌≡◌, ℕ, List, [], ◌∷◌, ◌++◌, Bool, not, filter, if◌then◌else◌, slice_index_or, Option, Some, None, ⊤, ◌==◌, ◌||◌}
 use Rattle.path_map.specs.declared.members.ExceptionSet.{ExceptionSet}
 use Rattle.path_map.specs.declared.keeping.KeptRow.{KeptRow}
-use Rattle.path_map.specs.declared.keeping.RowForm.{RowForm}
-use Rattle.path_map.specs.declared.keeping.RowForm.TheVariants.{Whole, Both, Changed}
+use Rattle.path_map.specs.declared.keeping.KeptForm.{KeptForm}
+use Rattle.path_map.specs.declared.keeping.KeptForm.TheVariants.{Whole, Both, Changed}
 use Rattle.path_map.specs.Exceptions.{is_one_of}
 use Rattle.path_map.specs.Listed.{listed}
 use Rattle.path_map.specs.Sets.{members}
@@ -17,7 +17,7 @@ abbrev pub changed_has : ℕ → (ℕ → Bool) → ℕ → Bool
 changed_has exception has other = if other == exception then not (has other) else has other
 
 -- the exceptions of a row, by those of the rows before it
-abbrev pub form_list : List (List ℕ) → RowForm → List ℕ
+abbrev pub form_list : List (List ℕ) → KeptForm → List ℕ
 form_list lists (Whole set) = listed set
 form_list lists (Both one other) = slice_index_or lists one [] ++ slice_index_or lists other []
 form_list lists (Changed base exception) = changed exception (slice_index_or lists base [])

@@ -3,7 +3,7 @@
 use Rattle.std.specs.Prelude.{◌≡◌, ◌≢◌, ℕ, List, Bool, true, false, ◌||◌, Option, Some, None, ⊤}
 use Rattle.resolved.specs.declared.statement.Exit.{Exit}
 use Rattle.resolved.specs.declared.statement.Exit.TheVariants.{Throw}
-use Rattle.resolved.specs.Ends.{has_end}
+use Rattle.resolved.specs.Exits.{has_exit}
 use Rattle.path_map.specs.declared.exits.Raised.{Raised}
 use Rattle.path_map.specs.declared.members.ExceptionSet.{ExceptionSet}
 use Rattle.path_map.specs.Exceptions.{is_one_of}
@@ -57,6 +57,6 @@ abbrev pub MayBeCopy : ExceptionSet → (bound : ℕ) → Option ExceptionSet �
 MayBeCopy old bound None = ⊤
 MayBeCopy old bound (Some new) = IsCopy old bound new
 
--- the exceptions among ends, as a set
+-- the exceptions among exits, as a set
 abbrev pub throws : List Exit → ℕ → Bool
-throws ends exception = has_end ends (Throw exception)
+throws ends exception = has_exit ends (Throw exception)

@@ -12,15 +12,15 @@ use Rattle.resolved.specs.TreeOf.{statement_of, block_of, handlers_of}
 use Rattle.resolved.specs.Tree.{Handlers}
 use Rattle.resolved.specs.Program.{ProcedureEntry}
 use Rattle.resolved.specs.WellFormed.{block_fits, handlers_fit, statement_fits}
-use Rattle.resolved.specs.Ends.{handles, statement_ends, block_ends, handlers_ends}
-use Rattle.resolved.specs.EndFaults.{inner_faults, block_faults, handlers_faults}
-use Rattle.resolved.specs.declared.fault.EndRefusal.{EndRefusal}
+use Rattle.resolved.specs.Exits.{handles, statement_exits, block_exits, handlers_exits}
+use Rattle.resolved.specs.ExitFaults.{inner_faults, block_faults, handlers_faults}
+use Rattle.resolved.specs.declared.fault.ExitRefusal.{ExitRefusal}
 use Rattle.path_map.specs.Exits.{Exits}
 use Rattle.path_map.specs.Exits.{exits_of}
 use Rattle.path_map.specs.Paths.{AreAlike, statement_paths, inner_paths, block_paths, rest_paths, handlers_paths}
 use Rattle.path_map.specs.Sets.{IsSum, throws}
 
--- of a piece with these ends, and with these in it, where `old` are the ends before it and `had` the exceptions so far
+-- of a piece with these exits, and with these in it, where `old` are the exits before it and `had` the exceptions so far
 pub record IsFound (ends : List Exit) (paths : List (List Exit)) (old new : List (List Exit)) (had has : ℕ → Bool) (found : Exits) : Type 0 where
   pub summary : found ≡ exits_of ends
   pub entries : AreAlike new (old ++ paths)
@@ -33,37 +33,37 @@ IsFoundAlone ends had has found = (entries : List (List Exit)) → IsFound ends 
 -- of a block with its own entry, and without it
 abbrev pub IsBlockFound : Core → List S.Statement → (old new : List (List Exit)) (had has : ℕ → Bool) → Exits → Type 0
 IsBlockFound core block =
-    IsFound (block_ends (program_of core) (block_of block)) (block_paths (program_of core) (block_of block))
+    IsFound (block_exits (program_of core) (block_of block)) (block_paths (program_of core) (block_of block))
 
 abbrev pub AreStatementsFound : Core → List S.Statement → (old new : List (List Exit)) (had has : ℕ → Bool) → Exits → Type 0
 AreStatementsFound core block =
-    IsFound (block_ends (program_of core) (block_of block)) (rest_paths (program_of core) (block_of block))
+    IsFound (block_exits (program_of core) (block_of block)) (rest_paths (program_of core) (block_of block))
 
 -- of a statement with its own entry, and without it
 abbrev pub IsStatementFound : Core → S.Statement → (old new : List (List Exit)) (had has : ℕ → Bool) → Exits → Type 0
 IsStatementFound core statement =
-    IsFound (statement_ends (program_of core) (statement_of statement)) (statement_paths (program_of core) (statement_of statement))
+    IsFound (statement_exits (program_of core) (statement_of statement)) (statement_paths (program_of core) (statement_of statement))
 
 abbrev pub IsFormFound : Core → S.Statement → (old new : List (List Exit)) (had has : ℕ → Bool) → Exits → Type 0
 IsFormFound core statement =
-    IsFound (statement_ends (program_of core) (statement_of statement)) (inner_paths (program_of core) (statement_of statement))
+    IsFound (statement_exits (program_of core) (statement_of statement)) (inner_paths (program_of core) (statement_of statement))
 
 -- of handlers
 abbrev pub AreHandlersFound : Core → List Handler → (old new : List (List Exit)) (had has : ℕ → Bool) → Exits → Type 0
 AreHandlersFound core handlers =
-    IsFound (handlers_ends (program_of core) (handlers_of handlers)) (handlers_paths (program_of core) (handlers_of handlers))
+    IsFound (handlers_exits (program_of core) (handlers_of handlers)) (handlers_paths (program_of core) (handlers_of handlers))
 
--- the faults of a block, of what is in a statement, and of handlers of a block with these ends
-abbrev pub faults_of_block : Core → (in_loop : Bool) → List S.Statement → List EndRefusal
+-- the faults of a block, of what is in a statement, and of handlers of a block with these exits
+abbrev pub faults_of_block : Core → (in_loop : Bool) → List S.Statement → List ExitRefusal
 faults_of_block core in_loop block = block_faults (program_of core) in_loop true (block_of block)
 
-abbrev pub faults_within : Core → (in_loop : Bool) → S.Statement → List EndRefusal
+abbrev pub faults_within : Core → (in_loop : Bool) → S.Statement → List ExitRefusal
 faults_within core in_loop statement = inner_faults (program_of core) in_loop (statement_of statement)
 
-abbrev pub faults_of_handlers : Core → (in_loop : Bool) → (ends : List Exit) → List Handler → List EndRefusal
+abbrev pub faults_of_handlers : Core → (in_loop : Bool) → (ends : List Exit) → List Handler → List ExitRefusal
 faults_of_handlers core in_loop ends handlers = handlers_faults (program_of core) in_loop ends (handlers_of handlers)
 
--- the exceptions of a set are those of ends
+-- the exceptions of a set are those of exits
 pub record AreThrown (set : ℕ → Bool) (ends : List Exit) : Type 0 where
   pub has : (exception : ℕ) → set exception ≡ throws ends exception
 

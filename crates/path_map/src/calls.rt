@@ -5,7 +5,7 @@ ghost use Rattle.path_map.specs.Exceptions.{exceptions_of, is_one_of};
 ghost use Rattle.path_map.specs.Sets.{IsSum, members};
 ghost use Rattle.path_map.specs.Walks.{AreThrownInside, exception_count};
 ghost use Rattle.resolved.specs.CoreOf.{program_of};
-ghost use Rattle.resolved.specs.Ends.{declared_by};
+ghost use Rattle.resolved.specs.Exits.{declared_by};
 ghost use Rattle.resolved.specs.Program.{procedure_at};
 ghost use Rattle.std.specs.Prelude.{IfOk, OnOk, ℕ, ◌≡◌};
 

@@ -1,15 +1,15 @@
-//! What a path map keeps of the possible ends of a statement or block.
-ghost use Rattle.path_map.specs.Exits.{exits_of, for_all, single_end};
+//! What a path map keeps of the possible exits of a statement or block.
+ghost use Rattle.path_map.specs.Exits.{exits_of, for_all, single_exit};
 ghost use Rattle.path_map.specs.Joins.{after, join, join_raised, of_loop, only_raised};
 ghost use Rattle.path_map.specs.PathMaps.{value_at};
-ghost use Rattle.resolved.specs.Ends.{one_end};
-ghost use Rattle.resolved.specs.Labelled.{as_one_end};
+ghost use Rattle.resolved.specs.Exits.{one_exit};
+ghost use Rattle.resolved.specs.Labelled.{as_one_exit};
 ghost use Rattle.resolved.specs.declared.statement.Exit.{Exit};
 ghost use Rattle.std.specs.Prelude.{List, map, true, ℕ, ◌≡◌};
 
 use resolved::statement::Exit;
 
-/// The exceptions among possible ends: none, this one only, or more than one.
+/// The exceptions among possible exits: none, this one only, or more than one.
 #[derive(Clone, Copy, Debug, PartialEq, Eq)]
 pub enum Raised {
     Nothing,
@@ -26,7 +26,7 @@ pub trait ExceptionMap<T> {
         ensures { result ≡ value_of self.now exception };
 }
 
-/// A `T` for each end of a statement or block: a finite map. It has one of its own for each end that is no exception, and an `E` that
+/// A `T` for each exit of a statement or block: a finite map. It has one of its own for each exit that is no exception, and an `E` that
 /// has one for each exception, of which there may be a thousand.
 #[derive(Clone, Copy, Debug, PartialEq, Eq)]
 pub struct PathMap<T, E> {
@@ -37,7 +37,7 @@ pub struct PathMap<T, E> {
     pub raised: E,
 }
 
-/// The possible ends of a statement or block: whether each of the four ends that are no exception is among them, and which
+/// The possible exits of a statement or block: whether each of the four exits that are no exception is among them, and which
 /// exceptions are.
 pub type Exits = PathMap<bool, Raised>;
 
@@ -56,7 +56,7 @@ impl Raised {
 }
 
 impl<T: Copy, E> PathMap<T, E> {
-    /// The same for each end that is no exception.
+    /// The same for each exit that is no exception.
     pub fn of_all(value: T, raised: E) -> PathMap<T, E>
         ensures { result ≡ for_all value raised }
     {
@@ -69,7 +69,7 @@ impl<T: Copy, E> PathMap<T, E> {
         }
     }
 
-    /// The same for each end that is no exception, and this for exceptions.
+    /// The same for each exit that is no exception, and this for exceptions.
     pub fn with_raised<F>(&self, raised: F) -> PathMap<T, F>
         ensures raised { result.raised ≡ raised }
         ensures others { (of_raised : F → ℕ → T) (exit : Exit) →
@@ -87,7 +87,7 @@ impl<T: Copy, E> PathMap<T, E> {
 }
 
 impl<T: Copy, E: ExceptionMap<T>> PathMap<T, E> {
-    /// What there is for an end.
+    /// What there is for an exit.
     pub fn at(&self, exit: Exit) -> T
         ensures { result ≡ value_at E.value_of self.now exit }
     {
@@ -102,14 +102,14 @@ impl<T: Copy, E: ExceptionMap<T>> PathMap<T, E> {
 }
 
 impl Exits {
-    // The summary of these exceptions as ends.
+    // The summary of these exceptions as exits.
     pub(crate) fn raise_only(raised: Raised) -> Exits
         ensures { result ≡ only_raised raised }
     {
         Exits::of_all(false, raised)
     }
 
-    // The summary of a normal end and these exceptions.
+    // The summary of a normal exit and these exceptions.
     pub(crate) fn go_on_or_raise(raised: Raised) -> Exits
         ensures { result ≡ record (only_raised raised) { normal = true } }
     {
@@ -129,14 +129,14 @@ impl Exits {
         }
     }
 
-    // The summary of the same ends with these exceptions in place of theirs.
+    // The summary of the same exits with these exceptions in place of theirs.
     pub(crate) fn with(self, raised: Raised) -> Exits
         ensures { result ≡ record self { raised = raised } }
     {
         Exits { raised, ..self }
     }
 
-    // The summary of the ends of two lists.
+    // The summary of the exits of two lists.
     pub(crate) fn join(self, other: Exits) -> Exits
         ensures { result ≡ join self other }
     {
@@ -149,7 +149,7 @@ impl Exits {
         }
     }
 
-    // The summary of the ends of a statement and of what follows it.
+    // The summary of the exits of a statement and of what follows it.
     pub(crate) fn then(self, rest: Exits) -> Exits
         ensures { result ≡ after self rest }
     {
@@ -163,7 +163,7 @@ impl Exits {
         leaving.join(rest)
     }
 
-    // The summary of the ends of a loop with this body, but for its condition.
+    // The summary of the exits of a loop with this body, but for its condition.
     pub(crate) fn of_loop(self) -> Exits
         ensures { result ≡ of_loop self }
     {
@@ -175,9 +175,11 @@ impl Exits {
         }
     }
 
-    /// The possible end, where there is one only.
+    /// The possible exit, where there is one only.
+    // A call, since the fields are taken out of one word bit by bit where this stands inside another function.
+    #[inline(never)]
     pub fn single(self) -> Option<Exit>
-        ensures { (ends : List Exit) → self ≡ exits_of ends → result ≡ single_end ends }
+        ensures { (ends : List Exit) → self ≡ exits_of ends → result ≡ single_exit ends }
     {
         match (
             self.normal,
@@ -195,17 +197,17 @@ impl Exits {
         }
     }
 
-    /// Whether there is one possible end only.
+    /// Whether there is one possible exit only.
     pub fn is_single(self) -> bool
-        ensures { (ends : List Exit) → self ≡ exits_of ends → result ≡ one_end ends }
+        ensures { (ends : List Exit) → self ≡ exits_of ends → result ≡ one_exit ends }
     {
         self.single().is_some()
     }
 
-    /// Whether there is one possible end only, where a normal end and a return are one end, as they are for a procedure.
+    /// Whether there is one possible exit only, where a normal exit and a return are one exit, as they are for a procedure.
     pub fn is_single_of_procedure(self) -> bool
         ensures { (ends : List Exit) → self ≡ exits_of ends →
-            result ≡ one_end (map as_one_end ends) }
+            result ≡ one_exit (map as_one_exit ends) }
     {
         let joined = Exits {
             normal: self.normal || self.returns,

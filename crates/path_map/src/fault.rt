@@ -1,7 +1,7 @@
-//! What `ends` answers where it found no ends.
+//! What `ends` answers where it found no exits.
 
 use common::OrNoMemory;
-use resolved::EndRefusal;
+use resolved::ExitRefusal;
 
-/// Why the ends of a program were not found.
-pub type EndFault = OrNoMemory<EndRefusal>;
+/// Why the exits of a program were not found.
+pub type EndFault = OrNoMemory<ExitRefusal>;

@@ -9,7 +9,7 @@ use std::alloc::{AllocError, Global};
 /// The exceptions of a row: those of a set, those of two rows before it, or those of one but for an exception, which is there where it was
 /// not.
 #[derive(Drop)]
-pub(crate) enum RowForm {
+pub(crate) enum KeptForm {
     Whole(ExceptionSet),
     Both(usize, usize),
     Changed(usize, u32),
@@ -19,7 +19,7 @@ pub(crate) enum RowForm {
 #[derive(Drop)]
 pub(crate) struct KeptRow {
     pub steps: usize,
-    pub form: RowForm,
+    pub form: KeptForm,
 }
 
 // Whether an exception is there once one is where it was not.
@@ -42,11 +42,11 @@ pub(crate) fn row_has(rows: &[KeptRow], number: usize, exception: u32) -> bool
     };
     let before = &rows[..number];
     match &row.form {
-        RowForm::Whole(set) => set.has(exception),
-        RowForm::Both(one, other) => {
+        KeptForm::Whole(set) => set.has(exception),
+        KeptForm::Both(one, other) => {
             row_has(before, *one, exception) || row_has(before, *other, exception)
         }
-        RowForm::Changed(base, changed) => {
+        KeptForm::Changed(base, changed) => {
             has_changed(row_has(before, *base, exception), exception, *changed)
         }
     }
@@ -67,13 +67,13 @@ pub(crate) fn whole(
     };
     let before = &rows[..number];
     match &row.form {
-        RowForm::Whole(set) => set.copy(alloc, bound),
-        RowForm::Both(one, other) => {
+        KeptForm::Whole(set) => set.copy(alloc, bound),
+        KeptForm::Both(one, other) => {
             let one = whole(alloc, before, *one, bound)?;
             let other = whole(alloc, before, *other, bound)?;
             both(one, other)
         }
-        RowForm::Changed(base, changed) => {
+        KeptForm::Changed(base, changed) => {
             let base = whole(alloc, before, *base, bound)?;
             change(base, *changed)
         }

@@ -1,4 +1,4 @@
-//! The possible ends of each statement and block of a program, or the first fault of the ends.
+//! The possible exits of each statement and block of a program, or the first fault of the exits.
 #![tactic(auto)]
 
 mod calls;
@@ -18,5 +18,5 @@ pub use exits::{ExceptionMap, Exits, PathMap, Raised};
 pub use fault::EndFault;
 pub use map::ends;
 pub use raises::Raises;
-pub use resolved::{EndRefusal, EndRefusalKind};
+pub use resolved::{ExitRefusal, ExitRefusalKind};
 pub use table::{Ends, Exceptions};

@@ -6,7 +6,7 @@ ghost use Rattle.path_map.specs.FirstFault.{IsFirstEndFault};
 ghost use Rattle.path_map.specs.Paths.{AreAlike, block_paths};
 ghost use Rattle.path_map.specs.Sets.{AreDeclared, members};
 ghost use Rattle.resolved.specs.CoreOf.{program_of};
-ghost use Rattle.resolved.specs.EndFaults.{end_faults, procedure_faults};
+ghost use Rattle.resolved.specs.ExitFaults.{exit_faults, procedure_faults};
 ghost use Rattle.resolved.specs.ProgramOf.{procedure_entry};
 ghost use Rattle.resolved.specs.WellFormed.{procedure_fits};
 ghost use Rattle.std.specs.Prelude.{IfErr, IfOk, IsTrue, OnOk, [], is_some, not, ◌&&◌, ◌++◌, ◌||◌, ◌≡◌};
@@ -17,22 +17,22 @@ use crate::fault::EndFault;
 use crate::members::ExceptionSet;
 use crate::table::Ends;
 use crate::walk::{refuse, walk_block};
-use resolved::EndRefusalKind;
+use resolved::ExitRefusalKind;
 use resolved::program::Core;
 use resolved::tables::{Procedure, Thrown};
 use std::alloc::Global;
 
-/// The possible ends of each statement and block of a program, or the first fault of its ends. A block has a number before its
+/// The possible exits of each statement and block of a program, or the first fault of its exits. A block has a number before its
 /// statements, and a statement before the blocks in it: so a walk over the same program in the order of the text that counts each
-/// block and each statement as it comes to it finds its ends under that number.
+/// block and each statement as it comes to it finds its exits under that number.
 ///
 /// It takes time and memory in proportion to the program, and for each statement and block with several exceptions one step more for
 /// each 64 exceptions.
 pub fn ends(alloc: Global, core: &Core) -> Result<Ends, EndFault>
     ensures found { IfOk result (AreEndsOf (program_of core.now)) }
-    ensures accepted { OnOk result (end_faults (program_of core.now) ≡ []) }
+    ensures accepted { OnOk result (exit_faults (program_of core.now) ≡ []) }
     ensures first_fault { IfErr result (IfRefused
-        (IsFirstEndFault (end_faults (program_of core.now)))) }
+        (IsFirstEndFault (exit_faults (program_of core.now)))) }
 {
     let walk = EndsWalk::along(alloc, core)?;
     let mut table = Ends::new(alloc, walk.bound, core.procedures.len())?;
@@ -42,7 +42,7 @@ pub fn ends(alloc: Global, core: &Core) -> Result<Ends, EndFault>
     Ok(table)
 }
 
-// Finds the ends of a procedure's body and of what is in it.
+// Finds the exits of a procedure's body and of what is in it.
 fn walk_procedure(walk: &EndsWalk, procedure: &Procedure, table: &mut Ends) -> Result<(), EndFault>
     requires { let core = walk.now.core.now in
         IsTrue (procedure_fits (program_of core) (procedure_entry core.labels procedure.now)) }
@@ -59,23 +59,23 @@ fn walk_procedure(walk: &EndsWalk, procedure: &Procedure, table: &mut Ends) -> R
     let mut raised = ExceptionSet::new(walk.alloc, walk.bound);
     let exits = walk_block(walk, false, &procedure.body, table, &mut raised)?;
     if lacks_value(procedure, exits) {
-        return Err(refuse(EndRefusalKind::NoValueReturned, procedure.at));
+        return Err(refuse(ExitRefusalKind::NoValueReturned, procedure.at));
     }
     let declared = are_declared(&procedure.throws, &mut raised);
     if lets_out(exits, declared) {
-        return Err(refuse(EndRefusalKind::Undeclared, procedure.at));
+        return Err(refuse(ExitRefusalKind::Undeclared, procedure.at));
     }
     Ok(())
 }
 
-// Whether a procedure has a value and its body, with these ends, can end without one.
+// Whether a procedure has a value and its body, with these exits, can end without one.
 fn lacks_value(procedure: &Procedure, exits: Exits) -> bool
     ensures { result ≡ (is_some procedure.now.result && exits.normal) }
 {
     procedure.result.is_some() && exits.normal
 }
 
-// Whether a body with these ends can end as no procedure may. Its exceptions are declared or not.
+// Whether a body with these exits can end as no procedure may. Its exceptions are declared or not.
 fn lets_out(exits: Exits, declared: bool) -> bool
     ensures { result ≡ (exits.breaks || (exits.continues || not declared)) }
 {

@@ -4,7 +4,7 @@ ghost use Rattle.path_map.specs.Exceptions.{AreRaised, is_one_of, raised_list};
 ghost use Rattle.path_map.specs.Joins.{raises_some};
 ghost use Rattle.path_map.specs.Sets.{IsSum, members};
 ghost use Rattle.common.specs.declared.exceptions.TheConstants.{BUILT_IN};
-ghost use Rattle.resolved.specs.Ends.{divisor_can_raise, index_can_raise, is_division, raises, raises_all};
+ghost use Rattle.resolved.specs.Exits.{divisor_can_raise, index_can_raise, is_division, raises, raises_all};
 ghost use Rattle.resolved.specs.TreeOf.{expression_of, some_expression_of};
 ghost use Rattle.resolved.specs.Value.{in_range, literal_number};
 ghost use Rattle.common.specs.Integers.{is_zero};

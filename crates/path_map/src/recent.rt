@@ -23,7 +23,7 @@ pub(crate) struct RecentRows {
 }
 
 impl RecentRows {
-    // Of a program with so many exceptions and procedures.
+    // Of a program with this many exceptions and procedures.
     pub(crate) fn new(
         alloc: Global,
         bound: u32,

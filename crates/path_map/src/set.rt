@@ -173,7 +173,8 @@ fn row_of_two(alloc: Global, bound: u32, one: u32, other: u32) -> Result<Row, Al
     requires one { one < bound }
     requires other { other < bound }
     ensures bound { IfOk result (λ row. length row ≡ bound) }
-    ensures both { IfOk result (λ row. IsSum (kept_has (Single one)) (λ exception. exception == other)
+    ensures both { IfOk result (λ row. IsSum (kept_has (Single one))
+        (λ exception. exception == other)
         (has row)) }
 {
     let mut row = Row::new(alloc, bound as usize)?;

@@ -3,7 +3,7 @@ ghost use Rattle.path_map.specs.Entries.{IsRowOf, MayBeRowOf, RowsGrow};
 ghost use Rattle.path_map.specs.Sets.{members};
 ghost use Rattle.std.specs.Prelude.{[], IfOk, IsTrue, OnOk, length, ◌++◌, ◌∷◌, ◌≡◌};
 
-use crate::keeping::{KeptRow, RowForm, whole};
+use crate::keeping::{KeptForm, KeptRow, whole};
 use crate::members::ExceptionSet;
 use std::alloc::{AllocError, Global};
 
@@ -47,7 +47,7 @@ fn keep_whole(rows: &mut Vec<KeptRow>, set: ExceptionSet) -> Result<usize, Alloc
     ensures kept { IfOk result (IsRowOf (members set) rows.new.items) }
     ensures grown { RowsGrow rows.old.items rows.new.items }
 {
-    let number = push_row(rows, 1, RowForm::Whole(set))?;
+    let number = push_row(rows, 1, KeptForm::Whole(set))?;
     Ok(number)
 }
 
@@ -71,7 +71,7 @@ fn is_like(
 
 // Adds a row, and gives its number.
 #[tactic(auto, using(crate::proofs::RowLists::grown_none, crate::proofs::RowLists::grown_more, crate::proofs::RowLists::grown_push))]
-fn push_row(rows: &mut Vec<KeptRow>, steps: usize, form: RowForm) -> Result<usize, AllocError>
+fn push_row(rows: &mut Vec<KeptRow>, steps: usize, form: KeptForm) -> Result<usize, AllocError>
     ensures number { IfOk result (λ number. number ≡ length rows.old.items) }
     ensures rows { OnOk result (rows.new.items
         ≡ rows.old.items ++ (record { steps = steps; form = form }) ∷ []) }
@@ -105,7 +105,11 @@ fn join_rows(rows: &mut Vec<KeptRow>, inner: &[usize]) -> Result<Option<usize>, 
         if steps >= MOST_STEPS {
             return Ok(None);
         }
-        number = push_row(rows, steps.saturating_add(1), RowForm::Both(number, *other))?;
+        number = push_row(
+            rows,
+            steps.saturating_add(1),
+            KeptForm::Both(number, *other),
+        )?;
     }
     Ok(Some(number))
 }
@@ -149,13 +153,14 @@ fn change_row(
     ensures { RowsGrow rows.old.items rows.new.items }
 {
     let mut steps = steps_of(rows, base);
-    if steps.saturating_add(changes.len()) > MOST_STEPS {
+    // This many changes are those of sets that may differ by more.
+    if steps.saturating_add(changes.len()) >= MOST_STEPS {
         return Ok(None);
     }
     let mut number = base;
     for exception in changes {
         steps = steps.saturating_add(1);
-        number = push_row(rows, steps, RowForm::Changed(number, *exception))?;
+        number = push_row(rows, steps, KeptForm::Changed(number, *exception))?;
     }
     Ok(Some(number))
 }

@@ -1,15 +1,15 @@
-//! The possible ends of the statements and blocks of a program, as they are kept.
-ghost use Rattle.path_map.specs.Entries.{IsPut, IsRowFor, IsRowOf, RowsGrow, entry_ends};
-ghost use Rattle.path_map.specs.ThrownEnds.{has_exception};
+//! The possible exits of the statements and blocks of a program, as they are kept.
+ghost use Rattle.path_map.specs.Entries.{IsPut, IsRowFor, IsRowOf, RowsGrow, entry_exits};
+ghost use Rattle.path_map.specs.ThrownExits.{has_exception};
 ghost use Rattle.path_map.specs.PathMaps.{value_at};
 ghost use Rattle.path_map.specs.Exits.{exits_of};
 ghost use Rattle.path_map.specs.Sets.{members};
-ghost use Rattle.resolved.specs.Ends.{has_end};
+ghost use Rattle.resolved.specs.Exits.{has_exit};
 ghost use Rattle.resolved.specs.declared.statement.Exit.{Exit};
 ghost use Rattle.std.specs.Prelude.{IfOk, OnOk, IsTrue, [], length, slice_index_or, ◌++◌, ◌<◌, ◌∷◌, ◌≡◌};
 
 use crate::exits::{ExceptionMap, Exits, PathMap, Raised};
-use crate::keeping::{KeptRow, RowForm, row_has};
+use crate::keeping::{KeptForm, KeptRow, row_has};
 use crate::members::ExceptionSet;
 use crate::raises::Raises;
 use crate::recent::RecentRows;
@@ -18,14 +18,14 @@ use resolved::statement::Exit;
 use std::alloc::{AllocError, Global};
 use std::marker::Model;
 
-// What is kept of a statement or block: a summary of its ends, and the number of the row of its exceptions, where they are several.
+// What is kept of a statement or block: a summary of its exits, and the number of the row of its exceptions, where they are several.
 #[derive(Clone, Copy)]
-struct EndsEntry {
+struct ExitsEntry {
     exits: Exits,
     row: usize,
 }
 
-/// The exceptions among the ends of a statement or block: whether each is one of them.
+/// The exceptions among the exits of a statement or block: whether each is one of them.
 #[derive(Clone, Copy)]
 pub struct Exceptions<'a> {
     raised: Raised,
@@ -46,41 +46,41 @@ impl<'a> ExceptionMap<bool> for Exceptions<'a> {
     }
 }
 
-/// The possible ends of each statement and block of a program, by their numbers: a block comes before its statements, and a statement
+/// The possible exits of each statement and block of a program, by their numbers: a block comes before its statements, and a statement
 /// before the blocks in it.
 ///
 /// Statements and blocks share rows of exceptions where they are one in the other, or calls of one procedure: the row of a statement that
 /// has few exceptions more or fewer than those in it takes memory for these alone.
 #[derive(Drop)]
 pub struct Ends {
-    entries: Vec<EndsEntry>,
+    entries: Vec<ExitsEntry>,
     // The first row is empty, and stands for those that are not several.
     rows: Vec<KeptRow>,
     recent: RecentRows,
 }
 
 impl Model for Ends {
-    ghost use Rattle.path_map.specs.Entries.{AreKept, entry_ends};
+    ghost use Rattle.path_map.specs.Entries.{AreKept, entry_exits};
     ghost use Rattle.resolved.specs.declared.statement.Exit.{Exit};
     ghost use Rattle.std.specs.Prelude.{List, length, map, ◌<◌};
 
     ghost Value = { List (List Exit) };
 
-    ghost view = { λ ends. map (entry_ends ends.rows.items) ends.entries.items };
+    ghost view = { λ ends. map (entry_exits ends.rows.items) ends.entries.items };
 
     ghost invariant = { λ ends. (0 < length ends.rows.items)
         × AreKept ends.rows.items ends.entries.items };
 }
 
 impl Ends {
-    // No ends, of a program with so many exceptions and procedures.
+    // No exits, of a program with this many exceptions and procedures.
     pub(crate) fn new(alloc: Global, bound: u32, procedures: usize) -> Result<Ends, AllocError>
         ensures { IfOk result (λ ends. ends ≡ []) }
     {
         let mut rows = Vec::new(alloc);
         rows.push(KeptRow {
             steps: 0,
-            form: RowForm::Whole(ExceptionSet::new(alloc, bound)),
+            form: KeptForm::Whole(ExceptionSet::new(alloc, bound)),
         })?;
         Ok(Ends {
             entries: Vec::new(alloc),
@@ -95,14 +95,14 @@ impl Ends {
         ensures room { OnOk result (self.new ≡ self.old ++ [] ∷ []) }
     {
         let at = self.entries.len();
-        self.entries.push(EndsEntry {
+        self.entries.push(ExitsEntry {
             exits: Exits::raise_only(Raised::Nothing),
             row: 0,
         })?;
         Ok(at)
     }
 
-    // Writes an entry: ends with these exceptions, which are also those of a call, if it is one.
+    // Writes an entry: exits with these exceptions, which are also those of a call, if it is one.
     pub(crate) fn put(
         &mut self,
         at: usize,
@@ -116,7 +116,7 @@ impl Ends {
         let summary = raised.summary();
         let nearby = self.recent.nearby(raised.alloc, at, call)?;
         let row = row_of(&mut self.rows, raised, summary, &nearby)?;
-        self.entries[at] = EndsEntry {
+        self.entries[at] = ExitsEntry {
             exits: exits.with(summary),
             row,
         };
@@ -131,7 +131,7 @@ impl Ends {
         self.entries.len()
     }
 
-    /// The summary of the ends of a statement or block.
+    /// The summary of the exits of a statement or block.
     pub fn exits(&self, number: usize) -> Exits
         requires { number < length self.now }
         ensures { result ≡ exits_of (slice_index_or self.now number []) }
@@ -139,29 +139,29 @@ impl Ends {
         self.entries[number].exits
     }
 
-    /// The possible ends of a statement or block as a path map: of each end, an exception by its number, whether it is one of them.
+    /// The possible exits of a statement or block as a path map: of each exit, an exception by its number, whether it is one of them.
     pub fn ends_of(&self, number: usize) -> PathMap<bool, Exceptions<'_>>
         requires { number < length self.now }
         ensures { (exit : Exit) → value_at has_exception result exit
-            ≡ has_end (slice_index_or self.now number []) exit }
+            ≡ has_exit (slice_index_or self.now number []) exit }
     {
         let entry = self.entries[number];
         path_map_of(&self.rows, entry)
     }
 
-    /// Whether a statement or block can end thus; an exception is one of its ends by its number, also among several.
+    /// Whether a statement or block can end thus; an exception is one of its exits by its number, also among several.
     pub fn has(&self, number: usize, exit: Exit) -> bool
         requires { number < length self.now }
-        ensures { result ≡ has_end (slice_index_or self.now number []) exit }
+        ensures { result ≡ has_exit (slice_index_or self.now number []) exit }
     {
         self.ends_of(number).at(exit)
     }
 }
 
-// The ends of an entry.
-fn path_map_of<'a>(rows: &'a [KeptRow], entry: EndsEntry) -> PathMap<bool, Exceptions<'a>>
+// The exits of an entry.
+fn path_map_of<'a>(rows: &'a [KeptRow], entry: ExitsEntry) -> PathMap<bool, Exceptions<'a>>
     ensures { (exit : Exit) → value_at has_exception result exit
-        ≡ has_end (entry_ends rows.now entry) exit }
+        ≡ has_exit (entry_exits rows.now entry) exit }
 {
     entry.exits.with_raised(Exceptions {
         raised: entry.exits.raised,

@@ -1,4 +1,4 @@
-//! The walk along a program that finds its ends.
+//! The walk along a program that finds its exits.
 ghost use Rattle.common.specs.Answers.{IfRefused};
 ghost use Rattle.path_map.specs.FirstFault.{IsFirstEndFault};
 ghost use Rattle.path_map.specs.Exceptions.{AreRaised};
@@ -6,8 +6,8 @@ ghost use Rattle.path_map.specs.Sets.{members};
 ghost use Rattle.path_map.specs.Walks.{AreHandlersFound, AreLeft, AreStatementsFound, AreThrown, BlockFits, HandlersFit, IsBlockFound, IsFormFound, IsFoundAlone, IsStatementFound, StatementFits, faults_of_block, faults_of_handlers, faults_within};
 ghost use Rattle.common.specs.declared.fault.OrNoMemory.TheVariants.{Refused};
 ghost use Rattle.resolved.specs.CoreOf.{program_of};
-ghost use Rattle.resolved.specs.EndFaults.{may_stand};
-ghost use Rattle.resolved.specs.Ends.{declared_by, raises, thrown_ends};
+ghost use Rattle.resolved.specs.ExitFaults.{may_stand};
+ghost use Rattle.resolved.specs.Exits.{declared_by, raises, thrown_exits};
 ghost use Rattle.resolved.specs.Program.{procedure_at};
 ghost use Rattle.resolved.specs.TreeOf.{expression_of, handlers_of, statement_of};
 ghost use Rattle.common.specs.declared.exceptions.TheConstants.{BUILT_IN, END};
@@ -25,10 +25,10 @@ use common::OrNoMemory;
 use common::exceptions::END;
 use resolved::expression::Expression;
 use resolved::statement::{Exit, Handler, Statement};
-use resolved::{EndRefusal, EndRefusalKind};
+use resolved::{ExitRefusal, ExitRefusalKind};
 use std::alloc::AllocError;
 
-// Finds the ends of a block and of what is in it. The block's own entry is the first of the new ones. Its exceptions are added to
+// Finds the exits of a block and of what is in it. The block's own entry is the first of the new ones. Its exceptions are added to
 // the set.
 #[cycle(walk)]
 pub(crate) fn walk_block(
@@ -55,7 +55,7 @@ pub(crate) fn walk_block(
     Ok(exits)
 }
 
-// Finds the ends of a block, and of the statements in it.
+// Finds the exits of a block, and of the statements in it.
 #[cycle(walk)]
 fn walk_statements(
     walk: &EndsWalk,
@@ -76,10 +76,10 @@ fn walk_statements(
     let mut exits = Exits::go_on_or_raise(Raised::Nothing);
     for statement in block {
         if !may_stand(in_loop, statement) {
-            return Err(refuse(EndRefusalKind::OutsideLoop, statement.at()));
+            return Err(refuse(ExitRefusalKind::OutsideLoop, statement.at()));
         }
         if !exits.normal {
-            return Err(refuse(EndRefusalKind::Unreachable, statement.at()));
+            return Err(refuse(ExitRefusalKind::Unreachable, statement.at()));
         }
         let found = walk_statement(walk, in_loop, statement, table, raised)?;
         exits = exits.then(found);
@@ -87,7 +87,7 @@ fn walk_statements(
     Ok(exits)
 }
 
-// Finds the ends of a statement and of what is in it. The statement's own entry is the first of the new ones.
+// Finds the exits of a statement and of what is in it. The statement's own entry is the first of the new ones.
 #[cycle(walk)]
 fn walk_statement(
     walk: &EndsWalk,
@@ -113,7 +113,7 @@ fn walk_statement(
     Ok(exits)
 }
 
-// Finds the ends of a statement, and of the blocks in it.
+// Finds the exits of a statement, and of the blocks in it.
 #[cycle(walk)]
 fn walk_form(
     walk: &EndsWalk,
@@ -170,7 +170,7 @@ fn walk_form(
     }
 }
 
-// Finds the ends of handlers, of a block that can raise the exceptions of the inner set, and takes out what they handle.
+// Finds the exits of handlers, of a block that can raise the exceptions of the inner set, and takes out what they handle.
 #[cycle(walk)]
 fn walk_handlers(
     walk: &EndsWalk,
@@ -198,7 +198,7 @@ fn walk_handlers(
     let mut exits = Exits::raise_only(Raised::Nothing);
     for handler in handlers {
         if !inner.remove(handler.exception) {
-            return Err(refuse(EndRefusalKind::NeverRaised, handler.at));
+            return Err(refuse(ExitRefusalKind::NeverRaised, handler.at));
         }
         let found = walk_block(walk, in_loop, &handler.body, table, raised)?;
         exits = exits.join(found);
@@ -214,39 +214,39 @@ fn call_of(statement: &Statement) -> Option<(u32, Raises)> {
     }
 }
 
-// The ends of a statement that goes on or raises these exceptions.
+// The exits of a statement that goes on or raises these exceptions.
 fn go_on(found: Raises, raised: &mut ExceptionSet) -> Result<Exits, AllocError>
     requires { BUILT_IN ≤ raised.old.bound }
     ensures bound { raised.new.bound ≡ raised.old.bound }
     ensures found { IfOk result (λ exits. (exceptions : List ℕ) → AreRaised found exceptions →
-        IsFoundAlone (Normal ∷ thrown_ends exceptions)
+        IsFoundAlone (Normal ∷ thrown_exits exceptions)
         (members raised.old) (members raised.new) exits) }
 {
     Ok(Exits::go_on_or_raise(found.add_to(raised)?))
 }
 
-// The ends of a statement that returns or raises these exceptions.
+// The exits of a statement that returns or raises these exceptions.
 fn give_back(found: Raises, raised: &mut ExceptionSet) -> Result<Exits, AllocError>
     requires { BUILT_IN ≤ raised.old.bound }
     ensures bound { raised.new.bound ≡ raised.old.bound }
     ensures found { IfOk result (λ exits. (exceptions : List ℕ) → AreRaised found exceptions →
-        IsFoundAlone (Return ∷ thrown_ends exceptions)
+        IsFoundAlone (Return ∷ thrown_exits exceptions)
         (members raised.old) (members raised.new) exits) }
 {
     Ok(Exits::return_or_raise(found.add_to(raised)?))
 }
 
-// The ends of a condition, for a statement that goes on with its value.
+// The exits of a condition, for a statement that goes on with its value.
 fn test(condition: &Expression, raised: &mut ExceptionSet) -> Result<Exits, AllocError>
     requires { BUILT_IN ≤ raised.old.bound }
     ensures bound { raised.new.bound ≡ raised.old.bound }
-    ensures found { IfOk result (IsFoundAlone (thrown_ends (raises (expression_of condition.now)))
+    ensures found { IfOk result (IsFoundAlone (thrown_exits (raises (expression_of condition.now)))
         (members raised.old) (members raised.new)) }
 {
     Ok(Exits::raise_only(raises_of(condition).add_to(raised)?))
 }
 
-// The ends of a receive.
+// The exits of a receive.
 fn receive(raised: &mut ExceptionSet) -> Result<Exits, AllocError>
     requires { BUILT_IN ≤ raised.old.bound }
     ensures bound { raised.new.bound ≡ raised.old.bound }
@@ -257,7 +257,7 @@ fn receive(raised: &mut ExceptionSet) -> Result<Exits, AllocError>
     Ok(Exits::go_on_or_raise(Raised::One(END)))
 }
 
-// The ends of a call, with arguments that can raise these exceptions.
+// The exits of a call, with arguments that can raise these exceptions.
 fn call(
     walk: &EndsWalk,
     callee: u32,
@@ -268,7 +268,7 @@ fn call(
     ensures bound { raised.new.bound ≡ raised.old.bound }
     ensures found { IfOk result (λ exits. (exceptions : List ℕ) → AreRaised arguments exceptions →
         let declared = declared_by (procedure_at (program_of walk.now.core.now) callee).throws in
-        IsFoundAlone (Normal ∷ thrown_ends (exceptions ++ declared))
+        IsFoundAlone (Normal ∷ thrown_exits (exceptions ++ declared))
         (members raised.old) (members raised.new) exits) }
 {
     let own = arguments.add_to(raised)?;
@@ -276,7 +276,7 @@ fn call(
     Ok(Exits::go_on_or_raise(own.join(declared)))
 }
 
-// The ends of `break`, `continue` or `throw`.
+// The exits of `break`, `continue` or `throw`.
 fn leave(exit: Exit, raised: &mut ExceptionSet) -> Result<Exits, AllocError>
     requires { (exception : ℕ) → exit ≡ Throw exception → exception < raised.old.bound }
     ensures bound { raised.new.bound ≡ raised.old.bound }
@@ -309,9 +309,9 @@ fn may_stand(in_loop: bool, statement: &Statement) -> bool
     in_loop || !matches!(statement, Statement::Leave(_, Exit::Break | Exit::Continue))
 }
 
-// Refuses the ends of a program for this reason at this byte.
-pub(crate) fn refuse(kind: EndRefusalKind, at: usize) -> EndFault
+// Refuses the exits of a program for this reason at this byte.
+pub(crate) fn refuse(kind: ExitRefusalKind, at: usize) -> EndFault
     ensures { result ≡ Refused (record { kind = kind; at = at }) }
 {
-    OrNoMemory::Refused(EndRefusal { kind, at })
+    OrNoMemory::Refused(ExitRefusal { kind, at })
 }

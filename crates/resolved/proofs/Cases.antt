@@ -1,6 +1,6 @@
 -- Worked cases of the definitions, computed.
 pub mod Kit
 pub mod Running
-pub mod Ends
+pub mod Exits
 pub mod Rules
 pub mod Fitting

@@ -1,4 +1,4 @@
--- Ways out of statements: which are the same, those of exceptions, and that a test of an end holds where there is no fault.
+-- Ways out of statements: which are the same, those of exceptions, and that a test of an exit holds where there is no fault.
 use Rattle.std.proofs.Common.{◌≡◌, ℕ, Bool, true, false, not, ◌&&◌, List, [], ◌∷◌, ◌++◌, filter, refl, sym, ap, ◌∙◌, ⊎_elim, eq-eqb, eqb-true}
 use Rattle.std.specs.List.{list_all}
 use Rattle.std.proofs.lemmas.Bool.{and_parts, or_cases, or_left}
@@ -6,11 +6,11 @@ use Rattle.std.proofs.lemmas.List.Folds.{list_any-append}
 use Rattle.std.proofs.lemmas.Map.Views.{any-filter_same}
 use Rattle.resolved.specs.declared.statement.Exit.{Exit}
 use Rattle.resolved.specs.declared.statement.Exit.TheVariants.{Normal, Return, Break, Continue, Throw}
-use Rattle.resolved.specs.EndFaults.{fault_unless}
-use Rattle.resolved.specs.declared.fault.EndRefusalKind.{EndRefusalKind}
-use Rattle.resolved.specs.Ends.{has_end, same_exit, then_ends, thrown_ends}
+use Rattle.resolved.specs.ExitFaults.{fault_unless}
+use Rattle.resolved.specs.declared.fault.ExitRefusalKind.{ExitRefusalKind}
+use Rattle.resolved.specs.Exits.{has_exit, same_exit, then_exits, thrown_exits}
 
--- ends that the test takes for the same are the same
+-- exits that the test takes for the same are the same
 pub same-exit : (a b : Exit) → same_exit a b ≡ true → a ≡ b
 same-exit Normal Normal e = refl
 same-exit Return Return e = refl
@@ -26,46 +26,46 @@ same_exit-itself Break = refl
 same_exit-itself Continue = refl
 same_exit-itself (Throw a) = eq-eqb a a refl
 
--- an exception is no other end
-pub thrown-normal : (xs : List ℕ) → has_end (thrown_ends xs) Normal ≡ false
+-- an exception is no other exit
+pub thrown-normal : (xs : List ℕ) → has_exit (thrown_exits xs) Normal ≡ false
 thrown-normal [] = refl
 thrown-normal (x ∷ xs) = thrown-normal xs
 
-pub thrown-break : (xs : List ℕ) → has_end (thrown_ends xs) Break ≡ false
+pub thrown-break : (xs : List ℕ) → has_exit (thrown_exits xs) Break ≡ false
 thrown-break [] = refl
 thrown-break (x ∷ xs) = thrown-break xs
 
-pub thrown-continue : (xs : List ℕ) → has_end (thrown_ends xs) Continue ≡ false
+pub thrown-continue : (xs : List ℕ) → has_exit (thrown_exits xs) Continue ≡ false
 thrown-continue [] = refl
 thrown-continue (x ∷ xs) = thrown-continue xs
 
-pub thrown-append : (xs ys : List ℕ) → thrown_ends (xs ++ ys) ≡ thrown_ends xs ++ thrown_ends ys
+pub thrown-append : (xs ys : List ℕ) → thrown_exits (xs ++ ys) ≡ thrown_exits xs ++ thrown_exits ys
 thrown-append [] ys = refl
-thrown-append (x ∷ xs) ys = ap (λ ends. Throw x ∷ ends) (thrown-append xs ys)
+thrown-append (x ∷ xs) ys = ap (λ exits. Throw x ∷ exits) (thrown-append xs ys)
 
-pub no_fault-test : (test : Bool) (kind : EndRefusalKind) (at : ℕ) → fault_unless test kind at ≡ [] → test ≡ true
+pub no_fault-test : (test : Bool) (kind : ExitRefusalKind) (at : ℕ) → fault_unless test kind at ≡ [] → test ≡ true
 no_fault-test true kind at e = refl
 no_fault-test false kind at e = absurd (cc)
 
--- what all ends are, one of them is
-pub all-has : (p : Exit → Bool) (ends : List Exit) (exit : Exit) → list_all p ends ≡ true → has_end ends exit ≡ true → p exit ≡ true
+-- what all exits are, one of them is
+pub all-has : (p : Exit → Bool) (exits : List Exit) (exit : Exit) → list_all p exits ≡ true → has_exit exits exit ≡ true → p exit ≡ true
 all-has p [] exit h f = let e : true ≡ false = sym f in absurd (cc)
 all-has p (first ∷ rest) exit h f =
     let parts = and_parts (p first) (list_all p rest) h in
-    ⊎_elim (λ g. rw (same-exit exit first g) parts.0) (all-has p rest exit parts.1) (or_cases (same_exit exit first) (has_end rest exit) f)
+    ⊎_elim (λ g. rw (same-exit exit first g) parts.0) (all-has p rest exit parts.1) (or_cases (same_exit exit first) (has_exit rest exit) f)
 
--- the ends of a list that pass a test
-pub end-filter : (p : Exit → Bool) (ends : List Exit) (exit : Exit) → has_end (filter p ends) exit ≡ (p exit && has_end ends exit)
-end-filter p ends exit = any-filter_same (same_exit exit) p (p exit) (λ e h. sym (ap p (same-exit exit e h))) ends
+-- the exits of a list that pass a test
+pub end-filter : (p : Exit → Bool) (exits : List Exit) (exit : Exit) → has_exit (filter p exits) exit ≡ (p exit && has_exit exits exit)
+end-filter p exits exit = any-filter_same (same_exit exit) p (p exit) (λ e h. sym (ap p (same-exit exit e h))) exits
 
--- an end other than the normal one is an end of what follows too
-pub then-other : (first rest : List Exit) (exit : Exit) → same_exit Normal exit ≡ false → has_end first exit ≡ true
-    → has_end (then_ends first rest) exit ≡ true
-then-other first rest exit other h = go (has_end first Normal) refl
+-- an exit other than the normal one is an exit of what follows too
+pub then-other : (first rest : List Exit) (exit : Exit) → same_exit Normal exit ≡ false → has_exit first exit ≡ true
+    → has_exit (then_exits first rest) exit ≡ true
+then-other first rest exit other h = go (has_exit first Normal) refl
   where
-    go : (b : Bool) → has_end first Normal ≡ b → has_end (then_ends first rest) exit ≡ true
+    go : (b : Bool) → has_exit first Normal ≡ b → has_exit (then_exits first rest) exit ≡ true
     go true e =
         let passing = filter (λ x. not (same_exit Normal x)) first in
-        rw e (list_any-append (same_exit exit) passing rest ∙ or_left (has_end passing exit) (has_end rest exit)
+        rw e (list_any-append (same_exit exit) passing rest ∙ or_left (has_exit passing exit) (has_exit rest exit)
         (end-filter (λ x. not (same_exit Normal x)) first exit ∙ rw (other, h) refl))
     go false e = rw e h

@@ -6,7 +6,7 @@ use Rattle.resolved.specs.declared.expression.Value.{Value}
 use Rattle.resolved.specs.declared.expression.Variable.{Variable}
 use Rattle.resolved.specs.declared.statement.Exit.{Exit}
 use Rattle.resolved.specs.declared.statement.Exit.TheVariants.{Return}
-use Rattle.resolved.specs.Ends.{same_exit}
+use Rattle.resolved.specs.Exits.{same_exit}
 use Rattle.resolved.specs.Tree.{Expression, Block}
 use Rattle.resolved.specs.Program.{Program, ProcedureEntry, ResultEntry, SlotEntry, procedure_at}
 use Rattle.resolved.specs.Value.{Evaluated, Yields, Raises, base_of}
@@ -35,7 +35,7 @@ abbrev pub GivesBase : Base → Evaluated Value → Type 0
 GivesBase base (Yields v) = base_of v ≡ base
 GivesBase base (Raises exception) = Unit {0}
 
--- a returned value stands at this end alone, and has the base type of a procedure's value
+-- a returned value stands at this exit alone, and has the base type of a procedure's value
 abbrev pub ReturnedFits : Exit → Option ResultEntry → Outcome → Type 0
 ReturnedFits result_exit result (Ended exit (Some v) s) = IsTrue (same_exit result_exit exit && has_result result (same_base (base_of v)))
 ReturnedFits result_exit result (Ended exit None s) = Unit {0}

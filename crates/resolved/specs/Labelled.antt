@@ -1,10 +1,10 @@
 -- The rules of labels: what each statement demands at the program-counter label (pc) with which it is reached, which labels its
--- ends have, and when a program is labelled. The rules are symbolic: a join lists written labels and labels that are not written,
+-- exits have, and when a program is labelled. The rules are symbolic: a join lists written labels and labels that are not written,
 -- and a labelling says what the latter are. V is the label of an expression's value, R that of whether it raises an exception, q
--- that at which a statement has evaluated its expressions, and X gives each end of a statement its label. The rules are numbered:
+-- that at which a statement has evaluated its expressions, and X gives each exit of a statement its label. The rules are numbered:
 -- 1 assignment, 2 declaration of an array, 3 store, 4 receive, 5 send, 6 call, 7 if, 8 while, 9 leave, 10 return, 11 try, 12 block
--- (in braces), and 13 the ends of a procedure.
--- Source: our own rules; a label for each end as in JFlow (Myers 1999), simple security and confinement after Volpano,
+-- (in braces), and 13 the exits of a procedure.
+-- Source: our own rules; a label for each exit as in JFlow (Myers 1999), simple security and confinement after Volpano,
 -- Smith and Irvine 1996.
 use Rattle.std.specs.Prelude.{ℕ, suc, List, [], ◌∷◌, ◌++◌, Bool, true, false, not, map, flat_map, ◌==◌, ◌&&◌, if◌then◌else◌, Option, Some, None}
 use Rattle.principals.specs.ActsFor.{PrincipalHierarchy}
@@ -19,7 +19,7 @@ use Rattle.resolved.specs.declared.target.Target.{Target}
 use Rattle.resolved.specs.declared.target.Target.TheVariants.{ToVariable, ToChannel, ToBegin, ToParameter, ToValue, ToEnd, ToThrown, ToLoop}
 use Rattle.resolved.specs.Tree.{Expression, Integer, Logical, Read, Element, Unary, Binary, Short, Statement, Assign, Clear, Store, Receive, Send, Call, If, While, Leave, ReturnWith, Try, Nested, Block, Empty, Then, Handlers, NoMore, Catch}
 use Rattle.resolved.specs.Program.{Program, ProcedureEntry, ResultEntry, ThrownEntry, channel_at, global_at, slot_at, procedure_at}
-use Rattle.resolved.specs.Ends.{same_exit, has_end, one_end, index_can_raise, divisor_can_raise, is_division, raises, thrown_ends, passes, statement_ends, block_ends}
+use Rattle.resolved.specs.Exits.{same_exit, has_exit, one_exit, index_can_raise, divisor_can_raise, is_division, raises, thrown_exits, passes, statement_exits, block_exits}
 
 -- a label that is not written: of a local without a written one, or of a loop, each by the number of its procedure and its own
 pub data Unwritten : Type 0 where
@@ -120,35 +120,35 @@ abbrev pub raise_labels : Scope → List Expression → Join
 raise_labels scope [] = []
 raise_labels scope (e ∷ rest) = raise_label scope e ++ raise_labels scope rest
 
--- X: a label for each end
+-- X: a label for each exit
 abbrev pub ExitLabels : Type 0
 ExitLabels = Exit → Join
 
--- X by what the rule of a form says of it: only possible ends have a label, and where there is one possible end only, it has pc
+-- X by what the rule of a form says of it: only possible exits have a label, and where there is one possible exit only, it has pc
 -- (the rule of the single path)
-abbrev pub at_ends : (ends : List Exit) → (pc : Join) → ExitLabels → ExitLabels
-at_ends ends pc x exit = label_if (has_end ends exit) (if one_end ends then pc else x exit)
+abbrev pub at_exits : (exits : List Exit) → (pc : Join) → ExitLabels → ExitLabels
+at_exits exits pc x exit = label_if (has_exit exits exit) (if one_exit exits then pc else x exit)
 
 -- X of what an expression raises at q
-abbrev pub raised_exits : Expression → (q : Join) → ExitLabels
-raised_exits e q exit = label_if (has_end (thrown_ends (raises e)) exit) q
+abbrev pub raised_exit_labels : Expression → (q : Join) → ExitLabels
+raised_exit_labels e q exit = label_if (has_exit (thrown_exits (raises e)) exit) q
 
 -- X of a call whose arguments were evaluated at q: the end label of the procedure counts where it declares exceptions
-abbrev pub call_exits : Program → (callee : ℕ) → (q : Join) → ExitLabels
-call_exits program callee q Normal =
+abbrev pub call_exit_labels : Program → (callee : ℕ) → (q : Join) → ExitLabels
+call_exit_labels program callee q Normal =
     q ++ label_if (any_of (procedure_at program callee).throws) (one (label_of program (ToEnd callee)))
-call_exits program callee q Return = q
-call_exits program callee q Break = q
-call_exits program callee q Continue = q
-call_exits program callee q (Throw exception) = q ++ one (label_of program (ToThrown callee exception))
+call_exit_labels program callee q Return = q
+call_exit_labels program callee q Break = q
+call_exit_labels program callee q Continue = q
+call_exit_labels program callee q (Throw exception) = q ++ one (label_of program (ToThrown callee exception))
 
 -- X of a loop whose body is reached at b, by that of the body
-abbrev pub loop_exits : (b : Join) → ExitLabels → ExitLabels
-loop_exits b body Normal = b ++ body Break
-loop_exits b body Return = body Return
-loop_exits b body Break = []
-loop_exits b body Continue = []
-loop_exits b body (Throw exception) = body (Throw exception)
+abbrev pub loop_exit_labels : (b : Join) → ExitLabels → ExitLabels
+loop_exit_labels b body Normal = b ++ body Break
+loop_exit_labels b body Return = body Return
+loop_exit_labels b body Break = []
+loop_exit_labels b body Continue = []
+loop_exit_labels b body (Throw exception) = body (Throw exception)
 
 -- a demand: what is on the left flows to the label of its target; with the first byte of its statement, and its rule
 abbrev pub Demand : Type 0
@@ -177,7 +177,7 @@ pub record Judgement : Type 0 where
 
 -- the judgement of a whole block, by that of its statements
 abbrev pub whole : Scope → (pc : Join) → Block → Judgement → Judgement
-whole scope pc block inner = record inner { exits = at_ends (block_ends scope.program block) pc inner.exits }
+whole scope pc block inner = record inner { exits = at_exits (block_exits scope.program block) pc inner.exits }
 
 -- the rules of statements, blocks and handlers, each in one clause. q is the label at which a statement has evaluated its own
 -- expressions, and at which these raise exceptions; that of a loop has the loop's own label in place of pc. A handler is reached at
@@ -202,7 +202,7 @@ abbrev mutual
       record { exits = λ exit. q; demands = demand scope.program at 5 (q ++ value_label scope e) (ToChannel channel) }
   rule_of scope pc (Call at procedure arguments target) =
       let q : Join = pc ++ raise_labels scope arguments in
-      let x : ExitLabels = call_exits scope.program procedure q in
+      let x : ExitLabels = call_exit_labels scope.program procedure q in
       let given : Join = x Normal ++ one (label_of scope.program (ToValue procedure)) in
       record {
         exits = x;
@@ -216,7 +216,7 @@ abbrev mutual
       let first : Judgement = whole scope branch then_block (rule_of_block scope branch then_block) in
       let second : Judgement = whole scope branch else_block (rule_of_block scope branch else_block) in
       record {
-        exits = λ exit. raised_exits e q exit ++ first.exits exit ++ second.exits exit;
+        exits = λ exit. raised_exit_labels e q exit ++ first.exits exit ++ second.exits exit;
         demands = first.demands ++ second.demands;
       }
   rule_of scope pc (While at loop e body) =
@@ -225,7 +225,7 @@ abbrev mutual
       let inner : Judgement = whole scope b body (rule_of_block scope b body) in
       let again : Join = inner.exits Normal ++ inner.exits Continue in
       record {
-        exits = λ exit. raised_exits e q exit ++ loop_exits b inner.exits exit;
+        exits = λ exit. raised_exit_labels e q exit ++ loop_exit_labels b inner.exits exit;
         demands = demand scope.program at 8 pc (ToLoop scope.number loop)
             ++ inner.demands
             ++ demand scope.program at 8 again (ToLoop scope.number loop);
@@ -248,7 +248,7 @@ abbrev mutual
   rule_of_block scope pc Empty = record { exits = λ exit. label_if (same_exit Normal exit) pc; demands = [] }
   rule_of_block scope pc (Then statement rest) =
       let first : Judgement = rule_of scope pc statement in
-      let x : ExitLabels = at_ends (statement_ends scope.program statement) pc first.exits in
+      let x : ExitLabels = at_exits (statement_exits scope.program statement) pc first.exits in
       let others : Judgement = rule_of_block scope (x Normal) rest in
       record {
         exits = λ exit. label_if (not (same_exit Normal exit)) (x exit) ++ others.exits exit;
@@ -263,19 +263,19 @@ abbrev mutual
       let others : Judgement = rule_of_handlers scope x rest in
       record { exits = λ exit. inner.exits exit ++ others.exits exit; demands = inner.demands ++ others.demands }
 
--- for a procedure, normal and return are one end
-abbrev pub as_one_end : Exit → Exit
-as_one_end Normal = Normal
-as_one_end Return = Normal
-as_one_end Break = Break
-as_one_end Continue = Continue
-as_one_end (Throw exception) = Throw exception
+-- for a procedure, normal and return are one exit
+abbrev pub as_one_exit : Exit → Exit
+as_one_exit Normal = Normal
+as_one_exit Return = Normal
+as_one_exit Break = Break
+as_one_exit Continue = Continue
+as_one_exit (Throw exception) = Throw exception
 
--- 13: the demands on the ends of a procedure's body, where it has more than one: on its normal end and its return, then on each
+-- 13: the demands on the exits of a procedure's body, where it has more than one: on its normal exit and its return, then on each
 -- exception in the order in which they are declared, all at the procedure's name
-abbrev pub end_demands : Scope → (ends : List Exit) → ExitLabels → List Demand
-end_demands scope ends x =
-    if one_end (map as_one_end ends) then []
+abbrev pub exit_demands : Scope → (exits : List Exit) → ExitLabels → List Demand
+exit_demands scope exits x =
+    if one_exit (map as_one_exit exits) then []
     else (demand scope.program (here scope).at 13 (x Normal ++ x Return) (ToEnd scope.number)
     ++ flat_map (λ (entry : ThrownEntry). demand scope.program (here scope).at 13 (x (Throw entry.exception)) (ToThrown scope.number entry.exception))
     (here scope).throws)
@@ -286,7 +286,7 @@ procedure_demands scope =
     let begin : Join = one (label_of scope.program (ToBegin scope.number)) in
     let body : Block = (here scope).body in
     let inner : Judgement = whole scope begin body (rule_of_block scope begin body) in
-    inner.demands ++ end_demands scope (block_ends scope.program body) inner.exits
+    inner.demands ++ exit_demands scope (block_exits scope.program body) inner.exits
 
 -- the demands of a program's procedures from number f on
 abbrev pub demands_from : Program → (f : ℕ) → List ProcedureEntry → List Demand
@@ -318,7 +318,7 @@ Labelled program = (labelling : Labelling) × FitsDemands program.hierarchy labe
 
 -- ---- the parts of the rules, by which proofs speak of them
 
--- X as a rule says it, of statements, of what is left of a block, and of handlers; and X of statements and blocks by their possible ends
+-- X as a rule says it, of statements, of what is left of a block, and of handlers; and X of statements and blocks by their possible exits
 abbrev pub statement_rule : Scope → (pc : Join) → Statement → ExitLabels
 statement_rule scope pc statement = (rule_of scope pc statement).exits
 
@@ -328,12 +328,12 @@ block_rule scope pc block = (rule_of_block scope pc block).exits
 abbrev pub handlers_rule : Scope → ExitLabels → Handlers → ExitLabels
 handlers_rule scope x handlers = (rule_of_handlers scope x handlers).exits
 
-abbrev pub statement_exits : Scope → (pc : Join) → Statement → ExitLabels
-statement_exits scope pc statement =
-    at_ends (statement_ends scope.program statement) pc (statement_rule scope pc statement)
+abbrev pub statement_exit_labels : Scope → (pc : Join) → Statement → ExitLabels
+statement_exit_labels scope pc statement =
+    at_exits (statement_exits scope.program statement) pc (statement_rule scope pc statement)
 
-abbrev pub block_exits : Scope → (pc : Join) → Block → ExitLabels
-block_exits scope pc block = (whole scope pc block (rule_of_block scope pc block)).exits
+abbrev pub block_exit_labels : Scope → (pc : Join) → Block → ExitLabels
+block_exit_labels scope pc block = (whole scope pc block (rule_of_block scope pc block)).exits
 
 -- what statements, blocks and handlers demand that are reached at pc
 abbrev pub statement_demands : Scope → (pc : Join) → Statement → List Demand

@@ -6,9 +6,9 @@ pub mod Value
 pub mod SourceState
 pub mod Meaning
 pub mod BitUse
-pub mod Ends
+pub mod Exits
 pub mod RefusalKinds
-pub mod EndFaults
+pub mod ExitFaults
 pub mod Labelled
 pub mod Isolated
 pub mod TreeOf

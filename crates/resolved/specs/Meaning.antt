@@ -24,7 +24,7 @@ pub data Stop : Type 0 where
   Deep : Stop
   OutOfFuel : Stop
 
--- what a statement comes to: the end that it takes, with the value that it returns if it does, and the state then; or a
+-- what a statement comes to: the exit that it takes, with the value that it returns if it does, and the state then; or a
 -- stop, which nothing catches
 pub data Outcome : Type 0 where
   Ended : (exit : Exit) (returned : Option Value) → SourceState → Outcome
@@ -36,18 +36,18 @@ normally s = Ended Normal None s
 abbrev pub thrown : (exception : ℕ) → SourceState → Outcome
 thrown exception s = Ended (Throw exception) None s
 
--- goes on after a normal end; every other end stays
+-- goes on after a normal exit; every other exit stays
 abbrev pub after : Outcome → (SourceState → Outcome) → Outcome
 after (Ended Normal returned s) next = next s
 after other next = other
 
--- goes on with what was evaluated; an exception is the end
+-- goes on with what was evaluated; an exception is the exit
 abbrev pub evaluated : {A : Type 0} → Evaluated A → SourceState → (A → Outcome) → Outcome
 evaluated (Yields v) s next = next v
 evaluated (Raises exception) s next = thrown exception s
 
--- goes on after the body of a loop where that ended normally or by `continue`; `break` is the normal end of the loop, and every
--- other end stays
+-- goes on after the body of a loop where that ended normally or by `continue`; `break` is the normal exit of the loop, and every
+-- other exit stays
 abbrev pub looped : Outcome → (SourceState → Outcome) → Outcome
 looped (Ended Normal returned s) again = again s
 looped (Ended Continue returned s) again = again s
@@ -62,7 +62,7 @@ fuel zero condition body s =
 fuel (suc k) condition body s =
     evaluated (condition s) s (λ v. if truth_in v then looped (body s) (fuel k condition body) else normally s)
 
--- hands an exception to the handlers; every other end stays
+-- hands an exception to the handlers; every other exit stays
 abbrev pub caught : Outcome → (ℕ → SourceState → Outcome) → Outcome
 caught (Ended (Throw exception) returned s) handle = handle exception s
 caught other handle = other
@@ -82,20 +82,20 @@ received (z ∷ rest) channel target s =
 abbrev pub sending : (channel : ℕ) → Value → SourceState → SourceState
 sending channel v s = record s { sent = s.sent ++ (record { channel = channel; number = number_in v } ∷ []) }
 
--- what a call comes to by what the procedure's body does: a return is the normal end of the call, and the caller has its frame again
+-- what a call comes to by what the procedure's body does: a return is the normal exit of the call, and the caller has its frame again
 abbrev pub leaving : (SourceState → SourceState) → Outcome → Outcome
 leaving back (Ended Return returned s) = Ended Normal returned (back s)
 leaving back (Ended exit returned s) = Ended exit returned (back s)
 leaving back (Stopped stop s) = Stopped stop (back s)
 
--- the state in which a target, if there is one, has the value that was returned. In a well-formed program without a fault of its ends
+-- the state in which a target, if there is one, has the value that was returned. In a well-formed program without a fault of its exits
 -- there is a value wherever there is a target
 abbrev pub given_to : Option Variable → Option Value → SourceState → SourceState
 given_to None returned s = s
 given_to (Some x) None s = s
 given_to (Some x) (Some v) s = assigned s x v
 
--- the value of a call goes to its target; every other end than the normal one stays
+-- the value of a call goes to its target; every other exit than the normal one stays
 abbrev pub returned_to : Option Variable → Outcome → Outcome
 returned_to target (Ended Normal returned s) = normally (given_to target returned s)
 returned_to target other = other

@@ -1,7 +1,7 @@
 -- Programs that the rules of labels accept, each of which a rule that is stricter by a little would refuse: what an expression that
 -- raises nothing may leave open, a call of a procedure that declares no exception, a procedure that ends normally or by a return, and
 -- a handler of an exception that one statement alone raises.
--- Source: our own; a label for each end as in JFlow (Myers 1999).
+-- Source: our own; a label for each exit as in JFlow (Myers 1999).
 use Rattle.std.specs.Prelude.{◌≡◌, ℕ, List, [], ◌∷◌, Some, None, IsTrue}
 use Rattle.labels.specs.Label.{Label}
 use Rattle.resolved.specs.declared.expression.Base.TheVariants.{Int, Boolean}
@@ -16,13 +16,13 @@ use Rattle.resolved.specs.Tree.{Expression, Integer, Read, Binary, Short, Statem
 use Rattle.common.specs.declared.exceptions.TheConstants.{ARITH}
 use Rattle.resolved.specs.Program.{Program, ProcedureEntry, SlotEntry}
 use Rattle.resolved.specs.WellFormed.{well_formed}
-use Rattle.resolved.specs.EndFaults.{end_faults}
+use Rattle.resolved.specs.ExitFaults.{exit_faults}
 use Rattle.resolved.specs.Labelled.{Labelled}
 
--- a program that is well formed, has no fault of its ends, and is labelled
+-- a program that is well formed, has no fault of its exits, and is labelled
 pub record IsAcceptable (program : Program) : Type 0 where
   pub formed : IsTrue (well_formed program)
-  pub ended : end_faults program ≡ []
+  pub ended : exit_faults program ≡ []
   pub labelled : Labelled program
 
 -- the label `{Alice:}`
@@ -101,8 +101,8 @@ raising_argument = program_with
 
 -- `void g(int{Alice:} x) { if (x > 0) { return; } x = 1; }` and `g(5); send pub, 1;`: whether it returns or ends normally is secret,
 -- and its caller sees the same of both
-abbrev pub two_normal_ends : Program
-two_normal_ends = program_with
+abbrev pub two_normal_exits : Program
+two_normal_exits = program_with
     (procedure [] 0 [] (Then (Call 0 1 (Integer 5 ∷ []) None) (Then send_one Empty)))
     (procedure [] 1 (int_slot secret ∷ [])
     (Then (If 0 (Binary (Compare GreaterThan) (local 0) (Integer 0)) (Then (ReturnWith 0 None) Empty) Empty)

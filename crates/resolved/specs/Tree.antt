@@ -1,5 +1,5 @@
 -- The resolved tree: a program of the whole language in which names are numbers.
--- Source: our own language; statements with several ends as in JFlow (Myers 1999).
+-- Source: our own language; statements with several exits as in JFlow (Myers 1999).
 use Rattle.std.specs.Prelude.{ℕ, Bool, List, Option}
 use Rattle.resolved.specs.declared.expression.Variable.{Variable}
 use Rattle.resolved.specs.declared.expression.Prefix.{Prefix}

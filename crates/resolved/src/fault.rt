@@ -1,66 +1,66 @@
-//! What can be wrong with the ends of a program's statements, and the numbers and the words by which it is reported.
-ghost use Rattle.resolved.specs.RefusalKinds.{end_refusal_number, end_refusal_words};
+//! What can be wrong with the exits of a program's statements, and the numbers and the words by which it is reported.
+ghost use Rattle.resolved.specs.RefusalKinds.{exit_refusal_number, exit_refusal_words};
 ghost use Rattle.std.specs.Prelude.{◌≡◌, Some};
 
 use std::error::Error;
 use std::fmt;
 
-/// What is wrong with the ends of a program's statements.
+/// What is wrong with the exits of a program's statements.
 #[derive(Clone, Copy, Debug, PartialEq, Eq)]
-pub enum EndRefusalKind {
+pub enum ExitRefusalKind {
     /// 501: a statement that is never reached.
     Unreachable,
     /// 502: a procedure with a value that can end without one.
     NoValueReturned,
     /// 503: a procedure that lets out an exception which it does not declare.
     Undeclared,
-    /// 504: a handler of an exception that is no end of its block, or that a handler before it has taken.
+    /// 504: a handler of an exception that is no exit of its block, or that a handler before it has taken.
     NeverRaised,
     /// 505: `break` or `continue` outside a loop.
     OutsideLoop,
 }
 
-impl EndRefusalKind {
+impl ExitRefusalKind {
     /// The number that the refusal is reported by, 501 to 505.
     pub fn number(self) -> u32
-        ensures { result ≡ end_refusal_number self }
+        ensures { result ≡ exit_refusal_number self }
     {
         match self {
-            EndRefusalKind::Unreachable => 501,
-            EndRefusalKind::NoValueReturned => 502,
-            EndRefusalKind::Undeclared => 503,
-            EndRefusalKind::NeverRaised => 504,
-            EndRefusalKind::OutsideLoop => 505,
+            ExitRefusalKind::Unreachable => 501,
+            ExitRefusalKind::NoValueReturned => 502,
+            ExitRefusalKind::Undeclared => 503,
+            ExitRefusalKind::NeverRaised => 504,
+            ExitRefusalKind::OutsideLoop => 505,
         }
     }
 
     /// The words that the refusal is reported by.
     pub fn words(self) -> &'static str
-        ensures { result.now ≡ end_refusal_words self }
+        ensures { result.now ≡ exit_refusal_words self }
     {
         match self {
-            EndRefusalKind::Unreachable => "unreachable",
-            EndRefusalKind::NoValueReturned => "no value returned",
-            EndRefusalKind::Undeclared => "exception not declared",
-            EndRefusalKind::NeverRaised => "never raised",
-            EndRefusalKind::OutsideLoop => "not in a loop",
+            ExitRefusalKind::Unreachable => "unreachable",
+            ExitRefusalKind::NoValueReturned => "no value returned",
+            ExitRefusalKind::Undeclared => "exception not declared",
+            ExitRefusalKind::NeverRaised => "never raised",
+            ExitRefusalKind::OutsideLoop => "not in a loop",
         }
     }
 }
 
-/// A program whose ends have a fault: what is wrong, and the byte of the token at which it stands.
+/// A program whose exits have a fault: what is wrong, and the byte of the token at which it stands.
 #[derive(Clone, Copy, Debug, PartialEq, Eq)]
-pub struct EndRefusal {
-    pub kind: EndRefusalKind,
+pub struct ExitRefusal {
+    pub kind: ExitRefusalKind,
     pub at: usize,
 }
 
-impl fmt::Display for EndRefusal {
-    ghost output = { λ refusal. Some (end_refusal_words refusal.kind) };
+impl fmt::Display for ExitRefusal {
+    ghost output = { λ refusal. Some (exit_refusal_words refusal.kind) };
 
     fn fmt<W: fmt::Write>(&self, f: &mut fmt::Formatter<W>) -> fmt::Result {
         write!(f, "{}", self.kind.words())
     }
 }
 
-impl Error for EndRefusal {}
+impl Error for ExitRefusal {}

@@ -5,7 +5,7 @@ ghost use Rattle.labels.specs.Label.{Label, ReaderPolicy};
 ghost use Rattle.resolved.specs.Flow.{AreGathered, AreLeast, FlowBothWays, Gathered, IsFlowChain, IsProgramRefused, IsUncovered, reported_step};
 ghost use Rattle.resolved.specs.Kinds.{MeaningKeepsTypes, RunsBeginTyped, ValuesHaveTheirTypes};
 ghost use Rattle.resolved.specs.Labelled.{Demand, Labelled, Unwritten, program_demands};
-ghost use Rattle.resolved.specs.Precise.{IsAcceptable, handler_of_one, raising_argument, short_circuit, two_normal_ends};
+ghost use Rattle.resolved.specs.Precise.{IsAcceptable, handler_of_one, raising_argument, short_circuit, two_normal_exits};
 ghost use Rattle.resolved.specs.Program.{Program};
 ghost use Rattle.std.specs.Prelude.{Contains, List, ℕ, ◌≡◌, ◌↔◌, ◌⊎◌};
 
@@ -59,6 +59,6 @@ pub fn gathered_constraints_decide()
 pub fn precise_programs_are_accepted()
     ensures short_circuit { IsAcceptable short_circuit }
     ensures raising_argument { IsAcceptable raising_argument }
-    ensures two_normal_ends { IsAcceptable two_normal_ends }
+    ensures two_normal_exits { IsAcceptable two_normal_exits }
     ensures handler_of_one { IsAcceptable handler_of_one }
 {}

@@ -11,4 +11,4 @@ pub mod statement;
 pub mod tables;
 pub mod target;
 
-pub use fault::{EndRefusal, EndRefusalKind};
+pub use fault::{ExitRefusal, ExitRefusalKind};

@@ -12,7 +12,8 @@ impl Core {
     /// The procedure with this number, which has to be there.
     pub fn procedure(&self, number: u32) -> &Procedure
         requires { number < length self.now.procedures.items }
-        ensures { procedure_entry self.now.labels result.now ≡ procedure_at (program_of self.now) number }
+        ensures { procedure_entry self.now.labels result.now ≡ procedure_at (program_of self.now)
+            number }
     {
         &self.procedures[number as usize]
     }
@@ -20,7 +21,8 @@ impl Core {
     /// The channel with this number, which has to be there.
     pub fn channel(&self, number: u32) -> &Channel
         requires { number < length self.now.channels.items }
-        ensures { channel_entry self.now.labels result.now ≡ channel_at (program_of self.now) number }
+        ensures { channel_entry self.now.labels result.now ≡ channel_at (program_of self.now)
+            number }
     {
         &self.channels[number as usize]
     }

@@ -6,7 +6,7 @@ ghost use Rattle.std.specs.Prelude.{◌≡◌};
 
 use crate::expression::{Expression, Variable};
 
-/// An end of a statement. Exceptions 0, 1 and 2 are `Arith`, `Bounds` and `End`, the declared ones follow in order.
+/// An exit of a statement. Exceptions 0, 1 and 2 are `Arith`, `Bounds` and `End`, the declared ones follow in order.
 #[derive(Clone, Copy, Debug, PartialEq, Eq)]
 pub enum Exit {
     Normal,

@@ -1,8 +1,9 @@
--- Sets of numbers as truth values: after a number was added, of a union, and how many numbers they have.
-use Rattle.std.proofs.Common.{◌≡◌, refl, ap, ◌∙◌, subst, sym, ℕ, zero, suc, ◌<◌, ◌≤◌, ◌+◌, length, set, get_or, get_or-set_other, get_or-set_same, List, [], ◌∷◌, Bool, true, false, arith, nat_eq, ◌||◌, ◌⊎◌, inl, inr, ⊎_elim, replicate, add-zero}
-use Rattle.std.specs.Prelude.{IsTrue, ◌==◌, ◌↔◌, ◌≢◌}
-use Rattle.std.proofs.lemmas.Bool.{eqb-true, eqb-false, or_left, or_right}
-use Rattle.labels.specs.Row.{has, union}
+-- Sets of numbers as truth values: after a number was added, of two sets, and how many numbers they have.
+use Rattle.std.proofs.Common.{◌≡◌, refl, ap, ◌∙◌, subst, sym, ℕ, zero, suc, ◌<◌, ◌≤◌, ◌+◌, length, set, get_or, get_or-set_other, get_or-set_same, List, [], ◌∷◌, Bool, true, false, arith, nat_eq, ◌||◌, ◌⊎◌, inl, inr, replicate, add-zero, Option, Some, None}
+use Rattle.std.specs.Prelude.{IsTrue, ◌==◌}
+use Rattle.std.proofs.lemmas.Bool.{cases_lt, eqb-true, eqb-false, or_left, or_right}
+use Rattle.labels.specs.Row.{Includes, has}
+use Rattle.solver.specs.Work.{Grown, IsGrown}
 use Rattle.solver.specs.Looks.{count_of, one, stands_left, written_left}
 use Rattle.solver.specs.declared.constraints.Constraint.{Constraint}
 
@@ -23,25 +24,6 @@ has-set row i n h = go (nat_eq n i) refl
         let is : n ≡ i = eqb-true n i e in
         rw e (ap (λ j. get_or (set row i true) j false) is ∙ get_or-set_same row i true false h)
     go false e = rw e (get_or-set_other row i n true false (eqb-false n i e))
-
-pub has-union : (row other : List Bool) → length row ≡ length other → (n : ℕ) → has (union row other) n ≡ (has row n || has other n)
-has-union [] [] e n = refl
-has-union [] (y ∷ ys) e n = absurd (omega (arith, e))
-has-union (x ∷ xs) [] e n = absurd (omega (arith, e))
-has-union (x ∷ xs) (y ∷ ys) e zero = refl
-has-union (x ∷ xs) (y ∷ ys) e (suc n) = has-union xs ys (omega (arith, e)) n
-
--- a union is the set, or has more numbers
-pub union-grows : (row other : List Bool) → length row ≡ length other → (union row other ≡ row) ⊎ (size row < size (union row other))
-union-grows [] [] e = inl refl
-union-grows [] (y ∷ ys) e = absurd (omega (arith, e))
-union-grows (x ∷ xs) [] e = absurd (omega (arith, e))
-union-grows (x ∷ xs) (y ∷ ys) e = go x y (union-grows xs ys (omega (arith, e)))
-  where
-    go : (a b : Bool) → (union xs ys ≡ xs) ⊎ (size xs < size (union xs ys)) → (union (a ∷ xs) (b ∷ ys) ≡ a ∷ xs) ⊎ (size (a ∷ xs) < size (union (a ∷ xs) (b ∷ ys)))
-    go true b rest = ⊎_elim (λ same. inl (ap (λ (r : List Bool). true ∷ r) same)) (λ more. inr (omega (arith, more))) rest
-    go false false rest = ⊎_elim (λ same. inl (ap (λ (r : List Bool). false ∷ r) same)) (λ more. inr (omega (arith, more))) rest
-    go false true rest = ⊎_elim (λ same. let e' : size (union xs ys) ≡ size xs = ap size same in inr (omega (arith, e'))) (λ more. inr (omega (arith, more))) rest
 
 -- of written elements that stand in left sides there are at most this many
 pub size-at_most : {T : Type 0} (cs : List (Constraint T)) (k : ℕ) (row : List Bool) → ((n : ℕ) → IsTrue (has row n) → IsTrue (stands_left cs (k + n))) → size row ≤ written_left cs k (length row)
@@ -101,19 +83,40 @@ size-less (x ∷ a) (y ∷ b) zero h there off =
     omega (arith, rest, here, none)
 size-less (x ∷ a) (y ∷ b) (suc i) h there off = let rest = size-less a b i (λ n. h (suc n)) there off in let first = one-le x y (h 0) in omega (arith, rest, first)
 
--- ---- the numbers of a left side are added to a row: by words, or as a longer row
-
+-- ---- the numbers of a row are added to another one, which lacks one of them
 pub some-new : (row left new : List Bool) (i : ℕ) → ((n : ℕ) → has new n ≡ (has left n || has row n)) → IsTrue (has left i) → has row i ≡ false → size row < size new
 some-new row left new i is there off =
     size-less row new i (λ n held. is n ∙ or_right (has left n) (has row n) held) (is i ∙ or_left (has left i) (has row i) there) off
 
-pub joined-more : (row left new : List Bool) (grew : Bool) → length row ≡ length left → new ≡ union row left → IsTrue grew ↔ (new ≢ row) → IsTrue grew → size row < size new
-joined-more row left new grew count is test holds =
-    ⊎_elim (λ same. absurd (test.0 holds (is ∙ same))) (λ more. subst (λ (r : List Bool). size row < size r) (sym is) more) (union-grows row left count)
+pub more-new : (own row new : List Bool) → ((n : ℕ) → has new n ≡ (has row n || has own n)) → (Includes own row → ⊥) → size own < size new
+more-new own row new is lacks = go (cases_lt (size own) (size new))
+  where
+    covered : size new ≤ size own → (n : ℕ) → (t : Bool) → has own n ≡ t → IsTrue (has row n) → IsTrue (has own n)
+    covered few n true e there = e
+    covered few n false e there = let more = some-new own row new n is there e in absurd (omega (arith, more, few))
 
-pub joined-same : (row left new : List Bool) (grew : Bool) → length row ≡ length left → new ≡ union row left → IsTrue grew ↔ (new ≢ row) → grew ≡ false → new ≡ row
-joined-same row left new grew count is test off =
-    ⊎_elim (λ same. is ∙ same)
-    (λ more. let yes : grew ≡ true = test.1 (λ e. let same : size new ≡ size row = ap size e in let joined : size new ≡ size (union row left) = ap size is in absurd (omega (arith, more, same, joined))) in
-    absurd (cc))
-    (union-grows row left count)
+    go : (size own < size new) ⊎ (size new ≤ size own) → size own < size new
+    go (inl more) = more
+    go (inr few) = absurd (lacks (λ n there. covered few n (has own n) refl there))
+
+-- a row that has all numbers of another one, and one that does not
+or-swap : (a b : Bool) → (a || b) ≡ (b || a)
+or-swap true true = refl
+or-swap true false = refl
+or-swap false true = refl
+or-swap false false = refl
+
+or-kept : (a b : Bool) → (IsTrue b → IsTrue a) → a ≡ (a || b)
+or-kept true b h = refl
+or-kept false false h = refl
+or-kept false true h = let no : false ≡ true = h refl in absurd (cc)
+
+pub grown-members : (own more row : List Bool) → Grown own more row → (n : ℕ) → has row n ≡ (has own n || has more n)
+grown-members own more row grown n = grown.members n ∙ or-swap (has more n) (has own n)
+
+pub kept-members : (own more : List Bool) → Includes own more → (n : ℕ) → has own n ≡ (has own n || has more n)
+kept-members own more all n = or-kept (has own n) (has more n) (all n)
+
+pub none-new : (own more : List Bool) (found : Option (List Bool)) → IsGrown own more found → ((row : List Bool) → found ≡ Some row → ⊥) → Includes own more
+none-new own more None all never = all
+none-new own more (Some row) grown never = absurd (never row refl)

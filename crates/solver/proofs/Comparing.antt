@@ -1,5 +1,5 @@
 -- Rows of left sides, and the first constraint that is broken.
-use Rattle.std.proofs.Common.{◌≡◌, sym, ap, ◌∙◌, subst, ℕ, zero, suc, ◌<◌, ◌≤◌, ◌+◌, length, get_or, take, List, [], ◌∷◌, Bool, true, false, arith, ◌||◌, ⊎_elim, Option, Some, None}
+use Rattle.std.proofs.Common.{◌≡◌, sym, ap, ◌∙◌, subst, ℕ, zero, suc, ◌<◌, ◌≤◌, ◌+◌, length, get_or, take, List, [], ◌∷◌, Bool, true, false, arith, ◌||◌, Option, Some, None}
 use Rattle.std.specs.Prelude.{slice_get}
 use Rattle.std.proofs.lemmas.List.{take_more}
 use Rattle.std.proofs.lemmas.List.Folds.{list_any-append}
@@ -7,14 +7,13 @@ use Rattle.std.proofs.lemmas.Option.{slice_get-get_or}
 use Rattle.std.proofs.Math.Bool.{or-false}
 use Rattle.std.proofs.lemmas.Option.{same_Some}
 use Rattle.labels.specs.Row.{has}
-use Rattle.solver.specs.Breaker.{BreaksSides, IsBreakerOf, IsFirstBreaker, NoneBreaks}
+use Rattle.solver.specs.Breaker.{IsBreakerOf, IsFirstBreaker, NoneBreaks}
 use Rattle.labels.specs.Under.{FirstAbove}
 use Rattle.labels.proofs.Held.{has-inside}
 use Rattle.solver.specs.declared.constraints.Atom.TheVariants.{Written}
 use Rattle.solver.specs.Rows.{atom_has, left_has}
 use Rattle.solver.specs.declared.constraints.Atom.{Atom}
 use Rattle.solver.specs.declared.constraints.Constraint.{Constraint}
-use Rattle.common.proofs.Cases.{last_cases}
 
 -- one more atom of a left side
 pub left-step : (rows : List (List Bool)) (left : List Atom) (i n : ℕ) (d : Atom) (before after : Bool) → i < length left → before ≡ left_has rows (take i left) n →
@@ -53,15 +52,6 @@ slice_get-inside (y ∷ ys) zero x e = omega arith
 slice_get-inside (y ∷ ys) (suc i) x e = let lt = slice_get-inside ys i x e in omega (arith, lt)
 
 module _ {T : Type 0} (below : ℕ → ℕ → Bool) (count : ℕ) (rows : List (List Bool)) (cs : List (Constraint T)) where
-  pub none-step : (i : ℕ) (c : Constraint T) → c ≡ get_or cs i c → NoneBreaks below count rows cs i → IsBreakerOf below count rows c.left.items c.right None →
-      NoneBreaks below count rows cs (i + 1)
-  none-step i c is so_far none n j h lt breaks =
-      ⊎_elim (λ before. so_far n j h before breaks)
-      (λ last.
-      let same_c : breaks.constraint ≡ c = sym (slice_get-at cs i breaks.constraint c (subst (λ k. slice_get cs k ≡ Some breaks.constraint) last breaks.at)) ∙ sym is in
-      none n h (subst (λ (x : Constraint T). BreaksSides below rows x.left.items x.right n) same_c breaks.sides))
-      (last_cases j i lt)
-
   pub some-first : (i n : ℕ) (c : Constraint T) → i < length cs → c ≡ get_or cs i c → NoneBreaks below count rows cs i → IsBreakerOf below count rows c.left.items c.right (Some n) →
       IsFirstBreaker below count rows cs (Some n)
   some-first i n c h is so_far breaks = record {

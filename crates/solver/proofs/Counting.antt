@@ -1,10 +1,9 @@
 -- How often constraints may come to wait: once for each edge from an unknown and each number that may still come to its row.
 use Rattle.std.proofs.Common.{◌≡◌, refl, sym, ap, ◌∙◌, subst, ℕ, zero, suc, ◌<◌, ◌≤◌, ◌+◌, ◌*◌, ◌-◌, length, set, get_or, List, [], ◌∷◌, ◌++◌, Bool, true, false, arith, nat_eq, add-zero}
-use Rattle.std.specs.Global.{Global}
-use Rattle.std.specs.declared.vec.Vec.{Vec}
 use Rattle.std.proofs.lemmas.Bool.{eqb-true}
 use Rattle.std.proofs.Math.Nat.{mul-le-mul_right, suc-mul}
-use Rattle.solver.specs.Links.{Link, edges_at, left_links, link, links_of, row_at}
+use Rattle.solver.specs.Links.{Link, edges_at, left_links, link, links_of}
+use Rattle.solver.specs.EdgeRows.{row_at}
 use Rattle.solver.specs.Looks.{count_of, is_unknown, one, unknowns_left}
 use Rattle.solver.specs.Work.{room}
 use Rattle.solver.specs.declared.edges.Edge.{Edge}
@@ -14,32 +13,32 @@ use Rattle.solver.specs.declared.constraints.Constraint.{Constraint}
 use Rattle.solver.proofs.Bits.{size}
 
 -- a row has grown
-pub room-grows : (most : ℕ) (edges : List (Vec Edge Global)) (rows : List (List Bool)) (u : ℕ) (row d : List Bool) → u < length rows → length rows ≡ length edges →
+pub room-grows : (most : ℕ) (edges : List (List Edge)) (rows : List (List Bool)) (u : ℕ) (row d : List Bool) → u < length rows → length rows ≡ length edges →
     size (get_or rows u d) < size row → size row ≤ most → room most edges (set rows u row) + length (row_at edges u) ≤ room most edges rows
 room-grows most edges [] u row d h e more small = absurd (omega (arith, h))
 room-grows most [] (r ∷ rows) u row d h e more small = absurd (omega (arith, e))
 room-grows most (es ∷ edges) (r ∷ rows) zero row d h e more small =
     let fewer : suc (most - size row) ≤ most - size r = omega (arith, more, small) in
-    let times : suc (most - size row) * length es.items ≤ (most - size r) * length es.items = mul-le-mul_right (length es.items) fewer in
-    let first : suc (most - size row) * length es.items ≡ (most - size row) * length es.items + length es.items = suc-mul (most - size row) (length es.items) in
+    let times : suc (most - size row) * length es ≤ (most - size r) * length es = mul-le-mul_right (length es) fewer in
+    let first : suc (most - size row) * length es ≡ (most - size row) * length es + length es = suc-mul (most - size row) (length es) in
     omega (arith, times, first)
 room-grows most (es ∷ edges) (r ∷ rows) (suc u) row d h e more small =
     let rest = room-grows most edges rows u row d (omega (arith, h)) (omega (arith, e)) more small in
     omega (arith, rest)
 
 -- all edges
-abbrev all_edges : List (Vec Edge Global) → ℕ
+abbrev all_edges : List (List Edge) → ℕ
 all_edges [] = 0
-all_edges (es ∷ edges) = length es.items + all_edges edges
+all_edges (es ∷ edges) = length es + all_edges edges
 
-room-at_most : (most : ℕ) (edges : List (Vec Edge Global)) (rows : List (List Bool)) → room most edges rows ≤ all_edges edges * most
+room-at_most : (most : ℕ) (edges : List (List Edge)) (rows : List (List Bool)) → room most edges rows ≤ all_edges edges * most
 room-at_most most [] rows = omega arith
 room-at_most most (es ∷ edges) [] = omega arith
 room-at_most most (es ∷ edges) (row ∷ rows) =
     let rest = room-at_most most edges rows in
     let fewer : most - size row ≤ most = omega arith in
-    let times : (most - size row) * length es.items ≤ most * length es.items = mul-le-mul_right (length es.items) fewer in
-    let all : (length es.items + all_edges edges) * most ≡ most * length es.items + all_edges edges * most = omega arith in
+    let times : (most - size row) * length es ≤ most * length es = mul-le-mul_right (length es) fewer in
+    let all : (length es + all_edges edges) * most ≡ most * length es + all_edges edges * most = omega arith in
     omega (arith, rest, times, all)
 
 -- the edges from unknowns are the links from unknowns
@@ -50,11 +49,11 @@ tally k (suc n) links = length (edges_at (Unknown k) links) + tally (suc k) n li
 abbrev unknown_links : List Link → ℕ
 unknown_links links = count_of (λ l. is_unknown l.from) links
 
-edges-tally : (k : ℕ) (edges : List (Vec Edge Global)) (links : List Link) → ((i : ℕ) → row_at edges i ≡ edges_at (Unknown (k + i)) links) → all_edges edges ≡ tally k (length edges) links
+edges-tally : (k : ℕ) (edges : List (List Edge)) (links : List Link) → ((i : ℕ) → row_at edges i ≡ edges_at (Unknown (k + i)) links) → all_edges edges ≡ tally k (length edges) links
 edges-tally k [] links each = refl
 edges-tally k (es ∷ edges) links each =
-    let first : es.items ≡ edges_at (Unknown k) links = each 0 ∙ ap (λ n. edges_at (Unknown n) links) (add-zero k) in
-    let len : length es.items ≡ length (edges_at (Unknown k) links) = ap length first in
+    let first : es ≡ edges_at (Unknown k) links = each 0 ∙ ap (λ n. edges_at (Unknown n) links) (add-zero k) in
+    let len : length es ≡ length (edges_at (Unknown k) links) = ap length first in
     let rest = edges-tally (suc k) edges links (λ i. let e : k + suc i ≡ suc k + i = omega arith in each (suc i) ∙ ap (λ n. edges_at (Unknown n) links) e) in
     omega (arith, len, rest)
 
@@ -102,7 +101,7 @@ tally-at_most k n (l ∷ links) = go l.from refl (tally-at_most k n links)
         let t : tally k n (l ∷ links) ≤ suc (tally k n links) = subst (λ (x : Link). tally k n (x ∷ links) ≤ suc (tally k n links)) (sym is) (tally-unknown k n w l.by l.to links) in
         omega (arith, t, rest, here)
 
-count-append : {X : Type 0} (test : X → Bool) (xs ys : List X) → count_of test (xs ++ ys) ≡ count_of test xs + count_of test ys
+pub count-append : {X : Type 0} (test : X → Bool) (xs ys : List X) → count_of test (xs ++ ys) ≡ count_of test xs + count_of test ys
 count-append test [] ys = omega arith
 count-append test (x ∷ xs) ys = let rest = count-append test xs ys in omega (arith, rest)
 
@@ -118,7 +117,7 @@ links-unknowns {T} by (c ∷ cs) =
     let both = count-append (λ (l : Link). is_unknown l.from) (left_links by c.right c.left.items) (links_of (suc by) cs) in
     omega (arith, first, rest, both)
 
-pub room-first : {T : Type 0} (cs : List (Constraint T)) (most : ℕ) (edges : List (Vec Edge Global)) (rows : List (List Bool)) →
+pub room-first : {T : Type 0} (cs : List (Constraint T)) (most : ℕ) (edges : List (List Edge)) (rows : List (List Bool)) →
     ((i : ℕ) → row_at edges i ≡ edges_at (Unknown i) (links_of 0 cs)) → room most edges rows ≤ most * unknowns_left cs
 room-first {T} cs most edges rows each =
     let links = links_of 0 cs in

@@ -1,15 +1,7 @@
 -- Rows of bits: reading one, and after one was replaced.
-use Rattle.std.proofs.Common.{◌≡◌, refl, ap, ℕ, zero, suc, ◌<◌, ◌≤◌, length, set, get_or, List, [], ◌∷◌, ◌++◌, Bool, true, false, arith, nat_lt, ◌≢◌}
-use Rattle.std.proofs.lemmas.Bool.{ltb-true}
+use Rattle.std.proofs.Common.{◌≡◌, refl, ap, ℕ, zero, suc, ◌<◌, ◌≤◌, length, set, get_or, List, [], ◌∷◌, ◌++◌, Bool, false, arith, ◌≢◌}
 use Rattle.labels.specs.Row.{has}
 use Rattle.solver.specs.Rows.{has_at}
-
-pub ltb-ge : (a b : ℕ) → b ≤ a → nat_lt a b ≡ false
-ltb-ge a b h = go (nat_lt a b) refl
-  where
-    go : (t : Bool) → nat_lt a b ≡ t → nat_lt a b ≡ false
-    go true e = let lt = ltb-true a b e in absurd (omega (arith, lt, h))
-    go false e = e
 
 -- ---- reading rows
 pub has_at-read : (rows : List (List Bool)) (u n : ℕ) (d : List Bool) → u < length rows → has (get_or rows u d) n ≡ has_at rows u n

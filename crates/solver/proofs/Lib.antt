@@ -4,7 +4,9 @@ pub mod Candidates
 pub mod Chains
 pub mod Comparing
 pub mod Counting
+pub mod EdgePlaces
 pub mod Filling
+pub mod Firsts
 pub mod LabelValues
 pub mod Meaning
 pub mod Queued

@@ -1,37 +1,14 @@
--- Rows of edges: reading one after a write, and the edges of links that are put together.
-use Rattle.std.proofs.Common.{◌≡◌, refl, sym, ap, ◌∙◌, ℕ, zero, suc, ◌<◌, ◌+◌, length, set, get_or, List, [], ◌∷◌, ◌++◌, Bool, true, false, nat_eq, arith, take, ◌≢◌, add-zero, zero-add, append_assoc, append-nil}
-use Rattle.std.proofs.lemmas.Bool.{eqb-true, eqb-false}
-use Rattle.std.proofs.lemmas.List.{map-append, take_more, length-take-le}
-use Rattle.std.specs.Global.{Global}
-use Rattle.std.specs.declared.vec.Vec.{Vec}
-use Rattle.solver.specs.Links.{Link, edges_at, link, left_links, links_of, row_at, same}
+-- The edges of links that are put together, and those of parts that no link has.
+use Rattle.std.proofs.Common.{◌≡◌, refl, sym, ap, ◌∙◌, ℕ, suc, ◌<◌, ◌≤◌, ◌+◌, length, get_or, List, [], ◌∷◌, ◌++◌, Bool, true, false, nat_eq, arith, take, drop, add-zero, zero-add, append_assoc, append-nil}
+use Rattle.std.specs.Prelude.{All}
+use Rattle.std.proofs.lemmas.Bool.{eqb-true}
+use Rattle.std.proofs.lemmas.List.{take_more, drop_more, length-take-le}
+use Rattle.solver.specs.Links.{InRange, IsBelow, Link, edges_at, link, left_links, links_of, same}
+use Rattle.solver.specs.Looks.{count_of}
 use Rattle.solver.specs.declared.edges.Edge.{Edge}
 use Rattle.solver.specs.declared.constraints.Atom.{Atom}
 use Rattle.solver.specs.declared.constraints.Atom.TheVariants.{Unknown, Written}
 use Rattle.solver.specs.declared.constraints.Constraint.{Constraint}
-
-pub row_at-read : (rows : List (Vec Edge Global)) (i : ℕ) (d : Vec Edge Global) → i < length rows → (get_or rows i d).items ≡ row_at rows i
-row_at-read [] i d h = absurd (omega arith)
-row_at-read (row ∷ rows) zero d h = refl
-row_at-read (row ∷ rows) (suc i) d h = row_at-read rows i d (omega (arith, h))
-
-pub row_at-same : (rows : List (Vec Edge Global)) (i : ℕ) (row : Vec Edge Global) → i < length rows → row_at (set rows i row) i ≡ row.items
-row_at-same [] i row h = absurd (omega arith)
-row_at-same (r ∷ rows) zero row h = refl
-row_at-same (r ∷ rows) (suc i) row h = row_at-same rows i row (omega (arith, h))
-
-pub row_at-other : (rows : List (Vec Edge Global)) (i k : ℕ) (row : Vec Edge Global) → k ≢ i → row_at (set rows i row) k ≡ row_at rows k
-row_at-other [] i k row ne = refl
-row_at-other (r ∷ rows) zero zero row ne = absurd (ne refl)
-row_at-other (r ∷ rows) zero (suc k) row ne = refl
-row_at-other (r ∷ rows) (suc i) zero row ne = refl
-row_at-other (r ∷ rows) (suc i) (suc k) row ne = row_at-other rows i k row (λ e. ne (ap suc e))
-
-pub row_at-more : (rows : List (Vec Edge Global)) (row : Vec Edge Global) → row.items ≡ [] → ((k : ℕ) → row_at rows k ≡ []) → (k : ℕ) → row_at (rows ++ row ∷ []) k ≡ []
-row_at-more [] row e each zero = e
-row_at-more [] row e each (suc k) = refl
-row_at-more (r ∷ rows) row e each zero = each zero
-row_at-more (r ∷ rows) row e each (suc k) = row_at-more rows row e (λ k. each (suc k)) k
 
 pub edges_at-append : (from : Atom) (a b : List Link) → edges_at from (a ++ b) ≡ edges_at from a ++ edges_at from b
 edges_at-append from [] b = refl
@@ -49,41 +26,6 @@ links_of-append {T} by (c ∷ a) b =
     ap (λ x. left_links by c.right c.left.items ++ x) (links_of-append (suc by) a b ∙ ap (λ n. links_of (suc by) a ++ links_of n b) e)
     ∙ sym (append_assoc (left_links by c.right c.left.items) (links_of (suc by) a) (links_of (by + length (c ∷ a)) b))
 
--- a row that has one more edge, and the others as before
-module _ (old new : List (Vec Edge Global)) (n : ℕ) (by : ℕ) (to : Atom) (edge : Edge) (edge_is : edge ≡ record { by = by; to = to }) (row : row_at new n ≡ row_at old n ++ edge ∷ [])
-    (others : (k : ℕ) → k ≢ n → row_at new k ≡ row_at old k) where
-  pub grown-written : (k : ℕ) → row_at new k ≡ row_at old k ++ edges_at (Written k) (link (Written n) by to ∷ [])
-  grown-written k = go (nat_eq k n) refl
-    where
-      go : (t : Bool) → nat_eq k n ≡ t → row_at new k ≡ row_at old k ++ edges_at (Written k) (link (Written n) by to ∷ [])
-      go true e = let same_number : k ≡ n = eqb-true k n e in rw (e, same_number, row, edge_is) refl
-      go false e = rw e (others k (eqb-false k n e) ∙ sym (append-nil (row_at old k)))
-
-  pub grown-unknown : (k : ℕ) → row_at new k ≡ row_at old k ++ edges_at (Unknown k) (link (Unknown n) by to ∷ [])
-  grown-unknown k = go (nat_eq k n) refl
-    where
-      go : (t : Bool) → nat_eq k n ≡ t → row_at new k ≡ row_at old k ++ edges_at (Unknown k) (link (Unknown n) by to ∷ [])
-      go true e = let same_number : k ≡ n = eqb-true k n e in rw (e, same_number, row, edge_is) refl
-      go false e = rw e (others k (eqb-false k n e) ∙ sym (append-nil (row_at old k)))
-
--- the edges of one more part of a left side
-pub edges_at-left_more : (from : Atom) (by : ℕ) (to : Atom) (left : List Atom) (i : ℕ) (atom : Atom) → i < length left →
-    edges_at from (left_links by to (take (i + 1) left)) ≡ edges_at from (left_links by to (take i left)) ++ edges_at from (link (get_or left i atom) by to ∷ [])
-edges_at-left_more from by to left i atom h =
-    ap (λ x. edges_at from (left_links by to x)) (take_more left i atom h)
-    ∙ (ap (edges_at from) (map-append (λ a. link a by to) (take i left) (get_or left i atom ∷ []))
-    ∙ edges_at-append from (left_links by to (take i left)) (link (get_or left i atom) by to ∷ []))
-
--- the step of a loop over a left side
-pub left_step : (from : Atom) (by : ℕ) (to : Atom) (left : List Atom) (i : ℕ) (atom : Atom) (before loop after : List Edge) → i < length left →
-    loop ≡ before ++ edges_at from (left_links by to (take i left)) → after ≡ loop ++ edges_at from (link (get_or left i atom) by to ∷ []) →
-    after ≡ before ++ edges_at from (left_links by to (take (i + 1) left))
-left_step from by to left i atom before loop after h so_far more =
-    more
-    ∙ (ap (λ x. x ++ edges_at from (link (get_or left i atom) by to ∷ [])) so_far
-    ∙ (append_assoc before (edges_at from (left_links by to (take i left))) (edges_at from (link (get_or left i atom) by to ∷ []))
-    ∙ ap (λ x. before ++ x) (sym (edges_at-left_more from by to left i atom h))))
-
 -- the edges of one more constraint
 pub edges_at-links_more : {T : Type 0} (from : Atom) (cs : List (Constraint T)) (i : ℕ) (c : Constraint T) → i < length cs →
     edges_at from (links_of 0 (take (i + 1) cs)) ≡
@@ -96,18 +38,62 @@ edges_at-links_more {T} from cs i c h =
     ∙ (edges_at-append from (links_of 0 (take i cs)) (links_of i (last ∷ []))
     ∙ ap (λ x. edges_at from (links_of 0 (take i cs)) ++ edges_at from x) (append-nil (left_links i last.right last.left.items))))
 
--- the step of a loop over constraints
-pub links_step : {T : Type 0} (from : Atom) (cs : List (Constraint T)) (i : ℕ) (c : Constraint T) (left : List Atom) (loop after : List Edge) → i < length cs →
-    c ≡ get_or cs i c → left ≡ c.left.items → loop ≡ edges_at from (links_of 0 (take i cs)) → after ≡ loop ++ edges_at from (left_links i c.right left) →
-    after ≡ edges_at from (links_of 0 (take (i + 1) cs))
-links_step {T} from cs i c left loop after h is left_is so_far more =
-    more
-    ∙ (ap (λ x. loop ++ edges_at from (left_links i c.right x)) left_is
-    ∙ (ap (λ x. x ++ edges_at from (left_links i c.right c.left.items)) so_far
-    ∙ (ap (λ (x : Constraint T). edges_at from (links_of 0 (take i cs)) ++ edges_at from (left_links i x.right x.left.items)) is
-    ∙ sym (edges_at-links_more from cs i c h))))
+-- ---- the links of the first constraints, and those of the others
+pub links_of-more : {T : Type 0} (cs : List (Constraint T)) (i : ℕ) (c : Constraint T) → i < length cs →
+    links_of 0 (take (i + 1) cs) ≡ links_of 0 (take i cs) ++ left_links i (get_or cs i c).right (get_or cs i c).left.items
+links_of-more {T} cs i c h =
+    let last = get_or cs i c in
+    let len : 0 + length (take i cs) ≡ i = zero-add (length (take i cs)) ∙ length-take-le i cs (omega (arith, h)) in
+    ap (links_of 0) (take_more cs i c h)
+    ∙ (links_of-append 0 (take i cs) (last ∷ [])
+    ∙ (ap (λ n. links_of 0 (take i cs) ++ links_of n (last ∷ [])) len
+    ∙ ap (λ x. links_of 0 (take i cs) ++ x) (append-nil (left_links i last.right last.left.items))))
 
--- a row that was read as a slice
-pub row_at-slice : (rows : List (Vec Edge Global)) (i : ℕ) (row : Vec Edge Global) (slice : List Edge) → i < length rows → row ≡ get_or rows i row → slice ≡ row.items →
-    slice ≡ row_at rows i
-row_at-slice rows i row slice h is slice_is = slice_is ∙ (ap (λ r. r.items) is ∙ row_at-read rows i row h)
+pub links_of-first : {T : Type 0} (cs : List (Constraint T)) (i : ℕ) (c : Constraint T) → i < length cs →
+    links_of i (drop i cs) ≡ left_links i (get_or cs i c).right (get_or cs i c).left.items ++ links_of (i + 1) (drop (i + 1) cs)
+links_of-first {T} cs i c h =
+    let e : suc i ≡ i + 1 = omega arith in
+    ap (links_of i) (drop_more cs i c h) ∙ ap (λ n. left_links i (get_or cs i c).right (get_or cs i c).left.items ++ links_of n (drop (i + 1) cs)) e
+
+-- ---- how many edges a part has from one left side
+pub count-left : (from : Atom) (by : ℕ) (to : Atom) (left : List Atom) → length (edges_at from (left_links by to left)) ≡ count_of (same from) left
+count-left from by to [] = refl
+count-left from by to (a ∷ left) = go (same from a) refl (count-left from by to left)
+  where
+    go : (t : Bool) → same from a ≡ t → length (edges_at from (left_links by to left)) ≡ count_of (same from) left →
+        length (edges_at from (left_links by to (a ∷ left))) ≡ count_of (same from) (a ∷ left)
+    go true e rest = rw e (let more : suc (length (edges_at from (left_links by to left))) ≡ 1 + count_of (same from) left = omega (arith, rest) in more)
+    go false e rest = rw e (let more : length (edges_at from (left_links by to left)) ≡ 0 + count_of (same from) left = omega (arith, rest) in more)
+
+-- ---- a part with a number that is not below the count of its kind has no edges
+apart : (n k : ℕ) → n < k → nat_eq k n ≡ false
+apart n k h = go (nat_eq k n) refl
+  where
+    go : (t : Bool) → nat_eq k n ≡ t → nat_eq k n ≡ false
+    go true e = let is = eqb-true k n e in absurd (omega (arith, is, h))
+    go false e = e
+
+written-apart : (k written unknowns : ℕ) (a : Atom) → written ≤ k → IsBelow written unknowns a → same (Written k) a ≡ false
+written-apart k written unknowns (Written n) h below = apart n k (omega (arith, below, h))
+written-apart k written unknowns (Unknown u) h below = refl
+
+unknown-apart : (k written unknowns : ℕ) (a : Atom) → unknowns ≤ k → IsBelow written unknowns a → same (Unknown k) a ≡ false
+unknown-apart k written unknowns (Written n) h below = refl
+unknown-apart k written unknowns (Unknown u) h below = apart u k (omega (arith, below, h))
+
+none-left : (from : Atom) (by : ℕ) (to : Atom) (left : List Atom) → All (λ a. same from a ≡ false) left → edges_at from (left_links by to left) ≡ []
+none-left from by to [] all = refl
+none-left from by to (a ∷ left) all = rw (all 0 a (omega arith)) (none-left from by to left (λ i d h. all (suc i) d (omega (arith, h))))
+
+none-at : {T : Type 0} (from : Atom) (by : ℕ) (cs : List (Constraint T)) → All (λ (c : Constraint T). All (λ a. same from a ≡ false) c.left.items) cs → edges_at from (links_of by cs) ≡ []
+none-at from by [] all = refl
+none-at {T} from by (c ∷ cs) all =
+    edges_at-append from (left_links by c.right c.left.items) (links_of (suc by) cs)
+    ∙ (ap (λ x. x ++ edges_at from (links_of (suc by) cs)) (none-left from by c.right c.left.items (all 0 c (omega arith)))
+    ∙ none-at from (suc by) cs (λ i d h. all (suc i) d (omega (arith, h))))
+
+pub none-written : {T : Type 0} (cs : List (Constraint T)) (written unknowns k : ℕ) → InRange written unknowns cs → written ≤ k → edges_at (Written k) (links_of 0 cs) ≡ []
+none-written {T} cs written unknowns k range h = none-at (Written k) 0 cs (λ i d lt j a lt'. written-apart k written unknowns _ h ((range i d lt).0 j a lt'))
+
+pub none-unknown : {T : Type 0} (cs : List (Constraint T)) (written unknowns k : ℕ) → InRange written unknowns cs → unknowns ≤ k → edges_at (Unknown k) (links_of 0 cs) ≡ []
+none-unknown {T} cs written unknowns k range h = none-at (Unknown k) 0 cs (λ i d lt j a lt'. unknown-apart k written unknowns _ h ((range i d lt).0 j a lt'))

@@ -5,9 +5,7 @@ use Rattle.std.proofs.lemmas.Bool.{eqb-true, eqb-false}
 use Rattle.std.proofs.lemmas.List.{get_or_read, length_push, length-replicate, take_more}
 use Rattle.std.proofs.lemmas.List.Elements.{Contains-append_cases, Contains-get_or}
 use Rattle.common.proofs.Elements.{none_in_nil, Contains-cons_cases, Contains-first}
-use Rattle.std.specs.Global.{Global}
-use Rattle.std.specs.declared.vec.Vec.{Vec}
-use Rattle.solver.proofs.Rows.{row_at-slice}
+use Rattle.solver.specs.EdgeRows.{row_at}
 use Rattle.solver.specs.Reach.{AllMarked, CameFrom, Grows, Has, IsStep, IsTrace, IsTrail, LeadsTo, ReachesBy, LeadInside, LeadsInside, directly, earlier, edge, itself, more, nothing_found, onward, row_of, same}
 use Rattle.solver.specs.declared.edges.Edge.{Edge}
 use Rattle.solver.specs.declared.edges.Edges.{Edges}
@@ -205,25 +203,25 @@ grows-trail edges n row parent marks found _ _ from (more marks' found' by u bef
     (came-kept (λ k h. grows-at before k h) (omega arith) (grows-longer before) came) (leads by u h)
 
 pub found-inside : (edges : Edges) (n : ℕ) (found : List Found) (k : ℕ) → IsTrail edges n found → LeadsInside edges → k < length found →
-    (get_or found k nothing_found).unknown < length edges.unknown.items
+    (get_or found k nothing_found).unknown < length edges.unknown
 found-inside edges n found k trail inside h =
     let step = trail k h in inside step.from (get_or found k nothing_found).by (get_or found k nothing_found).unknown step.leads
 
 -- what was read at an index, and the row that was read for it
 pub next-inside : (edges : Edges) (n : ℕ) (found : List Found) (next : ℕ) (x : Found) → IsTrail edges n found → LeadsInside edges → next < length found →
-    x ≡ get_or found next x → x.unknown < length edges.unknown.items
+    x ≡ get_or found next x → x.unknown < length edges.unknown
 next-inside edges n found next x trail inside h is =
-    subst (λ (f : Found). f.unknown < length edges.unknown.items) (sym (get_or_read found next x h is nothing_found)) (found-inside edges n found next trail inside h)
+    subst (λ (f : Found). f.unknown < length edges.unknown) (sym (get_or_read found next x h is nothing_found)) (found-inside edges n found next trail inside h)
 
-pub next-row : (edges : Edges) (n : ℕ) (found : List Found) (next : ℕ) (x : Found) (row : Vec Edge Global) (slice : List Edge) → IsTrail edges n found → LeadsInside edges → next < length found →
-    x ≡ get_or found next x → row ≡ get_or edges.unknown.items x.unknown row → slice ≡ row.items → slice ≡ row_of edges (Unknown (get_or found next nothing_found).unknown)
-next-row edges n found next x row slice trail inside h is row_is slice_is =
-    row_at-slice edges.unknown.items x.unknown row slice (next-inside edges n found next x trail inside h is) row_is slice_is
+pub next-row : (edges : Edges) (n : ℕ) (found : List Found) (next : ℕ) (x : Found) (row : List Edge) → IsTrail edges n found → LeadsInside edges → next < length found →
+    x ≡ get_or found next x → row ≡ row_at edges.unknown x.unknown → row ≡ row_of edges (Unknown (get_or found next nothing_found).unknown)
+next-row edges n found next x row trail inside h is row_is =
+    row_is
     ∙ ap (λ (f : Found). row_of edges (Unknown f.unknown)) (get_or_read found next x h is nothing_found)
 
 -- ---- the whole search, so far
 pub record Searched (edges : Edges) (n : ℕ) (marks : List Bool) (found : List Found) (next : ℕ) : Type 0 where
-  pub inside : length marks ≡ length edges.unknown.items
+  pub inside : length marks ≡ length edges.unknown
   pub counted : marks_count marks ≡ length found
   pub named : (w : ℕ) → IsTrue (get_or marks w false) → Has found w
   pub trail : IsTrail edges n found
@@ -232,7 +230,7 @@ pub record Searched (edges : Edges) (n : ℕ) (marks : List Bool) (found : List 
   pub reached : next ≤ length found
 
 pub searched-start : (edges : Edges) (n : ℕ) (marks : List Bool) (found : List Found) (count : ℕ) (row : List Edge) (old : List Bool) (none : List Found) →
-    count ≡ length edges.unknown.items → row ≡ row_of edges (Written n) → old ≡ replicate count false → none ≡ [] →
+    count ≡ length edges.unknown → row ≡ row_of edges (Written n) → old ≡ replicate count false → none ≡ [] →
     Grows row 0 old none marks found → AllMarked row marks → Searched edges n marks found 0
 searched-start edges n marks found count row old none is row_is old_is none_is any_grows any_marked =
     let grows : Grows (row_of edges (Written n)) 0 (replicate count false) [] marks found =
@@ -279,5 +277,5 @@ module _ (edges : Edges) (n : ℕ) (marks : List Bool) (found : List Found) (nex
   pub searched-trace : IsTrace edges n found
   searched-trace = record { trail = s.trail; complete = λ u r. s.named u (reach-marked u r) }
 
-pub searched-smaller : (edges : Edges) (n : ℕ) (marks : List Bool) (found : List Found) (next : ℕ) → Searched edges n marks found next → next < length found → next < length edges.unknown.items
+pub searched-smaller : (edges : Edges) (n : ℕ) (marks : List Bool) (found : List Found) (next : ℕ) → Searched edges n marks found next → next < length found → next < length edges.unknown
 searched-smaller edges n marks found next s h = omega (arith, h, s.counted, s.inside, marks_count-le marks)

@@ -13,7 +13,8 @@ use Rattle.lattices.specs.Constraints as formal
 use Rattle.lattices.proofs.Constraints.{all-from, join_all, join_all-above, join_all-least, not_below-one, not_below-part, part-below, reaches-below, join_of-least}
 use Rattle.solver.specs.Breaker.{Arrives, Breaks, BreaksAlong, BreaksFirst, IsBreakChain, itself, onward}
 use Rattle.solver.specs.Broken.{AllRightsInside, is_below, written_at}
-use Rattle.solver.specs.Links.{AreBelow, InRange, IsBelow, edges_at, links_of, row_at}
+use Rattle.solver.specs.Links.{AreBelow, InRange, IsBelow, edges_at, links_of}
+use Rattle.solver.specs.EdgeRows.{row_at}
 use Rattle.solver.specs.Reach as reach
 use Rattle.solver.specs.Reach.{AreEdges, CameFrom, IsTrail, LeadsTo, LeadsOn, ReachesBy, LeadsInside, nothing_found, row_of}
 use Rattle.solver.specs.Rows.{AreRows, atom_has, has_at, left_has, reached_by, unknowns_with}
@@ -88,8 +89,8 @@ find-at test (y ∷ ys) (suc i) x at passes before =
     rw y_fails (find-at test ys i x at passes (λ j z h k. before (suc j) z (omega (arith, h)) k))
 
 -- ---- what the calls promise, in the words of this file
-pub are-edges : {T : Type 0} (cs : List (Constraint T)) (edges : Edges) → ((k : ℕ) → row_at edges.written.items k ≡ edges_at (Written k) (links_of 0 cs)) →
-    ((k : ℕ) → row_at edges.unknown.items k ≡ edges_at (Unknown k) (links_of 0 cs)) → AreEdges cs edges
+pub are-edges : {T : Type 0} (cs : List (Constraint T)) (edges : Edges) → ((k : ℕ) → row_at edges.written k ≡ edges_at (Written k) (links_of 0 cs)) →
+    ((k : ℕ) → row_at edges.unknown k ≡ edges_at (Unknown k) (links_of 0 cs)) → AreEdges cs edges
 are-edges {T} cs edges written unknown = record { row = row }
   where
     row : (from : Atom) → row_of edges from ≡ edges_at from (links_of 0 cs)
@@ -104,7 +105,7 @@ right-below {T} cs edges are written unknowns range from by to leads =
     (All-contains (λ (c : Constraint T). AreBelow written unknowns c.left.items × IsBelow written unknowns c.right) cs part.constraint range (contained_at cs by part.constraint part.at)).1
 
 pub unknowns-inside : {T : Type 0} (cs : List (Constraint T)) (edges : Edges) → AreEdges cs edges → (written unknowns : ℕ) → InRange written unknowns cs →
-    length edges.unknown.items ≡ unknowns → LeadsInside edges
+    length edges.unknown ≡ unknowns → LeadsInside edges
 unknowns-inside cs edges are written unknowns range count from by u leads =
     subst (λ n. u < n) (sym count) (right-below cs edges are written unknowns range from by (Unknown u) leads)
 

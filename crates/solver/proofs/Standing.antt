@@ -65,6 +65,14 @@ after-form kept k (suc steps) (Beyond base more) fits e =
 pub bits-form : (kept : List Kept) → AreForms kept → (k : ℕ) → k < length kept → (form : RowForm) → (kept_at kept k).form ≡ form → bits_of kept k ≡ form_bits (bits_of kept) form
 bits-form kept forms k h form e = after-form kept k (kept_at kept k).steps form (form-at kept forms k h form e) e
 
+-- a row that is kept whole is that of its unknown
+pub whole-row : (kept : List Kept) (of : List ℕ) (rows : List (List Bool)) (unknown number : ℕ) (own : List Bool) → AreForms kept →
+    unknown < length of → number ≡ get_or of unknown number → number < length kept → (kept_at kept number).form ≡ Whole own →
+    map (bits_of kept) of ≡ rows → own ≡ get_or rows unknown []
+whole-row kept of rows unknown number own forms there at inside form view =
+    sym (bits-form kept forms number inside (Whole own) form) ∙ (ap (bits_of kept) at ∙ (sym (map-read (bits_of kept) of unknown number there)
+    ∙ ap (λ (found : List (List Bool)). get_or found unknown []) view))
+
 -- ---- one more row
 pub form-by : (kept : List Kept) (one other : ℕ → List Bool) (steps : ℕ) (form : RowForm) → IsForm kept steps form →
     ((base : ℕ) → base < length kept → one base ≡ other base) → form_bits one form ≡ form_bits other form

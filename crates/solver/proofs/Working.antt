@@ -35,8 +35,8 @@ true-false e = absurd (cc)
 pub record IsLooked {T : Type 0} (cs : List (Constraint T)) (edges : Edges) (rows : List (List Bool)) (order : List ℕ) (rows' : List (List Bool)) (waits' : List Bool) (order' : List ℕ) : Type 0 where
   pub work : IsWork cs edges rows' waits' order' (length cs)
   pub longer : length order ≤ length order'
-  pub less : length order' + room (written_left cs 0 (length edges.written.items)) edges.unknown.items rows' ≤
-      length order + room (written_left cs 0 (length edges.written.items)) edges.unknown.items rows
+  pub less : length order' + room (written_left cs 0 (length edges.written)) edges.unknown rows' ≤
+      length order + room (written_left cs 0 (length edges.written)) edges.unknown rows
 
 -- the constraint that is read
 pub read-right : {T : Type 0} (cs : List (Constraint T)) (i : ℕ) (c : Constraint T) → RightIsUnknown cs i → c ≡ get_or cs i c → slice_get cs i ≡ Some c
@@ -54,7 +54,7 @@ led-inside cs edges are u i v step =
 
 module _ {T : Type 0} (cs : List (Constraint T)) (edges : Edges) (are : AreEdges cs edges) where
   abbrev most : ℕ
-  most = written_left cs 0 (length edges.written.items)
+  most = written_left cs 0 (length edges.written)
 
   -- what reaches an unknown stands in a left side
   reached-stands : (n u : ℕ) → ReachesBy edges n u → IsTrue (stands_left cs n)
@@ -65,9 +65,9 @@ module _ {T : Type 0} (cs : List (Constraint T)) (edges : Edges) (are : AreEdges
   reached-stands n u (onward by w _ r leads) = reached-stands n w r
 
   -- ---- a constraint was looked at
-  module _ (range : InRange (length edges.written.items) (length edges.unknown.items) cs) (rows : List (List Bool)) (waits : List Bool) (order : List ℕ) (i : ℕ)
+  module _ (range : InRange (length edges.written) (length edges.unknown) cs) (rows : List (List Bool)) (waits : List Bool) (order : List ℕ) (i : ℕ)
       (work : IsWork cs edges rows waits order i) (c : Constraint T) (at : slice_get cs i ≡ Some c) (u : ℕ) (right : c.right ≡ Unknown u)
-      (left : List Bool) (left_length : length left ≡ length edges.written.items) (left_is : (n : ℕ) → has left n ≡ left_has rows c.left.items n)
+      (left : List Bool) (left_length : length left ≡ length edges.written) (left_is : (n : ℕ) → has left n ≡ left_has rows c.left.items n)
       (d : List Bool) (row : List Bool) (row_short : length row ≤ length left) (row_has : (n : ℕ) → has row n ≡ (has (get_or rows u d) n || has left n)) where
     abbrev old : List Bool
     old = get_or rows u d
@@ -77,11 +77,11 @@ module _ {T : Type 0} (cs : List (Constraint T)) (edges : Edges) (are : AreEdges
 
     inside : u < length rows
     inside =
-        let h = right-inside cs (length edges.written.items) (length edges.unknown.items) range i c u at right in
+        let h = right-inside cs (length edges.written) (length edges.unknown) range i c u at right in
         let e = work.all in
         omega (arith, h, e)
 
-    row-length : length row ≤ length edges.written.items
+    row-length : length row ≤ length edges.written
     row-length = omega (arith, row_short, left_length)
 
     has-row : (n : ℕ) → has_at rows' u n ≡ (has_at rows u n || left_has rows c.left.items n)
@@ -150,8 +150,8 @@ module _ {T : Type 0} (cs : List (Constraint T)) (edges : Edges) (are : AreEdges
         rows_same : rows' ≡ rows
         rows_same = ap (λ (r : List Bool). set rows u r) same ∙ set-get_or rows u d
 
-        sized-kept : AreSized (length edges.written.items) rows'
-        sized-kept = subst (λ (rs : List (List Bool)). AreSized (length edges.written.items) rs) (sym rows_same) work.sized
+        sized-kept : AreSized (length edges.written) rows'
+        sized-kept = subst (λ (rs : List (List Bool)). AreSized (length edges.written) rs) (sym rows_same) work.sized
 
     -- the row of the right side grew, and the constraints with it on the left wait
     module _ (waits' : List Bool) (order' : List ℕ) (added : Added (row_of edges (Unknown u)) waits order waits' order') where
@@ -174,7 +174,7 @@ module _ {T : Type 0} (cs : List (Constraint T)) (edges : Edges) (are : AreEdges
       work-grown : IsWork cs edges rows' waits' order' (length cs)
       work-grown = record {
         all = length-set rows u row ∙ work.all;
-        sized = All-set (λ (r : List Bool). length r ≤ length edges.written.items) rows u row row-length work.sized;
+        sized = All-set (λ (r : List Bool). length r ≤ length edges.written) rows u row row-length work.sized;
         sound = sound;
         count = added.count ∙ work.count;
         listed = λ j t. ⊎_elim (λ before. added.waiting j (work.listed j before)) (λ now. now) (added.listed j t);
@@ -189,19 +189,19 @@ module _ {T : Type 0} (cs : List (Constraint T)) (edges : Edges) (are : AreEdges
     row-small : size row ≤ most
     row-small =
         let few = size-at_most cs 0 row (λ n t. subst (λ m. IsTrue (stands_left cs m)) (zero_plus n) (reached-stands n u (sound u n (has_at-same rows u n row inside ∙ t)))) in
-        let more = written_left-more cs 0 (length row) (length edges.written.items) row-length in
+        let more = written_left-more cs 0 (length row) (length edges.written) row-length in
         omega (arith, few, more)
       where
         zero_plus : (n : ℕ) → n ≡ 0 + n
         zero_plus n = omega arith
 
-    room-after : size old < size row → room most edges.unknown.items rows' + length (row_of edges (Unknown u)) ≤ room most edges.unknown.items rows
-    room-after more = room-grows most edges.unknown.items rows u row d inside work.all more row-small
+    room-after : size old < size row → room most edges.unknown rows' + length (row_of edges (Unknown u)) ≤ room most edges.unknown rows
+    room-after more = room-grows most edges.unknown rows u row d inside work.all more row-small
 
     pub looked-kept : row ≡ old → IsLooked cs edges rows order rows' waits order
     looked-kept same =
-        let room_is : room most edges.unknown.items rows' ≡ room most edges.unknown.items rows =
-        ap (room most edges.unknown.items) (ap (λ (r : List Bool). set rows u r) same ∙ set-get_or rows u d) in
+        let room_is : room most edges.unknown rows' ≡ room most edges.unknown rows =
+        ap (room most edges.unknown) (ap (λ (r : List Bool). set rows u r) same ∙ set-get_or rows u d) in
         record { work = work-kept same; longer = omega arith; less = omega (arith, room_is) }
 
     pub looked-grown : size old < size row → (waits' : List Bool) (order' : List ℕ) → Added (row_of edges (Unknown u)) waits order waits' order' → IsLooked cs edges rows order rows' waits' order'
@@ -212,7 +212,7 @@ module _ {T : Type 0} (cs : List (Constraint T)) (edges : Edges) (are : AreEdges
         record { work = work-grown waits' order' added; longer = low; less = omega (arith, after, high) }
 
   -- ---- the first and the last step
-  pub work-first : (rows : List (List Bool)) (waits : List Bool) (order : List ℕ) → length rows ≡ length edges.unknown.items → AreSized (length edges.written.items) rows →
+  pub work-first : (rows : List (List Bool)) (waits : List Bool) (order : List ℕ) → length rows ≡ length edges.unknown → AreSized (length edges.written) rows →
       ((u n : ℕ) → has_at rows u n ≡ false) → AllSeeded cs waits order → IsWork cs edges rows waits order (length cs)
   work-first rows waits order all sized none s = record {
     all = all;
@@ -228,7 +228,7 @@ module _ {T : Type 0} (cs : List (Constraint T)) (edges : Edges) (are : AreEdges
   so-far-first rows waits order s =
       let count : size waits ≡ looked_at cs = seeded-count cs waits s.seeded.count s.seeded.marked s.all in
       let is = s.seeded.counted in
-      let first = room-first cs most edges.unknown.items rows (λ k. are.row (Unknown k)) in
+      let first = room-first cs most edges.unknown rows (λ k. are.row (Unknown k)) in
       record { at_least = omega (arith, count, is); at_most = omega (arith, count, is, first); greatest = omega arith }
 
   pub rows-last : (rows : List (List Bool)) (waits : List Bool) → IsWork cs edges rows waits [] (length cs) → AreRows edges rows
@@ -275,7 +275,7 @@ module _ {T : Type 0} (cs : List (Constraint T)) (edges : Edges) (are : AreEdges
 -- ---- a number of looks that stays at the greatest one
 pub looked-more : {T : Type 0} (cs : List (Constraint T)) (edges : Edges) (rows rows' : List (List Bool)) (i : ℕ) (order order' : List ℕ) (looks looks' : ℕ) →
     AreSoFar cs edges rows (i ∷ order) looks → looks' ≡ min (looks + 1) 18446744073709551615 → length cs ≤ 18446744073709551615 → length order ≤ length order' →
-    length order' + room (written_left cs 0 (length edges.written.items)) edges.unknown.items rows' ≤ length order + room (written_left cs 0 (length edges.written.items)) edges.unknown.items rows →
+    length order' + room (written_left cs 0 (length edges.written)) edges.unknown rows' ≤ length order + room (written_left cs 0 (length edges.written)) edges.unknown rows →
     AreSoFar cs edges rows' order' looks'
 looked-more cs edges rows rows' i order order' looks looks' so_far is fits longer less =
     let low = so_far.at_least in
@@ -292,10 +292,10 @@ looked-more cs edges rows rows' i order order' looks looks' so_far is fits longe
 abbrev pub solved : List (List ℕ) → ℕ → Solved
 solved reached looks = record { reached = reached; looks = looks }
 
-pub looks-last : {T : Type 0} (elements : ℕ) (cs : List (Constraint T)) (edges : Edges) (rows : List (List Bool)) (looks : ℕ) → length edges.written.items ≡ elements →
+pub looks-last : {T : Type 0} (elements : ℕ) (cs : List (Constraint T)) (edges : Edges) (rows : List (List Bool)) (looks : ℕ) → length edges.written ≡ elements →
     AreSoFar cs edges rows [] looks → AreLooks elements cs looks
 looks-last elements cs edges rows looks count so_far =
     let low = so_far.at_least in
     let high = so_far.at_most in
-    let is : written_left cs 0 (length edges.written.items) * unknowns_left cs ≡ written_left cs 0 elements * unknowns_left cs = ap (λ n. written_left cs 0 n * unknowns_left cs) count in
+    let is : written_left cs 0 (length edges.written) * unknowns_left cs ≡ written_left cs 0 elements * unknowns_left cs = ap (λ n. written_left cs 0 n * unknowns_left cs) count in
     record { at_least = omega (arith, low); at_most = omega (arith, high, is); greatest = so_far.greatest }

@@ -1,8 +1,10 @@
 -- Private: the constraints with a written right side that a written element breaks: by rows of bits, and along edges with a chain.
 -- Source: our own.
-use Rattle.std.specs.Prelude.{◌≡◌, ℕ, ◌<◌, ◌≤◌, List, Bool, false, Option, Some, None, IsTrue, slice_get}
-use Rattle.solver.specs.Reach.{LeadsTo, LeadsOn, ReachesBy}
+use Rattle.std.specs.Prelude.{◌≡◌, ℕ, ◌<◌, ◌≤◌, List, Bool, true, false, Option, Some, None, IsTrue, Contains, slice_get}
+use Rattle.labels.specs.Row.{has}
+use Rattle.solver.specs.Reach.{LeadsTo, LeadsOn, ReachesBy, edge}
 use Rattle.solver.specs.Rows.{left_has}
+use Rattle.solver.specs.declared.edges.Edge.{Edge}
 use Rattle.solver.specs.declared.edges.Edges.{Edges}
 use Rattle.solver.specs.declared.constraints.Atom.{Atom}
 use Rattle.solver.specs.declared.constraints.Atom.TheVariants.{Unknown, Written}
@@ -40,6 +42,40 @@ IsFirstBreaker below count rows cs (Some n) = BreaksFirst below count rows cs n
 abbrev pub IsBreakerOf : (below : ℕ → ℕ → Bool) → (count : ℕ) → List (List Bool) → List Atom → Atom → Option ℕ → Type 0
 IsBreakerOf below count rows left right None = (n : ℕ) → n < count → BreaksSides below rows left right n → ⊥
 IsBreakerOf below count rows left right (Some n) = (n < count) × BreaksSides below rows left right n
+
+-- a number of a row breaks the constraint of an edge
+pub record EdgeBreaks (below : ℕ → ℕ → Bool) (row : List Bool) (along : Edge) (i : ℕ) : Type 0 where
+  pub to : ℕ
+  pub is : along ≡ edge i (Written to)
+  pub n : ℕ
+  pub member : IsTrue (has row n)
+  pub fails : below n to ≡ false
+
+-- of one of some edges
+pub record RowBreaks (below : ℕ → ℕ → Bool) (row : List Bool) (edges : List Edge) (i : ℕ) : Type 0 where
+  pub along : Edge
+  pub there : Contains edges along
+  pub breaks : EdgeBreaks below row along i
+
+-- a written right side above all numbers of a row
+abbrev pub IsAboveRow : (below : ℕ → ℕ → Bool) → (row : List Bool) → (to : ℕ) → Type 0
+IsAboveRow below row to = (n : ℕ) → IsTrue (has row n) → below n to ≡ true
+
+-- an element that reaches a part, of those with numbers below a count, breaks the constraint of an edge from it
+pub record PartBreaks (edges : Edges) (below : ℕ → ℕ → Bool) (part : ℕ → Atom) (reaches : (k n : ℕ) → Bool) (count i : ℕ) : Type 0 where
+  pub k : ℕ
+  pub inside : k < count
+  pub n : ℕ
+  pub member : IsTrue (reaches k n)
+  pub to : ℕ
+  pub leads : LeadsTo edges (part k) i (Written to)
+  pub fails : below n to ≡ false
+
+-- the first constraint before one that is broken, or else that one
+pub record IsFirstOf (breaks : ℕ → Type 0) (before first : ℕ) : Type 0 where
+  pub most : first ≤ before
+  pub none : (i : ℕ) → i < first → breaks i → ⊥
+  pub broken : first < before → breaks first
 
 -- an element reaches an atom along edges
 pub data Arrives (edges : Edges) (n : ℕ) : Atom → Type 0 where

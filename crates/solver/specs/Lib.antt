@@ -1,6 +1,8 @@
 pub mod Breaker
 pub mod Broken
 pub mod Constraints
+pub mod EdgePlaces
+pub mod EdgeRows
 pub mod Links
 pub mod Looks
 pub mod Queue

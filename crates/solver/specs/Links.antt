@@ -1,8 +1,6 @@
 -- The links of constraints: from each part of a left side, by its constraint, to the right side.
 -- Source: our own.
-use Rattle.std.specs.Prelude.{ℕ, zero, suc, ◌<◌, List, [], ◌∷◌, ◌++◌, map, Bool, false, nat_eq, if◌then◌else◌, All}
-use Rattle.std.specs.Global.{Global}
-use Rattle.std.specs.declared.vec.Vec.{Vec}
+use Rattle.std.specs.Prelude.{ℕ, suc, ◌<◌, List, [], ◌∷◌, ◌++◌, map, Bool, false, nat_eq, if◌then◌else◌, All}
 use Rattle.solver.specs.declared.edges.Edge.{Edge}
 use Rattle.solver.specs.declared.constraints.Atom.{Atom}
 use Rattle.solver.specs.declared.constraints.Atom.TheVariants.{Unknown, Written}
@@ -50,9 +48,3 @@ abbrev pub edges_at : Atom → List Link → List Edge
 edges_at from [] = []
 edges_at from (link ∷ rest) =
     if same from link.from then (record { by = link.by; to = link.to } ∷ edges_at from rest) else edges_at from rest
-
--- a row of rows
-abbrev pub row_at : List (Vec Edge Global) → ℕ → List Edge
-row_at [] k = []
-row_at (row ∷ rows) zero = row.items
-row_at (row ∷ rows) (suc k) = row_at rows k

@@ -1,7 +1,8 @@
 -- Private: what a written element reaches along edges, and the chains to it that a search finds.
 -- Source: our own.
 use Rattle.std.specs.Prelude.{◌≡◌, ℕ, suc, ◌<◌, ◌≤◌, List, [], ◌∷◌, ◌++◌, length, set, Bool, true, false, IsTrue, Contains, slice_index_or}
-use Rattle.solver.specs.Links.{edges_at, links_of, row_at}
+use Rattle.solver.specs.EdgeRows.{row_at}
+use Rattle.solver.specs.Links.{edges_at, links_of}
 use Rattle.solver.specs.declared.edges.Edge.{Edge}
 use Rattle.solver.specs.declared.edges.Edges.{Edges}
 use Rattle.solver.specs.declared.search.Found.{Found}
@@ -11,8 +12,8 @@ use Rattle.solver.specs.declared.constraints.Constraint.{Constraint}
 
 -- the edges from an atom, and one of them
 abbrev pub row_of : Edges → Atom → List Edge
-row_of edges (Written n) = row_at edges.written.items n
-row_of edges (Unknown u) = row_at edges.unknown.items u
+row_of edges (Written n) = row_at edges.written n
+row_of edges (Unknown u) = row_at edges.unknown u
 
 abbrev pub edge : ℕ → Atom → Edge
 edge by to = record { by = by; to = to }
@@ -29,7 +30,7 @@ abbrev pub LeadInside : ℕ → List Edge → Type 0
 LeadInside count edges = (by u : ℕ) → Contains edges (edge by (Unknown u)) → u < count
 
 abbrev pub LeadsInside : Edges → Type 0
-LeadsInside edges = (from : Atom) → LeadInside (length edges.unknown.items) (row_of edges from)
+LeadsInside edges = (from : Atom) → LeadInside (length edges.unknown) (row_of edges from)
 
 -- a written element reaches an unknown along edges
 pub data ReachesBy (edges : Edges) (n : ℕ) : ℕ → Type 0 where

@@ -20,8 +20,8 @@ AreSized count rows = All (λ (row : List Bool). length row ≤ count) rows
 
 -- for each unknown the written elements that reach it
 pub record AreRows (edges : Edges) (rows : List (List Bool)) : Type 0 where
-  pub all : length rows ≡ length edges.unknown.items
-  pub sized : AreSized (length edges.written.items) rows
+  pub all : length rows ≡ length edges.unknown
+  pub sized : AreSized (length edges.written) rows
   pub sound : (u n : ℕ) → IsTrue (has_at rows u n) → ReachesBy edges n u
   pub complete : (u n : ℕ) → ReachesBy edges n u → IsTrue (has_at rows u n)
 

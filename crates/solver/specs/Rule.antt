@@ -2,7 +2,7 @@
 -- Source: our own; the rules are those of `Labelled`.
 use Rattle.std.specs.Prelude.{ℕ}
 use Rattle.solver.specs.declared.rule.Rule.{Rule}
-use Rattle.solver.specs.declared.rule.Rule.TheVariants.{Between, Assignment, ArrayDeclaration, Store, Receive, Send, Call, While, Return, ProcedureEnds}
+use Rattle.solver.specs.declared.rule.Rule.TheVariants.{Between, Assignment, ArrayDeclaration, Store, Receive, Send, Call, While, Return, ProcedureExits}
 
 abbrev pub rule_number : Rule → ℕ
 rule_number Between = 0
@@ -14,4 +14,4 @@ rule_number Send = 5
 rule_number Call = 6
 rule_number While = 8
 rule_number Return = 10
-rule_number ProcedureEnds = 13
+rule_number ProcedureExits = 13

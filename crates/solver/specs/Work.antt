@@ -1,8 +1,7 @@
 -- Private: No public clause cites it. A work list: rows that grow, and constraints that wait to be looked at, until none does.
 -- Source: our own.
-use Rattle.std.specs.Prelude.{◌≡◌, ◌≢◌, ℕ, ◌+◌, ◌*◌, ◌-◌, ◌^◌, ◌<◌, ◌≤◌, List, [], ◌∷◌, length, Bool, false, IsTrue, Some, slice_get, Contains}
-use Rattle.std.specs.Global.{Global}
-use Rattle.std.specs.declared.vec.Vec.{Vec}
+use Rattle.std.specs.Prelude.{◌≡◌, ◌≢◌, ℕ, ◌+◌, ◌*◌, ◌-◌, ◌^◌, ◌<◌, ◌≤◌, ◌||◌, List, [], ◌∷◌, length, Bool, false, IsTrue, Option, Some, None, slice_get, Contains}
+use Rattle.labels.specs.Row.{Includes, has}
 use Rattle.solver.specs.Looks.{count_of, looked_at, unknowns_left, written_left}
 use Rattle.solver.specs.Queue.{RightIsUnknown, flag}
 use Rattle.solver.specs.Reach.{ReachesBy}
@@ -13,15 +12,25 @@ use Rattle.solver.specs.declared.constraints.Atom.TheVariants.{Unknown}
 use Rattle.solver.specs.declared.constraints.Constraint.{Constraint}
 
 -- how often constraints may still come to wait: for each unknown, once for each of its edges and each number that is not in its row
-abbrev pub room : (most : ℕ) → List (Vec Edge Global) → List (List Bool) → ℕ
+abbrev pub room : (most : ℕ) → List (List Edge) → List (List Bool) → ℕ
 room most [] rows = 0
 room most (es ∷ edges) [] = 0
-room most (es ∷ edges) (row ∷ rows) = (most - count_of (λ b. b) row) * length es.items + room most edges rows
+room most (es ∷ edges) (row ∷ rows) = (most - count_of (λ b. b) row) * length es + room most edges rows
+
+-- a row with the numbers of another one, which has no more, or nothing where it has none that are new
+pub record Grown (own more row : List Bool) : Type 0 where
+  pub short : length row ≡ length more
+  pub members : (n : ℕ) → has row n ≡ (has more n || has own n)
+  pub larger : count_of (λ b. b) own < count_of (λ b. b) row
+
+abbrev pub IsGrown : (own more : List Bool) → Option (List Bool) → Type 0
+IsGrown own more None = Includes own more
+IsGrown own more (Some row) = Grown own more row
 
 -- each constraint whose right side is an unknown waits or fits, but one that may do neither
 pub record IsWork {T : Type 0} (cs : List (Constraint T)) (edges : Edges) (rows : List (List Bool)) (waits : List Bool) (order : List ℕ) (but : ℕ) : Type 0 where
-  pub all : length rows ≡ length edges.unknown.items
-  pub sized : AreSized (length edges.written.items) rows
+  pub all : length rows ≡ length edges.unknown
+  pub sized : AreSized (length edges.written) rows
   pub sound : (u n : ℕ) → IsTrue (has_at rows u n) → ReachesBy edges n u
   pub count : length waits ≡ length cs
   pub listed : (i : ℕ) → IsTrue (flag waits i) → Contains order i
@@ -32,6 +41,6 @@ pub record IsWork {T : Type 0} (cs : List (Constraint T)) (edges : Edges) (rows 
 -- the bounds of the number of looks so far
 pub record AreSoFar {T : Type 0} (cs : List (Constraint T)) (edges : Edges) (rows : List (List Bool)) (order : List ℕ) (looks : ℕ) : Type 0 where
   pub at_least : looked_at cs ≤ looks + length order
-  pub at_most : looks + length order + room (written_left cs 0 (length edges.written.items)) edges.unknown.items rows
-      ≤ looked_at cs + written_left cs 0 (length edges.written.items) * unknowns_left cs
+  pub at_most : looks + length order + room (written_left cs 0 (length edges.written)) edges.unknown rows
+      ≤ looked_at cs + written_left cs 0 (length edges.written) * unknowns_left cs
   pub greatest : looks < 2 ^ 64

@@ -101,19 +101,19 @@ pub fn earlier_of_value<W: WrittenElements>(
     best: Option<Broken>,
 ) -> Option<Broken>
     requires value { value < length (W.elements written.now) }
-    requires row { value < length edges.now.written.items }
+    requires row { value < length edges.now.written }
     requires inside { AllRightsInside (length (W.elements written.now)) edges.now }
-    requires found { FoundInside (length edges.now.unknown.items) found.now }
+    requires found { FoundInside (length edges.now.unknown) found.now }
     ensures { result ≡ earliest best (candidates
         (is_below (W.order written.now) (W.elements written.now)) value 0
         (row_of edges.now (Written value))
         ++ found_candidates edges.now
         (is_below (W.order written.now) (W.elements written.now)) value 0 found.now) }
 {
-    let row = edges.written[value].as_slice();
+    let row = edges.written.row(value);
     let mut best = earlier_of_edges(written, row, value, 0, best);
     for (k, step) in found.iter().enumerate() {
-        let row = edges.unknown[step.unknown as usize].as_slice();
+        let row = edges.unknown.row(step.unknown as usize);
         best = earlier_of_edges(written, row, value, k + 1, best);
     }
     best

@@ -1,10 +1,15 @@
 //! Where each part of a left side leads: the constraints in which it stands, with their right sides.
-ghost use Rattle.solver.specs.Links.{AreBelow, InRange, IsBelow, link, edges_at, left_links, links_of, row_at};
+ghost use Rattle.solver.specs.EdgePlaces.{AreCounted, AreFilled, AreFilledTo, MoreCounted, capped, end_from, starts_from};
+ghost use Rattle.solver.specs.EdgeRows.{AreEnds, row_at, rows_from};
+ghost use Rattle.solver.specs.Links.{AreBelow, InRange, Link, edges_at, links_of};
+ghost use Rattle.solver.specs.Looks.{one};
+ghost use Rattle.solver.specs.declared.constraints.Atom.{Atom as AtomOf};
 ghost use Rattle.solver.specs.declared.constraints.Atom.TheVariants.{Unknown, Written};
-ghost use Rattle.std.specs.Prelude.{IfOk, OnOk, [], length, ℕ, ◌++◌, ◌<◌, ◌∷◌, ◌≡◌, ◌≢◌};
+ghost use Rattle.std.specs.Prelude.{IfOk, List, [], length, nat_eq, set, slice_index_or, slice_range, ℕ, ◌+◌, ◌<◌, ◌∷◌, ◌≡◌, ◌≤◌};
 
 use crate::constraints::{Atom, Constraint};
 use std::alloc::{AllocError, Global};
+use std::marker::Model;
 
 /// That some part leads to the right side of a constraint.
 #[derive(Clone, Copy, Debug, PartialEq, Eq, Drop)]
@@ -14,11 +19,67 @@ pub struct Edge {
     pub to: Atom,
 }
 
+/// The edges from each of some parts, row after row in one list. A contract sees the rows.
+#[derive(Debug, Drop)]
+pub struct EdgeRows {
+    // Where each row ends in the list: the next one begins there.
+    ends: Vec<usize>,
+    list: Vec<Edge>,
+}
+
+impl Model for EdgeRows {
+    ghost use Rattle.solver.specs.declared.edges.Edge.{Edge};
+    ghost use Rattle.std.specs.Prelude.{List, length};
+
+    ghost Value = { List (List Edge) };
+
+    ghost use Rattle.solver.specs.EdgeRows.{AreEnds, rows_from};
+
+    ghost view = { λ rows. rows_from 0 rows.ends.items rows.list.items };
+
+    ghost invariant = { λ rows. AreEnds 0 rows.ends.items (length rows.list.items) };
+}
+
+impl EdgeRows {
+    /// How many parts there are.
+    pub fn len(&self) -> usize
+        ensures { result ≡ length self.now }
+    {
+        self.ends.len()
+    }
+
+    /// The edges from a part.
+    pub fn row(&self, part: usize) -> &[Edge]
+        requires { part < length self.now }
+        ensures { result.now ≡ row_at self.now part }
+    {
+        let start = start_of(self.ends.as_slice(), part);
+        edges_between(self.list.as_slice(), start, self.ends[part])
+    }
+}
+
+// Where the row of a part begins.
+fn start_of(ends: &[usize], part: usize) -> usize
+    requires { part < length ends.now }
+    ensures { result ≡ slice_index_or (0 ∷ ends.now) part 0 }
+{
+    if part == 0 { 0 } else { ends[part - 1] }
+}
+
+// The edges from one place to another.
+fn edges_between(list: &[Edge], start: usize, end: usize) -> &[Edge]
+    requires start { start ≤ end }
+    requires end { end ≤ length list.now }
+    ensures { result.now ≡ slice_range list.now start end }
+{
+    &list[start..end]
+}
+
 /// The edges from each written element and from each unknown.
 #[derive(Debug, Drop)]
 pub struct Edges {
-    pub written: Vec<Vec<Edge>>,
-    pub unknown: Vec<Vec<Edge>>,
+    pub written: EdgeRows,
+    pub unknown: EdgeRows,
 }
 
 /// The edges of these constraints, whose parts have numbers below these.
@@ -29,51 +90,65 @@ pub fn edges_of<T>(
     unknowns: usize,
 ) -> Result<Edges, AllocError>
     requires { InRange written unknowns constraints.now }
-    ensures written { IfOk result (λ edges. (k : ℕ) → row_at edges.written.items k
+    ensures written { IfOk result (λ edges. (k : ℕ) → row_at edges.written k
         ≡ edges_at (Written k) (links_of 0 constraints.now)) }
-    ensures unknown { IfOk result (λ edges. (k : ℕ) → row_at edges.unknown.items k
+    ensures unknown { IfOk result (λ edges. (k : ℕ) → row_at edges.unknown k
         ≡ edges_at (Unknown k) (links_of 0 constraints.now)) }
-    ensures written_count { IfOk result (λ edges. length edges.written.items ≡ written) }
-    ensures unknown_count { IfOk result (λ edges. length edges.unknown.items ≡ unknowns) }
+    ensures written_count { IfOk result (λ edges. length edges.written ≡ written) }
+    ensures unknown_count { IfOk result (λ edges. length edges.unknown ≡ unknowns) }
 {
     let counts = counts_of(alloc, constraints, written, unknowns)?;
-    let mut edges = Edges {
-        written: empty_rows(alloc, &counts.written)?,
-        unknown: empty_rows(alloc, &counts.unknown)?,
+    let mut filling = Filling {
+        written: places_of(alloc, counts.written)?,
+        unknown: places_of(alloc, counts.unknown)?,
     };
-    for (i, constraint) in constraints.iter().enumerate() {
-        add_left(&mut edges, constraint.left.as_slice(), i, constraint.right)?;
+    for by in 0..constraints.len() {
+        filling.add_left(constraints, by);
     }
-    Ok(edges)
+    Ok(Edges {
+        written: filling.written.end(),
+        unknown: filling.unknown.end(),
+    })
 }
 
-// How many edges there will be from each part. Rows have just this room: most have few edges.
+// How many edges there will be from each part.
 #[derive(Drop)]
 struct EdgeCounts {
     written: Vec<usize>,
     unknown: Vec<usize>,
 }
 
-// EdgeCounts one more, if there is a count.
-fn count_one(counts: &mut Vec<usize>, at: usize)
-    ensures { length counts.new.items ≡ length counts.old.items }
-{
-    if at < counts.len() {
-        counts[at] = counts[at].saturating_add(1);
+impl EdgeCounts {
+    // Counts the parts of a left side.
+    fn add_left(&mut self, left: &[Atom])
+        requires { AreBelow (length self.old.written.items)
+            (length self.old.unknown.items) left.now }
+        ensures written { MoreCounted Written left.now
+            self.old.written.items self.new.written.items }
+        ensures unknown { MoreCounted Unknown left.now
+            self.old.unknown.items self.new.unknown.items }
+        ensures written_count { length self.new.written.items
+            ≡ length self.old.written.items }
+        ensures unknown_count { length self.new.unknown.items
+            ≡ length self.old.unknown.items }
+    {
+        for atom in left {
+            match *atom {
+                Atom::Written(n) => count_one(&mut self.written, n as usize),
+                Atom::Unknown(u) => count_one(&mut self.unknown, u as usize),
+            }
+        }
     }
 }
 
-// EdgeCounts the parts of a left side.
-fn count_left(left: &[Atom], counts: &mut EdgeCounts)
-    ensures written { length counts.new.written.items ≡ length counts.old.written.items }
-    ensures unknown { length counts.new.unknown.items ≡ length counts.old.unknown.items }
+// Counts one more.
+fn count_one(counts: &mut Vec<usize>, at: usize)
+    requires { at < length counts.old.items }
+    ensures more { (k n : ℕ) → slice_index_or counts.old.items k 0 ≡ capped n →
+        slice_index_or counts.new.items k 0 ≡ capped (n + one (nat_eq k at)) }
+    ensures count { length counts.new.items ≡ length counts.old.items }
 {
-    for atom in left {
-        match *atom {
-            Atom::Written(n) => count_one(&mut counts.written, n as usize),
-            Atom::Unknown(u) => count_one(&mut counts.unknown, u as usize),
-        }
-    }
+    counts[at] = counts[at].saturating_add(1);
 }
 
 // The counts of the edges of constraints.
@@ -83,79 +158,125 @@ fn counts_of<T>(
     written: usize,
     unknowns: usize,
 ) -> Result<EdgeCounts, AllocError>
-    ensures written { IfOk result (λ counts. length counts.written.items ≡ written) }
-    ensures unknown { IfOk result (λ counts. length counts.unknown.items ≡ unknowns) }
+    requires { InRange written unknowns constraints.now }
+    ensures written { IfOk result (λ counts. AreCounted Written (links_of 0 constraints.now)
+        counts.written.items) }
+    ensures unknown { IfOk result (λ counts. AreCounted Unknown (links_of 0 constraints.now)
+        counts.unknown.items) }
+    ensures written_count { IfOk result (λ counts. length counts.written.items ≡ written) }
+    ensures unknown_count { IfOk result (λ counts. length counts.unknown.items ≡ unknowns) }
 {
     let mut counts = EdgeCounts {
         written: vec![in alloc; 0; written]?,
         unknown: vec![in alloc; 0; unknowns]?,
     };
     for constraint in constraints {
-        count_left(constraint.left.as_slice(), &mut counts);
+        counts.add_left(constraint.left.as_slice());
     }
     Ok(counts)
 }
 
-// An empty row with room for each count.
-fn empty_rows(alloc: Global, counts: &[usize]) -> Result<Vec<Vec<Edge>>, AllocError>
-    ensures rows { IfOk result (λ rows. (k : ℕ) → row_at rows.items k ≡ []) }
-    ensures count { IfOk result (λ rows. length rows.items ≡ length counts.now) }
+// The numbers of edges become the places where rows with so many begin. The answer is where the last one ends.
+fn to_starts(counts: &mut Vec<usize>) -> usize
+    ensures starts { counts.new.items ≡ starts_from 0 counts.old.items }
+    ensures end { result ≡ end_from 0 counts.old.items }
 {
-    let mut rows = Vec::with_capacity(alloc, counts.len())?;
-    for count in counts {
-        let row = Vec::with_capacity(alloc, *count)?;
-        rows.push(row)?;
+    let mut start: usize = 0;
+    for part in 0..counts.len() {
+        let count = counts[part];
+        counts[part] = start;
+        start = start.saturating_add(count);
     }
-    Ok(rows)
+    start
 }
 
-// Adds the edges from the parts of a left side to the right side.
-fn add_left(edges: &mut Edges, left: &[Atom], by: usize, to: Atom) -> Result<(), AllocError>
-    requires { AreBelow (length edges.old.written.items) (length edges.old.unknown.items) left.now }
-    ensures written { OnOk result ((k : ℕ) → row_at edges.new.written.items k
-        ≡ row_at edges.old.written.items k ++ edges_at (Written k) (left_links by to left.now)) }
-    ensures unknown { OnOk result ((k : ℕ) → row_at edges.new.unknown.items k
-        ≡ row_at edges.old.unknown.items k ++ edges_at (Unknown k) (left_links by to left.now)) }
-    ensures written_count { OnOk result (length edges.new.written.items
-        ≡ length edges.old.written.items) }
-    ensures unknown_count { OnOk result (length edges.new.unknown.items
-        ≡ length edges.old.unknown.items) }
-{
-    for atom in left {
-        add(edges, *atom, Edge { by, to })?;
-    }
-    Ok(())
+// Rows that are filled: where the next edge from each part goes, and the list with a place for each edge.
+#[derive(Drop)]
+struct FilledRows {
+    places: Vec<usize>,
+    list: Vec<Edge>,
 }
 
-// Adds an edge from a part.
-fn add(edges: &mut Edges, from: Atom, edge: Edge) -> Result<(), AllocError>
-    requires { IsBelow (length edges.old.written.items) (length edges.old.unknown.items) from }
-    ensures written { OnOk result ((k : ℕ) → row_at edges.new.written.items k
-        ≡ row_at edges.old.written.items k ++ edges_at (Written k)
-        (link from edge.by edge.to ∷ [])) }
-    ensures unknown { OnOk result ((k : ℕ) → row_at edges.new.unknown.items k
-        ≡ row_at edges.old.unknown.items k ++ edges_at (Unknown k)
-        (link from edge.by edge.to ∷ [])) }
-    ensures written_count { OnOk result (length edges.new.written.items
-        ≡ length edges.old.written.items) }
-    ensures unknown_count { OnOk result (length edges.new.unknown.items
-        ≡ length edges.old.unknown.items) }
+// Rows with a place for each of so many edges.
+fn places_of(alloc: Global, counts: Vec<usize>) -> Result<FilledRows, AllocError>
+    ensures empty { IfOk result (λ rows. (part : ℕ → AtomOf) (links : List Link) →
+        AreCounted part links counts.items →
+        AreFilled part [] links rows.places.items rows.list.items) }
+    ensures count { IfOk result (λ rows. length rows.places.items ≡ length counts.items) }
 {
-    match from {
-        Atom::Written(n) => add_edge(&mut edges.written, n as usize, edge),
-        Atom::Unknown(u) => add_edge(&mut edges.unknown, u as usize, edge),
+    let mut places = counts;
+    let end = to_starts(&mut places);
+    let nothing = Edge {
+        by: 0,
+        to: Atom::Written(0),
+    };
+    Ok(FilledRows {
+        places,
+        list: vec![in alloc; nothing; end]?,
+    })
+}
+
+impl FilledRows {
+    // Adds an edge from a part.
+    fn add(&mut self, part: usize, edge: Edge)
+        requires part { part < length self.old.places.items }
+        requires place { slice_index_or self.old.places.items part 0
+            < length self.old.list.items }
+        ensures places { self.new.places.items ≡ set self.old.places.items part
+            (slice_index_or self.old.places.items part 0 + 1) }
+        ensures list { self.new.list.items ≡ set self.old.list.items
+            (slice_index_or self.old.places.items part 0) edge }
+    {
+        let place = self.places[part];
+        self.places[part] = place + 1;
+        self.list[place] = edge;
+    }
+
+    // The rows, once all are full: each ends where its next edge would go.
+    fn end(self) -> EdgeRows
+        requires { AreEnds 0 self.places.items (length self.list.items) }
+        ensures { result ≡ rows_from 0 self.places.items self.list.items }
+    {
+        EdgeRows {
+            ends: self.places,
+            list: self.list,
+        }
     }
 }
 
-// Adds an edge to a row.
-fn add_edge(rows: &mut Vec<Vec<Edge>>, at: usize, edge: Edge) -> Result<(), AllocError>
-    requires { at < length rows.old.items }
-    ensures row { OnOk result (row_at rows.new.items at
-        ≡ row_at rows.old.items at ++ edge ∷ []) }
-    ensures others { OnOk result ((k : ℕ) → k ≢ at → row_at rows.new.items k
-        ≡ row_at rows.old.items k) }
-    ensures count { OnOk result (length rows.new.items ≡ length rows.old.items) }
-{
-    rows[at].push(edge)?;
-    Ok(())
+// The rows of both kinds of parts, while they are filled.
+#[derive(Drop)]
+struct Filling {
+    written: FilledRows,
+    unknown: FilledRows,
+}
+
+impl Filling {
+    // Adds the edges of one more constraint.
+    fn add_left<T>(&mut self, constraints: &[Constraint<T>], by: usize)
+        requires by { by < length constraints.now }
+        requires range { InRange (length self.old.written.places.items)
+            (length self.old.unknown.places.items) constraints.now }
+        requires written { AreFilledTo Written constraints.now by
+            self.old.written.places.items self.old.written.list.items }
+        requires unknown { AreFilledTo Unknown constraints.now by
+            self.old.unknown.places.items self.old.unknown.list.items }
+        ensures written { AreFilledTo Written constraints.now (by + 1)
+            self.new.written.places.items self.new.written.list.items }
+        ensures unknown { AreFilledTo Unknown constraints.now (by + 1)
+            self.new.unknown.places.items self.new.unknown.list.items }
+        ensures written_count { length self.new.written.places.items
+            ≡ length self.old.written.places.items }
+        ensures unknown_count { length self.new.unknown.places.items
+            ≡ length self.old.unknown.places.items }
+    {
+        let constraint = &constraints[by];
+        let to = constraint.right;
+        for atom in constraint.left.as_slice() {
+            match *atom {
+                Atom::Written(n) => self.written.add(n as usize, Edge { by, to }),
+                Atom::Unknown(u) => self.unknown.add(u as usize, Edge { by, to }),
+            }
+        }
+    }
 }

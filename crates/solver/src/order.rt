@@ -1,11 +1,11 @@
 //! An order along the flow, in which constraints are looked at first. What is found does not depend on it, only how often constraints
 //! are looked at again: where no flow comes back to where it was, each is looked at once.
 ghost use Rattle.std.specs.List.{sum};
-ghost use Rattle.std.specs.Prelude.{OnOk, Option, length, ◌*◌, ◌+◌, ◌≡◌, ◌≤◌};
+ghost use Rattle.std.specs.Prelude.{OnOk, Option, length, ◌*◌, ◌+◌, ◌<◌, ◌≡◌, ◌≤◌};
 ghost use Rattle.solver.specs.Walks.{IsTaken};
 
 use crate::constraints::Atom;
-use crate::edges::{Edge, Edges};
+use crate::edges::{Edge, EdgeRows, Edges};
 use std::alloc::{AllocError, Global};
 
 // A walk along edges, each once: how many edges from each unknown are left, which unknowns were entered, those on the way, and those
@@ -43,16 +43,17 @@ impl EdgeWalk {
         Some(self.left[unknown])
     }
 
-    // Follows one more edge from an unknown that was on the way last. It is done when no edge is left.
-    fn step(&mut self, edges: &[Vec<Edge>], unknown: usize) -> Result<(), AllocError>
+    // Follows one more edge from the unknown that is on the way last. It is done when no edge is left.
+    fn step(&mut self, edges: &EdgeRows, unknown: usize) -> Result<(), AllocError>
+        requires { 0 < length self.old.way.items }
         ensures { OnOk result (2 * sum self.new.left.items + length self.new.way.items
-            ≤ 2 * sum self.old.left.items + length self.old.way.items) }
+            < 2 * sum self.old.left.items + length self.old.way.items) }
     {
         let Some(next) = self.take(unknown) else {
+            self.way.pop();
             self.done.push(unknown)?;
             return Ok(());
         };
-        self.way.push(unknown)?;
         match target(edges, unknown, next) {
             Some(to) => self.enter(to),
             None => Ok(()),
@@ -60,8 +61,8 @@ impl EdgeWalk {
     }
 
     // Walks on to the end of the way.
-    fn go_on(&mut self, edges: &[Vec<Edge>]) -> Result<(), AllocError> {
-        while let Some(unknown) = self.way.pop() {
+    fn go_on(&mut self, edges: &EdgeRows) -> Result<(), AllocError> {
+        while let Some(unknown) = self.way.last().copied() {
             self.step(edges, unknown)?;
         }
         Ok(())
@@ -69,9 +70,11 @@ impl EdgeWalk {
 }
 
 // The unknown to which an edge leads, by the unknown where it starts and its index.
-fn target(edges: &[Vec<Edge>], unknown: usize, index: usize) -> Option<usize> {
-    let row = edges.get(unknown)?;
-    let edge = row.get(index)?;
+fn target(edges: &EdgeRows, unknown: usize, index: usize) -> Option<usize> {
+    if unknown >= edges.len() {
+        return None;
+    }
+    let edge = edges.row(unknown).get(index)?;
     match edge.to {
         Atom::Unknown(to) => Some(to as usize),
         Atom::Written(_) => None,
@@ -79,7 +82,7 @@ fn target(edges: &[Vec<Edge>], unknown: usize, index: usize) -> Option<usize> {
 }
 
 // The unknowns, each after all to which it leads, but where that leads back.
-fn walked(alloc: Global, edges: &[Vec<Edge>]) -> Result<Vec<usize>, AllocError> {
+fn walked(alloc: Global, edges: &EdgeRows) -> Result<Vec<usize>, AllocError> {
     let mut walk = EdgeWalk {
         left: lengths(alloc, edges)?,
         marks: vec![in alloc; false; edges.len()]?,
@@ -94,10 +97,10 @@ fn walked(alloc: Global, edges: &[Vec<Edge>]) -> Result<Vec<usize>, AllocError> 
 }
 
 // How many edges each unknown has.
-fn lengths(alloc: Global, edges: &[Vec<Edge>]) -> Result<Vec<usize>, AllocError> {
+fn lengths(alloc: Global, edges: &EdgeRows) -> Result<Vec<usize>, AllocError> {
     let mut lengths = Vec::with_capacity(alloc, edges.len())?;
-    for row in edges {
-        lengths.push(row.len())?;
+    for unknown in 0..edges.len() {
+        lengths.push(edges.row(unknown).len())?;
     }
     Ok(lengths)
 }
@@ -131,14 +134,14 @@ impl Placed {
 /// This many constraints, by their indices, along the flow: a constraint without unknowns on the left comes first, and any other one
 /// after those whose right side is an unknown on its left, but where the flow comes back.
 pub fn order_of(alloc: Global, edges: &Edges, count: usize) -> Result<Vec<usize>, AllocError> {
-    let done = walked(alloc, edges.unknown.as_slice())?;
+    let done = walked(alloc, &edges.unknown)?;
     let mut placed = Placed {
         marks: vec![in alloc; false; count]?,
         order: Vec::with_capacity(alloc, count)?,
     };
     for unknown in &done {
-        if let Some(row) = edges.unknown.get(*unknown) {
-            placed.place_all(row.as_slice())?;
+        if *unknown < edges.unknown.len() {
+            placed.place_all(edges.unknown.row(*unknown))?;
         }
     }
     for by in 0..count {

@@ -16,7 +16,7 @@ pub enum Rule {
     Call,
     While,
     Return,
-    ProcedureEnds,
+    ProcedureExits,
 }
 
 impl Rule {
@@ -34,7 +34,7 @@ impl Rule {
             Rule::Call => 6,
             Rule::While => 8,
             Rule::Return => 10,
-            Rule::ProcedureEnds => 13,
+            Rule::ProcedureExits => 13,
         }
     }
 }

@@ -76,7 +76,7 @@ impl Search {
 
 /// What the written element of this number reaches, each unknown once, with the path to it.
 pub fn trace(alloc: Global, edges: &Edges, value: usize) -> Result<Vec<Found>, AllocError>
-    requires value { value < length edges.now.written.items }
+    requires value { value < length edges.now.written }
     requires inside { LeadsInside edges.now }
     ensures { IfOk result (λ found. IsTrace edges.now value found.items) }
 {
@@ -85,12 +85,12 @@ pub fn trace(alloc: Global, edges: &Edges, value: usize) -> Result<Vec<Found>, A
         marks: vec![in alloc; false; count]?,
         found: Vec::new(alloc),
     };
-    search.follow(edges.written[value].as_slice(), 0)?;
+    search.follow(edges.written.row(value), 0)?;
     let mut next = 0;
     while next < search.found.len() {
         let unknown = search.found[next].unknown as usize;
         next += 1;
-        search.follow(edges.unknown[unknown].as_slice(), next)?;
+        search.follow(edges.unknown.row(unknown), next)?;
     }
     Ok(search.found)
 }

@@ -1,7 +1,8 @@
 //! Rows of bits that share their numbers: a row that has few numbers beyond another one stands as that one and these.
 ghost use Rattle.solver.specs.Sharing.{AreForms, AreShared, IsKeptAs, MayBeKeptAs, bits_of, with_numbers};
-ghost use Rattle.labels.specs.Row.{has};
-ghost use Rattle.std.specs.Prelude.{All, IfOk, OnOk, [], length, replicate, set, slice_index_or, ℕ, ◌<◌, ◌||◌, ◌≡◌, ◌≤◌};
+ghost use Rattle.labels.specs.Row.{Includes, has};
+ghost use Rattle.solver.specs.Work.{IsGrown};
+ghost use Rattle.std.specs.Prelude.{All, IfOk, IsTrue, OnOk, [], false, length, replicate, set, slice_index_or, ℕ, ◌<◌, ◌||◌, ◌≡◌, ◌≤◌};
 
 use crate::constraints::Atom;
 use labels::Row;
@@ -139,6 +140,30 @@ fn come_near(alloc: Global, base: Row, row: &Row, most: usize) -> Result<Near, A
         from = number;
     }
     Ok(Near { row: near, more })
+}
+
+// Whether a set has a number that another one lacks.
+fn has_beyond(row: &Row, own: &Row) -> bool
+    ensures none { result ≡ false → Includes own.now row.now }
+    ensures some { IsTrue result → ¬ Includes own.now row.now }
+{
+    if own.bound() == row.bound() {
+        return !own.covers(row);
+    }
+    row.first_beyond(own, 0).is_some()
+}
+
+// A row with the numbers of another one, which has no more, if it has a number that the other one lacks.
+fn grown(own: &Row, row: Row) -> Option<Row>
+    requires { length own.now ≤ length row }
+    ensures { IsGrown own.now row result }
+{
+    if has_beyond(&row, own) {
+        let mut grown = row;
+        grown.include(own);
+        return Some(grown);
+    }
+    None
 }
 
 // How a row is kept beyond that with a number, if it has at most so many numbers more.
@@ -294,6 +319,26 @@ impl SharedRows {
         let own = self.row(alloc, unknown)?;
         row.include(&own);
         Ok(())
+    }
+
+    /// The row of an unknown with the numbers of another one, which is as long or longer, if that has new ones. A row that is kept whole
+    /// is not copied.
+    pub(crate) fn grown(
+        &self,
+        alloc: Global,
+        unknown: usize,
+        row: Row,
+    ) -> Result<Option<Row>, AllocError>
+        requires { length (slice_index_or self.now unknown []) ≤ length row }
+        ensures { IfOk result (IsGrown (slice_index_or self.now unknown []) row) }
+    {
+        if unknown < self.of.len() {
+            if let RowForm::Whole(own) = &self.kept[self.of[unknown]].form {
+                return Ok(grown(own, row));
+            }
+        }
+        let own = self.row(alloc, unknown)?;
+        Ok(grown(&own, row))
     }
 
     /// Puts a row for an unknown in the place of its own. It may stand on that of an unknown of a left side.

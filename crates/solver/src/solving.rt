@@ -52,7 +52,7 @@ pub fn solve_by_numbers<W: WrittenElements, T>(
     let count = written.len();
     let edges = edges_of(alloc, constraints, count, unknowns as usize)?;
     let reached = rows_of(alloc, &edges, constraints)?;
-    match first_breaker(alloc, written, constraints, &reached.rows)? {
+    match first_breaker(alloc, written, constraints, &edges, &reached.rows)? {
         None => Ok(Solution::of(count, reached.rows, reached.looks)),
         Some(value) => {
             let refusal = find_refusal(alloc, written, &edges, value)?;
@@ -100,7 +100,7 @@ fn find_refusal<W: WrittenElements>(
     value: usize,
 ) -> Result<SolveRefusal, AllocError>
     requires value { value < length (W.elements written.now) }
-    requires written { length edges.now.written.items ≡ length (W.elements written.now) }
+    requires written { length edges.now.written ≡ length (W.elements written.now) }
     requires inside { LeadsInside edges.now }
     requires rights { AllRightsInside (length (W.elements written.now)) edges.now }
     requires breaks { (i : ℕ) × BreaksAlong edges.now

@@ -1,19 +1,17 @@
 //! Which written elements reach each unknown: a work list of constraints.
 ghost use Rattle.solver.specs.Links.{InRange};
-ghost use Rattle.labels.specs.Row.{has};
-ghost use Rattle.solver.specs.Looks.{count_of, written_left};
+ghost use Rattle.solver.specs.Looks.{written_left};
 ghost use Rattle.solver.specs.Queue.{RightIsUnknown};
 ghost use Rattle.solver.specs.Reach.{AreEdges};
-ghost use Rattle.solver.specs.Rows.{AreRows, AreSized, has_at};
+ghost use Rattle.solver.specs.Rows.{AreRows};
 ghost use Rattle.solver.specs.Work.{AreSoFar, IsWork, room};
-ghost use Rattle.std.specs.Prelude.{IfOk, IsTrue, OnOk, [], false, length, ℕ, ◌+◌, ◌<◌, ◌||◌, ◌∷◌, ◌≡◌, ◌≤◌};
+ghost use Rattle.std.specs.Prelude.{IfOk, OnOk, [], length, ◌+◌, ◌∷◌, ◌≤◌};
 
 use crate::breaker::left_row;
 use crate::constraints::{Atom, Constraint};
 use crate::edges::Edges;
 use crate::queue::{Queue, all_queued};
 use crate::sharing::SharedRows;
-use labels::Row;
 use std::alloc::{AllocError, Global};
 
 /// For each unknown the numbers of the written elements that reach it, and how often left sides were looked at.
@@ -31,7 +29,7 @@ pub fn rows_of<T>(
     constraints: &[Constraint<T>],
 ) -> Result<Reached, AllocError>
     requires edges { AreEdges constraints.now edges.now }
-    requires range { InRange (length edges.now.written.items) (length edges.now.unknown.items)
+    requires range { InRange (length edges.now.written) (length edges.now.unknown)
         constraints.now }
     ensures rows { IfOk result (λ reached. AreRows edges.now reached.rows) }
     ensures looks { IfOk result (λ reached. AreSoFar constraints.now edges.now
@@ -48,27 +46,6 @@ pub fn rows_of<T>(
     Ok(reached)
 }
 
-// Adds the numbers of a left side to a row. The answer is whether there are more then.
-fn grow(row: &mut Row, mut left: Row) -> bool
-    requires { length row.old ≤ length left }
-    ensures short { length row.new ≤ length left }
-    ensures members { (n : ℕ) → has row.new n ≡ (has row.old n || has left n) }
-    ensures more { IsTrue result → count_of (λ b. b) row.old < count_of (λ b. b) row.new }
-    ensures same { result ≡ false → row.new ≡ row.old }
-{
-    if row.bound() == left.bound() {
-        return row.join_from(&left);
-    }
-    match left.first_beyond(row, 0) {
-        None => false,
-        Some(_) => {
-            left.include(row);
-            *row = left;
-            true
-        }
-    }
-}
-
 impl Reached {
     // Looks at the left side of a constraint. Where the row of the right side grew, the constraints with it on the left wait.
     fn look<T>(
@@ -80,8 +57,8 @@ impl Reached {
         queue: &mut Queue,
     ) -> Result<(), AllocError>
         requires edges { AreEdges constraints.now edges.now }
-        requires range { InRange (length edges.now.written.items)
-            (length edges.now.unknown.items) constraints.now }
+        requires range { InRange (length edges.now.written)
+            (length edges.now.unknown) constraints.now }
         requires right { RightIsUnknown constraints.now by }
         requires work { IsWork constraints.now edges.now self.old.rows
             queue.old.waits.items queue.old.order.items by }
@@ -92,11 +69,11 @@ impl Reached {
         ensures so_far { OnOk result (AreSoFar constraints.now edges.now self.new.rows
             queue.new.order.items self.new.looks) }
         ensures less { OnOk result (length queue.new.order.items
-            + room (written_left constraints.now 0 (length edges.now.written.items))
-            edges.now.unknown.items self.new.rows
+            + room (written_left constraints.now 0 (length edges.now.written))
+            edges.now.unknown self.new.rows
             ≤ length queue.old.order.items
-            + room (written_left constraints.now 0 (length edges.now.written.items))
-            edges.now.unknown.items self.old.rows) }
+            + room (written_left constraints.now 0 (length edges.now.written))
+            edges.now.unknown self.old.rows) }
     {
         let constraint = &constraints[by];
         let Atom::Unknown(unknown) = constraint.right else {
@@ -106,11 +83,10 @@ impl Reached {
         let count = edges.written.len();
         let left = left_row(alloc, constraint.left.as_slice(), &self.rows, count)?;
         self.looks = self.looks.saturating_add(1);
-        let mut row = self.rows.row(alloc, unknown)?;
-        if grow(&mut row, left) {
+        if let Some(row) = self.rows.grown(alloc, unknown, left)? {
             self.rows
                 .put(alloc, unknown, row, constraint.left.as_slice())?;
-            queue.add_all(edges.unknown[unknown].as_slice())?;
+            queue.add_all(edges.unknown.row(unknown))?;
         }
         Ok(())
     }

@@ -11,6 +11,7 @@ pub use globals::Globals;
 pub use point::Point;
 pub use shape::{CellRange, Shape, cells_of, count_of, repeat};
 pub use slab::{
-    FrameCall, Registers, ReturnState, SavedFrame, StackFrame, StackState, call_on, give_back_on,
-    leave_on, operand_on, point_of, stack_state_of,
+    FrameCall, IntsCall, Registers, ReturnState, SPARE_CELLS, SavedFrame, StackFrame, StackState,
+    call_on, call_with_ints, give_back_on, give_back_to, leave_on, leave_to, operand_on, point_of,
+    stack_state_of, top_on,
 };

@@ -2,7 +2,7 @@
 
 use common::OrNoMemory;
 use flowc::{
-    EndRefusalKind, Fault, HierarchyRefusalKind, LexRefusalKind, ParseRefusalKind, RefusalKind,
+    ExitRefusalKind, Fault, HierarchyRefusalKind, LexRefusalKind, ParseRefusalKind, RefusalKind,
     TypeRefusalKind, check_texts, compile,
 };
 use std::alloc::Global;
@@ -93,27 +93,27 @@ const KINDS: [(RefusalKind, u32, &str); 27] = [
         "wrong use",
     ),
     (
-        RefusalKind::End(EndRefusalKind::Unreachable),
+        RefusalKind::End(ExitRefusalKind::Unreachable),
         501,
         "unreachable",
     ),
     (
-        RefusalKind::End(EndRefusalKind::NoValueReturned),
+        RefusalKind::End(ExitRefusalKind::NoValueReturned),
         502,
         "no value returned",
     ),
     (
-        RefusalKind::End(EndRefusalKind::Undeclared),
+        RefusalKind::End(ExitRefusalKind::Undeclared),
         503,
         "exception not declared",
     ),
     (
-        RefusalKind::End(EndRefusalKind::NeverRaised),
+        RefusalKind::End(ExitRefusalKind::NeverRaised),
         504,
         "never raised",
     ),
     (
-        RefusalKind::End(EndRefusalKind::OutsideLoop),
+        RefusalKind::End(ExitRefusalKind::OutsideLoop),
         505,
         "not in a loop",
     ),

@@ -8,12 +8,12 @@ fn laws_of_sources(_rt: HostRuntime) {
     resolved::laws::programs_are_labelled_or_refused();
     resolved::laws::gathered_constraints_decide();
     resolved::laws::precise_programs_are_accepted();
-    runs::ends_are_possible();
+    runs::exits_are_possible();
     runs::calls_give_their_value();
     runs::sent_stays_sent();
     runs::more_fuel_goes_on();
     confinement::statements_are_confined();
-    confinement::possible_ends_are_unread();
+    confinement::possible_exits_are_unread();
 }
 
 #[test]

@@ -1,4 +1,4 @@
-//! Tests of `resolved`, `isolation`, `names`, `compiler`, `command_line` and `flowc`: what no row of the program `rows`
+//! Tests of `resolved`, `isolation`, `types`, `compiler`, `command_line` and `flowc`: what no row of the program `rows`
 //! reaches.
 #![tactic(auto)]
 

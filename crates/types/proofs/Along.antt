@@ -1,4 +1,5 @@
 -- Along the statements of a block, and along handlers: what was found so far, with what is found of the rest, is the whole.
+use Rattle.types.specs.declared.scope.ItemKind.TheVariants.{Exception}
 use Rattle.std.proofs.Common.{◌≡◌, ℕ, ◌+◌, ◌<◌, ◌≤◌, List, [], ◌∷◌, ◌++◌, map, length, get_or, drop, Ok, Err, refl, sym, ◌∙◌, ap, subst, arith}
 use Rattle.std.proofs.lemmas.List.{drop_more, drop_all}
 use Rattle.syntax.specs.declared.tree.Statement.{Statement}
@@ -13,10 +14,10 @@ use Rattle.types.specs.declared.body.BodyScope.{BodyScope}
 use Rattle.common.specs.Answers.{IfRefused}
 use Rattle.common.specs.declared.fault.OrNoMemory.{OrNoMemory}
 use Rattle.types.specs.declared.fault.TypeRefusal.{TypeRefusal}
-use Rattle.types.specs.Finding.{IsRefusalOf, Finding, and_then}
-use Rattle.types.specs.Environment.{exception_finding}
+use Rattle.types.specs.Finding.{IsRefusalOf, Finding}
+use Rattle.types.specs.Environment.{use_as, item_of}
 use Rattle.types.specs.Statements.{Point, statement_finding, block_finding, statements_finding, catches_finding}
-use Rattle.types.specs.Views.{IsLater, names_of, point_of, setting_of, taken}
+use Rattle.types.specs.Views.{and_then, IsLater, names_of, point_of, setting_of, taken}
 use Rattle.types.proofs.Later.{later_through, setting_same}
 use Rattle.types.proofs.Loops.{fails_later, fails_second, then_ok}
 
@@ -143,12 +144,12 @@ module _ {start now : BodyScope} {written : List WrittenCatch} {made : List Hand
     all_are : and_then (catches_finding (setting_of start) (point_of now) (CatchThen one.at (name_tree one.exception) (block_tree one.body) (catches_of (map catch_tree (drop (i + 1) written))))) (with_handlers made) ≡ catches_finding (setting_of start) (point_of start) (catches_of (map catch_tree written))
     all_are = subst (λ trees. and_then (catches_finding (setting_of start) (point_of now) trees) (with_handlers made) ≡ catches_finding (setting_of start) (point_of start) (catches_of (map catch_tree written))) catches_are along.on
 
-    pub exception_wrong : (fault : OrNoMemory TypeRefusal) → IfRefused (IsRefusalOf (exception_finding (names_of now (name_tree one.exception).text) one.exception.at)) fault
+    pub exception_wrong : (fault : OrNoMemory TypeRefusal) → IfRefused (IsRefusalOf (use_as (item_of Exception) (names_of now (name_tree one.exception).text) one.exception.at)) fault
         → IfRefused (IsRefusalOf (catches_finding (setting_of start) (point_of start) (catches_of (map catch_tree written)))) fault
     unfolding catches_finding
     exception_wrong fault wrong = subst (λ found. IfRefused (IsRefusalOf found) fault) all_are (fails_later _ (with_handlers made) fault (fails_later _ _ fault wrong))
 
-    module _ (number : ℕ) (found : exception_finding (names_of now (name_tree one.exception).text) one.exception.at ≡ Ok number) where
+    module _ (number : ℕ) (found : use_as (item_of Exception) (names_of now (name_tree one.exception).text) one.exception.at ≡ Ok number) where
       pub body_wrong : (fault : OrNoMemory TypeRefusal) → IfRefused (IsRefusalOf (block_finding (setting_of now) (point_of now) (block_tree one.body))) fault
           → IfRefused (IsRefusalOf (catches_finding (setting_of start) (point_of start) (catches_of (map catch_tree written)))) fault
       unfolding catches_finding

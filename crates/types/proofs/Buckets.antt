@@ -33,9 +33,6 @@ apart_in_map n o apart = by (is_eq (nat_cmp n o)) ((number_ties n o).0)
     by false same = refl
     by true same = absurd (apart (same refl))
 
-same_in_map : (n o : ℕ) → n ≡ o → is_eq (nat_cmp n o) ≡ true
-same_in_map n o same = (number_ties n o).1 same
-
 -- a map after a change, at another number and at the one
 map_other : (n o : ℕ) (old new : BTreeMap ℕ Meaning) (w : Option Meaning) → UpdatesBy nat_cmp (nat_cmp n) old new w → (n ≡ o → ⊥) → get nat_cmp new o ≡ get nat_cmp old o
 map_other n o old new w updates apart = updates.2 o (apart_in_map n o apart)
@@ -358,10 +355,6 @@ free_table count at P free shared = inside (nat_lt at count) refl
         let past = ltb-false at count e in
         let long = length-replicate count buckets.Free in
         subst P (sym (get_or_past (replicate count buckets.Free) at buckets.Shared (omega (arith, past, long)))) shared
-
-pub buckets_at_first : (shift count : ℕ) (table : List Bucket) (others : BTreeMap ℕ Meaning) → shift ≤ NO_BUCKETS → table ≡ replicate count buckets.Free → others.entries ≡ [] → AreBuckets shift table others
-buckets_at_first shift count table others few free none =
-    placed_by shift table others few (λ at. subst (λ t. Knows shift others at (bucket_at t at)) (sym free) (free_table count at (Knows shift others at) (λ o _. map_none others none o) tt))
 
 pub found_at_first : (shift count : ℕ) (table : List Bucket) (others : BTreeMap ℕ Meaning) → table ≡ replicate count buckets.Free → others.entries ≡ [] → (o : ℕ) → found_short shift table others o ≡ None
 found_at_first shift count table others free none o =

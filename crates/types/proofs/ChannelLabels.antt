@@ -1,6 +1,6 @@
 -- The labels of the channels of a program are canonical, and its hierarchy is the one under which it is resolved.
 use Rattle.std.proofs.Common.{◌≡◌, refl, sym, subst, ℕ, zero, suc, List, [], ◌∷◌}
-use Rattle.std.specs.Prelude.{All, IfOk, IfSome, Option, Some, None, slice_get, codes}
+use Rattle.std.specs.Prelude.{All, IfOk, IfSome, slice_get, codes}
 use Rattle.std.proofs.lemmas.List.Elements.{All-nil, All-cons, All-head, All-tail, All-append}
 use Rattle.std.proofs.lemmas.Result.{IfOk-weaker}
 use Rattle.principals.specs.ActsFor.{PrincipalHierarchy}
@@ -10,13 +10,14 @@ use Rattle.labels.proofs.Written.{IsCanonicalPolicy-written, IsCanonicalLabel-wr
 use Rattle.syntax.specs.Tree.{NameTree, ComponentTree, PolicyComponent, VariableComponent, LabelTree, ItemTree, ChannelItem, ExceptionItem, GlobalItem, ProcedureItem, ProgramTree}
 use Rattle.resolved.specs.declared.expression.Variable.{Variable}
 use Rattle.resolved.specs.declared.expression.Variable.TheVariants.{Global, Local}
-use Rattle.resolved.specs.Program.{Program, ChannelEntry, GlobalEntry}
-use Rattle.types.specs.Environment.{variable_finding}
+use Rattle.resolved.specs.Program.{Program, ChannelEntry, GlobalEntry, SlotEntry}
+use Rattle.types.specs.Environment.{use_as, variable_of}
 use Rattle.types.specs.Expressions.{base_of}
-use Rattle.types.specs.Finding.{along}
-use Rattle.types.specs.Labels.{LabelScope, principal_finding, readers_finding, policy_finding, global_label, slot_label, variable_label_finding, named_label_finding, component_finding, next_component, components_finding, label_finding}
+use Rattle.types.specs.declared.fault.TypeRefusalKind.TheVariants as refusals
+use Rattle.types.specs.Finding.{found_or, along, of_each, ◌>>=◌}
+use Rattle.types.specs.Labels.{LabelScope, principal_finding, policy_finding, variable_label_finding, component_finding, next_component, label_finding}
 use Rattle.types.specs.Resolution.{TopLevel, top_finding, heads, channel_finding, first_finding, global_finding, procedure_entry_finding, Tables, next_item, no_tables, items_finding, main_finding, global_cells_finding, frames_finding, resolution}
-use Rattle.types.proofs.Passing.{then_finds, any_finds}
+use Rattle.types.proofs.Passing.{then_finds, found_finds, any_finds}
 
 abbrev IsCanonicalChannel : ChannelEntry → Type 0
 IsCanonicalChannel entry = IsCanonicalLabel entry.label
@@ -37,32 +38,20 @@ policy_canonical : (h : PrincipalHierarchy) (owner : NameTree) (readers : List N
 unfolding policy_finding
 policy_canonical h owner readers =
     then_finds (principal_finding h owner) _ (λ one. Unit {0}) _ (any_finds (principal_finding h owner)) (λ number nothing.
-    then_finds (readers_finding h readers) _ (λ one. Unit {0}) _ (any_finds (readers_finding h readers)) (λ numbers nothing.
+    then_finds (of_each (principal_finding h) readers) _ (λ one. Unit {0}) _ (any_finds (of_each (principal_finding h) readers)) (λ numbers nothing.
     IsCanonicalPolicy-written number numbers))
 
 -- ---- labels that may name globals alone
 
 module _ (scope : LabelScope) (globals : (number : ℕ) → IfSome (slice_get scope.globals number) IsCanonicalGlobal) (no_slots : scope.slots ≡ []) where
-  global_canonical : (number at : ℕ) → IfOk (global_label (slice_get scope.globals number) at) IsCanonicalLabel
-  global_canonical number at = go (slice_get scope.globals number) (globals number)
-    where
-      go : (found : Option GlobalEntry) → IfSome found IsCanonicalGlobal → IfOk (global_label found at) IsCanonicalLabel
-      go None is = tt
-      go (Some entry) is = is
-
-  no_slot : (number at : ℕ) → IfOk (slot_label (slice_get scope.slots number) at) IsCanonicalLabel
-  no_slot number at = subst (λ slots. IfOk (slot_label (slice_get slots number) at) IsCanonicalLabel) (sym no_slots) tt
-
   variable_canonical : (variable : Variable) (at : ℕ) → IfOk (variable_label_finding scope variable at) IsCanonicalLabel
   unfolding variable_label_finding
-  variable_canonical (Global number) at = global_canonical number at
-  variable_canonical (Local number) at = no_slot number at
-
-  named_canonical : (name : NameTree) → IfOk (named_label_finding scope name) IsCanonicalLabel
-  unfolding named_label_finding
-  named_canonical name =
-      then_finds (variable_finding (scope.names name.text) name.at) _ (λ one. Unit {0}) _ (any_finds (variable_finding (scope.names name.text) name.at))
-      (λ variable nothing. variable_canonical variable name.at)
+  variable_canonical (Global number) at =
+      then_finds (found_or refusals.UnknownName at (slice_get scope.globals number)) _ IsCanonicalGlobal IsCanonicalLabel
+      (found_finds refusals.UnknownName at (slice_get scope.globals number) IsCanonicalGlobal (globals number)) (λ entry is. is)
+  variable_canonical (Local number) at =
+      subst (λ slots. IfOk (found_or refusals.UnknownName at (slice_get slots number) >>= λ (slot : SlotEntry). found_or refusals.LabelNotWritten at slot.written) IsCanonicalLabel)
+      (sym no_slots) tt
 
   component_canonical : (component : ComponentTree) → IfOk (component_finding scope component) (All IsCanonicalPolicy)
   unfolding component_finding
@@ -70,7 +59,10 @@ module _ (scope : LabelScope) (globals : (number : ℕ) → IfSome (slice_get sc
       then_finds (policy_finding scope.hierarchy owner readers) _ IsCanonicalPolicy (All IsCanonicalPolicy) (policy_canonical scope.hierarchy owner readers)
       (λ policy is. All-cons IsCanonicalPolicy policy [] is (All-nil IsCanonicalPolicy))
   component_canonical (VariableComponent name) =
-      IfOk-weaker (named_label_finding scope name) IsCanonicalLabel (All IsCanonicalPolicy) (λ label is. is.each_canonical) (named_canonical name)
+      then_finds (use_as variable_of (scope.names name.text) name.at) _ (λ one. Unit {0}) _ (any_finds (use_as variable_of (scope.names name.text) name.at))
+      (λ variable nothing.
+      IfOk-weaker (variable_label_finding scope variable name.at) IsCanonicalLabel (All IsCanonicalPolicy) (λ label is. is.each_canonical)
+      (variable_canonical variable name.at))
 
   components_canonical : (found : List ReaderPolicy) (components : List ComponentTree) → All IsCanonicalPolicy found
       → IfOk (along (next_component scope) found components) (All IsCanonicalPolicy)
@@ -82,7 +74,7 @@ module _ (scope : LabelScope) (globals : (number : ℕ) → IfSome (slice_get sc
       (λ next every. components_canonical next components every)
 
   pub label_canonical : (label : LabelTree) → IfOk (label_finding scope label) IsCanonicalLabel
-  unfolding label_finding components_finding
+  unfolding label_finding
   label_canonical label =
       then_finds (along (next_component scope) [] label.components) _ (All IsCanonicalPolicy) _
       (components_canonical [] label.components (All-nil IsCanonicalPolicy)) IsCanonicalLabel-written

@@ -1,5 +1,5 @@
 -- Declarations of locals, by what their parts were found to be.
-use Rattle.std.proofs.Common.{◌≡◌, ℕ, List, length, map, Option, Ok, sym, ◌∙◌, ap, subst}
+use Rattle.std.proofs.Common.{◌≡◌, ℕ, List, length, map, Option, None, Some, Ok, sym, ◌∙◌, ap, subst}
 use Rattle.std.proofs.lemmas.List.{length-map}
 use Rattle.labels.specs.Label.{Label}
 use Rattle.syntax.specs.Tree.{NameTree, LabelTree, RightTree, SizeTree}
@@ -13,11 +13,10 @@ use Rattle.common.specs.Answers.{IfRefused}
 use Rattle.common.specs.declared.fault.OrNoMemory.{OrNoMemory}
 use Rattle.types.specs.declared.fault.TypeRefusal.{TypeRefusal}
 use Rattle.types.specs.declared.scope.Meaning.{Meaning}
-use Rattle.types.specs.declared.scope.Meaning.TheVariants.{Scalar, Array}
 use Rattle.types.specs.Finding.{IsRefusalOf, give}
 use Rattle.types.specs.Environment.{fresh_finding}
 use Rattle.types.specs.Labels.{LabelScope, optional_label_finding}
-use Rattle.types.specs.Statements.{Setting, Point, label_scope, with_local, scalar_slot, array_slot, assigned_finding, size_finding, declare_finding, declare_array_finding}
+use Rattle.types.specs.Statements.{Setting, Point, label_scope, with_local, assigned_finding, size_finding, declare_finding, declare_array_finding, slot_of}
 use Rattle.types.specs.VariableEntries.{VariableEntries, LabelPolicies, optional_label_with}
 use Rattle.types.proofs.Loops.{then_ok, fails_later, fails_second}
 use Rattle.types.proofs.Tables.{ok_inside}
@@ -40,26 +39,25 @@ module _ (setting : Setting) (point : Point) (at : ℕ) (base : Base) (label : O
   fresh_there = sym (ap (λ one. fresh_finding one name.at) looked) ∙ new
 
   -- an array
-  pub array_declared : (after : Point) (slot : SlotEntry) (size : SizeTree) (cells : ℕ) → size_finding size ≡ Ok cells → slot ≡ array_slot at base written name.text cells
-      → give (with_local point slot (Array (Local number) base cells)) ≡ give after
+  pub array_declared : (after : Point) (slot : SlotEntry) (size : SizeTree) (cells : ℕ) → size_finding size ≡ Ok cells → slot ≡ slot_of at base written name.text (Some cells)
+      → give (with_local point slot) ≡ give after
       → declare_array_finding setting point at base label name size ≡ Ok (after, Clear at number)
   unfolding declare_array_finding
   array_declared after slot size cells sized entry declared =
       then_ok _ _ written written_is ∙ then_ok _ _ tt fresh_there ∙ then_ok _ _ cells sized
-      ∙ ap (λ m. Ok (with_local point (array_slot at base written name.text cells) (Array (Local m) base cells), Clear at m)) (sym next)
-      ∙ ap (λ one. Ok (with_local point one (Array (Local number) base cells), Clear at number)) (sym entry)
+      ∙ ap (λ m. Ok (with_local point (slot_of at base written name.text (Some cells)), Clear at m)) (sym next)
+      ∙ ap (λ one. Ok (with_local point one, Clear at number)) (sym entry)
       ∙ ap (λ one. Ok (one, Clear at number)) (ok_inside _ _ declared)
 
   -- a scalar with its first value
   pub scalar_declared : (after : Point) (slot : SlotEntry) (value : RightTree) (statement : Statement) → assigned_finding setting.signatures point.names at (Local number) base value ≡ Ok statement
-      → slot ≡ scalar_slot at base written name.text → give (with_local point slot (Scalar (Local number) base)) ≡ give after
+      → slot ≡ slot_of at base written name.text None → give (with_local point slot) ≡ give after
       → declare_finding setting point at base label name value ≡ Ok (after, statement)
   unfolding declare_finding
   scalar_declared after slot value statement assigned entry declared =
       then_ok _ _ written written_is ∙ then_ok _ _ tt fresh_there
       ∙ then_ok _ _ statement (ap (λ m. assigned_finding setting.signatures point.names at (Local m) base value) (sym next) ∙ assigned)
-      ∙ ap (λ m. Ok (with_local point (scalar_slot at base written name.text) (Scalar (Local m) base), statement)) (sym next)
-      ∙ ap (λ one. Ok (with_local point one (Scalar (Local number) base), statement)) (sym entry)
+      ∙ ap (λ one. Ok (with_local point one, statement)) (sym entry)
       ∙ ap (λ one. Ok (one, statement)) (ok_inside _ _ declared)
 
   pub scalar_refused : (value : RightTree) (fault : OrNoMemory TypeRefusal) → IfRefused (IsRefusalOf (assigned_finding setting.signatures point.names at (Local number) base value)) fault

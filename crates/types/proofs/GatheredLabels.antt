@@ -16,8 +16,9 @@ use Rattle.labels.proofs.Written.{SameSet-written}
 use Rattle.syntax.specs.declared.tree.Component.{Component}
 use Rattle.syntax.specs.Tree.{NameTree, PolicyComponent, VariableComponent, LabelTree, component_tree}
 use Rattle.types.specs.declared.fault.TypeRefusal.{TypeRefusal}
-use Rattle.types.specs.Finding.{IsRefusalOf, and_then}
-use Rattle.types.specs.Labels.{LabelScope, policy_finding, named_label_finding, component_finding, next_component, components_finding, label_finding}
+use Rattle.types.specs.Finding.{IsRefusalOf, along}
+use Rattle.types.specs.Views.{and_then}
+use Rattle.types.specs.Labels.{LabelScope, policy_finding, component_finding, next_component, label_finding}
 use Rattle.types.specs.VariableEntries.{label_with}
 use Rattle.types.proofs.Loops.{GoesOn, starts, goes_further, goes_wrong, goes_to_end, then_ok, fails_later}
 
@@ -61,13 +62,12 @@ same_written xs ys same =
 -- this many components of a label are gathered
 pub record Gathers (scope : LabelScope) (labels : List Label) (written : List Component) (own : List ReaderPolicy) (named : List ℕ) (i : ℕ) : Type 0 where
   pub found : List ReaderPolicy
-  pub made : GoesOn (next_component scope) component_tree written (components_finding scope (map component_tree written)) found i
+  pub made : GoesOn (next_component scope) component_tree written (along (next_component scope) [] (map component_tree written)) found i
   pub same : SameSet found (own ++ labels_of labels named)
   pub canonical : All IsCanonicalPolicy own
 
 pub gathers_none : (scope : LabelScope) (labels : List Label) (written : List Component) (own : List ReaderPolicy) (named : List ℕ) → own ≡ [] → named ≡ []
     → Gathers scope labels written own named 0
-unfolding components_finding
 gathers_none scope labels written own named no_own no_named = record {
   found = [];
   made = starts (next_component scope) component_tree written [] [] (λ i. []);
@@ -96,7 +96,7 @@ module _ {scope : LabelScope} {labels : List Label} {written : List Component} {
         }
 
     pub policy_wrong : (fault : OrNoMemory TypeRefusal) → IfRefused (IsRefusalOf (policy_finding scope.hierarchy owner readers)) fault
-        → IfRefused (IsRefusalOf (components_finding scope (map component_tree written))) fault
+        → IfRefused (IsRefusalOf (along (next_component scope) [] (map component_tree written))) fault
     unfolding component_finding
     policy_wrong fault wrong =
         goes_wrong gathers.made one fault is within
@@ -105,8 +105,7 @@ module _ {scope : LabelScope} {labels : List Label} {written : List Component} {
         (fails_later (policy_finding scope.hierarchy owner readers) (λ policy. Ok (policy ∷ [])) fault wrong)))
 
   module _ (name : NameTree) (tree : component_tree one ≡ VariableComponent name) where
-    pub label_gathered : (number : ℕ) → named_label_finding scope name ≡ Ok (label_at labels number) → Gathers scope labels written own (named ++ number ∷ []) (i + 1)
-    unfolding component_finding
+    pub label_gathered : (number : ℕ) → component_finding scope (VariableComponent name) ≡ Ok (label_at labels number) → Gathers scope labels written own (named ++ number ∷ []) (i + 1)
     label_gathered number is_label =
         let before = gathers.found in
         let more = label_at labels number in
@@ -123,27 +122,26 @@ module _ {scope : LabelScope} {labels : List Label} {written : List Component} {
           canonical = gathers.canonical;
         }
 
-    pub label_wrong : (fault : OrNoMemory TypeRefusal) → IfRefused (IsRefusalOf (named_label_finding scope name)) fault
-        → IfRefused (IsRefusalOf (components_finding scope (map component_tree written))) fault
-    unfolding component_finding
+    pub label_wrong : (fault : OrNoMemory TypeRefusal) → IfRefused (IsRefusalOf (component_finding scope (VariableComponent name))) fault
+        → IfRefused (IsRefusalOf (along (next_component scope) [] (map component_tree written))) fault
     label_wrong fault wrong =
         goes_wrong gathers.made one fault is within
         (subst (λ component. IfRefused (IsRefusalOf (next_component scope gathers.found component)) fault) (sym tree)
-        (fails_later (named_label_finding scope name) (λ policies. Ok (gathers.found ++ policies)) fault wrong))
+        (fails_later (component_finding scope (VariableComponent name)) (λ policies. Ok (gathers.found ++ policies)) fault wrong))
 
 -- ---- the whole label
 
 module _ (scope : LabelScope) (label : LabelTree) (written : List Component) (components : map component_tree written ≡ label.components) where
-  pub label_is_wrong : (fault : OrNoMemory TypeRefusal) → IfRefused (IsRefusalOf (components_finding scope (map component_tree written))) fault → IfRefused (IsRefusalOf (label_finding scope label)) fault
+  pub label_is_wrong : (fault : OrNoMemory TypeRefusal) → IfRefused (IsRefusalOf (along (next_component scope) [] (map component_tree written))) fault → IfRefused (IsRefusalOf (label_finding scope label)) fault
   unfolding label_finding
   label_is_wrong fault wrong =
-      fails_later (components_finding scope label.components) (λ policies. Ok (written_label policies)) fault
-      (subst (λ list. IfRefused (IsRefusalOf (components_finding scope list)) fault) components wrong)
+      fails_later (along (next_component scope) [] label.components) (λ policies. Ok (written_label policies)) fault
+      (subst (λ list. IfRefused (IsRefusalOf (along (next_component scope) [] list)) fault) components wrong)
 
   pub label_is_gathered : {labels : List Label} {own : List ReaderPolicy} {named : List ℕ} {i : ℕ} (gathers : Gathers scope labels written own named i) → length written ≤ i
       → label_finding scope label ≡ Ok (label_with labels (record { own = own; named = named }))
   unfolding label_finding
   label_is_gathered {labels} {own} {named} gathers all =
-      then_ok (components_finding scope label.components) (λ policies. Ok (written_label policies)) gathers.found
-      (ap (components_finding scope) (sym components) ∙ goes_to_end gathers.made all)
+      then_ok (along (next_component scope) [] label.components) (λ policies. Ok (written_label policies)) gathers.found
+      (ap (along (next_component scope) []) (sym components) ∙ goes_to_end gathers.made all)
       ∙ ap (λ one. Ok one) (same_written gathers.found (own ++ labels_of labels named) gathers.same)

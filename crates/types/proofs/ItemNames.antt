@@ -1,4 +1,5 @@
 -- The names of the items of a program are names and all different, and so are those of what it resolves to.
+use Rattle.types.specs.declared.scope.ItemKind.TheVariants.{Exception}
 use Rattle.std.proofs.Common.{◌≡◌, ◌≢◌, refl, sym, ◌∙◌, subst, ap, ℕ, List, [], ◌∷◌, ◌++◌, map, Bool, true, false, cond, append-nil, append_assoc, arith}
 use Rattle.common.specs.Exceptions.{built_in_names}
 use Rattle.std.specs.Prelude.{All, IfOk, Option, Some, None, bytes_eq, codes}
@@ -12,13 +13,13 @@ use Rattle.syntax.specs.Tree.{ChannelTree, GlobalTree, ProcedureTree, ItemTree, 
 use Rattle.syntax.specs.Written.{Anywhere, IsInteger, IsNameWithin, IsWrittenItem, IsWritten}
 use Rattle.resolved.specs.Program.{Program, ChannelEntry, GlobalEntry, ProcedureEntry}
 use Rattle.types.specs.declared.scope.Meaning.{Meaning}
-use Rattle.types.specs.declared.scope.Meaning.TheVariants.{Exception}
+use Rattle.types.specs.declared.scope.Meaning.TheVariants as meanings
 use Rattle.types.specs.Finding.{along}
 use Rattle.types.specs.Environment.{Environment, declaring, fresh_finding}
 use Rattle.types.specs.Labels.{LabelScope, label_finding, optional_label_finding}
 use Rattle.types.specs.Laws.{IsProperName, item_names}
 use Rattle.types.specs.Statements.{Signature, block_finding}
-use Rattle.types.specs.Resolution.{TopLevel, built_in, item_name, item_meaning, next_name, top_finding, heads, channel_finding, first_finding, global_finding, result_finding, parameters_finding, throws_finding, procedure_entry_finding, Tables, next_item, no_tables, items_finding, main_finding, global_cells_finding, frames_finding, resolution}
+use Rattle.types.specs.Resolution.{TopLevel, built_in, item_name, item_meaning, next_name, top_finding, heads, channel_finding, first_finding, global_finding, result_finding, parameters_finding, procedure_entry_finding, Tables, next_item, no_tables, items_finding, main_finding, global_cells_finding, frames_finding, resolution, next_thrown}
 use Rattle.types.proofs.Passing.{then_finds, any_finds}
 
 -- ---- lists
@@ -181,7 +182,7 @@ names_kept named top (item ∷ items) all kept =
 
 built_in_kept : AreWellFormedNames built_in.names (all_names no_names)
 built_in_kept = record {
-  declared = ((Exception 0, refl), ((Exception 1, refl), ((Exception 2, refl), tt)));
+  declared = ((meanings.Item Exception 0, refl), ((meanings.Item Exception 1, refl), ((meanings.Item Exception 2, refl), tt)));
   different = (((λ e. cc), ((λ e. cc), tt)), (((λ e. cc), tt), (tt, tt)));
   proper = tt;
 }
@@ -221,7 +222,7 @@ procedure_named scope signatures procedure =
     then_finds (optional_label_finding scope procedure.begin) _ (λ one. Unit {0}) _ (any_finds (optional_label_finding scope procedure.begin)) (λ begin nothing.
     then_finds (parameters_finding scope procedure.parameters) _ (λ one. Unit {0}) _ (any_finds (parameters_finding scope procedure.parameters)) (λ point nothing.
     then_finds (optional_label_finding scope procedure.end) _ (λ one. Unit {0}) _ (any_finds (optional_label_finding scope procedure.end)) (λ end nothing.
-    then_finds (throws_finding scope procedure.throws) _ (λ one. Unit {0}) _ (any_finds (throws_finding scope procedure.throws)) (λ throws nothing.
+    then_finds (along (next_thrown scope) [] procedure.throws) _ (λ one. Unit {0}) _ (any_finds (along (next_thrown scope) [] procedure.throws)) (λ throws nothing.
     then_finds (block_finding _ point procedure.body) _ (λ one. Unit {0}) _ (any_finds (block_finding _ point procedure.body)) (λ done nothing. refl))))))
 
 item_named : (h : PrincipalHierarchy) (top : TopLevel) (named : ItemNames) (tables : Tables) (item : ItemTree) → TableNames named tables

@@ -11,7 +11,7 @@ use Rattle.resolved.specs.declared.tables.ResultType.{ResultType}
 use Rattle.resolved.specs.declared.tables.Slot.{Slot}
 use Rattle.resolved.specs.declared.tables.Thrown.{Thrown}
 use Rattle.resolved.specs.ProgramOf.{channel_entry, global_entry, slot_entry, written_at, result_entry, thrown_entry, procedure_entry}
-use Rattle.types.specs.VariableEntries.{VariableEntries, IsInside, IsOptionInside, IsResultInside, AreSlotsInside, AreThrownInside, AreInside, IsProcedureInside, HasMoreLabels}
+use Rattle.types.specs.VariableEntries.{VariableEntries, IsInside, IsOptionInside, IsResultInside, AreSlotsInside, AreThrownInside, IsProcedureInside, HasMoreLabels}
 
 pub extends_itself : (labels : List Label) → Extends labels labels
 extends_itself labels = record { more = []; after_is = sym (append-nil labels) }

@@ -14,16 +14,17 @@ use Rattle.labels.proofs.Ascending.{ascending_set-sorted, ascending_set-SameSet,
 use Rattle.labels.proofs.Order.{policy_cmp-exact}
 use Rattle.labels.proofs.Written.{SameSet-written, written_label-canonical}
 use Rattle.syntax.specs.Nodes.{component_nodes, label_nodes as written_nodes}
-use Rattle.syntax.specs.Tree.{NameTree, ComponentTree, PolicyComponent, VariableComponent, LabelTree}
+use Rattle.syntax.specs.Tree.{ComponentTree, PolicyComponent, VariableComponent, LabelTree}
 use Rattle.resolved.specs.declared.expression.Variable.{Variable}
 use Rattle.resolved.specs.declared.expression.Variable.TheVariants.{Global, Local}
-use Rattle.resolved.specs.Program.{GlobalEntry}
+use Rattle.resolved.specs.Program.{GlobalEntry, SlotEntry}
 use Rattle.resolved.specs.WellFormed.{policy_fits, label_nodes}
-use Rattle.types.specs.Environment.{variable_finding}
-use Rattle.types.specs.Finding.{Finding, along}
-use Rattle.types.specs.Labels.{LabelScope, policy_finding, global_label, slot_label, variable_label_finding, named_label_finding, component_finding, next_component, components_finding, label_finding}
+use Rattle.types.specs.Environment.{use_as, variable_of}
+use Rattle.types.specs.declared.fault.TypeRefusalKind.TheVariants as refusals
+use Rattle.types.specs.Finding.{Finding, found_or, along, ◌>>=◌}
+use Rattle.types.specs.Labels.{LabelScope, policy_finding, variable_label_finding, component_finding, next_component, label_finding}
 use Rattle.types.proofs.ChannelLabels.{label_canonical}
-use Rattle.types.proofs.Passing.{then_finds, any_finds}
+use Rattle.types.proofs.Passing.{then_finds, found_finds, any_finds}
 use Rattle.types.proofs.WellFormedLabels.{policy_there, policy_weight, set_sum}
 
 -- ---- sets
@@ -110,26 +111,14 @@ both_are written m n found policies first second = record {
 -- labels that may name globals alone
 module _ (scope : LabelScope) (written : List ReaderPolicy) (globals : (number : ℕ) → IfSome (slice_get scope.globals number) (λ (entry : GlobalEntry). IsOf written entry.label))
     (no_slots : scope.slots ≡ []) where
-  global_of : (number at : ℕ) → IfOk (global_label (slice_get scope.globals number) at) (IsOf written)
-  global_of number at = go (slice_get scope.globals number) (globals number)
-    where
-      go : (found : Option GlobalEntry) → IfSome found (λ (entry : GlobalEntry). IsOf written entry.label) → IfOk (global_label found at) (IsOf written)
-      go None is = tt
-      go (Some entry) is = is
-
-  no_slot : (number at : ℕ) → IfOk (slot_label (slice_get scope.slots number) at) (IsOf written)
-  no_slot number at = subst (λ slots. IfOk (slot_label (slice_get slots number) at) (IsOf written)) (sym no_slots) tt
-
-  variable_of : (variable : Variable) (at : ℕ) → IfOk (variable_label_finding scope variable at) (IsOf written)
+  label_of_variable : (variable : Variable) (at : ℕ) → IfOk (variable_label_finding scope variable at) (IsOf written)
   unfolding variable_label_finding
-  variable_of (Global number) at = global_of number at
-  variable_of (Local number) at = no_slot number at
-
-  named_of : (name : NameTree) → IfOk (named_label_finding scope name) (IsOf written)
-  unfolding named_label_finding
-  named_of name =
-      then_finds (variable_finding (scope.names name.text) name.at) _ (λ one. Unit {0}) _ (any_finds (variable_finding (scope.names name.text) name.at))
-      (λ variable nothing. variable_of variable name.at)
+  label_of_variable (Global number) at =
+      then_finds (found_or refusals.UnknownName at (slice_get scope.globals number)) _ (λ (entry : GlobalEntry). IsOf written entry.label) (IsOf written)
+      (found_finds refusals.UnknownName at (slice_get scope.globals number) (λ (entry : GlobalEntry). IsOf written entry.label) (globals number)) (λ entry is. is)
+  label_of_variable (Local number) at =
+      subst (λ slots. IfOk (found_or refusals.UnknownName at (slice_get slots number) >>= λ (slot : SlotEntry). found_or refusals.LabelNotWritten at slot.written) (IsOf written))
+      (sym no_slots) tt
 
   component_of : (component : ComponentTree) → IfOk (component_finding scope component) (AreOf written (component_nodes component))
   unfolding component_finding
@@ -142,9 +131,11 @@ module _ (scope : LabelScope) (written : List ReaderPolicy) (globals : (number :
         within = λ other contained. Contains-append_right written (policy ∷ []) other contained;
       })
   component_of (VariableComponent name) =
-      IfOk-weaker (named_label_finding scope name) (IsOf written) (AreOf written 1)
+      then_finds (use_as variable_of (scope.names name.text) name.at) _ (λ one. Unit {0}) _ (any_finds (use_as variable_of (scope.names name.text) name.at))
+      (λ variable nothing.
+      IfOk-weaker (variable_label_finding scope variable name.at) (IsOf written) (AreOf written 1)
       (λ label is. record { more = []; few = omega arith; within = λ policy contained. Contains-append_left written [] policy (is.within policy contained) })
-      (named_of name)
+      (label_of_variable variable name.at))
 
   components_of : (nodes : ℕ) (found : List ReaderPolicy) (components : List ComponentTree) → AreOf written nodes found
       → IfOk (along (next_component scope) found components) (AreOf written (nodes + sum_by component_nodes components))
@@ -162,7 +153,7 @@ module _ (scope : LabelScope) (written : List ReaderPolicy) (globals : (number :
   nothing_found = record { more = []; few = omega arith; within = λ policy contained. Contains-append_right written [] policy contained }
 
   label_parts : (label : LabelTree) → IfOk (label_finding scope label) (AreOf written (sum_by component_nodes label.components))
-  unfolding label_finding components_finding
+  unfolding label_finding
   label_parts label =
       then_finds (along (next_component scope) [] label.components) _ (AreOf written (0 + sum_by component_nodes label.components)) _
       (components_of 0 [] label.components nothing_found)

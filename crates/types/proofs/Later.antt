@@ -1,14 +1,13 @@
 -- Later points of a body: what stays, and the setting, which is the same.
-use Rattle.std.proofs.Common.{◌≡◌, ℕ, List, ◌≤◌, ◌++◌, cond, length, take, drop, map, None, refl, sym, ◌∙◌, ap, arith}
+use Rattle.std.proofs.Common.{◌≡◌, ℕ, List, ◌≤◌, ◌++◌, cond, length, take, drop, map, None, sym, ◌∙◌, ap, arith}
 use Rattle.std.specs.Prelude.{bytes_eq}
 use Rattle.std.specs.Borrow.{Bor}
 use Rattle.std.specs.List.{list_any}
 use Rattle.std.proofs.lemmas.List.{take-append-le, drop-append-le, take-append-drop, length-take, map-append}
-use Rattle.std.proofs.Math.Seq.{take-length, drop-length}
 use Rattle.types.specs.declared.body.BodyScope.{BodyScope}
 use Rattle.types.specs.Resolution.{heads}
 use Rattle.types.specs.Views.{IsLater, found_in, item_scope_of, setting_of, signature_view, texts_of, top_view, without}
-use Rattle.types.proofs.LabelNumbers.{extends_itself, extends_through}
+use Rattle.types.proofs.LabelNumbers.{extends_through}
 use Rattle.types.proofs.Tables.{without_both}
 
 pub later_through : (first second third : BodyScope) → IsLater first second → IsLater second third → IsLater first third

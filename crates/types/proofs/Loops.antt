@@ -5,7 +5,8 @@ use Rattle.common.specs.Answers.{IfRefused}
 use Rattle.common.specs.declared.fault.OrNoMemory.{OrNoMemory}
 use Rattle.types.specs.declared.fault.TypeRefusal.{TypeRefusal}
 use Rattle.common.specs.declared.fault.OrNoMemory.TheVariants.{NoMemory, Refused}
-use Rattle.types.specs.Finding.{IsRefusalOf, and_then, along, put_last}
+use Rattle.types.specs.Finding.{IsRefusalOf, along, put_last}
+use Rattle.types.specs.Views.{and_then}
 
 -- from this state and this element on, the check gives what the whole gives
 pub record GoesOn {S X Y : Type 0} (step : S → X → Result S TypeRefusal) (tree : Y → X) (xs : List Y) (whole : Result S TypeRefusal) (state : S) (i : ℕ) : Type 0 where

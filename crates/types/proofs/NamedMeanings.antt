@@ -5,18 +5,17 @@ use Rattle.std.specs.Prelude.{IfOk, Option, Some, None, slice_get, bytes_eq, cod
 use Rattle.std.proofs.lemmas.Bool.{eqb-true, and_parts}
 use Rattle.std.proofs.lemmas.List.{length-append}
 use Rattle.principals.specs.ActsFor.{PrincipalHierarchy}
-use Rattle.common.specs.declared.direction.Direction.{Direction}
-use Rattle.common.specs.declared.direction.Direction.TheVariants as directions
-use Rattle.syntax.specs.Tree.{GlobalValueTree, ScalarTree, ArrayTree, ItemTree, ChannelItem, ExceptionItem, GlobalItem, ProcedureItem, ProgramTree}
+use Rattle.syntax.specs.Tree.{ItemTree, ChannelItem, ExceptionItem, GlobalItem, ProcedureItem, ProgramTree}
 use Rattle.resolved.specs.declared.expression.Variable.TheVariants.{Global, Local}
 use Rattle.resolved.specs.Program.{Program, ProcedureEntry}
 use Rattle.types.specs.declared.scope.Meaning.{Meaning}
-use Rattle.types.specs.declared.scope.Meaning.TheVariants.{Input, Output, Exception, Procedure, Scalar, Array}
-use Rattle.types.specs.Finding.{Finding, give, along}
+use Rattle.types.specs.declared.scope.ItemKind.TheVariants.{Channel, Exception, Procedure}
+use Rattle.types.specs.declared.scope.Meaning.TheVariants as meanings
+use Rattle.types.specs.declared.fault.TypeRefusalKind.TheVariants as refusals
+use Rattle.types.specs.Finding.{Finding, give, found_or, give_if, along, ◌>>=◌}
 use Rattle.types.specs.Environment.{Environment, declaring, fresh_finding}
-use Rattle.types.specs.Expressions.{base_of}
 use Rattle.types.specs.Laws.{MeaningHasName}
-use Rattle.types.specs.Resolution.{TopLevel, nothing_declared, built_in, item_name, channel_meaning, global_meaning, item_meaning, signature_of, counted, Tables, program_with, next_name, top_finding, next_item, no_tables, items_finding, main_entry_finding, main_finding, global_cells_finding, frames_finding, resolution}
+use Rattle.types.specs.Resolution.{TopLevel, nothing_declared, built_in, item_name, item_meaning, signature_of, counted, Tables, program_with, next_name, top_finding, next_item, no_tables, items_finding, main_finding, global_cells_finding, frames_finding, resolution}
 use Rattle.types.proofs.Passing.{then_finds, if_finds, any_finds}
 use Rattle.types.proofs.Tables.{ok_inside}
 use Rattle.types.proofs.WellFormedPrograms.{last_is, still_is}
@@ -34,14 +33,11 @@ same_bytes (x ∷ a) (y ∷ b) e =
 
 -- the name stands under the number of what it means
 abbrev PlacedIn : ItemNames → Meaning → List ℕ → Type 0
-PlacedIn named (Input n) name = slice_get named.channels n ≡ Some name
-PlacedIn named (Output n) name = slice_get named.channels n ≡ Some name
-PlacedIn named (Exception n) name = slice_get (built_in_names ++ named.exceptions) n ≡ Some name
-PlacedIn named (Procedure n) name = slice_get named.procedures n ≡ Some name
-PlacedIn named (Scalar (Global n) base) name = slice_get named.globals n ≡ Some name
-PlacedIn named (Scalar (Local n) base) name = ⊥
-PlacedIn named (Array (Global n) base size) name = slice_get named.globals n ≡ Some name
-PlacedIn named (Array (Local n) base size) name = ⊥
+PlacedIn named (meanings.Item (Channel direction) n) name = slice_get named.channels n ≡ Some name
+PlacedIn named (meanings.Item Exception n) name = slice_get (built_in_names ++ named.exceptions) n ≡ Some name
+PlacedIn named (meanings.Item Procedure n) name = slice_get named.procedures n ≡ Some name
+PlacedIn named (meanings.Variable (Global n) base size) name = slice_get named.globals n ≡ Some name
+PlacedIn named (meanings.Variable (Local n) base size) name = ⊥
 
 record NamesAreNumbered (named : ItemNames) (top : TopLevel) : Type 0 where
   pub channels : top.channels ≡ length named.channels
@@ -62,52 +58,34 @@ placed_declaring named name meaning names placed all other found e = go (bytes_e
     go false is e = all other found e
 
 placed_further : (named : ItemNames) (item : ItemTree) (meaning : Meaning) (name : List ℕ) → PlacedIn named meaning name → PlacedIn (names_with named item) meaning name
-placed_further named (ChannelItem channel) (Input n) name e = still_is named.channels (channel.name.text ∷ []) n name e
-placed_further named (ChannelItem channel) (Output n) name e = still_is named.channels (channel.name.text ∷ []) n name e
-placed_further named (ChannelItem channel) (Exception n) name e = e
-placed_further named (ChannelItem channel) (Procedure n) name e = e
-placed_further named (ChannelItem channel) (Scalar (Global n) base) name e = e
-placed_further named (ChannelItem channel) (Scalar (Local n) base) name e = e
-placed_further named (ChannelItem channel) (Array (Global n) base size) name e = e
-placed_further named (ChannelItem channel) (Array (Local n) base size) name e = e
-placed_further named (ExceptionItem at text) (Input n) name e = e
-placed_further named (ExceptionItem at text) (Output n) name e = e
-placed_further named (ExceptionItem at text) (Exception n) name e = still_is (built_in_names ++ named.exceptions) (text.text ∷ []) n name e
-placed_further named (ExceptionItem at text) (Procedure n) name e = e
-placed_further named (ExceptionItem at text) (Scalar (Global n) base) name e = e
-placed_further named (ExceptionItem at text) (Scalar (Local n) base) name e = e
-placed_further named (ExceptionItem at text) (Array (Global n) base size) name e = e
-placed_further named (ExceptionItem at text) (Array (Local n) base size) name e = e
-placed_further named (GlobalItem global) (Input n) name e = e
-placed_further named (GlobalItem global) (Output n) name e = e
-placed_further named (GlobalItem global) (Exception n) name e = e
-placed_further named (GlobalItem global) (Procedure n) name e = e
-placed_further named (GlobalItem global) (Scalar (Global n) base) name e = still_is named.globals (global.name.text ∷ []) n name e
-placed_further named (GlobalItem global) (Scalar (Local n) base) name e = e
-placed_further named (GlobalItem global) (Array (Global n) base size) name e = still_is named.globals (global.name.text ∷ []) n name e
-placed_further named (GlobalItem global) (Array (Local n) base size) name e = e
-placed_further named (ProcedureItem procedure) (Input n) name e = e
-placed_further named (ProcedureItem procedure) (Output n) name e = e
-placed_further named (ProcedureItem procedure) (Exception n) name e = e
-placed_further named (ProcedureItem procedure) (Procedure n) name e = still_is named.procedures (procedure.name.text ∷ []) n name e
-placed_further named (ProcedureItem procedure) (Scalar (Global n) base) name e = e
-placed_further named (ProcedureItem procedure) (Scalar (Local n) base) name e = e
-placed_further named (ProcedureItem procedure) (Array (Global n) base size) name e = e
-placed_further named (ProcedureItem procedure) (Array (Local n) base size) name e = e
+placed_further named (ChannelItem channel) (meanings.Item (Channel direction) n) name e = still_is named.channels (channel.name.text ∷ []) n name e
+placed_further named (ChannelItem channel) (meanings.Item Exception n) name e = e
+placed_further named (ChannelItem channel) (meanings.Item Procedure n) name e = e
+placed_further named (ChannelItem channel) (meanings.Variable (Global n) base size) name e = e
+placed_further named (ChannelItem channel) (meanings.Variable (Local n) base size) name e = e
+placed_further named (ExceptionItem at text) (meanings.Item (Channel direction) n) name e = e
+placed_further named (ExceptionItem at text) (meanings.Item Exception n) name e = still_is (built_in_names ++ named.exceptions) (text.text ∷ []) n name e
+placed_further named (ExceptionItem at text) (meanings.Item Procedure n) name e = e
+placed_further named (ExceptionItem at text) (meanings.Variable (Global n) base size) name e = e
+placed_further named (ExceptionItem at text) (meanings.Variable (Local n) base size) name e = e
+placed_further named (GlobalItem global) (meanings.Item (Channel direction) n) name e = e
+placed_further named (GlobalItem global) (meanings.Item Exception n) name e = e
+placed_further named (GlobalItem global) (meanings.Item Procedure n) name e = e
+placed_further named (GlobalItem global) (meanings.Variable (Global n) base size) name e = still_is named.globals (global.name.text ∷ []) n name e
+placed_further named (GlobalItem global) (meanings.Variable (Local n) base size) name e = e
+placed_further named (ProcedureItem procedure) (meanings.Item (Channel direction) n) name e = e
+placed_further named (ProcedureItem procedure) (meanings.Item Exception n) name e = e
+placed_further named (ProcedureItem procedure) (meanings.Item Procedure n) name e = still_is named.procedures (procedure.name.text ∷ []) n name e
+placed_further named (ProcedureItem procedure) (meanings.Variable (Global n) base size) name e = e
+placed_further named (ProcedureItem procedure) (meanings.Variable (Local n) base size) name e = e
 
 new_placed : (named : ItemNames) (top : TopLevel) (item : ItemTree) → NamesAreNumbered named top → PlacedIn (names_with named item) (item_meaning top item) (item_name item).text
-new_placed named top (ChannelItem channel) kept = go channel.direction
-  where
-    go : (direction : Direction) → PlacedIn (names_with named (ChannelItem channel)) (channel_meaning direction top.channels) channel.name.text
-    go directions.Input = subst (λ n. slice_get (named.channels ++ channel.name.text ∷ []) n ≡ Some channel.name.text) (sym kept.channels) (last_is named.channels channel.name.text)
-    go directions.Output = subst (λ n. slice_get (named.channels ++ channel.name.text ∷ []) n ≡ Some channel.name.text) (sym kept.channels) (last_is named.channels channel.name.text)
+new_placed named top (ChannelItem channel) kept =
+    subst (λ n. slice_get (named.channels ++ channel.name.text ∷ []) n ≡ Some channel.name.text) (sym kept.channels) (last_is named.channels channel.name.text)
 new_placed named top (ExceptionItem at name) kept =
     subst (λ n. slice_get ((built_in_names ++ named.exceptions) ++ name.text ∷ []) n ≡ Some name.text) (sym kept.exceptions) (last_is (built_in_names ++ named.exceptions) name.text)
-new_placed named top (GlobalItem global) kept = go global.value
-  where
-    go : (value : GlobalValueTree) → PlacedIn (names_with named (GlobalItem global)) (global_meaning (base_of global.base) top.globals value) global.name.text
-    go (ScalarTree constant) = subst (λ n. slice_get (named.globals ++ global.name.text ∷ []) n ≡ Some global.name.text) (sym kept.globals) (last_is named.globals global.name.text)
-    go (ArrayTree size) = subst (λ n. slice_get (named.globals ++ global.name.text ∷ []) n ≡ Some global.name.text) (sym kept.globals) (last_is named.globals global.name.text)
+new_placed named top (GlobalItem global) kept =
+    subst (λ n. slice_get (named.globals ++ global.name.text ∷ []) n ≡ Some global.name.text) (sym kept.globals) (last_is named.globals global.name.text)
 new_placed named top (ProcedureItem procedure) kept =
     subst (λ n. slice_get (named.procedures ++ procedure.name.text ∷ []) n ≡ Some procedure.name.text) (sym kept.procedures) (last_is named.procedures procedure.name.text)
 
@@ -162,10 +140,10 @@ built_in_placed = record {
   globals = refl;
   procedures = refl;
   names =
-      placed_declaring no_names (codes "End") (Exception 2)
-      (declaring (codes "Bounds") (Exception 1) (declaring (codes "Arith") (Exception 0) nothing_declared)) refl
-      (placed_declaring no_names (codes "Bounds") (Exception 1) (declaring (codes "Arith") (Exception 0) nothing_declared) refl
-      (placed_declaring no_names (codes "Arith") (Exception 0) nothing_declared refl (λ name meaning e. absurd (cc))));
+      placed_declaring no_names (codes "End") (meanings.Item Exception 2)
+      (declaring (codes "Bounds") (meanings.Item Exception 1) (declaring (codes "Arith") (meanings.Item Exception 0) nothing_declared)) refl
+      (placed_declaring no_names (codes "Bounds") (meanings.Item Exception 1) (declaring (codes "Arith") (meanings.Item Exception 0) nothing_declared) refl
+      (placed_declaring no_names (codes "Arith") (meanings.Item Exception 0) nothing_declared refl (λ name meaning e. absurd (cc))));
 }
 
 -- ---- the whole
@@ -174,20 +152,21 @@ pub finds_itself : {A : Type 0} (looked : Finding A) → IfOk looked (λ x. look
 finds_itself (Ok x) = refl
 finds_itself (Err fault) = tt
 
-main_named : (found : Option Meaning) (procedures : List ProcedureEntry) → IfOk (main_finding found procedures) (λ main. found ≡ Some (Procedure main))
+main_named : (found : Option Meaning) (procedures : List ProcedureEntry) → IfOk (main_finding found procedures) (λ main. found ≡ Some (meanings.Item Procedure main))
 unfolding main_finding
 main_named None procedures = tt
-main_named (Some (Procedure number)) procedures = go (slice_get procedures number)
+main_named (Some (meanings.Item Procedure number)) procedures = go (slice_get procedures number)
   where
-    go : (entry : Option ProcedureEntry) → IfOk (main_entry_finding number entry) (λ main. ◌≡◌ {A = Option Meaning} (Some (Procedure number)) (Some (Procedure main)))
+    go : (entry : Option ProcedureEntry)
+        → IfOk (found_or refusals.NoProperMain 0 entry >>= λ procedure. give_if (procedure.parameters == 0 && is_none procedure.result) number refusals.NoProperMain procedure.at)
+        (λ main. ◌≡◌ {A = Option Meaning} (Some (meanings.Item Procedure number)) (Some (meanings.Item Procedure main)))
     go None = tt
     go (Some procedure) =
-        if_finds (procedure.parameters == 0 && is_none procedure.result) number _ procedure.at (λ main. ◌≡◌ {A = Option Meaning} (Some (Procedure number)) (Some (Procedure main))) (λ plain. refl)
-main_named (Some (Input n)) procedures = tt
-main_named (Some (Output n)) procedures = tt
-main_named (Some (Exception n)) procedures = tt
-main_named (Some (Scalar variable base)) procedures = tt
-main_named (Some (Array variable base size)) procedures = tt
+        if_finds (procedure.parameters == 0 && is_none procedure.result) number _ procedure.at (λ main. ◌≡◌ {A = Option Meaning} (Some (meanings.Item Procedure number)) (Some (meanings.Item Procedure main))) (λ plain. refl)
+main_named (Some (meanings.Item (Channel direction) n)) procedures = tt
+main_named (Some (meanings.Item Exception n)) procedures = tt
+main_named (Some (meanings.Variable variable base None)) procedures = tt
+main_named (Some (meanings.Variable variable base (Some size))) procedures = tt
 
 both_find : {A : Type 0} (looked : Finding A) (P Q : A → Type 0) → IfOk looked P → IfOk looked Q → IfOk looked (λ x. P x × Q x)
 both_find (Ok x) P Q p q = (p, q)
@@ -195,18 +174,15 @@ both_find (Err fault) P Q p q = tt
 
 placed_there : (h : PrincipalHierarchy) (tables : Tables) (main : ℕ) (named : ItemNames) → TableNames named tables → (meaning : Meaning) (name : List ℕ)
     → PlacedIn named meaning name → MeaningHasName (program_with h tables main) meaning name
-placed_there h tables main named kept (Input n) name e = ap (λ one. slice_get one n) kept.channels ∙ e
-placed_there h tables main named kept (Output n) name e = ap (λ one. slice_get one n) kept.channels ∙ e
-placed_there h tables main named kept (Exception n) name e = ap (λ one. slice_get (built_in_names ++ one) n) kept.exceptions ∙ e
-placed_there h tables main named kept (Procedure n) name e = ap (λ one. slice_get one n) kept.procedures ∙ e
-placed_there h tables main named kept (Scalar (Global n) base) name e = ap (λ one. slice_get one n) kept.globals ∙ e
-placed_there h tables main named kept (Scalar (Local n) base) name e = e
-placed_there h tables main named kept (Array (Global n) base size) name e = ap (λ one. slice_get one n) kept.globals ∙ e
-placed_there h tables main named kept (Array (Local n) base size) name e = e
+placed_there h tables main named kept (meanings.Item (Channel direction) n) name e = ap (λ one. slice_get one n) kept.channels ∙ e
+placed_there h tables main named kept (meanings.Item Exception n) name e = ap (λ one. slice_get (built_in_names ++ one) n) kept.exceptions ∙ e
+placed_there h tables main named kept (meanings.Item Procedure n) name e = ap (λ one. slice_get one n) kept.procedures ∙ e
+placed_there h tables main named kept (meanings.Variable (Global n) base size) name e = ap (λ one. slice_get one n) kept.globals ∙ e
+placed_there h tables main named kept (meanings.Variable (Local n) base size) name e = e
 
 pub record MeaningsHaveNames (items : List ItemTree) (program : Program) : Type 0 where
   pub names : (top : TopLevel) → top_finding items ≡ give top → (name : List ℕ) (meaning : Meaning) → top.names name ≡ Some meaning → MeaningHasName program meaning name
-  pub main : MeaningHasName program (Procedure program.main) (codes "main")
+  pub main : MeaningHasName program (meanings.Item Procedure program.main) (codes "main")
 
 pub meanings_have_names : (h : PrincipalHierarchy) (written : ProgramTree) → IfOk (resolution h written) (MeaningsHaveNames written.items)
 unfolding resolution top_finding items_finding
@@ -217,7 +193,7 @@ meanings_have_names h written =
     (both_find looked (λ top. looked ≡ give top) (NamesAreNumbered named) (finds_itself looked) (names_numbered no_names built_in written.items built_in_placed)) (λ top top_parts.
     then_finds (along (next_item h top) no_tables written.items) _ (TableNames named) _
     (items_named h top no_names no_tables written.items (record { exceptions = refl; channels = refl; globals = refl; procedures = refl })) (λ tables kept.
-    then_finds (main_finding (top.names (codes "main")) tables.procedures) _ (λ main. top.names (codes "main") ≡ Some (Procedure main)) _
+    then_finds (main_finding (top.names (codes "main")) tables.procedures) _ (λ main. top.names (codes "main") ≡ Some (meanings.Item Procedure main)) _
     (main_named (top.names (codes "main")) tables.procedures) (λ main main_is.
     then_finds (global_cells_finding written.items) _ (λ one. Unit {0}) _ (any_finds (global_cells_finding written.items)) (λ cells nothing.
     then_finds (frames_finding tables.procedures) _ (λ one. Unit {0}) _ (any_finds (frames_finding tables.procedures)) (λ done nothing.
@@ -227,5 +203,5 @@ meanings_have_names h written =
           let same : top ≡ other = ok_inside top other (sym top_parts.0 ∙ e) in
           placed_there h tables main named kept meaning name
           (top_parts.1.names name meaning (subst (λ (one : TopLevel). one.names name ≡ Some meaning) (sym same) means));
-      main = placed_there h tables main named kept (Procedure main) (codes "main") (top_parts.1.names (codes "main") (Procedure main) main_is);
+      main = placed_there h tables main named kept (meanings.Item Procedure main) (codes "main") (top_parts.1.names (codes "main") (meanings.Item Procedure main) main_is);
     })))))

@@ -1,6 +1,7 @@
 -- Procedures, by what their parts were found to be.
+use Rattle.types.specs.declared.scope.ItemKind.TheVariants.{Exception}
 use Rattle.std.proofs.Common.{◌≡◌, ℕ, ◌*◌, ◌≤◌, List, [], ◌∷◌, ◌++◌, Bool, true, false, cond, refl, map, length, Option, Some, Ok, sym, ◌∙◌, ap, subst, arith}
-use Rattle.std.specs.Prelude.{sum_by, not, ◌||◌, ◌==◌}
+use Rattle.std.specs.Prelude.{sum_by, not, ◌||◌, ◌==◌, unwrap_or, None}
 use Rattle.std.proofs.lemmas.List.{length-map, map_push}
 use Rattle.std.proofs.lemmas.List.Folds.{list_any-append}
 use Rattle.std.proofs.lemmas.List.Sums.{sum_by-cons}
@@ -9,7 +10,6 @@ use Rattle.labels.specs.LabelTable.{Extends}
 use Rattle.syntax.specs.Nodes.{parameter_nodes, thrown_nodes}
 use Rattle.syntax.specs.Tree.{LabelTree, ParameterTree, ProcedureTree, ThrownTree}
 use Rattle.resolved.specs.declared.expression.Base.{Base}
-use Rattle.resolved.specs.declared.expression.Variable.TheVariants.{Local}
 use Rattle.resolved.specs.declared.tables.Thrown.{Thrown}
 use Rattle.resolved.specs.ProgramOf.{thrown_entry}
 use Rattle.resolved.specs.Program.{SlotEntry, ResultEntry, ThrownEntry}
@@ -18,16 +18,15 @@ use Rattle.common.specs.Answers.{IfRefused}
 use Rattle.common.specs.declared.fault.OrNoMemory.{OrNoMemory}
 use Rattle.types.specs.declared.fault.TypeRefusal.{TypeRefusal}
 use Rattle.types.specs.declared.scope.Meaning.{Meaning}
-use Rattle.types.specs.declared.scope.Meaning.TheVariants.{Scalar}
 use Rattle.types.specs.declared.fault.TypeRefusalKind.TheVariants as refusals
 use Rattle.types.specs.Finding.{IsRefusalOf, give, along, require}
-use Rattle.types.specs.Environment.{exception_finding, fresh_finding}
+use Rattle.types.specs.Environment.{fresh_finding, use_as, item_of}
 use Rattle.types.specs.Expressions.{base_of}
 use Rattle.types.specs.Labels.{LabelScope, label_finding, optional_label_finding}
 use Rattle.types.specs.declared.label.ItemContext.{ItemContext}
 use Rattle.types.specs.Views.{item_scope, top_view}
-use Rattle.types.specs.Resolution.{heads, begin_label_of, end_label_of, is_thrown, next_parameter, next_thrown, parameters_finding, procedure_entry_finding, result_finding, setting_within, throws_finding}
-use Rattle.types.specs.Statements.{Signature, Point, with_local, scalar_slot, block_finding}
+use Rattle.types.specs.Resolution.{heads, is_thrown, next_parameter, next_thrown, parameters_finding, procedure_entry_finding, result_finding, setting_within, joined_all}
+use Rattle.types.specs.Statements.{Signature, Point, with_local, block_finding, slot_of}
 use Rattle.types.specs.VariableEntries.{VariableEntries, LabelPolicies, AreThrownInside, label_with}
 use Rattle.types.proofs.LabelNumbers.{same_thrown}
 use Rattle.types.proofs.Loops.{then_ok, fails_later, fails_second}
@@ -40,15 +39,14 @@ pub item_labelled : (label : LabelTree) (parts : LabelPolicies) (seen scope : La
 item_labelled label parts seen scope there variables same held found =
     ap (λ one. label_finding one label) (sym same) ∙ found ∙ ap (λ (one : VariableEntries). Ok (label_with one.labels parts)) held
 
-pub parameter_declared : (scope : LabelScope) (point after : Point) (parameter : ParameterTree) (label : Label) (found : Option Meaning) (base : Base) (number : ℕ) (slot : SlotEntry)
+pub parameter_declared : (scope : LabelScope) (point after : Point) (parameter : ParameterTree) (label : Label) (found : Option Meaning) (base : Base) (slot : SlotEntry)
     → label_finding scope parameter.label ≡ Ok label → found ≡ point.names parameter.name.text → fresh_finding found parameter.name.at ≡ Ok tt → base ≡ base_of parameter.base
-    → number ≡ length point.slots → slot ≡ scalar_slot parameter.at base (Some label) parameter.name.text → give (with_local point slot (Scalar (Local number) base)) ≡ give after
+    → slot ≡ slot_of parameter.at base (Some label) parameter.name.text None → give (with_local point slot) ≡ give after
     → next_parameter scope point parameter ≡ Ok after
-parameter_declared scope point after parameter label found base number slot labelled looked new typed next entry declared =
+parameter_declared scope point after parameter label found base slot labelled looked new typed entry declared =
     then_ok _ _ label labelled ∙ then_ok _ _ tt (sym (ap (λ one. fresh_finding one parameter.name.at) looked) ∙ new)
-    ∙ ap (λ b. Ok (with_local point (scalar_slot parameter.at b (Some label) parameter.name.text) (Scalar (Local (length point.slots)) b))) (sym typed)
-    ∙ ap (λ m. Ok (with_local point (scalar_slot parameter.at base (Some label) parameter.name.text) (Scalar (Local m) base))) (sym next)
-    ∙ ap (λ one. Ok (with_local point one (Scalar (Local number) base))) (sym entry) ∙ declared
+    ∙ ap (λ b. Ok (with_local point (slot_of parameter.at b (Some label) parameter.name.text None))) (sym typed)
+    ∙ ap (λ one. Ok (with_local point one)) (sym entry) ∙ declared
 
 parameters_are : (scope : LabelScope) (begin : Point) (parameters : List ParameterTree)
     → begin ≡ record { names = scope.names; slots = []; loops = 0 } → along (next_parameter scope) begin parameters ≡ parameters_finding scope parameters
@@ -79,7 +77,7 @@ thrown_pushed before after extended throws pushed one inside is =
     ap (map (thrown_entry after)) is ∙ map_push (thrown_entry after) throws one
     ∙ ap (λ front. front ++ thrown_entry after one ∷ []) (same_thrown before after extended throws inside)
 
-pub thrown_found : (scope : LabelScope) (before after : List ThrownEntry) (thrown : ThrownTree) (exception : ℕ) (label : Label) → exception_finding (scope.names thrown.name.text) thrown.name.at ≡ Ok exception
+pub thrown_found : (scope : LabelScope) (before after : List ThrownEntry) (thrown : ThrownTree) (exception : ℕ) (label : Label) → use_as (item_of Exception) (scope.names thrown.name.text) thrown.name.at ≡ Ok exception
     → is_thrown before exception ≡ false → label_finding scope thrown.label ≡ Ok label → after ≡ before ++ record { exception = exception; label = label } ∷ []
     → next_thrown scope before thrown ≡ Ok after
 thrown_found scope before after thrown exception label known new labelled is =
@@ -131,12 +129,12 @@ module _ (scope : LabelScope) (signatures : List Signature) (procedure : Procedu
     end_wrong fault wrong = fails_second _ _ result fault valued (fails_second _ _ begin fault begun (fails_second _ _ point fault declared (fails_later _ _ fault wrong)))
 
     module _ (end : Option Label) (ended : optional_label_finding scope procedure.end ≡ Ok end) where
-      pub throws_wrong : (fault : OrNoMemory TypeRefusal) → IfRefused (IsRefusalOf (throws_finding scope procedure.throws)) fault → IfRefused (IsRefusalOf (procedure_entry_finding scope signatures procedure)) fault
+      pub throws_wrong : (fault : OrNoMemory TypeRefusal) → IfRefused (IsRefusalOf (along (next_thrown scope) [] procedure.throws)) fault → IfRefused (IsRefusalOf (procedure_entry_finding scope signatures procedure)) fault
       unfolding procedure_entry_finding
       throws_wrong fault wrong =
           fails_second _ _ result fault valued (fails_second _ _ begin fault begun (fails_second _ _ point fault declared (fails_second _ _ end fault ended (fails_later _ _ fault wrong))))
 
-      module _ (throws : List ThrownEntry) (thrown : throws_finding scope procedure.throws ≡ Ok throws) where
+      module _ (throws : List ThrownEntry) (thrown : along (next_thrown scope) [] procedure.throws ≡ Ok throws) where
         pub block_wrong : (fault : OrNoMemory TypeRefusal)
             → IfRefused (IsRefusalOf (block_finding (setting_within scope signatures procedure) point procedure.body)) fault
             → IfRefused (IsRefusalOf (procedure_entry_finding scope signatures procedure)) fault
@@ -146,8 +144,8 @@ module _ (scope : LabelScope) (signatures : List Signature) (procedure : Procedu
 
         pub procedure_found : (inside : Point) (body : Block)
             → block_finding (setting_within scope signatures procedure) point procedure.body ≡ Ok (inside, body)
-            → (name : List ℕ) (begin_label end_label : Label) (parameters : ℕ) → name ≡ procedure.name.text → begin_label ≡ begin_label_of begin
-            → end_label ≡ end_label_of end begin_label throws → parameters ≡ length procedure.parameters
+            → (name : List ℕ) (begin_label end_label : Label) (parameters : ℕ) → name ≡ procedure.name.text → begin_label ≡ unwrap_or begin []
+            → end_label ≡ unwrap_or end (joined_all begin_label throws) → parameters ≡ length procedure.parameters
             → procedure_entry_finding scope signatures procedure ≡ Ok (record {
               at = procedure.name.at;
               name = name;
@@ -168,7 +166,7 @@ module _ (scope : LabelScope) (signatures : List Signature) (procedure : Procedu
               name = sym named i;
               result = result;
               begin_label = sym began i;
-              end_label = (ap (λ label. end_label_of end label throws) (sym began) ∙ sym ends) i;
+              end_label = (ap (λ label. unwrap_or end (joined_all label throws)) (sym began) ∙ sym ends) i;
               throws = throws;
               parameters = sym counted i;
               slots = inside.slots;

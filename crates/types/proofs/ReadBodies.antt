@@ -4,23 +4,26 @@ use Rattle.std.specs.Prelude.{IfOk, Option, Some, None, not, codes, is_none}
 use Rattle.std.proofs.lemmas.List.{length-map, map_push}
 use Rattle.std.proofs.lemmas.Result.{IfOk-weaker}
 use Rattle.principals.specs.ActsFor.{PrincipalHierarchy}
-use Rattle.syntax.specs.Tree.{NameTree, LabelTree, ExpressionTree, CallTree, RightTree, SizeTree, StatementTree, DeclareTree, DeclareArrayTree, AssignTree, AssignElementTree, CallTree', ReceiveTree, SendTree, IfTree, IfElseTree, WhileTree, BreakTree, ContinueTree, ThrowTree, ReturnTree, TryTree, NestedTree, BlockTree, BlockOf, StatementTrees, NoStatement, StatementThen, CatchTrees, NoCatch, CatchThen, ParameterTree, ThrownTree, ProcedureTree, ItemTree, ChannelItem, ExceptionItem, GlobalItem, ProcedureItem, ProgramTree, expression_at}
+use Rattle.syntax.specs.Tree.{NameTree, LabelTree, ExpressionTree, RightTree, SizeTree, StatementTree, DeclareTree, DeclareArrayTree, AssignTree, AssignElementTree, CallTree', ReceiveTree, SendTree, IfTree, IfElseTree, WhileTree, BreakTree, ContinueTree, ThrowTree, ReturnTree, TryTree, NestedTree, BlockTree, BlockOf, StatementTrees, NoStatement, StatementThen, CatchTrees, NoCatch, CatchThen, ParameterTree, ThrownTree, ProcedureTree, ItemTree, ChannelItem, ExceptionItem, GlobalItem, ProcedureItem, ProgramTree, expression_at}
 use Rattle.resolved.specs.declared.expression.Base.{Base}
+use Rattle.resolved.specs.declared.expression.Variable.{Variable}
 use Rattle.resolved.specs.declared.expression.Base.TheVariants.{Int, Boolean}
 use Rattle.resolved.specs.declared.expression.Variable.TheVariants.{Global, Local}
 use Rattle.resolved.specs.Program.{Program, ChannelEntry, GlobalEntry, SlotEntry, ThrownEntry, ProcedureEntry}
 use Rattle.resolved.specs.Tree.{Statement, Clear, ReturnWith, Block, Handlers}
 use Rattle.resolved.specs.WellFormed.{same_base}
 use Rattle.types.specs.declared.scope.Meaning.{Meaning}
-use Rattle.types.specs.declared.scope.Meaning.TheVariants.{Input, Output, Exception, Procedure, Scalar, Array}
-use Rattle.types.specs.Finding.{Finding, give, require, along}
-use Rattle.types.specs.Environment.{Environment, ScalarUse, ArrayUse, declaring, fresh_finding, scalar_finding, array_finding, input_finding, output_finding, exception_finding}
+use Rattle.common.specs.declared.direction.Direction.TheVariants as directions
+use Rattle.types.specs.declared.scope.ItemKind.TheVariants.{Channel, Exception, Procedure}
+use Rattle.types.specs.declared.scope.Meaning.TheVariants as meanings
+use Rattle.types.specs.Finding.{give, require, along}
+use Rattle.types.specs.Environment.{Environment, declaring, fresh_finding, use_as, scalar_of, array_of, item_of}
 use Rattle.types.specs.Labels.{LabelScope, label_finding, optional_label_finding}
 use Rattle.types.specs.Expressions.{Typed, base_of, expression_finding, typed_finding}
 use Rattle.types.specs.Laws.{channel_names, global_names, MeaningHasName}
-use Rattle.types.specs.Statements.{Signature, Setting, Point, label_scope, with_local, CallUse, call_finding, assigned_finding, scalar_slot, array_slot, declare_finding, size_finding, declare_array_finding, assign_finding, store_finding, call_statement_finding, receive_finding, send_finding, throw_finding, returned_finding, return_finding, staying, in_loop, after_block, statement_finding, block_finding, statements_finding, catches_finding}
-use Rattle.types.specs.Resolution.{TopLevel, heads, setting_within, result_finding, next_parameter, parameters_finding, is_thrown, next_thrown, throws_finding, procedure_entry_finding, channel_finding, global_finding, Tables, next_item, no_tables, items_finding, top_finding, main_finding, global_cells_finding, frames_finding, program_with, resolution}
-use Rattle.types.specs.ReadBack.{NameScope, top_scope, with_declared, leaving_block, innermost, IsChannel, IsException, IsProcedure, IsVariable, ReadsExpression, ReadsArguments, ReadsRight, ReadsStatement, ReadDeclare, ReadDeclareArray, ReadAssign, ReadStore, ReadCall, ReadReceive, ReadSend, ReadIf, ReadIfElse, ReadWhile, ReadBreak, ReadContinue, ReadThrow, ReadReturn, ReadReturnValue, ReadTry, ReadNested, ReadsBlock, ReadBlock, ReadsStatements, ReadNoStatement, ReadStatement, ReadsCatches, ReadNoCatch, ReadCatch, ReadsThrows, ReadNoThrown, ReadThrown, with_parameters, slot_declaration, ReadsProcedure, ReadsItems, ReadNoItem, ReadChannel, ReadException, ReadGlobal, ReadProcedure}
+use Rattle.types.specs.Statements.{Signature, Setting, Point, label_scope, with_local, CallUse, call_finding, assigned_finding, declare_finding, size_finding, declare_array_finding, returned_finding, return_finding, in_loop, after_block, statement_finding, block_finding, statements_finding, catches_finding, slot_of}
+use Rattle.types.specs.Resolution.{TopLevel, heads, setting_within, result_finding, next_parameter, parameters_finding, is_thrown, next_thrown, procedure_entry_finding, channel_finding, global_finding, Tables, next_item, no_tables, items_finding, top_finding, main_finding, global_cells_finding, frames_finding, program_with, resolution}
+use Rattle.types.specs.ReadBack.{NameScope, top_scope, with_declared, leaving_block, IsChannel, IsException, IsProcedure, IsVariable, ReadsExpression, ReadsArguments, ReadsRight, ReadsStatement, ReadDeclare, ReadDeclareArray, ReadAssign, ReadStore, ReadCall, ReadReceive, ReadSend, ReadIf, ReadIfElse, ReadWhile, ReadBreak, ReadContinue, ReadThrow, ReadReturn, ReadReturnValue, ReadTry, ReadNested, ReadsBlock, ReadBlock, ReadsStatements, ReadNoStatement, ReadStatement, ReadsCatches, ReadNoCatch, ReadCatch, ReadsThrows, ReadNoThrown, ReadThrown, with_parameters, slot_declaration, ReadsProcedure, ReadsItems, ReadNoItem, ReadChannel, ReadException, ReadGlobal, ReadProcedure}
 use Rattle.types.proofs.ItemNames.{channel_name, global_name, channel_named, global_named}
 use Rattle.types.proofs.NamedMeanings.{finds_itself}
 use Rattle.types.proofs.Passing.{then_finds, if_finds, any_finds, finds_for_all}
@@ -63,20 +66,19 @@ module _ (program : Program) where
   next_number scope point matches = sym (length-map point.slots slot_declaration) ∙ ap length matches.declared
 
   -- after the declaration of a local
-  local_matches : (scope : NameScope) (point : Point) (name : NameTree) (slot : SlotEntry) (meaning : Meaning) → Matches scope point
-      → slot.name ≡ name.text
-      → ((other : NameTree) → innermost (with_declared scope name slot.at).visible other.text ≡ Some (length point.slots)
-      → IsMeaning program (with_declared scope name slot.at) other meaning)
-      → Matches (with_declared scope name slot.at) (with_local point slot meaning)
-  local_matches scope point name slot meaning matches named new = record {
-    agrees =
-        subst (λ one. Agrees program (with_declared scope name slot.at) (declaring one meaning point.names)) (sym named)
-        (agrees_declaring program scope name slot.at meaning point.names
-        (λ other is. new other (is ∙ ap (λ n. Some n) (sym (next_number scope point matches)))) matches.agrees);
-    declared =
-        map_push slot_declaration point.slots slot
-        ∙ (λ i. matches.declared i ++ record { name = named i; at = slot.at } ∷ []);
-  }
+  local_matches : (scope : NameScope) (point : Point) (name : NameTree) (slot : SlotEntry) → Matches scope point → slot.name ≡ name.text
+      → Matches (with_declared scope name slot.at) (with_local point slot)
+  local_matches scope point name slot matches named =
+      let meaning : Meaning = meanings.Variable (Local (length point.slots)) slot.base slot.size in
+      record {
+        agrees =
+            subst (λ one. Agrees program (with_declared scope name slot.at) (declaring one meaning point.names)) (sym named)
+            (agrees_declaring program scope name slot.at meaning point.names
+            (λ other is. is ∙ ap (λ n. Some n) (sym (next_number scope point matches))) matches.agrees);
+        declared =
+            map_push slot_declaration point.slots slot
+            ∙ (λ i. matches.declared i ++ record { name = named i; at = slot.at } ∷ []);
+      }
 
   leaving_matches : (scope inside : NameScope) (point after : Point) → Matches scope point → Matches inside after
       → Matches (leaving_block scope inside) (after_block point after)
@@ -87,59 +89,9 @@ module _ (program : Program) where
 
   -- ---- statements that declare nothing
 
-  staying_reads : (scope : NameScope) (point : Point) (written : StatementTree) (looked : Finding Statement) → Matches scope point
-      → IfOk looked (λ s. ReadsStatement program scope written s scope) → IfOk (staying point looked) (StatementRead scope written)
-  staying_reads scope point written looked matches h =
-      then_finds looked _ (λ s. ReadsStatement program scope written s scope) _ h
-      (λ s reads. record { after = scope; reads = reads; matches = matches })
-
   module _ (scope : NameScope) (names : Environment) (agrees : Agrees program scope names) where
     abbrev Stays : StatementTree → Statement → Type 0
     Stays written s = ReadsStatement program scope written s scope
-
-    assign_reads : (setting : Setting) (name : NameTree) (right : RightTree) → IfOk (assign_finding setting.signatures names name right) (Stays (AssignTree name right))
-    unfolding assign_finding
-    assign_reads setting name right =
-        then_finds (scalar_finding (names name.text) name.at) _ (λ (x : ScalarUse). IsVariable program scope name x.variable) _
-        (scalar_reads program scope names agrees name) (λ x is.
-        IfOk-weaker (assigned_finding setting.signatures names name.at x.variable x.base right) (ReadsRight program scope name.at x.variable right)
-        (Stays (AssignTree name right)) (λ s reads. ReadAssign is reads)
-        (right_reads program scope names agrees setting.signatures name.at x.variable x.base right))
-
-    store_reads : (array : NameTree) (index value : ExpressionTree) → IfOk (store_finding names array index value) (Stays (AssignElementTree array index value))
-    unfolding store_finding
-    store_reads array index value =
-        then_finds (array_finding (names array.text) array.at) _ (λ (a : ArrayUse). IsVariable program scope array a.variable) _
-        (array_reads program scope names agrees array) (λ a is.
-        then_finds (typed_finding names Int index) _ (ReadsExpression program scope index) _ (typed_reads program scope names agrees Int index) (λ i index_reads.
-        then_finds (typed_finding names a.base value) _ (ReadsExpression program scope value) _ (typed_reads program scope names agrees a.base value)
-        (λ e reads. ReadStore is index_reads reads)))
-
-    call_statement_reads : (setting : Setting) (call : CallTree) → IfOk (call_statement_finding setting.signatures names call) (Stays (CallTree' call))
-    unfolding call_statement_finding
-    call_statement_reads setting call =
-        then_finds (call_finding setting.signatures names call) _
-        (λ (made : CallUse). IsProcedure program scope call.procedure made.procedure × ReadsArguments program scope call.arguments made.arguments) _
-        (call_reads program scope names agrees setting.signatures call) (λ made parts. ReadCall parts.0 parts.1)
-
-    receive_reads : (at : ℕ) (channel : NameTree) → IfOk (receive_finding names at channel) (Stays (ReceiveTree at channel))
-    unfolding receive_finding
-    receive_reads at channel =
-        then_finds (input_finding (names channel.text) channel.at) _ (IsChannel program scope channel) _ (input_reads program scope names agrees channel)
-        (λ number is. ReadReceive is)
-
-    send_reads : (at : ℕ) (channel : NameTree) (value : ExpressionTree) → IfOk (send_finding names at channel value) (Stays (SendTree at channel value))
-    unfolding send_finding
-    send_reads at channel value =
-        then_finds (output_finding (names channel.text) channel.at) _ (IsChannel program scope channel) _ (output_reads program scope names agrees channel) (λ number is.
-        then_finds (typed_finding names Int value) _ (ReadsExpression program scope value) _ (typed_reads program scope names agrees Int value)
-        (λ e reads. ReadSend is reads))
-
-    throw_reads : (at : ℕ) (exception : NameTree) → IfOk (throw_finding names at exception) (Stays (ThrowTree at exception))
-    unfolding throw_finding
-    throw_reads at exception =
-        then_finds (exception_finding (names exception.text) exception.at) _ (IsException program scope exception) _
-        (exception_reads program scope names agrees exception) (λ number is. ReadThrow is)
 
     returned_reads : (result : Option Base) (at value_at : ℕ) (value : ExpressionTree) (found : Typed) → ReadsExpression program scope value found.expression
         → IfOk (returned_finding result at value_at found) (Stays (ReturnTree at (Some value)))
@@ -169,7 +121,7 @@ module _ (program : Program) where
         after = with_declared scope name at;
         reads = ReadDeclare (subst (λ n. ReadsRight program scope at (Local n) right s) (next_number scope point matches) reads);
         matches =
-            local_matches scope point name (scalar_slot at (base_of base) written name.text) (Scalar target (base_of base)) matches refl (λ other is. is);
+            local_matches scope point name (slot_of at (base_of base) written name.text None) matches refl;
       })))
 
   declare_array_reads : (setting : Setting) (scope : NameScope) (point : Point) (at : ℕ) (base : _) (label : Option LabelTree) (name : NameTree) (size : SizeTree)
@@ -186,8 +138,7 @@ module _ (program : Program) where
             subst (λ n. ReadsStatement program scope (DeclareArrayTree at base label name size) (Clear at n) (with_declared scope name at))
             (sym (next_number scope point matches)) ReadDeclareArray;
         matches =
-            local_matches scope point name (array_slot at (base_of base) written name.text length_of) (Array target (base_of base) length_of) matches refl
-            (λ other is. is);
+            local_matches scope point name (slot_of at (base_of base) written name.text (Some length_of)) matches refl;
       })))
 
   -- ---- statements, blocks and handlers
@@ -201,20 +152,34 @@ module _ (program : Program) where
       statement_reads scope point (DeclareTree at base label name right) matches = declare_reads setting scope point at base label name right matches
       statement_reads scope point (DeclareArrayTree at base label name size) matches = declare_array_reads setting scope point at base label name size matches
       statement_reads scope point (AssignTree name right) matches =
-          staying_reads scope point (AssignTree name right) (assign_finding setting.signatures point.names name right) matches
-          (assign_reads scope point.names matches.agrees setting name right)
+          then_finds (use_as scalar_of (point.names name.text) name.at) _ (λ (x : Variable × Base). IsVariable program scope name x.0) _
+          (scalar_reads program scope point.names matches.agrees name) (λ x is.
+          then_finds (assigned_finding setting.signatures point.names name.at x.0 x.1 right) _ (ReadsRight program scope name.at x.0 right) _
+          (right_reads program scope point.names matches.agrees setting.signatures name.at x.0 x.1 right)
+          (λ s reads. record { after = scope; reads = ReadAssign is reads; matches = matches }))
       statement_reads scope point (AssignElementTree array index value) matches =
-          staying_reads scope point (AssignElementTree array index value) (store_finding point.names array index value) matches
-          (store_reads scope point.names matches.agrees array index value)
+          then_finds (use_as array_of (point.names array.text) array.at) _ (λ (a : Variable × Base × ℕ). IsVariable program scope array a.0) _
+          (array_reads program scope point.names matches.agrees array) (λ a is.
+          then_finds (typed_finding point.names Int index) _ (ReadsExpression program scope index) _
+          (typed_reads program scope point.names matches.agrees Int index) (λ i index_reads.
+          then_finds (typed_finding point.names a.1 value) _ (ReadsExpression program scope value) _
+          (typed_reads program scope point.names matches.agrees a.1 value)
+          (λ e reads. record { after = scope; reads = ReadStore is index_reads reads; matches = matches })))
       statement_reads scope point (CallTree' call) matches =
-          staying_reads scope point (CallTree' call) (call_statement_finding setting.signatures point.names call) matches
-          (call_statement_reads scope point.names matches.agrees setting call)
+          then_finds (call_finding setting.signatures point.names call) _
+          (λ (made : CallUse). IsProcedure program scope call.procedure made.procedure × ReadsArguments program scope call.arguments made.arguments) _
+          (call_reads program scope point.names matches.agrees setting.signatures call)
+          (λ made parts. record { after = scope; reads = ReadCall parts.0 parts.1; matches = matches })
       statement_reads scope point (ReceiveTree at channel) matches =
-          staying_reads scope point (ReceiveTree at channel) (receive_finding point.names at channel) matches
-          (receive_reads scope point.names matches.agrees at channel)
+          then_finds (use_as (item_of (Channel directions.Input)) (point.names channel.text) channel.at) _ (IsChannel program scope channel) _
+          (input_reads program scope point.names matches.agrees channel)
+          (λ number is. record { after = scope; reads = ReadReceive is; matches = matches })
       statement_reads scope point (SendTree at channel value) matches =
-          staying_reads scope point (SendTree at channel value) (send_finding point.names at channel value) matches
-          (send_reads scope point.names matches.agrees at channel value)
+          then_finds (use_as (item_of (Channel directions.Output)) (point.names channel.text) channel.at) _ (IsChannel program scope channel) _
+          (output_reads program scope point.names matches.agrees channel) (λ number is.
+          then_finds (typed_finding point.names Int value) _ (ReadsExpression program scope value) _
+          (typed_reads program scope point.names matches.agrees Int value)
+          (λ e reads. record { after = scope; reads = ReadSend is reads; matches = matches }))
       statement_reads scope point (IfTree at condition body) matches =
           then_finds (typed_finding point.names Boolean condition) _ (ReadsExpression program scope condition) _
           (typed_reads program scope point.names matches.agrees Boolean condition) (λ e reads.
@@ -245,11 +210,13 @@ module _ (program : Program) where
       statement_reads scope point (BreakTree at) matches = record { after = scope; reads = ReadBreak; matches = matches }
       statement_reads scope point (ContinueTree at) matches = record { after = scope; reads = ReadContinue; matches = matches }
       statement_reads scope point (ThrowTree at exception) matches =
-          staying_reads scope point (ThrowTree at exception) (throw_finding point.names at exception) matches
-          (throw_reads scope point.names matches.agrees at exception)
+          then_finds (use_as (item_of Exception) (point.names exception.text) exception.at) _ (IsException program scope exception) _
+          (exception_reads program scope point.names matches.agrees exception)
+          (λ number is. record { after = scope; reads = ReadThrow is; matches = matches })
       statement_reads scope point (ReturnTree at value) matches =
-          staying_reads scope point (ReturnTree at value) (return_finding setting.result point.names at value) matches
+          then_finds (return_finding setting.result point.names at value) _ (λ s. ReadsStatement program scope (ReturnTree at value) s scope) _
           (return_reads scope point.names matches.agrees setting.result at value)
+          (λ s reads. record { after = scope; reads = reads; matches = matches })
       statement_reads scope point (TryTree at body catches) matches =
           then_finds (block_finding setting point body) _ (BlockRead scope body) _ (block_reads scope point body matches) (λ done read.
           then_finds (catches_finding setting done.0 catches) _ (CatchesRead read.after catches) _ (catches_read read.after done.0 catches read.matches)
@@ -292,7 +259,7 @@ module _ (program : Program) where
           → IfOk (catches_finding setting point written) (CatchesRead scope written)
       catches_read scope point NoCatch matches = record { after = scope; reads = ReadNoCatch; matches = matches }
       catches_read scope point (CatchThen at exception body rest) matches =
-          then_finds (exception_finding (point.names exception.text) exception.at) _ (IsException program scope exception) _
+          then_finds (use_as (item_of Exception) (point.names exception.text) exception.at) _ (IsException program scope exception) _
           (exception_reads program scope point.names matches.agrees exception) (λ number is.
           then_finds (block_finding setting point body) _ (BlockRead scope body) _ (block_reads scope point body matches) (λ done read.
           then_finds (catches_finding setting done.0 rest) _ (CatchesRead read.after rest) _ (catches_read read.after done.0 rest read.matches)
@@ -313,8 +280,7 @@ module _ (program : Program) where
       (then_finds (label_finding labels parameter.label) _ (λ one. Unit {0}) _ (any_finds (label_finding labels parameter.label)) (λ label nothing.
       then_finds (fresh_finding (point.names parameter.name.text) parameter.name.at) _ (λ one. Unit {0}) _
       (any_finds (fresh_finding (point.names parameter.name.text) parameter.name.at)) (λ one nothing.
-      local_matches scope point parameter.name (scalar_slot parameter.at (base_of parameter.base) (Some label) parameter.name.text)
-      (Scalar (Local (length point.slots)) (base_of parameter.base)) matches refl (λ other is. is))))
+      local_matches scope point parameter.name (slot_of parameter.at (base_of parameter.base) (Some label) parameter.name.text None) matches refl)))
       (λ next matches_next. parameters_read labels (with_declared scope parameter.name parameter.at) next parameters matches_next)
 
   -- after those that were found before
@@ -329,7 +295,7 @@ module _ (program : Program) where
   throws_read labels agrees before (thrown ∷ written) =
       then_finds (next_thrown labels before thrown) (λ next. along (next_thrown labels) next written)
       (λ next. (entry : ThrownEntry) × (next ≡ before ++ entry ∷ []) × IsException program top_scope thrown.name entry.exception) _
-      (then_finds (exception_finding (labels.names thrown.name.text) thrown.name.at) _ (IsException program top_scope thrown.name) _
+      (then_finds (use_as (item_of Exception) (labels.names thrown.name.text) thrown.name.at) _ (IsException program top_scope thrown.name) _
       (exception_reads program top_scope labels.names agrees thrown.name) (λ exception is.
       then_finds (require (not (is_thrown before exception)) _ thrown.name.at) _ (λ one. Unit {0}) _
       (any_finds (require (not (is_thrown before exception)) _ thrown.name.at)) (λ one nothing.
@@ -347,7 +313,7 @@ module _ (program : Program) where
 
   procedure_read : (labels : LabelScope) (signatures : List Signature) (written : ProcedureTree) → Agrees program top_scope labels.names
       → IfOk (procedure_entry_finding labels signatures written) (ReadsProcedure program written)
-  unfolding procedure_entry_finding parameters_finding throws_finding
+  unfolding procedure_entry_finding parameters_finding
   procedure_read labels signatures written agrees =
       let setting = setting_within labels signatures written in
       let first : Point = record { names = labels.names; slots = []; loops = 0 } in
@@ -464,14 +430,11 @@ module _ (program : Program) where
   top_agrees names named name meaning e = go meaning (named name.text meaning e)
     where
       go : (meaning : Meaning) → MeaningHasName program meaning name.text → IsMeaning program top_scope name meaning
-      go (Input n) is = (refl, is)
-      go (Output n) is = (refl, is)
-      go (Exception n) is = (refl, is)
-      go (Procedure n) is = (refl, is)
-      go (Scalar (Global n) base) is = (refl, is)
-      go (Scalar (Local n) base) is = absurd is
-      go (Array (Global n) base size) is = (refl, is)
-      go (Array (Local n) base size) is = absurd is
+      go (meanings.Item (Channel direction) n) is = (refl, is)
+      go (meanings.Item Exception n) is = (refl, is)
+      go (meanings.Item Procedure n) is = (refl, is)
+      go (meanings.Variable (Global n) base size) is = (refl, is)
+      go (meanings.Variable (Local n) base size) is = absurd is
 
 -- ---- the whole
 

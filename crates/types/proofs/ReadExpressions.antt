@@ -22,11 +22,13 @@ use Rattle.resolved.specs.Program.{Program}
 use Rattle.resolved.specs.Tree.{Expression, Call}
 use Rattle.resolved.specs.WellFormed.{same_base, prefix_base}
 use Rattle.types.specs.declared.scope.Meaning.{Meaning}
-use Rattle.types.specs.declared.scope.Meaning.TheVariants.{Input, Output, Exception, Procedure, Scalar, Array}
+use Rattle.common.specs.declared.direction.Direction.TheVariants as directions
+use Rattle.types.specs.declared.scope.ItemKind.TheVariants.{Channel, Exception, Procedure}
+use Rattle.types.specs.declared.scope.Meaning.TheVariants as meanings
 use Rattle.types.specs.Finding.{Finding, require, along}
-use Rattle.types.specs.Environment.{Environment, ScalarUse, ArrayUse, declaring, scalar_finding, array_finding, input_finding, output_finding, exception_finding, procedure_finding}
+use Rattle.types.specs.Environment.{Environment, declaring, use_as, scalar_of, array_of, item_of}
 use Rattle.types.specs.Expressions.{prefix_of, use_of, Typed, of_base, wanting, operands_base, combined, expression_finding, typed_finding}
-use Rattle.types.specs.Statements.{Signature, signature_at, next_argument, arguments_finding, CallUse, applied_finding, call_finding, gives_base, assigned_finding}
+use Rattle.types.specs.Statements.{Signature, signature_at, next_argument, CallUse, call_finding, gives_base, assigned_finding, arguments_finding}
 use Rattle.types.specs.ReadBack.{NameScope, with_declared, innermost, IsChannel, IsException, IsProcedure, IsVariable, written_prefix, ReadsExpression, ReadInteger, ReadTruth, ReadVariable, ReadElement, ReadUnary, ReadBinary, ReadShort, ReadsArguments, ReadNoArgument, ReadArgument, ReadsRight, ReadReceived, ReadCalled, ReadValue}
 use Rattle.types.proofs.Passing.{then_finds, if_finds, any_finds}
 
@@ -42,12 +44,10 @@ module _ (program : Program) where
   -- ---- what names mean
 
   abbrev pub IsMeaning : NameScope → NameTree → Meaning → Type 0
-  IsMeaning scope name (Input n) = IsChannel program scope name n
-  IsMeaning scope name (Output n) = IsChannel program scope name n
-  IsMeaning scope name (Exception n) = IsException program scope name n
-  IsMeaning scope name (Procedure n) = IsProcedure program scope name n
-  IsMeaning scope name (Scalar x base) = IsVariable program scope name x
-  IsMeaning scope name (Array x base size) = IsVariable program scope name x
+  IsMeaning scope name (meanings.Item (Channel direction) n) = IsChannel program scope name n
+  IsMeaning scope name (meanings.Item Exception n) = IsException program scope name n
+  IsMeaning scope name (meanings.Item Procedure n) = IsProcedure program scope name n
+  IsMeaning scope name (meanings.Variable x base size) = IsVariable program scope name x
 
   -- each name in scope means what is declared
   abbrev pub Agrees : NameScope → Environment → Type 0
@@ -56,14 +56,11 @@ module _ (program : Program) where
   -- a scope in which the innermost one of a name is the same
   same_meaning : (before after : NameScope) (name : NameTree) (meaning : Meaning)
       → innermost after.visible name.text ≡ innermost before.visible name.text → IsMeaning before name meaning → IsMeaning after name meaning
-  same_meaning before after name (Input n) same is = (same ∙ is.0, is.1)
-  same_meaning before after name (Output n) same is = (same ∙ is.0, is.1)
-  same_meaning before after name (Exception n) same is = (same ∙ is.0, is.1)
-  same_meaning before after name (Procedure n) same is = (same ∙ is.0, is.1)
-  same_meaning before after name (Scalar (Global n) base) same is = (same ∙ is.0, is.1)
-  same_meaning before after name (Scalar (Local n) base) same is = same ∙ is
-  same_meaning before after name (Array (Global n) base size) same is = (same ∙ is.0, is.1)
-  same_meaning before after name (Array (Local n) base size) same is = same ∙ is
+  same_meaning before after name (meanings.Item (Channel direction) n) same is = (same ∙ is.0, is.1)
+  same_meaning before after name (meanings.Item Exception n) same is = (same ∙ is.0, is.1)
+  same_meaning before after name (meanings.Item Procedure n) same is = (same ∙ is.0, is.1)
+  same_meaning before after name (meanings.Variable (Global n) base size) same is = (same ∙ is.0, is.1)
+  same_meaning before after name (meanings.Variable (Local n) base size) same is = same ∙ is
 
   pub same_scope : (before after : NameScope) (names : Environment) → after.visible ≡ before.visible → Agrees before names → Agrees after names
   same_scope before after names same agrees name meaning e =
@@ -89,89 +86,85 @@ module _ (program : Program) where
   module _ (scope : NameScope) (names : Environment) (agrees : Agrees scope names) where
     -- ---- uses
 
-    pub scalar_reads : (name : NameTree) → IfOk (scalar_finding (names name.text) name.at) (λ (x : ScalarUse). IsVariable program scope name x.variable)
-    unfolding scalar_finding
+    pub scalar_reads : (name : NameTree) → IfOk (use_as scalar_of (names name.text) name.at) (λ (x : Variable × Base). IsVariable program scope name x.0)
+    unfolding use_as
     scalar_reads name = go (names name.text) (agrees name)
       where
         go : (found : Option Meaning) → ((meaning : Meaning) → found ≡ Some meaning → IsMeaning scope name meaning)
-            → IfOk (scalar_finding found name.at) (λ (x : ScalarUse). IsVariable program scope name x.variable)
+            → IfOk (use_as scalar_of found name.at) (λ (x : Variable × Base). IsVariable program scope name x.0)
         go None h = tt
-        go (Some (Scalar x base)) h = h (Scalar x base) refl
-        go (Some (Array x base size)) h = tt
-        go (Some (Input channel)) h = tt
-        go (Some (Output channel)) h = tt
-        go (Some (Exception number)) h = tt
-        go (Some (Procedure number)) h = tt
+        go (Some (meanings.Variable x base None)) h = h (meanings.Variable x base None) refl
+        go (Some (meanings.Variable x base (Some size))) h = tt
+        go (Some (meanings.Item (Channel direction) channel)) h = tt
+        go (Some (meanings.Item Exception number)) h = tt
+        go (Some (meanings.Item Procedure number)) h = tt
 
-    pub array_reads : (name : NameTree) → IfOk (array_finding (names name.text) name.at) (λ (a : ArrayUse). IsVariable program scope name a.variable)
-    unfolding array_finding
+    pub array_reads : (name : NameTree) → IfOk (use_as array_of (names name.text) name.at) (λ (a : Variable × Base × ℕ). IsVariable program scope name a.0)
+    unfolding use_as
     array_reads name = go (names name.text) (agrees name)
       where
         go : (found : Option Meaning) → ((meaning : Meaning) → found ≡ Some meaning → IsMeaning scope name meaning)
-            → IfOk (array_finding found name.at) (λ (a : ArrayUse). IsVariable program scope name a.variable)
+            → IfOk (use_as array_of found name.at) (λ (a : Variable × Base × ℕ). IsVariable program scope name a.0)
         go None h = tt
-        go (Some (Array x base size)) h = h (Array x base size) refl
-        go (Some (Scalar x base)) h = tt
-        go (Some (Input channel)) h = tt
-        go (Some (Output channel)) h = tt
-        go (Some (Exception number)) h = tt
-        go (Some (Procedure number)) h = tt
+        go (Some (meanings.Variable x base (Some size))) h = h (meanings.Variable x base (Some size)) refl
+        go (Some (meanings.Variable x base None)) h = tt
+        go (Some (meanings.Item (Channel direction) channel)) h = tt
+        go (Some (meanings.Item Exception number)) h = tt
+        go (Some (meanings.Item Procedure number)) h = tt
 
-    pub input_reads : (name : NameTree) → IfOk (input_finding (names name.text) name.at) (IsChannel program scope name)
-    unfolding input_finding
+    pub input_reads : (name : NameTree) → IfOk (use_as (item_of (Channel directions.Input)) (names name.text) name.at) (IsChannel program scope name)
+    unfolding use_as
     input_reads name = go (names name.text) (agrees name)
       where
         go : (found : Option Meaning) → ((meaning : Meaning) → found ≡ Some meaning → IsMeaning scope name meaning)
-            → IfOk (input_finding found name.at) (IsChannel program scope name)
+            → IfOk (use_as (item_of (Channel directions.Input)) found name.at) (IsChannel program scope name)
         go None h = tt
-        go (Some (Input channel)) h = h (Input channel) refl
-        go (Some (Output channel)) h = tt
-        go (Some (Exception number)) h = tt
-        go (Some (Procedure number)) h = tt
-        go (Some (Scalar x base)) h = tt
-        go (Some (Array x base size)) h = tt
+        go (Some (meanings.Item (Channel directions.Input) channel)) h = h (meanings.Item (Channel directions.Input) channel) refl
+        go (Some (meanings.Item (Channel directions.Output) channel)) h = tt
+        go (Some (meanings.Item Exception number)) h = tt
+        go (Some (meanings.Item Procedure number)) h = tt
+        go (Some (meanings.Variable x base None)) h = tt
+        go (Some (meanings.Variable x base (Some size))) h = tt
 
-    pub output_reads : (name : NameTree) → IfOk (output_finding (names name.text) name.at) (IsChannel program scope name)
-    unfolding output_finding
+    pub output_reads : (name : NameTree) → IfOk (use_as (item_of (Channel directions.Output)) (names name.text) name.at) (IsChannel program scope name)
+    unfolding use_as
     output_reads name = go (names name.text) (agrees name)
       where
         go : (found : Option Meaning) → ((meaning : Meaning) → found ≡ Some meaning → IsMeaning scope name meaning)
-            → IfOk (output_finding found name.at) (IsChannel program scope name)
+            → IfOk (use_as (item_of (Channel directions.Output)) found name.at) (IsChannel program scope name)
         go None h = tt
-        go (Some (Output channel)) h = h (Output channel) refl
-        go (Some (Input channel)) h = tt
-        go (Some (Exception number)) h = tt
-        go (Some (Procedure number)) h = tt
-        go (Some (Scalar x base)) h = tt
-        go (Some (Array x base size)) h = tt
+        go (Some (meanings.Item (Channel directions.Output) channel)) h = h (meanings.Item (Channel directions.Output) channel) refl
+        go (Some (meanings.Item (Channel directions.Input) channel)) h = tt
+        go (Some (meanings.Item Exception number)) h = tt
+        go (Some (meanings.Item Procedure number)) h = tt
+        go (Some (meanings.Variable x base None)) h = tt
+        go (Some (meanings.Variable x base (Some size))) h = tt
 
-    pub exception_reads : (name : NameTree) → IfOk (exception_finding (names name.text) name.at) (IsException program scope name)
-    unfolding exception_finding
+    pub exception_reads : (name : NameTree) → IfOk (use_as (item_of Exception) (names name.text) name.at) (IsException program scope name)
+    unfolding use_as
     exception_reads name = go (names name.text) (agrees name)
       where
         go : (found : Option Meaning) → ((meaning : Meaning) → found ≡ Some meaning → IsMeaning scope name meaning)
-            → IfOk (exception_finding found name.at) (IsException program scope name)
+            → IfOk (use_as (item_of Exception) found name.at) (IsException program scope name)
         go None h = tt
-        go (Some (Exception number)) h = h (Exception number) refl
-        go (Some (Input channel)) h = tt
-        go (Some (Output channel)) h = tt
-        go (Some (Procedure number)) h = tt
-        go (Some (Scalar x base)) h = tt
-        go (Some (Array x base size)) h = tt
+        go (Some (meanings.Item Exception number)) h = h (meanings.Item Exception number) refl
+        go (Some (meanings.Item (Channel direction) channel)) h = tt
+        go (Some (meanings.Item Procedure number)) h = tt
+        go (Some (meanings.Variable x base None)) h = tt
+        go (Some (meanings.Variable x base (Some size))) h = tt
 
-    procedure_reads : (name : NameTree) → IfOk (procedure_finding (names name.text) name.at) (IsProcedure program scope name)
-    unfolding procedure_finding
+    procedure_reads : (name : NameTree) → IfOk (use_as (item_of Procedure) (names name.text) name.at) (IsProcedure program scope name)
+    unfolding use_as
     procedure_reads name = go (names name.text) (agrees name)
       where
         go : (found : Option Meaning) → ((meaning : Meaning) → found ≡ Some meaning → IsMeaning scope name meaning)
-            → IfOk (procedure_finding found name.at) (IsProcedure program scope name)
+            → IfOk (use_as (item_of Procedure) found name.at) (IsProcedure program scope name)
         go None h = tt
-        go (Some (Procedure number)) h = h (Procedure number) refl
-        go (Some (Input channel)) h = tt
-        go (Some (Output channel)) h = tt
-        go (Some (Exception number)) h = tt
-        go (Some (Scalar x base)) h = tt
-        go (Some (Array x base size)) h = tt
+        go (Some (meanings.Item Procedure number)) h = h (meanings.Item Procedure number) refl
+        go (Some (meanings.Item (Channel direction) channel)) h = tt
+        go (Some (meanings.Item Exception number)) h = tt
+        go (Some (meanings.Variable x base None)) h = tt
+        go (Some (meanings.Variable x base (Some size))) h = tt
 
     -- ---- expressions
 
@@ -213,10 +206,10 @@ module _ (program : Program) where
     expression_reads (IntegerTree at value) = ReadInteger
     expression_reads (TruthTree at value) = ReadTruth
     expression_reads (VariableTree name) =
-        then_finds (scalar_finding (names name.text) name.at) _ (λ (x : ScalarUse). IsVariable program scope name x.variable) _ (scalar_reads name)
+        then_finds (use_as scalar_of (names name.text) name.at) _ (λ (x : Variable × Base). IsVariable program scope name x.0) _ (scalar_reads name)
         (λ x is. ReadVariable is)
     expression_reads (ElementTree array index) =
-        then_finds (array_finding (names array.text) array.at) _ (λ (a : ArrayUse). IsVariable program scope array a.variable) _ (array_reads array) (λ a is.
+        then_finds (use_as array_of (names array.text) array.at) _ (λ (a : Variable × Base × ℕ). IsVariable program scope array a.0) _ (array_reads array) (λ a is.
         then_finds (wanting Int (expression_at index) (expression_finding names index)) _ (Reads index) _
         (wanting_reads Int (expression_at index) (expression_finding names index) index (expression_reads index)) (λ i reads. ReadElement is reads))
     expression_reads (UnaryTree at operator operand) =
@@ -265,9 +258,9 @@ module _ (program : Program) where
     pub call_reads : (signatures : List Signature) (call : CallTree)
         → IfOk (call_finding signatures names call)
         (λ (made : CallUse). IsProcedure program scope call.procedure made.procedure × ReadsArguments program scope call.arguments made.arguments)
-    unfolding call_finding applied_finding arguments_finding
+    unfolding call_finding arguments_finding
     call_reads signatures call =
-        then_finds (procedure_finding (names call.procedure.text) call.procedure.at) _ (IsProcedure program scope call.procedure) _
+        then_finds (use_as (item_of Procedure) (names call.procedure.text) call.procedure.at) _ (IsProcedure program scope call.procedure) _
         (procedure_reads call.procedure) (λ number is.
         let signature = signature_at signatures number in
         then_finds (require (length signature.parameters == length call.arguments) _ call.procedure.at) _ (λ one. Unit {0}) _
@@ -281,7 +274,7 @@ module _ (program : Program) where
     unfolding assigned_finding
     right_reads signatures at x base (ReceivedTree receive_at channel) =
         then_finds (require (same_base Int base) _ receive_at) _ (λ one. Unit {0}) _ (any_finds (require (same_base Int base) _ receive_at)) (λ one nothing.
-        then_finds (input_finding (names channel.text) channel.at) _ (IsChannel program scope channel) _ (input_reads channel) (λ number is. ReadReceived is))
+        then_finds (use_as (item_of (Channel directions.Input)) (names channel.text) channel.at) _ (IsChannel program scope channel) _ (input_reads channel) (λ number is. ReadReceived is))
     right_reads signatures at x base (CalledTree call) =
         then_finds (call_finding signatures names call) _
         (λ (made : CallUse). IsProcedure program scope call.procedure made.procedure × ReadsArguments program scope call.arguments made.arguments) _

@@ -14,10 +14,10 @@ use Rattle.std.proofs.Math.Seq.{drop-append_seam}
 use Rattle.std.proofs.lemmas.Slice.Eq.{bytes_eq-Decides}
 use Rattle.syntax.specs.Tree.{NameTree, ItemTree}
 use Rattle.types.specs.declared.scope.Meaning.{Meaning}
-use Rattle.types.specs.Finding.{Finding, give, and_then}
+use Rattle.types.specs.Finding.{Finding, give}
 use Rattle.types.specs.Environment.{Environment, declaring, fresh_finding}
 use Rattle.types.specs.Resolution.{TopLevel, item_name, item_meaning, counted, with_item, next_name}
-use Rattle.types.specs.Views.{found_at, or_else, texts_of, without}
+use Rattle.types.specs.Views.{and_then, found_at, or_else, texts_of, without}
 
 -- what stands in a finding
 abbrev value_or : {A : Type 0} → A → Finding A → A

@@ -9,6 +9,7 @@ use Rattle.syntax.specs.Nodes.{expression_nodes as written_nodes}
 use Rattle.syntax.specs.Tree.{NameTree, ExpressionTree, IntegerTree, TruthTree, VariableTree, ElementTree, UnaryTree, BinaryTree, expression_at}
 use Rattle.syntax.specs.Written.{IsInteger, IsWrittenExpression}
 use Rattle.resolved.specs.declared.expression.Base.{Base}
+use Rattle.resolved.specs.declared.expression.Variable.{Variable}
 use Rattle.resolved.specs.declared.expression.Base.TheVariants.{Int, Boolean}
 use Rattle.common.specs.declared.direction.Direction.TheVariants as directions
 use Rattle.resolved.specs.Program.{Program, ProcedureEntry, SlotEntry, ResultEntry}
@@ -16,9 +17,10 @@ use Rattle.resolved.specs.Tree.{Expression}
 use Rattle.resolved.specs.WellFormed.{same_base, prefix_base, VariableType, variable_type, scalar_by, array_by, has_base, channel_is, is_exception, parameters_of, expression_nodes}
 use Rattle.resolved.proofs.Sound.Values.{same_base_is, same_base_itself}
 use Rattle.types.specs.declared.scope.Meaning.{Meaning}
-use Rattle.types.specs.declared.scope.Meaning.TheVariants.{Input, Output, Exception, Procedure, Scalar, Array}
+use Rattle.types.specs.declared.scope.ItemKind.TheVariants.{Channel, Exception, Procedure}
+use Rattle.types.specs.declared.scope.Meaning.TheVariants as meanings
 use Rattle.types.specs.Finding.{Finding}
-use Rattle.types.specs.Environment.{Environment, ScalarUse, ArrayUse, declaring, scalar_finding, array_finding, input_finding, output_finding, exception_finding, procedure_finding}
+use Rattle.types.specs.Environment.{Environment, declaring, use_as, scalar_of, array_of, item_of}
 use Rattle.types.specs.Expressions.{prefix_of, use_of, Typed, of_base, wanting, operands_base, value_base, combined, expression_finding, typed_finding}
 use Rattle.types.specs.Statements.{Signature, signature_at}
 use Rattle.types.proofs.Passing.{then_finds, if_finds}
@@ -48,13 +50,11 @@ array_type base size = Some (record { base = base; size = Some size })
 module _ (program : Program) (procedure : ProcedureEntry) (signatures : List Signature) where
   -- an entry is there under the number, and is what the meaning says
   abbrev pub Stands : Meaning → Type 0
-  Stands (Input channel) = channel_is (slice_get program.channels channel) directions.Input ≡ true
-  Stands (Output channel) = channel_is (slice_get program.channels channel) directions.Output ≡ true
-  Stands (Exception number) = is_exception program number ≡ true
-  Stands (Procedure number) =
+  Stands (meanings.Item (Channel direction) channel) = channel_is (slice_get program.channels channel) direction ≡ true
+  Stands (meanings.Item Exception number) = is_exception program number ≡ true
+  Stands (meanings.Item Procedure number) =
       (callee : ProcedureEntry) × (slice_get program.procedures number ≡ Some callee) × Signed callee (signature_at signatures number)
-  Stands (Scalar x base) = variable_type program procedure x ≡ scalar_type base
-  Stands (Array x base size) = variable_type program procedure x ≡ array_type base size
+  Stands (meanings.Variable x base size) = variable_type program procedure x ≡ Some (record { base = base; size = size })
 
   -- each name in scope stands for an entry
   abbrev pub Means : Environment → Type 0
@@ -72,90 +72,86 @@ module _ (program : Program) (procedure : ProcedureEntry) (signatures : List Sig
   -- ---- uses
 
   pub scalar_found : (names : Environment) (name : NameTree)
-      → IfOk (scalar_finding (names name.text) name.at) (λ (x : ScalarUse). Means names → variable_type program procedure x.variable ≡ scalar_type x.base)
-  unfolding scalar_finding
+      → IfOk (use_as scalar_of (names name.text) name.at) (λ (x : Variable × Base). Means names → variable_type program procedure x.0 ≡ scalar_type x.1)
+  unfolding use_as
   scalar_found names name = go (names name.text) refl
     where
       go : (found : Option Meaning) → names name.text ≡ found
-          → IfOk (scalar_finding found name.at) (λ (x : ScalarUse). Means names → variable_type program procedure x.variable ≡ scalar_type x.base)
+          → IfOk (use_as scalar_of found name.at) (λ (x : Variable × Base). Means names → variable_type program procedure x.0 ≡ scalar_type x.1)
       go None e = tt
-      go (Some (Scalar x base)) e = λ means. means name.text (Scalar x base) e
-      go (Some (Array x base size)) e = tt
-      go (Some (Input channel)) e = tt
-      go (Some (Output channel)) e = tt
-      go (Some (Exception number)) e = tt
-      go (Some (Procedure number)) e = tt
+      go (Some (meanings.Variable x base None)) e = λ means. means name.text (meanings.Variable x base None) e
+      go (Some (meanings.Variable x base (Some size))) e = tt
+      go (Some (meanings.Item (Channel direction) channel)) e = tt
+      go (Some (meanings.Item Exception number)) e = tt
+      go (Some (meanings.Item Procedure number)) e = tt
 
   pub array_found : (names : Environment) (name : NameTree)
-      → IfOk (array_finding (names name.text) name.at) (λ (a : ArrayUse). Means names → variable_type program procedure a.variable ≡ array_type a.base a.size)
-  unfolding array_finding
+      → IfOk (use_as array_of (names name.text) name.at) (λ (a : Variable × Base × ℕ). Means names → variable_type program procedure a.0 ≡ array_type a.1 a.2)
+  unfolding use_as
   array_found names name = go (names name.text) refl
     where
       go : (found : Option Meaning) → names name.text ≡ found
-          → IfOk (array_finding found name.at) (λ (a : ArrayUse). Means names → variable_type program procedure a.variable ≡ array_type a.base a.size)
+          → IfOk (use_as array_of found name.at) (λ (a : Variable × Base × ℕ). Means names → variable_type program procedure a.0 ≡ array_type a.1 a.2)
       go None e = tt
-      go (Some (Array x base size)) e = λ means. means name.text (Array x base size) e
-      go (Some (Scalar x base)) e = tt
-      go (Some (Input channel)) e = tt
-      go (Some (Output channel)) e = tt
-      go (Some (Exception number)) e = tt
-      go (Some (Procedure number)) e = tt
+      go (Some (meanings.Variable x base (Some size))) e = λ means. means name.text (meanings.Variable x base (Some size)) e
+      go (Some (meanings.Variable x base None)) e = tt
+      go (Some (meanings.Item (Channel direction) channel)) e = tt
+      go (Some (meanings.Item Exception number)) e = tt
+      go (Some (meanings.Item Procedure number)) e = tt
 
   pub input_found : (names : Environment) (name : NameTree)
-      → IfOk (input_finding (names name.text) name.at) (λ channel. Means names → Stands (Input channel))
-  unfolding input_finding
+      → IfOk (use_as (item_of (Channel directions.Input)) (names name.text) name.at) (λ channel. Means names → Stands (meanings.Item (Channel directions.Input) channel))
+  unfolding use_as
   input_found names name = go (names name.text) refl
     where
-      go : (found : Option Meaning) → names name.text ≡ found → IfOk (input_finding found name.at) (λ channel. Means names → Stands (Input channel))
+      go : (found : Option Meaning) → names name.text ≡ found → IfOk (use_as (item_of (Channel directions.Input)) found name.at) (λ channel. Means names → Stands (meanings.Item (Channel directions.Input) channel))
       go None e = tt
-      go (Some (Input channel)) e = λ means. means name.text (Input channel) e
-      go (Some (Output channel)) e = tt
-      go (Some (Exception number)) e = tt
-      go (Some (Procedure number)) e = tt
-      go (Some (Scalar x base)) e = tt
-      go (Some (Array x base size)) e = tt
+      go (Some (meanings.Item (Channel directions.Input) channel)) e = λ means. means name.text (meanings.Item (Channel directions.Input) channel) e
+      go (Some (meanings.Item (Channel directions.Output) channel)) e = tt
+      go (Some (meanings.Item Exception number)) e = tt
+      go (Some (meanings.Item Procedure number)) e = tt
+      go (Some (meanings.Variable x base None)) e = tt
+      go (Some (meanings.Variable x base (Some size))) e = tt
 
   pub output_found : (names : Environment) (name : NameTree)
-      → IfOk (output_finding (names name.text) name.at) (λ channel. Means names → Stands (Output channel))
-  unfolding output_finding
+      → IfOk (use_as (item_of (Channel directions.Output)) (names name.text) name.at) (λ channel. Means names → Stands (meanings.Item (Channel directions.Output) channel))
+  unfolding use_as
   output_found names name = go (names name.text) refl
     where
-      go : (found : Option Meaning) → names name.text ≡ found → IfOk (output_finding found name.at) (λ channel. Means names → Stands (Output channel))
+      go : (found : Option Meaning) → names name.text ≡ found → IfOk (use_as (item_of (Channel directions.Output)) found name.at) (λ channel. Means names → Stands (meanings.Item (Channel directions.Output) channel))
       go None e = tt
-      go (Some (Output channel)) e = λ means. means name.text (Output channel) e
-      go (Some (Input channel)) e = tt
-      go (Some (Exception number)) e = tt
-      go (Some (Procedure number)) e = tt
-      go (Some (Scalar x base)) e = tt
-      go (Some (Array x base size)) e = tt
+      go (Some (meanings.Item (Channel directions.Output) channel)) e = λ means. means name.text (meanings.Item (Channel directions.Output) channel) e
+      go (Some (meanings.Item (Channel directions.Input) channel)) e = tt
+      go (Some (meanings.Item Exception number)) e = tt
+      go (Some (meanings.Item Procedure number)) e = tt
+      go (Some (meanings.Variable x base None)) e = tt
+      go (Some (meanings.Variable x base (Some size))) e = tt
 
   pub exception_found : (names : Environment) (name : NameTree)
-      → IfOk (exception_finding (names name.text) name.at) (λ number. Means names → Stands (Exception number))
-  unfolding exception_finding
+      → IfOk (use_as (item_of Exception) (names name.text) name.at) (λ number. Means names → Stands (meanings.Item Exception number))
+  unfolding use_as
   exception_found names name = go (names name.text) refl
     where
-      go : (found : Option Meaning) → names name.text ≡ found → IfOk (exception_finding found name.at) (λ number. Means names → Stands (Exception number))
+      go : (found : Option Meaning) → names name.text ≡ found → IfOk (use_as (item_of Exception) found name.at) (λ number. Means names → Stands (meanings.Item Exception number))
       go None e = tt
-      go (Some (Exception number)) e = λ means. means name.text (Exception number) e
-      go (Some (Input channel)) e = tt
-      go (Some (Output channel)) e = tt
-      go (Some (Procedure number)) e = tt
-      go (Some (Scalar x base)) e = tt
-      go (Some (Array x base size)) e = tt
+      go (Some (meanings.Item Exception number)) e = λ means. means name.text (meanings.Item Exception number) e
+      go (Some (meanings.Item (Channel direction) channel)) e = tt
+      go (Some (meanings.Item Procedure number)) e = tt
+      go (Some (meanings.Variable x base None)) e = tt
+      go (Some (meanings.Variable x base (Some size))) e = tt
 
   pub procedure_found : (names : Environment) (name : NameTree)
-      → IfOk (procedure_finding (names name.text) name.at) (λ number. Means names → Stands (Procedure number))
-  unfolding procedure_finding
+      → IfOk (use_as (item_of Procedure) (names name.text) name.at) (λ number. Means names → Stands (meanings.Item Procedure number))
+  unfolding use_as
   procedure_found names name = go (names name.text) refl
     where
-      go : (found : Option Meaning) → names name.text ≡ found → IfOk (procedure_finding found name.at) (λ number. Means names → Stands (Procedure number))
+      go : (found : Option Meaning) → names name.text ≡ found → IfOk (use_as (item_of Procedure) found name.at) (λ number. Means names → Stands (meanings.Item Procedure number))
       go None e = tt
-      go (Some (Procedure number)) e = λ means. means name.text (Procedure number) e
-      go (Some (Input channel)) e = tt
-      go (Some (Output channel)) e = tt
-      go (Some (Exception number)) e = tt
-      go (Some (Scalar x base)) e = tt
-      go (Some (Array x base size)) e = tt
+      go (Some (meanings.Item Procedure number)) e = λ means. means name.text (meanings.Item Procedure number) e
+      go (Some (meanings.Item (Channel direction) channel)) e = tt
+      go (Some (meanings.Item Exception number)) e = tt
+      go (Some (meanings.Variable x base None)) e = tt
+      go (Some (meanings.Variable x base (Some size))) e = tt
 
   -- ---- expressions
 
@@ -233,8 +229,10 @@ module _ (program : Program) (procedure : ProcedureEntry) (signatures : List Sig
   combined_nodes binary.ShiftLeft base d e = refl
   combined_nodes binary.ShiftRight base d e = refl
   combined_nodes binary.ShiftRightUnsigned base d e = refl
-  combined_nodes binary.EqualTo base d e = refl
-  combined_nodes binary.NotEqualTo base d e = refl
+  combined_nodes binary.EqualTo Int d e = refl
+  combined_nodes binary.EqualTo Boolean d e = refl
+  combined_nodes binary.NotEqualTo Int d e = refl
+  combined_nodes binary.NotEqualTo Boolean d e = refl
   combined_nodes binary.And base d e = refl
   combined_nodes binary.Or base d e = refl
 
@@ -246,22 +244,22 @@ module _ (program : Program) (procedure : ProcedureEntry) (signatures : List Sig
         record { fits = λ means. le-leb value MAX_INTEGER written.1; few = omega arith }
     expression_keeps (TruthTree at value) written = record { fits = λ means. refl; few = omega arith }
     expression_keeps (VariableTree name) written =
-        then_finds (scalar_finding (names name.text) name.at) _
-        (λ (x : ScalarUse). Means names → variable_type program procedure x.variable ≡ scalar_type x.base) _
+        then_finds (use_as scalar_of (names name.text) name.at) _
+        (λ (x : Variable × Base). Means names → variable_type program procedure x.0 ≡ scalar_type x.1) _
         (scalar_found names name) (λ x stands. record {
-          fits = λ means. scalar_read (variable_type program procedure x.variable) x.base (stands means);
+          fits = λ means. scalar_read (variable_type program procedure x.0) x.1 (stands means);
           few = omega arith;
         })
     expression_keeps (ElementTree array index) written =
-        then_finds (array_finding (names array.text) array.at) _
-        (λ (a : ArrayUse). Means names → variable_type program procedure a.variable ≡ array_type a.base a.size) _
+        then_finds (use_as array_of (names array.text) array.at) _
+        (λ (a : Variable × Base × ℕ). Means names → variable_type program procedure a.0 ≡ array_type a.1 a.2) _
         (array_found names array) (λ a stands.
         then_finds (wanting Int (expression_at index) (expression_finding names index)) _ (IsWellFormedTyped names Int (written_nodes index)) _
         (wanting_keeps names Int (expression_at index) (written_nodes index) (expression_finding names index) (expression_keeps index written.1))
         (λ i kept. record {
           fits =
-              λ means. and_from (array_by (variable_type program procedure a.variable) a.size (same_base a.base)) (has_base program procedure Int i)
-              (element_read (variable_type program procedure a.variable) a.base a.size (stands means)) (kept.fits means);
+              λ means. and_from (array_by (variable_type program procedure a.0) a.2 (same_base a.1)) (has_base program procedure Int i)
+              (element_read (variable_type program procedure a.0) a.1 a.2 (stands means)) (kept.fits means);
           few = omega (arith, kept.few);
         }))
     expression_keeps (UnaryTree at operator operand) written =

@@ -20,11 +20,12 @@ use Rattle.resolved.specs.declared.expression.Variable.{Variable}
 use Rattle.resolved.specs.declared.expression.Variable.TheVariants.{Global, Local}
 use Rattle.resolved.specs.Program.{GlobalEntry, SlotEntry, ThrownEntry}
 use Rattle.resolved.specs.WellFormed.{policy_fits, label_fits, written_fits}
-use Rattle.types.specs.Environment.{variable_finding}
-use Rattle.types.specs.Finding.{Finding, along, put_last}
-use Rattle.types.specs.Labels.{LabelScope, principal_found, principal_finding, readers_finding, policy_finding, global_label, written_found, slot_label, variable_label_finding, named_label_finding, component_finding, next_component, components_finding, label_finding, optional_label_finding}
+use Rattle.types.specs.Environment.{use_as, variable_of}
+use Rattle.types.specs.declared.fault.TypeRefusalKind.TheVariants as refusals
+use Rattle.types.specs.Finding.{Finding, found_or, along, put_last}
+use Rattle.types.specs.Labels.{LabelScope, principal_finding, policy_finding, variable_label_finding, component_finding, next_component, label_finding, optional_label_finding}
 use Rattle.types.specs.Resolution.{joined_all}
-use Rattle.types.proofs.Passing.{then_finds, any_finds}
+use Rattle.types.proofs.Passing.{then_finds, found_finds, any_finds}
 
 -- ---- ascending sets
 
@@ -117,7 +118,8 @@ module _ (h : PrincipalHierarchy) where
   unfolding principal_finding
   principal_there name = go (number_of h name.text) refl
     where
-      go : (found : Option ℕ) → number_of h name.text ≡ found → IfOk (principal_found found name.at) (λ number. (is_there number ≡ true) × (1 ≤ 1))
+      go : (found : Option ℕ) → number_of h name.text ≡ found
+          → IfOk (found_or refusals.UnknownPrincipal name.at found) (λ number. (is_there number ≡ true) × (1 ≤ 1))
       go None e = tt
       go (Some number) e = (lt-ltb number (length h.names) (position-Some (bytes_eq name.text) h.names number [] e).0, omega arith)
 
@@ -126,7 +128,7 @@ module _ (h : PrincipalHierarchy) where
 
   pub policy_there : (owner : NameTree) (readers : List NameTree)
       → IfOk (policy_finding h owner readers) (λ found. (policy_fits h found ≡ true) × (policy_weight found ≤ 2 + length readers))
-  unfolding policy_finding readers_finding
+  unfolding policy_finding
   policy_there owner readers =
       then_finds (principal_finding h owner) _ (λ number. (is_there number ≡ true) × (1 ≤ 1)) _ (principal_there owner) (λ number owner_there.
       then_finds (along (put_last (principal_finding h)) [] readers) _
@@ -169,43 +171,31 @@ module _ (scope : LabelScope) (globals_fit : GlobalsFit scope.hierarchy scope.gl
   abbrev Fits : Label → Type 0
   Fits label = label_fits h label ≡ true
 
-  global_there : (number at : ℕ) → IfOk (global_label (slice_get scope.globals number) at) Fits
-  global_there number at =
-      go (slice_get scope.globals number) (passes_there (λ (entry : GlobalEntry). label_fits h entry.label) scope.globals number globals_fit)
-    where
-      go : (found : Option GlobalEntry) → IfSome found (λ (entry : GlobalEntry). label_fits h entry.label ≡ true) → IfOk (global_label found at) Fits
-      go None fit = tt
-      go (Some entry) fit = fit
-
-  slot_there : (number at : ℕ) → IfOk (slot_label (slice_get scope.slots number) at) Fits
-  slot_there number at =
-      go (slice_get scope.slots number) (passes_there (λ (slot : SlotEntry). written_fits h slot.written) scope.slots number slots_fit)
-    where
-      of_written : (written : Option Label) → written_fits h written ≡ true → IfOk (written_found written at) Fits
-      of_written None fit = tt
-      of_written (Some label) fit = fit
-
-      go : (found : Option SlotEntry) → IfSome found (λ (slot : SlotEntry). written_fits h slot.written ≡ true) → IfOk (slot_label found at) Fits
-      go None fit = tt
-      go (Some slot) fit = of_written slot.written fit
+  of_written : (written : Option Label) → written_fits h written ≡ true → IfSome written Fits
+  of_written None fit = tt
+  of_written (Some label) fit = fit
 
   variable_there : (variable : Variable) (at : ℕ) → IfOk (variable_label_finding scope variable at) Fits
   unfolding variable_label_finding
-  variable_there (Global number) at = global_there number at
-  variable_there (Local number) at = slot_there number at
-
-  named_there : (name : NameTree) → IfOk (named_label_finding scope name) Fits
-  unfolding named_label_finding
-  named_there name =
-      then_finds (variable_finding (scope.names name.text) name.at) _ (λ one. Unit {0}) _ (any_finds (variable_finding (scope.names name.text) name.at))
-      (λ variable nothing. variable_there variable name.at)
+  variable_there (Global number) at =
+      then_finds (found_or refusals.UnknownName at (slice_get scope.globals number)) _ (λ (entry : GlobalEntry). Fits entry.label) Fits
+      (found_finds refusals.UnknownName at (slice_get scope.globals number) (λ (entry : GlobalEntry). Fits entry.label)
+      (passes_there (λ (entry : GlobalEntry). label_fits h entry.label) scope.globals number globals_fit))
+      (λ entry fit. fit)
+  variable_there (Local number) at =
+      then_finds (found_or refusals.UnknownName at (slice_get scope.slots number)) _ (λ (slot : SlotEntry). written_fits h slot.written ≡ true) Fits
+      (found_finds refusals.UnknownName at (slice_get scope.slots number) (λ (slot : SlotEntry). written_fits h slot.written ≡ true)
+      (passes_there (λ (slot : SlotEntry). written_fits h slot.written) scope.slots number slots_fit))
+      (λ slot fit. found_finds refusals.LabelNotWritten at slot.written Fits (of_written slot.written fit))
 
   component_there : (component : ComponentTree) → IfOk (component_finding scope component) Fits
   unfolding component_finding
   component_there (PolicyComponent owner readers) =
       then_finds (policy_finding h owner readers) _ (λ found. (policy_fits h found ≡ true) × (policy_weight h found ≤ 2 + length readers)) Fits
       (policy_there h owner readers) (λ policy there. and_from (policy_fits h policy) true there.0 refl)
-  component_there (VariableComponent name) = named_there name
+  component_there (VariableComponent name) =
+      then_finds (use_as variable_of (scope.names name.text) name.at) _ (λ one. Unit {0}) _ (any_finds (use_as variable_of (scope.names name.text) name.at))
+      (λ variable nothing. variable_there variable name.at)
 
   components_there : (found : List ReaderPolicy) (components : List ComponentTree) → Fits found → IfOk (along (next_component scope) found components) Fits
   components_there found [] fit = fit
@@ -216,7 +206,7 @@ module _ (scope : LabelScope) (globals_fit : GlobalsFit scope.hierarchy scope.gl
       (λ next fit_next. components_there next components fit_next)
 
   pub label_there : (label : LabelTree) → IfOk (label_finding scope label) Fits
-  unfolding label_finding components_finding
+  unfolding label_finding
   label_there label =
       then_finds (along (next_component scope) [] label.components) _ Fits _ (components_there [] label.components refl)
       (λ policies there. set_all (policy_fits h) policy_cmp policies there)

@@ -1,6 +1,6 @@
 -- The procedures that are found fit the program, where their frames have few enough cells.
 use Rattle.std.proofs.Common.{◌≡◌, refl, sym, ◌∙◌, subst, ap, ℕ, ◌+◌, ◌≤◌, List, [], ◌∷◌, ◌++◌, map, length, take, Bool, true, false, append-nil, append_assoc, arith}
-use Rattle.std.specs.Prelude.{IfOk, Option, Some, None, ◌==◌, ◌&&◌, not, nat_le, sum_by}
+use Rattle.std.specs.Prelude.{IfOk, Option, Some, None, ◌==◌, ◌&&◌, not, nat_le, sum_by, unwrap_or}
 use Rattle.std.specs.List.{list_all, list_any}
 use Rattle.std.proofs.lemmas.Bool.{eq-eqb, eqb-true, le-leb, or_parts, or_from, and_from, and_parts, not-true}
 use Rattle.std.proofs.lemmas.List.{length-map, length-append, map_push}
@@ -18,13 +18,14 @@ use Rattle.resolved.specs.Program.{Program, GlobalEntry, ProcedureEntry, SlotEnt
 use Rattle.resolved.specs.Tree.{Block}
 use Rattle.resolved.specs.WellFormed.{is_exception, label_fits, written_fits, result_fits, size_fits, parameter_fits, throws_fit, block_loops, counts_from, procedure_fits, procedure_nodes}
 use Rattle.resolved.proofs.WellFormedParts.{procedure_from_parts}
-use Rattle.types.specs.declared.scope.Meaning.TheVariants.{Exception, Scalar}
+use Rattle.types.specs.declared.scope.ItemKind.TheVariants.{Exception}
+use Rattle.types.specs.declared.scope.Meaning.TheVariants as meanings
 use Rattle.types.specs.Finding.{require, along}
-use Rattle.types.specs.Environment.{Environment, fresh_finding, exception_finding}
+use Rattle.types.specs.Environment.{Environment, fresh_finding, use_as, item_of}
 use Rattle.types.specs.Labels.{LabelScope, label_finding, optional_label_finding}
 use Rattle.types.specs.Expressions.{base_of}
-use Rattle.types.specs.Statements.{Signature, Setting, Point, scalar_slot, block_finding}
-use Rattle.types.specs.Resolution.{TopLevel, heads, setting_within, result_base_of, signature_of, result_finding, next_parameter, parameters_finding, is_thrown, next_thrown, throws_finding, begin_label_of, end_label_of, procedure_entry_finding, frame_cells}
+use Rattle.types.specs.Statements.{Signature, Setting, Point, block_finding, slot_of}
+use Rattle.types.specs.Resolution.{TopLevel, heads, setting_within, result_base_of, signature_of, result_finding, next_parameter, parameters_finding, is_thrown, next_thrown, procedure_entry_finding, frame_cells, joined_all}
 use Rattle.types.proofs.Passing.{then_finds, require_finds, any_finds, finds_for_all}
 use Rattle.types.proofs.WellFormedExpressions.{given_base, slot_base, Signed, Stands, Means, means_declaring, exception_found}
 use Rattle.types.proofs.WellFormedLabels.{GlobalsFit, SlotsFit, label_there, optional_label_there, joined_all_there, all_pushed}
@@ -95,14 +96,14 @@ parameters_begin program procedure setting scope same globals_fit slots_fit name
     (label_there scope globals_fit slots_fit parameter.label) (λ label there.
     then_finds (fresh_finding (point.names parameter.name.text) parameter.name.at) _ (λ one. Unit {0}) _
     (any_finds (fresh_finding (point.names parameter.name.text) parameter.name.at)) (λ one nothing.
-    let slot = scalar_slot parameter.at base (Some label) parameter.name.text in
+    let slot = slot_of parameter.at base (Some label) parameter.name.text None in
     record {
       slots_fit = all_pushed (slot_fits setting) point.slots slot begun.slots_fit (and_from true (label_fits setting.hierarchy label) refl (subst (λ h. label_fits h label ≡ true) same there));
       parameters_fit = all_pushed parameter_fits point.slots slot begun.parameters_fit refl;
       bases_are = map_push slot_base point.slots slot ∙ ap (λ one. one ++ base ∷ []) begun.bases_are;
       no_loops = begun.no_loops;
       means =
-          λ is means. means_declaring program procedure setting.signatures parameter.name.text (Scalar (Local (length point.slots)) base) point.names
+          λ is means. means_declaring program procedure setting.signatures parameter.name.text (meanings.Variable (Local (length point.slots)) base None) point.names
           (local_there program procedure setting point.slots slot is)
           (begun.means (prefix_before program procedure setting point.slots (slot ∷ []) (point.slots ++ slot ∷ []) refl is) means);
     })))
@@ -125,8 +126,8 @@ throws_keep program procedure signatures scope globals_fit slots_fit before node
 throws_keep program procedure signatures scope globals_fit slots_fit before nodes throws (thrown ∷ written) e kept =
     then_finds (next_thrown scope throws thrown) (λ next. along (next_thrown scope) next written)
     (AreWellFormedThrows program procedure signatures scope.hierarchy scope.names (before + tree.thrown_nodes thrown)) _
-    (then_finds (exception_finding (scope.names thrown.name.text) thrown.name.at) _
-    (λ number. Means program procedure signatures scope.names → Stands program procedure signatures (Exception number)) _
+    (then_finds (use_as (item_of Exception) (scope.names thrown.name.text) thrown.name.at) _
+    (λ number. Means program procedure signatures scope.names → Stands program procedure signatures (meanings.Item Exception number)) _
     (exception_found program procedure signatures scope.names thrown.name) (λ exception stands.
     then_finds (require (not (is_thrown throws exception)) _ thrown.name.at) _ (λ one. not (is_thrown throws exception) ≡ true) _
     (require_finds (not (is_thrown throws exception)) _ thrown.name.at) (λ one absent.
@@ -152,13 +153,13 @@ result_there scope globals_fit slots_fit (ResultTree base label) =
     then_finds (label_finding scope label) _ (λ found. label_fits scope.hierarchy found ≡ true) _ (label_there scope globals_fit slots_fit label)
     (λ found there. (there, refl))
 
-begin_there : (h : PrincipalHierarchy) (written : Option Label) → written_fits h written ≡ true → label_fits h (begin_label_of written) ≡ true
+begin_there : (h : PrincipalHierarchy) (written : Option Label) → written_fits h written ≡ true → label_fits h (unwrap_or written []) ≡ true
 begin_there h None e = refl
 begin_there h (Some label) e = e
 
 end_there : (h : PrincipalHierarchy) (written : Option Label) (begin : Label) (throws : List ThrownEntry) → written_fits h written ≡ true
     → label_fits h begin ≡ true → list_all (λ (thrown : ThrownEntry). label_fits h thrown.label) throws ≡ true
-    → label_fits h (end_label_of written begin throws) ≡ true
+    → label_fits h (unwrap_or written (joined_all begin throws)) ≡ true
 end_there h None begin throws e f g = joined_all_there h begin throws f g
 end_there h (Some label) begin throws e f g = e
 
@@ -198,8 +199,8 @@ entry_with written result begin end throws done = record {
   at = written.name.at;
   name = written.name.text;
   result = result;
-  begin_label = begin_label_of begin;
-  end_label = end_label_of end (begin_label_of begin) throws;
+  begin_label = unwrap_or begin [];
+  end_label = unwrap_or end (joined_all (unwrap_or begin []) throws);
   throws = throws;
   parameters = length written.parameters;
   slots = done.0.slots;
@@ -236,7 +237,7 @@ module _ (h : PrincipalHierarchy) (top : TopLevel) (globals : List GlobalEntry) 
       ∙ and_from (list_all (slot_fits setting) point.slots) (list_all (slot_fits setting) kept.more) begun.slots_fit (kept.slots_fit (globals_fit, begun.slots_fit)) in
       let before : IsPrefix world.program entry setting point.slots =
       prefix_before world.program entry setting point.slots kept.more done.0.slots kept.slots whole in
-      let begins : label_fits h (begin_label_of begin) ≡ true = begin_there h begin parts.begin_there in
+      let begins : label_fits h (unwrap_or begin []) ≡ true = begin_there h begin parts.begin_there in
       let loops : done.0.loops ≡ point.loops + length (block_loops done.1) = kept.loops_all in
       let none : point.loops ≡ 0 = begun.no_loops in
       procedure_from_parts world.program entry (record {
@@ -247,10 +248,10 @@ module _ (h : PrincipalHierarchy) (top : TopLevel) (globals : List GlobalEntry) 
             (sym world.hierarchy) all;
         frame_cells = few_cells;
         result_label_fits = subst (λ one. result_fits one result ≡ true) (sym world.hierarchy) parts.result_there.0;
-        begin_label_fits = subst (λ one. label_fits one (begin_label_of begin) ≡ true) (sym world.hierarchy) begins;
+        begin_label_fits = subst (λ one. label_fits one (unwrap_or begin []) ≡ true) (sym world.hierarchy) begins;
         end_label_fits =
-            subst (λ one. label_fits one (end_label_of end (begin_label_of begin) throws) ≡ true) (sym world.hierarchy)
-            (end_there h end (begin_label_of begin) throws parts.end_there begins thrown.labels);
+            subst (λ one. label_fits one (unwrap_or end (joined_all (unwrap_or begin []) throws)) ≡ true) (sym world.hierarchy)
+            (end_there h end (unwrap_or begin []) throws parts.end_there begins thrown.labels);
         throws_are = thrown.fit world.hierarchy (world.means entry);
         body_fits = kept.fits whole (begun.means before (world.means entry));
         loops_count_up = subst (λ n. counts_from n (block_loops done.1) ≡ true) none kept.loops_count;
@@ -295,7 +296,7 @@ some_program h = record { hierarchy = h; channels = []; exceptions = []; globals
 
 pub procedure_keeps : (placed : ℕ → Type 0) (word : List ℕ → Type 0) (h : PrincipalHierarchy) (top : TopLevel) (globals : List GlobalEntry) → GlobalsFit h globals → (written : ProcedureTree)
     → IsWrittenProcedure placed word IsInteger written → IfOk (procedure_entry_finding (heads h top globals) top.signatures written) (IsWellFormedProcedure h top written)
-unfolding procedure_entry_finding parameters_finding throws_finding
+unfolding procedure_entry_finding parameters_finding
 procedure_keeps placed word h top globals globals_fit written is =
     let setting = setting_for h top globals written in
     let scope = heads h top globals in

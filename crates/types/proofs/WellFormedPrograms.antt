@@ -1,6 +1,6 @@
 -- The program that a tree stands for is well formed.
 use Rattle.std.proofs.Common.{◌≡◌, refl, sym, ◌∙◌, subst, ap, ℕ, zero, suc, ◌+◌, ◌<◌, ◌≤◌, List, [], ◌∷◌, ◌++◌, map, length, Bool, true, false, cond, IsTrue, arith}
-use Rattle.std.specs.Prelude.{All, IfOk, IfSome, Option, Some, None, option_map, ◌==◌, ◌&&◌, ◌||◌, is_none, slice_get, slice_index_or, bytes_eq, codes, nat_le, nat_lt, sum_by}
+use Rattle.std.specs.Prelude.{All, IfOk, IfSome, Option, Some, None, option_map, option_and_then, ◌==◌, ◌&&◌, ◌||◌, is_none, slice_get, slice_index_or, bytes_eq, codes, nat_le, nat_lt, sum_by}
 use Rattle.std.specs.List.{list_all}
 use Rattle.std.proofs.lemmas.Bool.{le-leb, leb-true, lt-ltb, and_from, and_parts}
 use Rattle.std.proofs.lemmas.List.{length-append, length-map, map_push}
@@ -13,23 +13,27 @@ use Rattle.labels.specs.Label.{ReaderPolicy, Label}
 use Rattle.common.specs.declared.direction.Direction.{Direction}
 use Rattle.common.specs.declared.direction.Direction.TheVariants as directions
 use Rattle.syntax.specs.Nodes as tree
-use Rattle.syntax.specs.Tree.{ConstantTree, IntegerConstant, TruthConstant, GlobalValueTree, ScalarTree, ArrayTree, GlobalTree, LabelTree, ChannelTree, ItemTree, ChannelItem, ExceptionItem, GlobalItem, ProcedureItem, ProgramTree}
+use Rattle.syntax.specs.Tree.{IntegerConstant, TruthConstant, GlobalValueTree, ScalarTree, ArrayTree, GlobalTree, LabelTree, ChannelTree, ItemTree, ChannelItem, ExceptionItem, GlobalItem, ProcedureItem, ProgramTree}
 use Rattle.syntax.specs.Written.{IsInteger, IsWritten, IsWrittenItem}
 use Rattle.resolved.specs.declared.expression.Base.{Base}
 use Rattle.resolved.specs.declared.expression.Base.TheVariants.{Int, Boolean}
+use Rattle.resolved.specs.declared.expression.Value.{Value}
+use Rattle.resolved.specs.declared.expression.Value.TheVariants.{Number, Truth}
 use Rattle.resolved.specs.declared.expression.Variable.TheVariants.{Global, Local}
 use Rattle.resolved.specs.Program.{Program, ChannelEntry, GlobalEntry, ProcedureEntry}
 use Rattle.resolved.specs.Value.{base_of as base_of_value, zero_value}
 use Rattle.resolved.specs.WellFormed.{same_base, VariableType, global_type, parameters_of, same_direction, channel_is, label_fits, is_zero_value, first_fits, main_fits, cell_count, node_limit, size_fits, label_nodes, procedure_nodes, program_nodes, procedure_fits, well_formed}
 use Rattle.resolved.proofs.WellFormedParts.{program_from_parts}
 use Rattle.types.specs.declared.scope.Meaning.{Meaning}
-use Rattle.types.specs.declared.scope.Meaning.TheVariants.{Input, Output, Exception, Procedure, Scalar, Array}
-use Rattle.types.specs.Finding.{along, give_if}
-use Rattle.types.specs.Environment.{Environment, declaring, fresh_finding}
+use Rattle.types.specs.declared.scope.ItemKind.TheVariants.{Channel, Exception, Procedure}
+use Rattle.types.specs.declared.scope.Meaning.TheVariants as meanings
+use Rattle.types.specs.declared.fault.TypeRefusalKind.TheVariants as refusals
+use Rattle.types.specs.Finding.{along, found_or, give_if, ◌>>=◌}
+use Rattle.types.specs.Environment.{Environment, declaring, fresh_finding, item_of}
 use Rattle.types.specs.Labels.{label_finding}
 use Rattle.types.specs.Expressions.{base_of}
 use Rattle.types.specs.Statements.{Signature, signature_at, size_finding}
-use Rattle.types.specs.Resolution.{TopLevel, nothing_declared, built_in, item_name, channel_meaning, global_meaning, item_meaning, signature_of, counted, next_name, top_finding, heads, channel_finding, constant_value, constant_base, constant_at, FirstValue, first_finding, global_finding, Tables, next_item, no_tables, items_finding, procedure_entry_finding, main_entry_finding, main_finding, global_cells, next_global_cells, global_cells_finding, frame_cells, next_frame, frames_finding, program_with, resolution}
+use Rattle.types.specs.Resolution.{TopLevel, nothing_declared, built_in, item_name, item_meaning, signature_of, counted, next_name, top_finding, heads, channel_finding, first_finding, global_finding, Tables, next_item, no_tables, items_finding, procedure_entry_finding, main_finding, next_global_cells, global_cells_finding, frame_cells, next_frame, frames_finding, program_with, resolution, signed, size_of}
 use Rattle.types.proofs.Passing.{then_finds, if_finds, require_finds, any_finds}
 use Rattle.types.proofs.WellFormedExpressions.{given_base, slot_base, Signed, Stands}
 use Rattle.types.proofs.WellFormedLabels.{GlobalsFit, label_there, all_pushed}
@@ -76,10 +80,6 @@ way_of entry = entry.direction
 abbrev variable_of : GlobalEntry → VariableType
 variable_of entry = record { base = entry.base; size = entry.size }
 
-abbrev size_of : GlobalValueTree → Option ℕ
-size_of (ScalarTree constant) = None
-size_of (ArrayTree size) = Some size.size
-
 abbrev declared_variable : GlobalTree → VariableType
 declared_variable global = record { base = base_of global.base; size = size_of global.value }
 
@@ -104,14 +104,11 @@ abbrev no_items : Shape
 no_items = record { directions = []; exceptions = 3; variables = []; signatures = [] }
 
 abbrev StandsIn : Shape → Meaning → Type 0
-StandsIn shape (Input channel) = slice_get shape.directions channel ≡ Some directions.Input
-StandsIn shape (Output channel) = slice_get shape.directions channel ≡ Some directions.Output
-StandsIn shape (Exception number) = number < shape.exceptions
-StandsIn shape (Procedure number) = number < length shape.signatures
-StandsIn shape (Scalar (Global n) base) = slice_get shape.variables n ≡ Some (record { base = base; size = None })
-StandsIn shape (Scalar (Local n) base) = ⊥
-StandsIn shape (Array (Global n) base size) = slice_get shape.variables n ≡ Some (record { base = base; size = Some size })
-StandsIn shape (Array (Local n) base size) = ⊥
+StandsIn shape (meanings.Item (Channel direction) channel) = slice_get shape.directions channel ≡ Some direction
+StandsIn shape (meanings.Item Exception number) = number < shape.exceptions
+StandsIn shape (meanings.Item Procedure number) = number < length shape.signatures
+StandsIn shape (meanings.Variable (Global n) base size) = slice_get shape.variables n ≡ Some (record { base = base; size = size })
+StandsIn shape (meanings.Variable (Local n) base size) = ⊥
 
 abbrev MeansIn : Shape → Environment → Type 0
 MeansIn shape names = (name : List ℕ) (meaning : Meaning) → names name ≡ Some meaning → StandsIn shape meaning
@@ -127,41 +124,28 @@ means_in_declaring shape name meaning names stands means other found e = go (byt
     go false e = means other found e
 
 stands_further : (shape : Shape) (item : ItemTree) (meaning : Meaning) → StandsIn shape meaning → StandsIn (shape_with shape item) meaning
-stands_further shape (ChannelItem channel) (Input n) e = still_is shape.directions (channel.direction ∷ []) n directions.Input e
-stands_further shape (ChannelItem channel) (Output n) e = still_is shape.directions (channel.direction ∷ []) n directions.Output e
-stands_further shape (ChannelItem channel) (Exception n) e = e
-stands_further shape (ChannelItem channel) (Procedure n) e = e
-stands_further shape (ChannelItem channel) (Scalar (Global n) base) e = e
-stands_further shape (ChannelItem channel) (Scalar (Local n) base) e = e
-stands_further shape (ChannelItem channel) (Array (Global n) base size) e = e
-stands_further shape (ChannelItem channel) (Array (Local n) base size) e = e
-stands_further shape (ExceptionItem at name) (Input n) e = e
-stands_further shape (ExceptionItem at name) (Output n) e = e
-stands_further shape (ExceptionItem at name) (Exception n) e = omega (arith, e)
-stands_further shape (ExceptionItem at name) (Procedure n) e = e
-stands_further shape (ExceptionItem at name) (Scalar (Global n) base) e = e
-stands_further shape (ExceptionItem at name) (Scalar (Local n) base) e = e
-stands_further shape (ExceptionItem at name) (Array (Global n) base size) e = e
-stands_further shape (ExceptionItem at name) (Array (Local n) base size) e = e
-stands_further shape (GlobalItem global) (Input n) e = e
-stands_further shape (GlobalItem global) (Output n) e = e
-stands_further shape (GlobalItem global) (Exception n) e = e
-stands_further shape (GlobalItem global) (Procedure n) e = e
-stands_further shape (GlobalItem global) (Scalar (Global n) base) e =
-    still_is shape.variables (declared_variable global ∷ []) n (record { base = base; size = None }) e
-stands_further shape (GlobalItem global) (Scalar (Local n) base) e = e
-stands_further shape (GlobalItem global) (Array (Global n) base size) e =
-    still_is shape.variables (declared_variable global ∷ []) n (record { base = base; size = Some size }) e
-stands_further shape (GlobalItem global) (Array (Local n) base size) e = e
-stands_further shape (ProcedureItem procedure) (Input n) e = e
-stands_further shape (ProcedureItem procedure) (Output n) e = e
-stands_further shape (ProcedureItem procedure) (Exception n) e = e
-stands_further shape (ProcedureItem procedure) (Procedure n) e =
+stands_further shape (ChannelItem channel) (meanings.Item (Channel direction) n) e = still_is shape.directions (channel.direction ∷ []) n direction e
+stands_further shape (ChannelItem channel) (meanings.Item Exception n) e = e
+stands_further shape (ChannelItem channel) (meanings.Item Procedure n) e = e
+stands_further shape (ChannelItem channel) (meanings.Variable (Global n) base size) e = e
+stands_further shape (ChannelItem channel) (meanings.Variable (Local n) base size) e = e
+stands_further shape (ExceptionItem at name) (meanings.Item (Channel direction) n) e = e
+stands_further shape (ExceptionItem at name) (meanings.Item Exception n) e = omega (arith, e)
+stands_further shape (ExceptionItem at name) (meanings.Item Procedure n) e = e
+stands_further shape (ExceptionItem at name) (meanings.Variable (Global n) base size) e = e
+stands_further shape (ExceptionItem at name) (meanings.Variable (Local n) base size) e = e
+stands_further shape (GlobalItem global) (meanings.Item (Channel direction) n) e = e
+stands_further shape (GlobalItem global) (meanings.Item Exception n) e = e
+stands_further shape (GlobalItem global) (meanings.Item Procedure n) e = e
+stands_further shape (GlobalItem global) (meanings.Variable (Global n) base size) e =
+    still_is shape.variables (declared_variable global ∷ []) n (record { base = base; size = size }) e
+stands_further shape (GlobalItem global) (meanings.Variable (Local n) base size) e = e
+stands_further shape (ProcedureItem procedure) (meanings.Item (Channel direction) n) e = e
+stands_further shape (ProcedureItem procedure) (meanings.Item Exception n) e = e
+stands_further shape (ProcedureItem procedure) (meanings.Item Procedure n) e =
     omega (arith, e, length-append shape.signatures (signature_of procedure ∷ []))
-stands_further shape (ProcedureItem procedure) (Scalar (Global n) base) e = e
-stands_further shape (ProcedureItem procedure) (Scalar (Local n) base) e = e
-stands_further shape (ProcedureItem procedure) (Array (Global n) base size) e = e
-stands_further shape (ProcedureItem procedure) (Array (Local n) base size) e = e
+stands_further shape (ProcedureItem procedure) (meanings.Variable (Global n) base size) e = e
+stands_further shape (ProcedureItem procedure) (meanings.Variable (Local n) base size) e = e
 
 -- ---- the names of the items
 
@@ -173,26 +157,12 @@ record IsWellFormedTop (shape : Shape) (top : TopLevel) : Type 0 where
   pub names : MeansIn shape top.names
 
 new_stands : (shape : Shape) (top : TopLevel) (item : ItemTree) → IsWellFormedTop shape top → StandsIn (shape_with shape item) (item_meaning top item)
-new_stands shape top (ChannelItem channel) kept = go channel.direction
-  where
-    go : (direction : Direction) → StandsIn (record shape { directions = shape.directions ++ direction ∷ [] }) (channel_meaning direction top.channels)
-    go directions.Input =
-        subst (λ n. slice_get (shape.directions ++ directions.Input ∷ []) n ≡ Some directions.Input) (sym kept.channels) (last_is shape.directions directions.Input)
-    go directions.Output =
-        subst (λ n. slice_get (shape.directions ++ directions.Output ∷ []) n ≡ Some directions.Output) (sym kept.channels) (last_is shape.directions directions.Output)
+new_stands shape top (ChannelItem channel) kept =
+    subst (λ n. slice_get (shape.directions ++ channel.direction ∷ []) n ≡ Some channel.direction) (sym kept.channels) (last_is shape.directions channel.direction)
 new_stands shape top (ExceptionItem at name) kept = omega (arith, kept.exceptions)
-new_stands shape top (GlobalItem global) kept = go global.value
-  where
-    base : Base
-    base = base_of global.base
-
-    go : (value : GlobalValueTree) → StandsIn (record shape { variables = shape.variables ++ record { base = base_of global.base; size = size_of value } ∷ [] }) (global_meaning (base_of global.base) top.globals value)
-    go (ScalarTree constant) =
-        let type : VariableType = record { base = base_of global.base; size = None } in
-        subst (λ n. slice_get (shape.variables ++ type ∷ []) n ≡ Some type) (sym kept.globals) (last_is shape.variables type)
-    go (ArrayTree size) =
-        let type : VariableType = record { base = base_of global.base; size = Some size.size } in
-        subst (λ n. slice_get (shape.variables ++ type ∷ []) n ≡ Some type) (sym kept.globals) (last_is shape.variables type)
+new_stands shape top (GlobalItem global) kept =
+    let type = declared_variable global in
+    subst (λ n. slice_get (shape.variables ++ type ∷ []) n ≡ Some type) (sym kept.globals) (last_is shape.variables type)
 new_stands shape top (ProcedureItem procedure) kept =
     let long : length top.signatures ≡ length shape.signatures = ap length kept.signatures in
     omega (arith, long, length-append shape.signatures (signature_of procedure ∷ []))
@@ -250,10 +220,10 @@ built_in_kept = record {
   globals = refl;
   signatures = refl;
   names =
-      means_in_declaring no_items (codes "End") (Exception 2)
-      (declaring (codes "Bounds") (Exception 1) (declaring (codes "Arith") (Exception 0) nothing_declared)) (omega arith)
-      (means_in_declaring no_items (codes "Bounds") (Exception 1) (declaring (codes "Arith") (Exception 0) nothing_declared) (omega arith)
-      (means_in_declaring no_items (codes "Arith") (Exception 0) nothing_declared (omega arith) (λ name meaning e. absurd (cc))));
+      means_in_declaring no_items (codes "End") (meanings.Item Exception 2)
+      (declaring (codes "Bounds") (meanings.Item Exception 1) (declaring (codes "Arith") (meanings.Item Exception 0) nothing_declared)) (omega arith)
+      (means_in_declaring no_items (codes "Bounds") (meanings.Item Exception 1) (declaring (codes "Arith") (meanings.Item Exception 0) nothing_declared) (omega arith)
+      (means_in_declaring no_items (codes "Arith") (meanings.Item Exception 0) nothing_declared (omega arith) (λ name meaning e. absurd (cc))));
 }
 
 -- ---- channels and globals
@@ -284,14 +254,10 @@ channel_there h top globals written known channel =
     (λ label there. (there, refl))
 
 -- the first value is of the type, and that of an array is zero
-abbrev IsWellFormedFirst : Base → GlobalValueTree → FirstValue → Type 0
+abbrev IsWellFormedFirst : Base → GlobalValueTree → Option ℕ × Value → Type 0
 IsWellFormedFirst base value found =
-    (size_fits found.size ≡ true)
-    × ((same_base (base_of_value found.first) base && (is_none found.size || is_zero_value found.first)) ≡ true) × (found.size ≡ size_of value)
-
-constant_of_base : (constant : ConstantTree) (base : Base) → same_base (constant_base constant) base ≡ true → same_base (base_of_value (constant_value constant)) base ≡ true
-constant_of_base (IntegerConstant at negative value) base e = e
-constant_of_base (TruthConstant at value) base e = e
+    (size_fits found.0 ≡ true)
+    × ((same_base (base_of_value found.1) base && (is_none found.0 || is_zero_value found.1)) ≡ true) × (found.0 ≡ size_of value)
 
 zero_fits : (base : Base) → (same_base (base_of_value (zero_value base)) base && is_zero_value (zero_value base)) ≡ true
 zero_fits Int = refl
@@ -299,10 +265,12 @@ zero_fits Boolean = refl
 
 first_there : (base : Base) (value : GlobalValueTree) → IfOk (first_finding base value) (IsWellFormedFirst base value)
 unfolding first_finding size_finding
-first_there base (ScalarTree constant) =
-    if_finds (same_base (constant_base constant) base) (record { size = None; first = constant_value constant }) _ (constant_at constant)
-    (IsWellFormedFirst base (ScalarTree constant)) (λ same.
-    (refl, and_from (same_base (base_of_value (constant_value constant)) base) true (constant_of_base constant base same) refl, refl))
+first_there base (ScalarTree (IntegerConstant at negative value)) =
+    if_finds (same_base Int base) (None, Number (signed negative value)) _ at
+    (IsWellFormedFirst base (ScalarTree (IntegerConstant at negative value))) (λ same. (refl, and_from (same_base Int base) true same refl, refl))
+first_there base (ScalarTree (TruthConstant at value)) =
+    if_finds (same_base Boolean base) (None, Truth value) _ at
+    (IsWellFormedFirst base (ScalarTree (TruthConstant at value))) (λ same. (refl, and_from (same_base Boolean base) true same refl, refl))
 first_there base (ArrayTree size) =
     then_finds (size_finding size) _ (λ long. (size_fits (Some long) ≡ true) × (long ≡ size.size)) _
     (if_finds (nat_lt 0 size.size && nat_le size.size MAX_ELEMENTS) size.size _ size.at (λ long. (size_fits (Some long) ≡ true) × (long ≡ size.size)) (λ fit. (fit, refl)))
@@ -323,8 +291,8 @@ global_there h top globals written known global =
     then_finds (label_finding (heads h top globals) global.label) _ (LabelThere h written global.label) _
     (head_label h top globals written known global.label) (λ label there.
     then_finds (first_finding base global.value) _ (IsWellFormedFirst base global.value) _ (first_there base global.value) (λ value kept. (
-      and_from (size_fits value.size && label_fits h label) (same_base (base_of_value value.first) base && (is_none value.size || is_zero_value value.first))
-          (and_from (size_fits value.size) (label_fits h label) kept.0 there.0) kept.1,
+      and_from (size_fits value.0 && label_fits h label) (same_base (base_of_value value.1) base && (is_none value.0 || is_zero_value value.1))
+          (and_from (size_fits value.0) (label_fits h label) kept.0 there.0) kept.1,
       (λ i. record { base = base; size = kept.2 i }),
       there,
     )))
@@ -513,10 +481,6 @@ variable_cells type = cell_count type.size
 abbrev entry_cells : GlobalEntry → ℕ
 entry_cells entry = cell_count entry.size
 
-cells_of_value : (value : GlobalValueTree) → global_cells value ≡ cell_count (size_of value)
-cells_of_value (ScalarTree constant) = refl
-cells_of_value (ArrayTree size) = refl
-
 mapped_cells : (globals : List GlobalEntry) → sum_by entry_cells globals ≡ sum_by variable_cells (map variable_of globals)
 mapped_cells [] = refl
 mapped_cells (entry ∷ globals) =
@@ -529,12 +493,12 @@ cells_kept shape cells (ChannelItem channel ∷ items) e few = cells_kept (shape
 cells_kept shape cells (ExceptionItem at name ∷ items) e few = cells_kept (shape_with shape (ExceptionItem at name)) cells items e few
 cells_kept shape cells (ProcedureItem procedure ∷ items) e few = cells_kept (shape_with shape (ProcedureItem procedure)) cells items e few
 cells_kept shape cells (GlobalItem global ∷ items) e few =
-    let next = cells + global_cells global.value in
+    let next = cells + cell_count (size_of global.value) in
     then_finds (give_if (nat_le next MAX_CELLS) next _ global.name.at) (λ more. along next_global_cells more items)
     (λ more. (more ≡ sum_by variable_cells (shape_with shape (GlobalItem global)).variables) × (more ≤ MAX_CELLS)) _
     (if_finds (nat_le next MAX_CELLS) next _ global.name.at
     (λ more. (more ≡ sum_by variable_cells (shape_with shape (GlobalItem global)).variables) × (more ≤ MAX_CELLS))
-    (λ within. (omega (arith, e, cells_of_value global.value, sum_by_push variable_cells shape.variables (declared_variable global)), leb-true next MAX_CELLS within)))
+    (λ within. (omega (arith, e, sum_by_push variable_cells shape.variables (declared_variable global)), leb-true next MAX_CELLS within)))
     (λ more parts. cells_kept (shape_with shape (GlobalItem global)) more items parts.0 parts.1)
 
 frames_kept : (one : Unit {0}) (procedures : List ProcedureEntry) → IfOk (along next_frame one procedures) (λ done. list_all frame_fits procedures ≡ true)
@@ -557,20 +521,21 @@ all_fit h top world (procedure ∷ procedures) each frames =
 
 main_found : (found : Option Meaning) (procedures : List ProcedureEntry) → IfOk (main_finding found procedures) (λ main. main_fits (slice_get procedures main) ≡ true)
 unfolding main_finding
-main_found None procedures = tt
-main_found (Some (Procedure number)) procedures = go (slice_get procedures number) refl
+main_found found procedures = go (option_and_then (item_of Procedure) found)
   where
-    go : (entry : Option ProcedureEntry) → slice_get procedures number ≡ entry
-        → IfOk (main_entry_finding number entry) (λ main. main_fits (slice_get procedures main) ≡ true)
-    go None e = tt
-    go (Some procedure) e =
+    at_entry : (number : ℕ) (entry : Option ProcedureEntry) → slice_get procedures number ≡ entry
+        → IfOk (found_or refusals.NoProperMain 0 entry >>= λ procedure. give_if (procedure.parameters == 0 && is_none procedure.result) number refusals.NoProperMain procedure.at)
+        (λ main. main_fits (slice_get procedures main) ≡ true)
+    at_entry number None e = tt
+    at_entry number (Some procedure) e =
         if_finds (procedure.parameters == 0 && is_none procedure.result) number _ procedure.at (λ main. main_fits (slice_get procedures main) ≡ true)
         (λ plain. subst (λ one. main_fits one ≡ true) (sym e) plain)
-main_found (Some (Input n)) procedures = tt
-main_found (Some (Output n)) procedures = tt
-main_found (Some (Exception n)) procedures = tt
-main_found (Some (Scalar variable base)) procedures = tt
-main_found (Some (Array variable base size)) procedures = tt
+
+    go : (number : Option ℕ)
+        → IfOk (found_or refusals.NoProperMain 0 number >>= λ number. found_or refusals.NoProperMain 0 (slice_get procedures number) >>= λ procedure. give_if (procedure.parameters == 0 && is_none procedure.result) number refusals.NoProperMain procedure.at)
+        (λ main. main_fits (slice_get procedures main) ≡ true)
+    go None = tt
+    go (Some number) = at_entry number (slice_get procedures number) refl
 
 -- ---- what the names of the items mean in the program
 
@@ -602,10 +567,9 @@ module _ (h : PrincipalHierarchy) (top : TopLevel) (shape : Shape) (nodes : ℕ)
       type_there (slice_get tables.globals n) ∙ sym (slice_get-map variable_of tables.globals n) ∙ ap (λ one. slice_get one n) kept.variables ∙ e
 
   stands_there : (procedure : ProcedureEntry) (meaning : Meaning) → StandsIn shape meaning → Stands program procedure top.signatures meaning
-  stands_there procedure (Input n) e = way_at n directions.Input e
-  stands_there procedure (Output n) e = way_at n directions.Output e
-  stands_there procedure (Exception n) e = lt-ltb n (3 + length tables.exceptions) (omega (arith, e, kept.exceptions))
-  stands_there procedure (Procedure n) e =
+  stands_there procedure (meanings.Item (Channel direction) n) e = way_at n direction e
+  stands_there procedure (meanings.Item Exception n) e = lt-ltb n (3 + length tables.exceptions) (omega (arith, e, kept.exceptions))
+  stands_there procedure (meanings.Item Procedure n) e =
       let long : length (map signature_from tables.procedures) ≡ length shape.signatures = ap length kept.signatures in
       let (callee, found) = there_at tables.procedures n (omega (arith, e, long, length-map tables.procedures signature_from)) in
       let none : Signature = record { parameters = []; result = None } in
@@ -618,10 +582,8 @@ module _ (h : PrincipalHierarchy) (top : TopLevel) (shape : Shape) (nodes : ℕ)
           value = sym (ap (λ (one : Signature). one.result) same);
         },
       )
-  stands_there procedure (Scalar (Global n) base) e = type_at n (record { base = base; size = None }) e
-  stands_there procedure (Scalar (Local n) base) e = absurd e
-  stands_there procedure (Array (Global n) base size) e = type_at n (record { base = base; size = Some size }) e
-  stands_there procedure (Array (Local n) base size) e = absurd e
+  stands_there procedure (meanings.Variable (Global n) base size) e = type_at n (record { base = base; size = size }) e
+  stands_there procedure (meanings.Variable (Local n) base size) e = absurd e
 
   world : World h top
   world = record {

@@ -20,15 +20,16 @@ use Rattle.resolved.specs.declared.expression.Variable.TheVariants.{Local}
 use Rattle.common.specs.declared.direction.Direction.TheVariants as directions
 use Rattle.resolved.specs.declared.statement.Exit.TheVariants as exits
 use Rattle.resolved.specs.Program.{Program, ProcedureEntry, SlotEntry, ResultEntry}
-use Rattle.resolved.specs.Tree.{Expression, Statement, Call, If, While, Leave, ReturnWith, Try, Nested, Block, Empty, Handlers, Catch}
+use Rattle.resolved.specs.Tree.{Expression, Statement, Store, Receive, Send, Call, If, While, Leave, ReturnWith, Try, Nested, Block, Empty, Handlers, Catch}
 use Rattle.resolved.specs.WellFormed.{same_base, slot_type, variable_type, scalar_by, array_by, has_base, has_result, target_by, channel_is, is_exception, is_array, arguments_match, call_matches, parameters_of, statement_fits, block_fits, handlers_fit, statement_loops, block_loops, handlers_loops, counts_from, size_fits, written_fits, expression_nodes, statement_nodes, block_nodes, handlers_nodes}
 use Rattle.resolved.proofs.Sound.Values.{same_base_is, same_base_itself}
-use Rattle.types.specs.declared.scope.Meaning.TheVariants.{Input, Output, Exception, Procedure, Scalar, Array}
-use Rattle.types.specs.Finding.{Finding, require, along}
-use Rattle.types.specs.Environment.{Environment, ScalarUse, ArrayUse, fresh_finding, scalar_finding, array_finding, input_finding, output_finding, exception_finding, procedure_finding}
+use Rattle.types.specs.declared.scope.ItemKind.TheVariants.{Channel, Exception, Procedure}
+use Rattle.types.specs.declared.scope.Meaning.TheVariants as meanings
+use Rattle.types.specs.Finding.{require, along}
+use Rattle.types.specs.Environment.{Environment, fresh_finding, use_as, scalar_of, array_of, item_of}
 use Rattle.types.specs.Labels.{optional_label_finding}
 use Rattle.types.specs.Expressions.{Typed, base_of, expression_finding, typed_finding}
-use Rattle.types.specs.Statements.{Setting, Point, label_scope, signature_at, next_argument, arguments_finding, CallUse, applied_finding, call_finding, gives_base, assigned_finding, scalar_slot, array_slot, declare_finding, size_finding, declare_array_finding, assign_finding, store_finding, call_statement_finding, receive_finding, send_finding, throw_finding, returned_finding, return_finding, staying, in_loop, after_block, statement_finding, block_finding, statements_finding, catches_finding}
+use Rattle.types.specs.Statements.{Setting, Point, label_scope, signature_at, next_argument, CallUse, call_finding, gives_base, assigned_finding, declare_finding, size_finding, declare_array_finding, returned_finding, return_finding, in_loop, after_block, statement_finding, block_finding, statements_finding, catches_finding, slot_of, arguments_finding}
 use Rattle.types.proofs.Passing.{then_finds, if_finds, require_finds, any_finds, finds_for_all}
 use Rattle.types.proofs.WellFormedExpressions.{given_base, slot_base, scalar_type, array_type, Stands, Means, means_declaring, scalar_found, array_found, input_found, output_found, exception_found, procedure_found, IsWellFormedTyped, IsWellFormedExpression, expression_keeps, typed_keeps}
 use Rattle.types.proofs.WellFormedLabels.{GlobalsFit, SlotsFit, optional_label_there}
@@ -264,10 +265,10 @@ module _ (program : Program) (procedure : ProcedureEntry) (setting : Setting) wh
 
     call_keeps : (names : Environment) (call : CallTree) → IsWrittenCall placed word IsInteger call
         → IfOk (call_finding setting.signatures names call) (IsWellFormedCall names (tree.call_nodes call))
-    unfolding call_finding applied_finding arguments_finding
+    unfolding call_finding arguments_finding
     call_keeps names call written =
-        then_finds (procedure_finding (names call.procedure.text) call.procedure.at) _
-        (λ number. MeansHere names → Stands program procedure setting.signatures (Procedure number)) _
+        then_finds (use_as (item_of Procedure) (names call.procedure.text) call.procedure.at) _
+        (λ number. MeansHere names → Stands program procedure setting.signatures (meanings.Item Procedure number)) _
         (procedure_found program procedure setting.signatures names call.procedure) (λ number stands.
         let signature = signature_at setting.signatures number in
         then_finds (require (length signature.parameters == length call.arguments) _ call.procedure.at) _
@@ -331,8 +332,8 @@ module _ (program : Program) (procedure : ProcedureEntry) (setting : Setting) wh
     unfolding assigned_finding
     assigned_keeps names at target base (ReceivedTree receive_at channel) written =
         then_finds (require (same_base Int base) _ receive_at) _ (λ one. same_base Int base ≡ true) _ (require_finds (same_base Int base) _ receive_at) (λ one same.
-        then_finds (input_finding (names channel.text) channel.at) _
-        (λ number. MeansHere names → Stands program procedure setting.signatures (Input number)) _
+        then_finds (use_as (item_of (Channel directions.Input)) (names channel.text) channel.at) _
+        (λ number. MeansHere names → Stands program procedure setting.signatures (meanings.Item (Channel directions.Input) number)) _
         (input_found program procedure setting.signatures names channel) (λ number stands. record {
           fits =
               λ means e. and_from (channel_is (slice_get program.channels number) directions.Input)
@@ -358,85 +359,107 @@ module _ (program : Program) (procedure : ProcedureEntry) (setting : Setting) wh
           few = omega (arith, kept.few);
         })
 
-    assign_keeps : (names : Environment) (target : NameTree) (right : RightTree) → IsWrittenRight placed word IsInteger right
-        → IfOk (assign_finding setting.signatures names target right) (IsWellFormedPlain names (2 + tree.right_nodes right))
-    unfolding assign_finding
-    assign_keeps names target right written =
-        then_finds (scalar_finding (names target.text) target.at) _
-        (λ (x : ScalarUse). MeansHere names → variable_type program procedure x.variable ≡ scalar_type x.base) _
-        (scalar_found program procedure setting.signatures names target) (λ x stands.
-        IfOk-weaker (assigned_finding setting.signatures names target.at x.variable x.base right)
-        (IsWellFormedAssigned names x.variable x.base (1 + tree.right_nodes right)) (IsWellFormedPlain names (2 + tree.right_nodes right))
-        (λ statement kept. record {
+    plain_keeps : (point : Point) (nodes : ℕ) (statement : Statement) → IsWellFormedPlain point.names nodes statement → IsWellFormedStatement point nodes (point, statement)
+    plain_keeps point nodes statement kept = record {
+      more = [];
+      slots = sym (append-nil point.slots);
+      slots_fit = λ before. refl;
+      loops_count = subst (λ loops. counts_from point.loops loops ≡ true) (sym kept.no_loops) refl;
+      loops_all =
+          let none : length (statement_loops statement) ≡ 0 = ap length kept.no_loops in
+          omega (arith, none);
+      few = omega (arith, kept.few);
+      fits = λ is means. kept.fits means;
+      names = λ is means. means;
+    }
+
+    assign_keeps : (point : Point) (target : NameTree) (right : RightTree) → IsWrittenRight placed word IsInteger right
+        → IfOk (statement_finding setting point (AssignTree target right)) (IsWellFormedStatement point (2 + tree.right_nodes right))
+    unfolding statement_finding
+    assign_keeps point target right written =
+        then_finds (use_as scalar_of (point.names target.text) target.at) _
+        (λ (x : Variable × Base). MeansHere point.names → variable_type program procedure x.0 ≡ scalar_type x.1) _
+        (scalar_found program procedure setting.signatures point.names target) (λ x stands.
+        then_finds (assigned_finding setting.signatures point.names target.at x.0 x.1 right) _
+        (IsWellFormedAssigned point.names x.0 x.1 (1 + tree.right_nodes right)) _
+        (assigned_keeps point.names target.at x.0 x.1 right written) (λ statement kept.
+        plain_keeps point (2 + tree.right_nodes right) statement (record {
           fits = λ means. kept.fits means (stands means);
           no_loops = kept.no_loops;
           few = omega (arith, kept.few);
-        })
-        (assigned_keeps names target.at x.variable x.base right written))
-
-    store_keeps : (names : Environment) (array : NameTree) (index right : ExpressionTree) → IsWrittenExpression placed word IsInteger index
-        → IsWrittenExpression placed word IsInteger right
-        → IfOk (store_finding names array index right) (IsWellFormedPlain names (2 + (tree.expression_nodes index + tree.expression_nodes right)))
-    unfolding store_finding
-    store_keeps names array index right index_written right_written =
-        then_finds (array_finding (names array.text) array.at) _
-        (λ (a : ArrayUse). MeansHere names → variable_type program procedure a.variable ≡ array_type a.base a.size) _
-        (array_found program procedure setting.signatures names array) (λ a stands.
-        then_finds (typed_finding names Int index) _ (HasBase names Int (tree.expression_nodes index)) _
-        (typed_keeps program procedure setting.signatures placed word names Int index index_written) (λ i kept_i.
-        then_finds (typed_finding names a.base right) _ (HasBase names a.base (tree.expression_nodes right)) _
-        (typed_keeps program procedure setting.signatures placed word names a.base right right_written) (λ e kept_e. record {
-          fits =
-              λ means. and_from (array_by (variable_type program procedure a.variable) a.size (λ base. has_base program procedure base e)) (has_base program procedure Int i)
-              (array_passes a.variable a.base a.size (λ base. has_base program procedure base e) (stands means) (kept_e.fits means)) (kept_i.fits means);
-          no_loops = refl;
-          few = omega (arith, kept_i.few, kept_e.few);
         })))
 
-    call_statement_keeps : (names : Environment) (call : CallTree) → IsWrittenCall placed word IsInteger call
-        → IfOk (call_statement_finding setting.signatures names call) (IsWellFormedPlain names (1 + tree.call_nodes call))
-    unfolding call_statement_finding
-    call_statement_keeps names call written =
-        then_finds (call_finding setting.signatures names call) _ (IsWellFormedCall names (tree.call_nodes call)) _ (call_keeps names call written) (λ made kept. record {
+    store_keeps : (point : Point) (array : NameTree) (index right : ExpressionTree) → IsWrittenExpression placed word IsInteger index
+        → IsWrittenExpression placed word IsInteger right
+        → IfOk (statement_finding setting point (AssignElementTree array index right))
+        (IsWellFormedStatement point (2 + (tree.expression_nodes index + tree.expression_nodes right)))
+    unfolding statement_finding
+    store_keeps point array index right index_written right_written =
+        then_finds (use_as array_of (point.names array.text) array.at) _
+        (λ (a : Variable × Base × ℕ). MeansHere point.names → variable_type program procedure a.0 ≡ array_type a.1 a.2) _
+        (array_found program procedure setting.signatures point.names array) (λ a stands.
+        then_finds (typed_finding point.names Int index) _ (HasBase point.names Int (tree.expression_nodes index)) _
+        (typed_keeps program procedure setting.signatures placed word point.names Int index index_written) (λ i kept_i.
+        then_finds (typed_finding point.names a.1 right) _ (HasBase point.names a.1 (tree.expression_nodes right)) _
+        (typed_keeps program procedure setting.signatures placed word point.names a.1 right right_written) (λ e kept_e.
+        plain_keeps point (2 + (tree.expression_nodes index + tree.expression_nodes right)) (Store array.at a.0 a.2 i e) (record {
+          fits =
+              λ means. and_from (array_by (variable_type program procedure a.0) a.2 (λ base. has_base program procedure base e)) (has_base program procedure Int i)
+              (array_passes a.0 a.1 a.2 (λ base. has_base program procedure base e) (stands means) (kept_e.fits means)) (kept_i.fits means);
+          no_loops = refl;
+          few = omega (arith, kept_i.few, kept_e.few);
+        }))))
+
+    call_statement_keeps : (point : Point) (call : CallTree) → IsWrittenCall placed word IsInteger call
+        → IfOk (statement_finding setting point (CallTree' call)) (IsWellFormedStatement point (1 + tree.call_nodes call))
+    unfolding statement_finding
+    call_statement_keeps point call written =
+        then_finds (call_finding setting.signatures point.names call) _ (IsWellFormedCall point.names (tree.call_nodes call)) _
+        (call_keeps point.names call written) (λ made kept.
+        plain_keeps point (1 + tree.call_nodes call) (Call call.procedure.at made.procedure made.arguments None) (record {
           fits = λ means. call_passes made None (kept.there means) (λ callee same. refl);
           no_loops = refl;
           few = omega (arith, kept.few);
-        })
+        }))
 
-    receive_keeps : (names : Environment) (at : ℕ) (channel : NameTree) → IfOk (receive_finding names at channel) (IsWellFormedPlain names 2)
-    unfolding receive_finding
-    receive_keeps names at channel =
-        then_finds (input_finding (names channel.text) channel.at) _
-        (λ number. MeansHere names → Stands program procedure setting.signatures (Input number)) _
-        (input_found program procedure setting.signatures names channel) (λ number stands. record {
+    receive_keeps : (point : Point) (at : ℕ) (channel : NameTree)
+        → IfOk (statement_finding setting point (ReceiveTree at channel)) (IsWellFormedStatement point 2)
+    unfolding statement_finding
+    receive_keeps point at channel =
+        then_finds (use_as (item_of (Channel directions.Input)) (point.names channel.text) channel.at) _
+        (λ number. MeansHere point.names → Stands program procedure setting.signatures (meanings.Item (Channel directions.Input) number)) _
+        (input_found program procedure setting.signatures point.names channel) (λ number stands.
+        plain_keeps point 2 (Receive at number None) (record {
           fits = λ means. and_from (channel_is (slice_get program.channels number) directions.Input) true (stands means) refl;
           no_loops = refl;
           few = omega arith;
-        })
+        }))
 
-    send_keeps : (names : Environment) (at : ℕ) (channel : NameTree) (right : ExpressionTree) → IsWrittenExpression placed word IsInteger right
-        → IfOk (send_finding names at channel right) (IsWellFormedPlain names (2 + tree.expression_nodes right))
-    unfolding send_finding
-    send_keeps names at channel right written =
-        then_finds (output_finding (names channel.text) channel.at) _
-        (λ number. MeansHere names → Stands program procedure setting.signatures (Output number)) _
-        (output_found program procedure setting.signatures names channel) (λ number stands.
-        then_finds (typed_finding names Int right) _ (HasBase names Int (tree.expression_nodes right)) _
-        (typed_keeps program procedure setting.signatures placed word names Int right written) (λ e kept. record {
+    send_keeps : (point : Point) (at : ℕ) (channel : NameTree) (right : ExpressionTree) → IsWrittenExpression placed word IsInteger right
+        → IfOk (statement_finding setting point (SendTree at channel right)) (IsWellFormedStatement point (2 + tree.expression_nodes right))
+    unfolding statement_finding
+    send_keeps point at channel right written =
+        then_finds (use_as (item_of (Channel directions.Output)) (point.names channel.text) channel.at) _
+        (λ number. MeansHere point.names → Stands program procedure setting.signatures (meanings.Item (Channel directions.Output) number)) _
+        (output_found program procedure setting.signatures point.names channel) (λ number stands.
+        then_finds (typed_finding point.names Int right) _ (HasBase point.names Int (tree.expression_nodes right)) _
+        (typed_keeps program procedure setting.signatures placed word point.names Int right written) (λ e kept.
+        plain_keeps point (2 + tree.expression_nodes right) (Send at number e) (record {
           fits =
               λ means. and_from (channel_is (slice_get program.channels number) directions.Output) (has_base program procedure Int e)
               (stands means) (kept.fits means);
           no_loops = refl;
           few = omega (arith, kept.few);
-        }))
+        })))
 
-    throw_keeps : (names : Environment) (at : ℕ) (exception : NameTree) → IfOk (throw_finding names at exception) (IsWellFormedPlain names 2)
-    unfolding throw_finding
-    throw_keeps names at exception =
-        then_finds (exception_finding (names exception.text) exception.at) _
-        (λ number. MeansHere names → Stands program procedure setting.signatures (Exception number)) _
-        (exception_found program procedure setting.signatures names exception)
-        (λ number stands. record { fits = stands; no_loops = refl; few = omega arith })
+    throw_keeps : (point : Point) (at : ℕ) (exception : NameTree)
+        → IfOk (statement_finding setting point (ThrowTree at exception)) (IsWellFormedStatement point 2)
+    unfolding statement_finding
+    throw_keeps point at exception =
+        then_finds (use_as (item_of Exception) (point.names exception.text) exception.at) _
+        (λ number. MeansHere point.names → Stands program procedure setting.signatures (meanings.Item Exception number)) _
+        (exception_found program procedure setting.signatures point.names exception) (λ number stands.
+        plain_keeps point 2 (Leave at (exits.Throw number)) (record { fits = stands; no_loops = refl; few = omega arith }))
 
     module _ (value : given_base procedure.result ≡ setting.result) where
       no_value : (entry : Option ResultEntry) → is_none (given_base entry) ≡ true → is_none entry ≡ true
@@ -479,25 +502,6 @@ module _ (program : Program) (procedure : ProcedureEntry) (setting : Setting) wh
 
       -- ---- declarations
 
-      plain_keeps : (point : Point) (nodes : ℕ) (statement : Statement) → IsWellFormedPlain point.names nodes statement → IsWellFormedStatement point nodes (point, statement)
-      plain_keeps point nodes statement kept = record {
-        more = [];
-        slots = sym (append-nil point.slots);
-        slots_fit = λ before. refl;
-        loops_count = subst (λ loops. counts_from point.loops loops ≡ true) (sym kept.no_loops) refl;
-        loops_all =
-            let none : length (statement_loops statement) ≡ 0 = ap length kept.no_loops in
-            omega (arith, none);
-        few = omega (arith, kept.few);
-        fits = λ is means. kept.fits means;
-        names = λ is means. means;
-      }
-
-      staying_keeps : (point : Point) (nodes : ℕ) (looked : Finding Statement) → IfOk looked (IsWellFormedPlain point.names nodes)
-          → IfOk (staying point looked) (IsWellFormedStatement point nodes)
-      staying_keeps point nodes looked h =
-          then_finds looked _ (IsWellFormedPlain point.names nodes) _ h (λ statement kept. plain_keeps point nodes statement kept)
-
       local_label_there : (point : Point) (label : Option LabelTree)
           → IfOk (optional_label_finding (label_scope setting point) label) (λ found. FitBefore point → written_fits setting.hierarchy found ≡ true)
       local_label_there point label =
@@ -514,7 +518,7 @@ module _ (program : Program) (procedure : ProcedureEntry) (setting : Setting) wh
           then_finds (fresh_finding (point.names name.text) name.at) _ (λ one. Unit {0}) _ (any_finds (fresh_finding (point.names name.text) name.at)) (λ one nothing.
           then_finds (assigned_finding setting.signatures point.names at target base right) _ (IsWellFormedAssigned point.names target base (1 + tree.right_nodes right)) _
           (assigned_keeps point.names at target base right written_right) (λ statement kept.
-          let slot = scalar_slot at base written name.text in
+          let slot = slot_of at base written name.text None in
           record {
             more = slot ∷ [];
             slots = refl;
@@ -526,7 +530,7 @@ module _ (program : Program) (procedure : ProcedureEntry) (setting : Setting) wh
             few = omega (arith, kept.few);
             fits = λ is means. kept.fits means (local_there point.slots slot is);
             names =
-                λ is means. means_declaring program procedure setting.signatures name.text (Scalar target base) point.names
+                λ is means. means_declaring program procedure setting.signatures name.text (meanings.Variable target base None) point.names
                 (local_there point.slots slot is) means;
           })))
 
@@ -540,7 +544,7 @@ module _ (program : Program) (procedure : ProcedureEntry) (setting : Setting) wh
           then_finds (fresh_finding (point.names name.text) name.at) _ (λ one. Unit {0}) _ (any_finds (fresh_finding (point.names name.text) name.at)) (λ one nothing.
           then_finds (size_finding size) _ (λ length_of. size_fits (Some length_of) ≡ true) _
           (if_finds (nat_lt 0 size.size && nat_le size.size MAX_ELEMENTS) size.size _ size.at _ (λ fit. fit)) (λ length_of fit.
-          let slot = array_slot at base written name.text length_of in
+          let slot = slot_of at base written name.text (Some length_of) in
           record {
             more = slot ∷ [];
             slots = refl;
@@ -551,7 +555,7 @@ module _ (program : Program) (procedure : ProcedureEntry) (setting : Setting) wh
             few = omega arith;
             fits = λ is means. subst (λ one. is_array one ≡ true) (sym (local_there point.slots slot is)) refl;
             names =
-                λ is means. means_declaring program procedure setting.signatures name.text (Array target base length_of) point.names
+                λ is means. means_declaring program procedure setting.signatures name.text (meanings.Variable target base (Some length_of)) point.names
                 (local_there point.slots slot is) means;
           })))
 
@@ -625,19 +629,11 @@ module _ (program : Program) (procedure : ProcedureEntry) (setting : Setting) wh
             → IfOk (statement_finding setting point written) (IsWellFormedStatement point (tree.statement_nodes written))
         statement_keeps point (DeclareTree at base label name right) is = declare_keeps point at (base_of base) label name right is.3
         statement_keeps point (DeclareArrayTree at base label name size) is = declare_array_keeps point at (base_of base) label name size
-        statement_keeps point (AssignTree target right) is =
-            staying_keeps point (2 + tree.right_nodes right) (assign_finding setting.signatures point.names target right)
-            (assign_keeps point.names target right is.1)
-        statement_keeps point (AssignElementTree array index right) is =
-            staying_keeps point (2 + (tree.expression_nodes index + tree.expression_nodes right)) (store_finding point.names array index right)
-            (store_keeps point.names array index right is.1 is.2)
-        statement_keeps point (CallTree' call) is =
-            staying_keeps point (1 + tree.call_nodes call) (call_statement_finding setting.signatures point.names call)
-            (call_statement_keeps point.names call is)
-        statement_keeps point (ReceiveTree at channel) is =
-            staying_keeps point 2 (receive_finding point.names at channel) (receive_keeps point.names at channel)
-        statement_keeps point (SendTree at channel right) is =
-            staying_keeps point (2 + tree.expression_nodes right) (send_finding point.names at channel right) (send_keeps point.names at channel right is.2)
+        statement_keeps point (AssignTree target right) is = assign_keeps point target right is.1
+        statement_keeps point (AssignElementTree array index right) is = store_keeps point array index right is.1 is.2
+        statement_keeps point (CallTree' call) is = call_statement_keeps point call is
+        statement_keeps point (ReceiveTree at channel) is = receive_keeps point at channel
+        statement_keeps point (SendTree at channel right) is = send_keeps point at channel right is.2
         statement_keeps point (IfTree at condition body) is =
             then_finds (typed_finding point.names Boolean condition) _ (HasBase point.names Boolean (tree.expression_nodes condition)) _
             (typed_keeps program procedure setting.signatures placed word point.names Boolean condition is.1) (λ e kept_e.
@@ -657,11 +653,10 @@ module _ (program : Program) (procedure : ProcedureEntry) (setting : Setting) wh
             (λ done kept. while_keeps point at (tree.block_nodes body) e (tree.expression_nodes condition) kept_e done kept))
         statement_keeps point (BreakTree at) is = plain_keeps point 1 (Leave at exits.Break) (record { fits = λ means. refl; no_loops = refl; few = omega arith })
         statement_keeps point (ContinueTree at) is = plain_keeps point 1 (Leave at exits.Continue) (record { fits = λ means. refl; no_loops = refl; few = omega arith })
-        statement_keeps point (ThrowTree at exception) is =
-            staying_keeps point 2 (throw_finding point.names at exception) (throw_keeps point.names at exception)
+        statement_keeps point (ThrowTree at exception) is = throw_keeps point at exception
         statement_keeps point (ReturnTree at right) is =
-            staying_keeps point (1 + tree.optional_expression_nodes right) (return_finding setting.result point.names at right)
-            (return_keeps point.names at right is.1)
+            then_finds (return_finding setting.result point.names at right) _ (IsWellFormedPlain point.names (1 + tree.optional_expression_nodes right)) _
+            (return_keeps point.names at right is.1) (λ statement kept. plain_keeps point (1 + tree.optional_expression_nodes right) statement kept)
         statement_keeps point (TryTree at body catches) is =
             then_finds (block_finding setting point body) _ (IsWellFormedBlock point (tree.block_nodes body)) _ (block_keeps point body is.1) (λ done kept.
             then_finds (catches_finding setting done.0 catches) _ (AreWellFormedHandlers done.0 (tree.catches_nodes catches)) _ (catches_keep done.0 catches is.2)
@@ -690,8 +685,8 @@ module _ (program : Program) (procedure : ProcedureEntry) (setting : Setting) wh
             → IfOk (catches_finding setting point written) (AreWellFormedHandlers point (tree.catches_nodes written))
         catches_keep point NoCatch is = nothing_keeps point
         catches_keep point (CatchThen at exception body rest) is =
-            then_finds (exception_finding (point.names exception.text) exception.at) _
-            (λ number. MeansHere point.names → Stands program procedure setting.signatures (Exception number)) _
+            then_finds (use_as (item_of Exception) (point.names exception.text) exception.at) _
+            (λ number. MeansHere point.names → Stands program procedure setting.signatures (meanings.Item Exception number)) _
             (exception_found program procedure setting.signatures point.names exception) (λ number there.
             then_finds (block_finding setting point body) _ (IsWellFormedBlock point (tree.block_nodes body)) _ (block_keeps point body is.2) (λ done kept.
             then_finds (catches_finding setting done.0 rest) _ (AreWellFormedHandlers done.0 (tree.catches_nodes rest)) _ (catches_keep done.0 rest is.3)

@@ -5,9 +5,11 @@ use Rattle.std.specs.Prelude.{ℕ, List, Option, Some, None, bytes_eq, if◌then
 use Rattle.resolved.specs.declared.expression.Base.{Base}
 use Rattle.resolved.specs.declared.expression.Variable.{Variable}
 use Rattle.types.specs.declared.fault.TypeRefusalKind.TheVariants as refusals
+use Rattle.types.specs.declared.scope.ItemKind.{ItemKind}
+use Rattle.types.specs.contracts.scope.ItemKindPartialEq.TheImpl.{eq-value}
 use Rattle.types.specs.declared.scope.Meaning.{Meaning}
-use Rattle.types.specs.declared.scope.Meaning.TheVariants.{Input, Output, Exception, Procedure, Scalar, Array}
-use Rattle.types.specs.Finding.{Finding, give, refuse}
+use Rattle.types.specs.declared.scope.Meaning.TheVariants as meanings
+use Rattle.types.specs.Finding.{Finding, give, refuse, found_or}
 
 -- what each name stands for, if it is in scope
 abbrev pub Environment : Type 0
@@ -17,58 +19,36 @@ Environment = List ℕ → Option Meaning
 abbrev pub declaring : List ℕ → Meaning → Environment → Environment
 declaring name meaning names other = if bytes_eq name other then Some meaning else names other
 
--- ---- uses: 301 where a name is not in scope, 403 where it stands for something else than its place wants
+-- ---- uses
 
 -- a declaration: nothing of that name is in scope yet (302)
 unfoldable pub fresh_finding : Option Meaning → (at : ℕ) → Finding (Unit {0})
 fresh_finding None at = give tt
 fresh_finding (Some meaning) at = refuse refusals.DeclaredTwice at
 
--- a scalar variable, with the type of its values
-pub record ScalarUse : Type 0 where
-  pub variable : Variable
-  pub base : Base
+-- a name at a place that wants something of what it stands for: 301 where it is not in scope, 403 where it stands for something else
+unfoldable pub use_as : {A : Type 0} → (Meaning → Option A) → Option Meaning → (at : ℕ) → Finding A
+use_as wanted None at = refuse refusals.UnknownName at
+use_as wanted (Some meaning) at = found_or refusals.WrongUse at (wanted meaning)
 
-unfoldable pub scalar_finding : Option Meaning → (at : ℕ) → Finding ScalarUse
-scalar_finding None at = refuse refusals.UnknownName at
-scalar_finding (Some (Scalar variable base)) at = give (record { variable = variable; base = base })
-scalar_finding (Some other) at = refuse refusals.WrongUse at
-
--- an array, with the type of its elements and its length
-pub record ArrayUse : Type 0 where
-  pub variable : Variable
-  pub base : Base
-  pub size : ℕ
-
-unfoldable pub array_finding : Option Meaning → (at : ℕ) → Finding ArrayUse
-array_finding None at = refuse refusals.UnknownName at
-array_finding (Some (Array variable base size)) at = give (record { variable = variable; base = base; size = size })
-array_finding (Some other) at = refuse refusals.WrongUse at
+-- an item of a kind, by its number
+abbrev pub item_of : ItemKind → Meaning → Option ℕ
+item_of kind (meanings.Item other number) = if eq-value.it other kind then Some number else None
+item_of kind (meanings.Variable variable base size) = None
 
 -- a variable, scalar or array
-unfoldable pub variable_finding : Option Meaning → (at : ℕ) → Finding Variable
-variable_finding None at = refuse refusals.UnknownName at
-variable_finding (Some (Scalar variable base)) at = give variable
-variable_finding (Some (Array variable base size)) at = give variable
-variable_finding (Some other) at = refuse refusals.WrongUse at
+abbrev pub variable_of : Meaning → Option Variable
+variable_of (meanings.Item kind number) = None
+variable_of (meanings.Variable variable base size) = Some variable
 
--- an input, an output, an exception and a procedure, by their numbers
-unfoldable pub input_finding : Option Meaning → (at : ℕ) → Finding ℕ
-input_finding None at = refuse refusals.UnknownName at
-input_finding (Some (Input channel)) at = give channel
-input_finding (Some other) at = refuse refusals.WrongUse at
+-- a scalar variable, with the type of its values
+abbrev pub scalar_of : Meaning → Option (Variable × Base)
+scalar_of (meanings.Item kind number) = None
+scalar_of (meanings.Variable variable base None) = Some (variable, base)
+scalar_of (meanings.Variable variable base (Some size)) = None
 
-unfoldable pub output_finding : Option Meaning → (at : ℕ) → Finding ℕ
-output_finding None at = refuse refusals.UnknownName at
-output_finding (Some (Output channel)) at = give channel
-output_finding (Some other) at = refuse refusals.WrongUse at
-
-unfoldable pub exception_finding : Option Meaning → (at : ℕ) → Finding ℕ
-exception_finding None at = refuse refusals.UnknownName at
-exception_finding (Some (Exception number)) at = give number
-exception_finding (Some other) at = refuse refusals.WrongUse at
-
-unfoldable pub procedure_finding : Option Meaning → (at : ℕ) → Finding ℕ
-procedure_finding None at = refuse refusals.UnknownName at
-procedure_finding (Some (Procedure number)) at = give number
-procedure_finding (Some other) at = refuse refusals.WrongUse at
+-- an array, with the type of its elements and its length
+abbrev pub array_of : Meaning → Option (Variable × Base × ℕ)
+array_of (meanings.Item kind number) = None
+array_of (meanings.Variable variable base None) = None
+array_of (meanings.Variable variable base (Some size)) = Some (variable, base, size)

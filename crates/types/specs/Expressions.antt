@@ -25,8 +25,8 @@ use Rattle.resolved.specs.WellFormed.{same_base, prefix_base, result_base}
 use Rattle.types.specs.declared.fault.TypeRefusalKind.TheVariants as refusals
 use Rattle.types.specs.declared.operator.OperatorUse.{OperatorUse}
 use Rattle.types.specs.declared.operator.OperatorUse.TheVariants.{OfNumbers, OfEither, OfTruths}
-use Rattle.types.specs.Finding.{Finding, give, and_then, give_if, ◌>>=◌}
-use Rattle.types.specs.Environment.{Environment, scalar_finding, array_finding}
+use Rattle.types.specs.Finding.{Finding, give, give_if, ◌>>=◌}
+use Rattle.types.specs.Environment.{Environment, use_as, scalar_of, array_of}
 
 abbrev pub base_of : BaseType → Base
 base_of base_types.Int = Int
@@ -59,11 +59,6 @@ use_of binary.NotEqualTo = OfEither relations.Unequal samenesses.Different
 use_of binary.And = OfTruths connectives.And
 use_of binary.Or = OfTruths connectives.Or
 
--- the first for numbers, the second for truth values
-abbrev pub by_base : {A : Type 0} → Base → A → A → A
-by_base Int number truth = number
-by_base Boolean number truth = truth
-
 -- an expression with the type of its values
 pub record Typed : Type 0 where
   pub expression : Expression
@@ -77,7 +72,7 @@ unfoldable pub of_base : Base → (at : ℕ) → Typed → Finding Expression
 of_base base at found = give_if (same_base found.base base) found.expression refusals.WrongType at
 
 abbrev pub wanting : Base → (at : ℕ) → Finding Typed → Finding Expression
-wanting base at looked = and_then looked (of_base base at)
+wanting base at looked = looked >>= of_base base at
 
 -- the type that the operands of an operator have to have, by that of the left one, and the type of its value
 abbrev pub operands_base : OperatorUse → (left : Base) → Base
@@ -93,19 +88,20 @@ value_base (OfTruths connective) = Boolean
 -- the operator on its operands, which have this type
 abbrev pub combined : OperatorUse → Base → (left right : Expression) → Expression
 combined (OfNumbers operator) base d e = Binary operator d e
-combined (OfEither of_numbers of_truths) base d e = Binary (by_base base (Compare of_numbers) (Match of_truths)) d e
+combined (OfEither of_numbers of_truths) Int d e = Binary (Compare of_numbers) d e
+combined (OfEither of_numbers of_truths) Boolean d e = Binary (Match of_truths) d e
 combined (OfTruths connective) base d e = Short connective d e
 
 unfoldable pub expression_finding : Environment → ExpressionTree → Finding Typed
 expression_finding names (IntegerTree at value) = typed (Integer value) Int
 expression_finding names (TruthTree at value) = typed (Logical value) Boolean
 expression_finding names (VariableTree name) = do
-  x ← scalar_finding (names name.text) name.at
-  typed (Read x.variable) x.base
+  (x, base) ← use_as scalar_of (names name.text) name.at
+  typed (Read x) base
 expression_finding names (ElementTree array index) = do
-  a ← array_finding (names array.text) array.at
+  (a, base, size) ← use_as array_of (names array.text) array.at
   i ← wanting Int (expression_at index) (expression_finding names index)
-  typed (Element a.variable a.size i) a.base
+  typed (Element a size i) base
 expression_finding names (UnaryTree at operator operand) = do
   e ← wanting (prefix_base (prefix_of operator)) (expression_at operand) (expression_finding names operand)
   typed (Unary (prefix_of operator) e) (prefix_base (prefix_of operator))

@@ -1,6 +1,6 @@
 -- What looking at a part of a program comes to: something that was found, or the first fault.
 -- Source: our own, the results of a computation that may fail, in the usual sense.
-use Rattle.std.specs.Prelude.{◌≡◌, ℕ, List, [], ◌∷◌, ◌++◌, Bool, true, false, Result, Ok, Err, if◌then◌else◌}
+use Rattle.std.specs.Prelude.{◌≡◌, ℕ, List, [], ◌∷◌, ◌++◌, Bool, true, false, Option, None, Some, Result, Ok, Err, if◌then◌else◌}
 use Rattle.types.specs.declared.fault.TypeRefusalKind.{TypeRefusalKind}
 use Rattle.types.specs.declared.fault.TypeRefusal.{TypeRefusal}
 
@@ -18,13 +18,15 @@ abbrev pub IsRefusalOf : {A : Type 0} → Finding A → TypeRefusal → Type 0
 IsRefusalOf finding refusal = finding ≡ Err refusal
 
 -- the first, and then the second with what the first found
-abbrev pub and_then : {A B : Type 0} → Finding A → (A → Finding B) → Finding B
-and_then (Ok x) next = next x
-and_then (Err fault) next = Err fault
-
 infixl 10 ◌>>=◌
 abbrev pub ◌>>=◌ : {A B : Type 0} → Finding A → (A → Finding B) → Finding B
-(first >>= next) = and_then first next
+(Ok x) >>= next = next x
+(Err fault) >>= next = Err fault
+
+-- what is there, else a refusal
+abbrev pub found_or : {A : Type 0} → TypeRefusalKind → (at : ℕ) → Option A → Finding A
+found_or kind at None = refuse kind at
+found_or kind at (Some x) = give x
 
 -- a thing where a test holds, else a refusal
 abbrev pub give_if : {A : Type 0} → Bool → A → TypeRefusalKind → (at : ℕ) → Finding A
@@ -38,11 +40,11 @@ require false kind at = refuse kind at
 -- from state to state along a list
 abbrev pub along : {S X : Type 0} → (S → X → Finding S) → S → List X → Finding S
 along step s [] = Ok s
-along step s (x ∷ xs) = and_then (step s x) (λ next. along step next xs)
+along step s (x ∷ xs) = step s x >>= λ next. along step next xs
 
 -- what is found of each element, in their order
 abbrev pub put_last : {X A : Type 0} → (X → Finding A) → List A → X → Finding (List A)
-put_last look found x = and_then (look x) (λ made. Ok (found ++ made ∷ []))
+put_last look found x = look x >>= λ made. give (found ++ made ∷ [])
 
 abbrev pub of_each : {X A : Type 0} → (X → Finding A) → List X → Finding (List A)
 of_each look xs = along (put_last look) [] xs

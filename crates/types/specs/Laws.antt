@@ -11,7 +11,8 @@ use Rattle.resolved.specs.Program.{Program, ChannelEntry, GlobalEntry, Procedure
 use Rattle.resolved.specs.WellFormed.{well_formed}
 use Rattle.resolved.specs.declared.expression.Variable.TheVariants.{Global, Local}
 use Rattle.types.specs.declared.scope.Meaning.{Meaning}
-use Rattle.types.specs.declared.scope.Meaning.TheVariants.{Input, Output, Exception, Procedure, Scalar, Array}
+use Rattle.types.specs.declared.scope.ItemKind.TheVariants.{Channel, Exception, Procedure}
+use Rattle.types.specs.declared.scope.Meaning.TheVariants as meanings
 use Rattle.types.specs.Finding.{give}
 use Rattle.types.specs.Resolution.{TopLevel, item_name, top_finding, resolution}
 use Rattle.common.specs.declared.limits.TheConstants.{MAX_TEXT}
@@ -78,15 +79,12 @@ ChannelLabelsAreCanonical =
 
 -- what a name means stands under its number and has that name
 abbrev pub MeaningHasName : Program → Meaning → List ℕ → Type 0
-MeaningHasName program (Input number) name = slice_get (channel_names program) number ≡ Some name
-MeaningHasName program (Output number) name = slice_get (channel_names program) number ≡ Some name
-MeaningHasName program (Exception number) name =
+MeaningHasName program (meanings.Item (Channel direction) number) name = slice_get (channel_names program) number ≡ Some name
+MeaningHasName program (meanings.Item Exception number) name =
     slice_get (built_in_names ++ program.exceptions) number ≡ Some name
-MeaningHasName program (Procedure number) name = slice_get (procedure_names program) number ≡ Some name
-MeaningHasName program (Scalar (Global number) base) name = slice_get (global_names program) number ≡ Some name
-MeaningHasName program (Scalar (Local number) base) name = ⊥
-MeaningHasName program (Array (Global number) base size) name = slice_get (global_names program) number ≡ Some name
-MeaningHasName program (Array (Local number) base size) name = ⊥
+MeaningHasName program (meanings.Item Procedure number) name = slice_get (procedure_names program) number ≡ Some name
+MeaningHasName program (meanings.Variable (Global number) base size) name = slice_get (global_names program) number ≡ Some name
+MeaningHasName program (meanings.Variable (Local number) base size) name = ⊥
 
 -- each name in scope at the top level stands for the entry of that name
 abbrev pub NumbersReadAsNames : Type 0

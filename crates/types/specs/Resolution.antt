@@ -1,31 +1,30 @@
 -- The resolved program that a syntax tree stands for under a hierarchy, or the first fault: first the names of the items, then the
 -- items, each from left to right with its body, then `main` (304), and last the cells of the globals and of each procedure (704).
 -- Source: our own; what is left out of the labels of a procedure as in JFlow (Myers 1999).
-use Rattle.std.specs.Prelude.{ℕ, ◌+◌, List, [], ◌∷◌, ◌++◌, map, length, sum_by, Bool, not, ◌==◌, ◌&&◌, nat_le, if◌then◌else◌, codes, is_none, Option, Some, None, unwrap_or, slice_get, pos, neg_ℤ}
+use Rattle.std.specs.Prelude.{ℕ, ◌+◌, List, [], ◌∷◌, ◌++◌, map, length, sum_by, Bool, not, ◌==◌, ◌&&◌, nat_le, if◌then◌else◌, codes, is_none, Option, Some, None, unwrap_or, option_and_then, slice_get, ℤ, pos, neg_ℤ}
 use Rattle.common.specs.declared.exceptions.TheConstants.{ARITH, ARITH_NAME, BOUNDS, BOUNDS_NAME, END, END_NAME, BUILT_IN}
 use Rattle.std.specs.List.{list_any}
 use Rattle.principals.specs.ActsFor.{PrincipalHierarchy}
 use Rattle.labels.specs.Label.{Label}
 use Rattle.labels.specs.Canonical.{joined}
-use Rattle.common.specs.declared.direction.Direction.{Direction}
-use Rattle.common.specs.declared.direction.Direction.TheVariants as directions
-use Rattle.syntax.specs.Tree.{NameTree, ConstantTree, IntegerConstant, TruthConstant, GlobalValueTree, ScalarTree, ArrayTree, GlobalTree, ChannelTree, WrittenResultTree, NothingTree, ResultTree, ParameterTree, ThrownTree, ProcedureTree, ItemTree, ChannelItem, ExceptionItem, GlobalItem, ProcedureItem, ProgramTree}
+use Rattle.syntax.specs.Tree.{NameTree, IntegerConstant, TruthConstant, GlobalValueTree, ScalarTree, ArrayTree, GlobalTree, ChannelTree, WrittenResultTree, NothingTree, ResultTree, ParameterTree, ThrownTree, ProcedureTree, ItemTree, ChannelItem, ExceptionItem, GlobalItem, ProcedureItem, ProgramTree}
 use Rattle.resolved.specs.declared.expression.Base.{Base}
 use Rattle.resolved.specs.declared.expression.Base.TheVariants.{Int, Boolean}
 use Rattle.resolved.specs.declared.expression.Value.{Value}
 use Rattle.resolved.specs.declared.expression.Value.TheVariants.{Number, Truth}
-use Rattle.resolved.specs.declared.expression.Variable.TheVariants.{Global, Local}
+use Rattle.resolved.specs.declared.expression.Variable.TheVariants.{Global}
 use Rattle.resolved.specs.Program.{Program, ChannelEntry, GlobalEntry, SlotEntry, ResultEntry, ThrownEntry, ProcedureEntry}
 use Rattle.resolved.specs.Value.{zero_value}
 use Rattle.resolved.specs.WellFormed.{same_base, cell_count}
 use Rattle.types.specs.declared.fault.TypeRefusalKind.TheVariants as refusals
+use Rattle.types.specs.declared.scope.ItemKind.TheVariants.{Channel, Exception, Procedure}
 use Rattle.types.specs.declared.scope.Meaning.{Meaning}
 use Rattle.types.specs.declared.scope.Meaning.TheVariants as meanings
-use Rattle.types.specs.Finding.{Finding, give, refuse, give_if, require, along, ◌>>=◌}
-use Rattle.types.specs.Environment.{Environment, declaring, fresh_finding, exception_finding}
+use Rattle.types.specs.Finding.{Finding, give, found_or, give_if, require, along, ◌>>=◌}
+use Rattle.types.specs.Environment.{Environment, declaring, fresh_finding, use_as, item_of}
 use Rattle.types.specs.Labels.{LabelScope, label_finding, optional_label_finding}
 use Rattle.types.specs.Expressions.{base_of}
-use Rattle.types.specs.Statements.{Signature, Setting, Point, with_local, scalar_slot, size_finding, block_finding}
+use Rattle.types.specs.Statements.{Signature, Setting, Point, with_local, slot_of, size_finding, block_finding}
 use Rattle.common.specs.declared.limits.TheConstants.{MAX_CELLS}
 
 -- ---- the names of the items
@@ -43,9 +42,9 @@ nothing_declared name = None
 
 abbrev pub built_in : TopLevel
 built_in = record {
-  names = declaring END_NAME.now (meanings.Exception END)
-      (declaring BOUNDS_NAME.now (meanings.Exception BOUNDS)
-      (declaring ARITH_NAME.now (meanings.Exception ARITH) nothing_declared));
+  names = declaring END_NAME.now (meanings.Item Exception END)
+      (declaring BOUNDS_NAME.now (meanings.Item Exception BOUNDS)
+      (declaring ARITH_NAME.now (meanings.Item Exception ARITH) nothing_declared));
   channels = 0;
   exceptions = BUILT_IN;
   globals = 0;
@@ -58,13 +57,10 @@ item_name (ExceptionItem at name) = name
 item_name (GlobalItem global) = global.name
 item_name (ProcedureItem procedure) = procedure.name
 
-abbrev pub channel_meaning : Direction → (number : ℕ) → Meaning
-channel_meaning directions.Input number = meanings.Input number
-channel_meaning directions.Output number = meanings.Output number
-
-abbrev pub global_meaning : Base → (number : ℕ) → GlobalValueTree → Meaning
-global_meaning base number (ScalarTree constant) = meanings.Scalar (Global number) base
-global_meaning base number (ArrayTree size) = meanings.Array (Global number) base size.size
+-- the length of a global that is an array
+abbrev pub size_of : GlobalValueTree → Option ℕ
+size_of (ScalarTree constant) = None
+size_of (ArrayTree size) = Some size.size
 
 abbrev pub result_base_of : WrittenResultTree → Option Base
 result_base_of NothingTree = None
@@ -78,10 +74,10 @@ signature_of procedure = record {
 
 -- what the name of the next item stands for
 abbrev pub item_meaning : TopLevel → ItemTree → Meaning
-item_meaning top (ChannelItem channel) = channel_meaning channel.direction top.channels
-item_meaning top (ExceptionItem at name) = meanings.Exception top.exceptions
-item_meaning top (GlobalItem global) = global_meaning (base_of global.base) top.globals global.value
-item_meaning top (ProcedureItem procedure) = meanings.Procedure (length top.signatures)
+item_meaning top (ChannelItem channel) = meanings.Item (Channel channel.direction) top.channels
+item_meaning top (ExceptionItem at name) = meanings.Item Exception top.exceptions
+item_meaning top (GlobalItem global) = meanings.Variable (Global top.globals) (base_of global.base) (size_of global.value)
+item_meaning top (ProcedureItem procedure) = meanings.Item Procedure (length top.signatures)
 
 -- one more item of each kind
 abbrev pub counted : TopLevel → ItemTree → TopLevel
@@ -113,65 +109,45 @@ channel_finding scope channel = do
   label ← label_finding scope channel.label
   give (record { direction = channel.direction; name = channel.name.text; label = label })
 
-abbrev pub constant_value : ConstantTree → Value
-constant_value (IntegerConstant at negative value) = Number (if negative then neg_ℤ (pos value) else pos value)
-constant_value (TruthConstant at value) = Truth value
-
-abbrev pub constant_base : ConstantTree → Base
-constant_base (IntegerConstant at negative value) = Int
-constant_base (TruthConstant at value) = Boolean
-
-abbrev pub constant_at : ConstantTree → ℕ
-constant_at (IntegerConstant at negative value) = at
-constant_at (TruthConstant at value) = at
+abbrev pub signed : (negative : Bool) → ℕ → ℤ
+signed negative value = if negative then neg_ℤ (pos value) else pos value
 
 -- the length of a global that is an array, and what its cells hold at first
-pub record FirstValue : Type 0 where
-  pub size : Option ℕ
-  pub first : Value
-
-unfoldable pub first_finding : Base → GlobalValueTree → Finding FirstValue
-first_finding base (ScalarTree constant) =
-    give_if (same_base (constant_base constant) base) (record { size = None; first = constant_value constant })
-    refusals.WrongType (constant_at constant)
+unfoldable pub first_finding : Base → GlobalValueTree → Finding (Option ℕ × Value)
+first_finding base (ScalarTree (IntegerConstant at negative value)) =
+    give_if (same_base Int base) (None, Number (signed negative value)) refusals.WrongType at
+first_finding base (ScalarTree (TruthConstant at value)) =
+    give_if (same_base Boolean base) (None, Truth value) refusals.WrongType at
 first_finding base (ArrayTree size) = do
-  size_of ← size_finding size
-  give (record { size = Some size_of; first = zero_value base })
+  length_of ← size_finding size
+  give (Some length_of, zero_value base)
 
 unfoldable pub global_finding : LabelScope → GlobalTree → Finding GlobalEntry
 global_finding scope global = do
   label ← label_finding scope global.label
-  value ← first_finding (base_of global.base) global.value
+  (size, first) ← first_finding (base_of global.base) global.value
   give (record {
     name = global.name.text;
     base = base_of global.base;
-    size = value.size;
+    size = size;
     label = label;
-    first = value.first;
+    first = first;
   })
 
 -- ---- procedures
-
-abbrev pub result_entry : Base → Label → Option ResultEntry
-result_entry base label = Some (record { base = base; label = label })
 
 unfoldable pub result_finding : LabelScope → WrittenResultTree → Finding (Option ResultEntry)
 result_finding scope NothingTree = give None
 result_finding scope (ResultTree base label) = do
   written ← label_finding scope label
-  give (result_entry (base_of base) written)
+  give (Some (record { base = base_of base; label = written }))
 
 -- a parameter, which takes the next slot and is in scope in the body; no label before the body names it
-abbrev pub with_parameter : Point → ParameterTree → Label → Point
-with_parameter point parameter label =
-    with_local point (scalar_slot parameter.at (base_of parameter.base) (Some label) parameter.name.text)
-    (meanings.Scalar (Local (length point.slots)) (base_of parameter.base))
-
 abbrev pub next_parameter : LabelScope → Point → ParameterTree → Finding Point
 next_parameter scope point parameter = do
   label ← label_finding scope parameter.label
   _ ← fresh_finding (point.names parameter.name.text) parameter.name.at
-  give (with_parameter point parameter label)
+  give (with_local point (slot_of parameter.at (base_of parameter.base) (Some label) parameter.name.text None))
 
 unfoldable pub parameters_finding : LabelScope → List ParameterTree → Finding Point
 parameters_finding scope parameters = along (next_parameter scope) (record { names = scope.names; slots = []; loops = 0 }) parameters
@@ -182,26 +158,15 @@ is_thrown throws exception = list_any (λ (thrown : ThrownEntry). thrown.excepti
 
 abbrev pub next_thrown : LabelScope → List ThrownEntry → ThrownTree → Finding (List ThrownEntry)
 next_thrown scope throws thrown = do
-  exception ← exception_finding (scope.names thrown.name.text) thrown.name.at
+  exception ← use_as (item_of Exception) (scope.names thrown.name.text) thrown.name.at
   _ ← require (not (is_thrown throws exception)) refusals.DeclaredTwice thrown.name.at
   label ← label_finding scope thrown.label
   give (throws ++ record { exception = exception; label = label } ∷ [])
-
-unfoldable pub throws_finding : LabelScope → List ThrownTree → Finding (List ThrownEntry)
-throws_finding scope throws = along (next_thrown scope) [] throws
 
 -- a label joined by those of exceptions
 abbrev pub joined_all : Label → List ThrownEntry → Label
 joined_all label [] = label
 joined_all label (thrown ∷ rest) = joined_all (joined label thrown.label) rest
-
--- a begin label that is left out is the least one; an end label that is left out is the join of the begin label and of those of the
--- exceptions
-abbrev pub begin_label_of : Option Label → Label
-begin_label_of written = unwrap_or written []
-
-abbrev pub end_label_of : Option Label → Label → List ThrownEntry → Label
-end_label_of written begin throws = unwrap_or written (joined_all begin throws)
 
 -- what does not change within the body of a procedure whose labels before it may name this
 abbrev pub setting_within : LabelScope → List Signature → ProcedureTree → Setting
@@ -212,20 +177,22 @@ setting_within scope signatures procedure = record {
   result = result_base_of procedure.result;
 }
 
+-- a begin label that is left out is the least one; an end label that is left out is the join of the begin label and of those of the
+-- exceptions
 unfoldable pub procedure_entry_finding : LabelScope → List Signature → ProcedureTree → Finding ProcedureEntry
 procedure_entry_finding scope signatures procedure = do
   result ← result_finding scope procedure.result
   begin ← optional_label_finding scope procedure.begin
   point ← parameters_finding scope procedure.parameters
   end ← optional_label_finding scope procedure.end
-  throws ← throws_finding scope procedure.throws
+  throws ← along (next_thrown scope) [] procedure.throws
   inner ← block_finding (setting_within scope signatures procedure) point procedure.body
   give (record {
     at = procedure.name.at;
     name = procedure.name.text;
     result = result;
-    begin_label = begin_label_of begin;
-    end_label = end_label_of end (begin_label_of begin) throws;
+    begin_label = unwrap_or begin [];
+    end_label = unwrap_or end (joined_all (unwrap_or begin []) throws);
     throws = throws;
     parameters = length procedure.parameters;
     slots = inner.0.slots;
@@ -261,23 +228,16 @@ unfoldable pub items_finding : PrincipalHierarchy → TopLevel → List ItemTree
 items_finding h top items = along (next_item h top) no_tables items
 
 -- `main` is a procedure without parameters and a value; where it is none, the refusal stands at the begin of the text
-abbrev pub main_entry_finding : (number : ℕ) → Option ProcedureEntry → Finding ℕ
-main_entry_finding number None = refuse refusals.NoProperMain 0
-main_entry_finding number (Some procedure) =
-    give_if (procedure.parameters == 0 && is_none procedure.result) number refusals.NoProperMain procedure.at
-
 unfoldable pub main_finding : Option Meaning → List ProcedureEntry → Finding ℕ
-main_finding (Some (meanings.Procedure number)) procedures = main_entry_finding number (slice_get procedures number)
-main_finding other procedures = refuse refusals.NoProperMain 0
+main_finding main procedures = do
+  number ← found_or refusals.NoProperMain 0 (option_and_then (item_of Procedure) main)
+  procedure ← found_or refusals.NoProperMain 0 (slice_get procedures number)
+  give_if (procedure.parameters == 0 && is_none procedure.result) number refusals.NoProperMain procedure.at
 
 -- the cells of the globals so far, with those of the next item
-abbrev pub global_cells : GlobalValueTree → ℕ
-global_cells (ScalarTree constant) = 1
-global_cells (ArrayTree size) = size.size
-
 abbrev pub next_global_cells : (cells : ℕ) → ItemTree → Finding ℕ
 next_global_cells cells (GlobalItem global) =
-    give_if (nat_le (cells + global_cells global.value) MAX_CELLS) (cells + global_cells global.value)
+    give_if (nat_le (cells + cell_count (size_of global.value)) MAX_CELLS) (cells + cell_count (size_of global.value))
     refusals.TooManyCells global.name.at
 next_global_cells cells (ChannelItem channel) = give cells
 next_global_cells cells (ExceptionItem at name) = give cells

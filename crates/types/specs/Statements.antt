@@ -2,9 +2,10 @@
 -- of names, 303 and 305 in labels, 401 of types, 402 where a call has too many or too few arguments, 703 where an array has a size that is
 -- none.
 -- Source: our own, block structure in the usual sense: a local's scope runs from the end of its declaration to the end of its block.
-use Rattle.std.specs.Prelude.{ℕ, ◌+◌, List, [], ◌∷◌, ◌++◌, length, Bool, false, ◌==◌, ◌&&◌, nat_lt, nat_le, is_none, Option, Some, None, slice_index_or, Ok}
+use Rattle.std.specs.Prelude.{ℕ, ◌+◌, List, [], ◌∷◌, ◌++◌, length, Bool, false, ◌==◌, ◌&&◌, nat_lt, nat_le, is_none, Option, Some, None, slice_index_or}
 use Rattle.principals.specs.ActsFor.{PrincipalHierarchy}
 use Rattle.labels.specs.Label.{Label}
+use Rattle.common.specs.declared.direction.Direction.TheVariants.{Input, Output}
 use Rattle.syntax.specs.Tree.{NameTree, LabelTree, ExpressionTree, CallTree, RightTree, ReceivedTree, CalledTree, ValueTree, SizeTree, StatementTree, DeclareTree, DeclareArrayTree, AssignTree, AssignElementTree, CallTree', ReceiveTree, SendTree, IfTree, IfElseTree, WhileTree, BreakTree, ContinueTree, ThrowTree, ReturnTree, TryTree, NestedTree, BlockTree, BlockOf, StatementTrees, NoStatement, StatementThen, CatchTrees, NoCatch, CatchThen, expression_at}
 use Rattle.resolved.specs.declared.expression.Base.{Base}
 use Rattle.resolved.specs.declared.expression.Base.TheVariants.{Int, Boolean}
@@ -15,10 +16,10 @@ use Rattle.resolved.specs.Tree.{Expression, Statement, Assign, Clear, Store, Rec
 use Rattle.resolved.specs.Program.{GlobalEntry, SlotEntry}
 use Rattle.resolved.specs.WellFormed.{same_base}
 use Rattle.types.specs.declared.fault.TypeRefusalKind.TheVariants as refusals
-use Rattle.types.specs.declared.scope.Meaning.{Meaning}
-use Rattle.types.specs.declared.scope.Meaning.TheVariants.{Scalar, Array}
-use Rattle.types.specs.Finding.{Finding, give, refuse, give_if, require, and_then, along, ◌>>=◌}
-use Rattle.types.specs.Environment.{Environment, declaring, fresh_finding, scalar_finding, array_finding, input_finding, output_finding, exception_finding, procedure_finding}
+use Rattle.types.specs.declared.scope.ItemKind.TheVariants.{Channel, Exception, Procedure}
+use Rattle.types.specs.declared.scope.Meaning.TheVariants as meanings
+use Rattle.types.specs.Finding.{Finding, give, refuse, give_if, require, along, ◌>>=◌}
+use Rattle.types.specs.Environment.{Environment, declaring, fresh_finding, use_as, item_of, scalar_of, array_of}
 use Rattle.types.specs.Labels.{LabelScope, optional_label_finding}
 use Rattle.types.specs.Expressions.{Typed, base_of, expression_finding, typed_finding}
 use Rattle.common.specs.declared.limits.TheConstants.{MAX_ELEMENTS}
@@ -52,9 +53,9 @@ label_scope setting point = record {
 }
 
 -- the point after the declaration of a local, which takes the next slot
-abbrev pub with_local : Point → SlotEntry → Meaning → Point
-with_local point slot meaning = record {
-  names = declaring slot.name meaning point.names;
+abbrev pub with_local : Point → SlotEntry → Point
+with_local point slot = record {
+  names = declaring slot.name (meanings.Variable (Local (length point.slots)) slot.base slot.size) point.names;
   slots = point.slots ++ slot ∷ [];
   loops = point.loops;
 }
@@ -79,20 +80,14 @@ pub record CallUse : Type 0 where
   pub arguments : List Expression
   pub result : Option Base
 
-abbrev pub called : ℕ → Signature → List Expression → CallUse
-called procedure signature arguments = record { procedure = procedure; arguments = arguments; result = signature.result }
-
 -- the count of the arguments is tested before they are looked at
-unfoldable pub applied_finding : Environment → (procedure : ℕ) → Signature → CallTree → Finding CallUse
-applied_finding names procedure signature call = do
-  _ ← require (length signature.parameters == length call.arguments) refusals.WrongArgumentCount call.procedure.at
-  arguments ← arguments_finding names signature.parameters call.arguments
-  give (called procedure signature arguments)
-
 unfoldable pub call_finding : List Signature → Environment → CallTree → Finding CallUse
 call_finding signatures names call = do
-  procedure ← procedure_finding (names call.procedure.text) call.procedure.at
-  applied_finding names procedure (signature_at signatures procedure) call
+  procedure ← use_as (item_of Procedure) (names call.procedure.text) call.procedure.at
+  let signature = signature_at signatures procedure
+  _ ← require (length signature.parameters == length call.arguments) refusals.WrongArgumentCount call.procedure.at
+  arguments ← arguments_finding names signature.parameters call.arguments
+  give (record { procedure = procedure; arguments = arguments; result = signature.result })
 
 -- a value of a type, where a call gives one
 abbrev pub gives_base : Base → Option Base → Bool
@@ -104,7 +99,7 @@ gives_base base (Some given) = same_base given base
 unfoldable pub assigned_finding : List Signature → Environment → (at : ℕ) → Variable → Base → RightTree → Finding Statement
 assigned_finding signatures names at target base (ReceivedTree receive_at channel) = do
   _ ← require (same_base Int base) refusals.WrongType receive_at
-  number ← input_finding (names channel.text) channel.at
+  number ← use_as (item_of (Channel Input)) (names channel.text) channel.at
   give (Receive at number (Some target))
 assigned_finding signatures names at target base (CalledTree call) = do
   made ← call_finding signatures names call
@@ -115,11 +110,8 @@ assigned_finding signatures names at target base (ValueTree value) = do
 
 -- ---- declarations
 
-abbrev pub scalar_slot : (at : ℕ) → Base → Option Label → List ℕ → SlotEntry
-scalar_slot at base label name = record { base = base; size = None; written = label; at = at; name = name }
-
-abbrev pub array_slot : (at : ℕ) → Base → Option Label → List ℕ → (size : ℕ) → SlotEntry
-array_slot at base label name size = record { base = base; size = Some size; written = label; at = at; name = name }
+abbrev pub slot_of : (at : ℕ) → Base → Option Label → List ℕ → (size : Option ℕ) → SlotEntry
+slot_of at base label name size = record { base = base; size = size; written = label; at = at; name = name }
 
 -- the name of a local is tested before its right side, where the local is not in scope yet
 unfoldable pub declare_finding : Setting → Point → (at : ℕ) → Base → Option LabelTree → NameTree → RightTree → Finding (Point × Statement)
@@ -127,7 +119,7 @@ declare_finding setting point at base label name value = do
   written ← optional_label_finding (label_scope setting point) label
   _ ← fresh_finding (point.names name.text) name.at
   statement ← assigned_finding setting.signatures point.names at (Local (length point.slots)) base value
-  give (with_local point (scalar_slot at base written name.text) (Scalar (Local (length point.slots)) base), statement)
+  give (with_local point (slot_of at base written name.text None), statement)
 
 -- the size of an array: 1 to 65536
 unfoldable pub size_finding : SizeTree → Finding ℕ
@@ -138,45 +130,9 @@ declare_array_finding setting point at base label name size = do
   written ← optional_label_finding (label_scope setting point) label
   _ ← fresh_finding (point.names name.text) name.at
   length_of ← size_finding size
-  give (
-    with_local point (array_slot at base written name.text length_of) (Array (Local (length point.slots)) base length_of),
-    Clear at (length point.slots),
-  )
+  give (with_local point (slot_of at base written name.text (Some length_of)), Clear at (length point.slots))
 
--- ---- other statements
-
-unfoldable pub assign_finding : List Signature → Environment → NameTree → RightTree → Finding Statement
-assign_finding signatures names target value = do
-  x ← scalar_finding (names target.text) target.at
-  assigned_finding signatures names target.at x.variable x.base value
-
-unfoldable pub store_finding : Environment → NameTree → (index value : ExpressionTree) → Finding Statement
-store_finding names array index value = do
-  a ← array_finding (names array.text) array.at
-  i ← typed_finding names Int index
-  e ← typed_finding names a.base value
-  give (Store array.at a.variable a.size i e)
-
-unfoldable pub call_statement_finding : List Signature → Environment → CallTree → Finding Statement
-call_statement_finding signatures names call = do
-  made ← call_finding signatures names call
-  give (Call call.procedure.at made.procedure made.arguments None)
-
-unfoldable pub receive_finding : Environment → (at : ℕ) → NameTree → Finding Statement
-receive_finding names at channel = do
-  number ← input_finding (names channel.text) channel.at
-  give (Receive at number None)
-
-unfoldable pub send_finding : Environment → (at : ℕ) → NameTree → ExpressionTree → Finding Statement
-send_finding names at channel value = do
-  number ← output_finding (names channel.text) channel.at
-  e ← typed_finding names Int value
-  give (Send at number e)
-
-unfoldable pub throw_finding : Environment → (at : ℕ) → NameTree → Finding Statement
-throw_finding names at exception = do
-  number ← exception_finding (names exception.text) exception.at
-  give (Leave at (exits.Throw number))
+-- ---- returns
 
 -- a value is looked at before it is refused in a procedure that gives none
 abbrev pub returned_finding : Option Base → (at value_at : ℕ) → Typed → Finding Statement
@@ -186,14 +142,9 @@ returned_finding (Some base) at value_at found =
 
 unfoldable pub return_finding : Option Base → Environment → (at : ℕ) → Option ExpressionTree → Finding Statement
 return_finding result names at None = give_if (is_none result) (ReturnWith at None) refusals.WrongType at
-return_finding result names at (Some value) =
-    and_then (expression_finding names value) (returned_finding result at (expression_at value))
+return_finding result names at (Some value) = expression_finding names value >>= returned_finding result at (expression_at value)
 
 -- ---- statements, blocks and handlers
-
--- a statement that declares nothing
-abbrev pub staying : Point → Finding Statement → Finding (Point × Statement)
-staying point looked = and_then looked (λ statement. Ok (point, statement))
 
 -- the next loop of a procedure has begun
 abbrev pub in_loop : Point → Point
@@ -209,14 +160,25 @@ unfoldable mutual
       declare_finding setting point at (base_of base) label name value
   statement_finding setting point (DeclareArrayTree at base label name size) =
       declare_array_finding setting point at (base_of base) label name size
-  statement_finding setting point (AssignTree target value) =
-      staying point (assign_finding setting.signatures point.names target value)
-  statement_finding setting point (AssignElementTree array index value) =
-      staying point (store_finding point.names array index value)
-  statement_finding setting point (CallTree' call) =
-      staying point (call_statement_finding setting.signatures point.names call)
-  statement_finding setting point (ReceiveTree at channel) = staying point (receive_finding point.names at channel)
-  statement_finding setting point (SendTree at channel value) = staying point (send_finding point.names at channel value)
+  statement_finding setting point (AssignTree target value) = do
+    (x, base) ← use_as scalar_of (point.names target.text) target.at
+    statement ← assigned_finding setting.signatures point.names target.at x base value
+    give (point, statement)
+  statement_finding setting point (AssignElementTree array index value) = do
+    (a, base, size) ← use_as array_of (point.names array.text) array.at
+    i ← typed_finding point.names Int index
+    e ← typed_finding point.names base value
+    give (point, Store array.at a size i e)
+  statement_finding setting point (CallTree' call) = do
+    made ← call_finding setting.signatures point.names call
+    give (point, Call call.procedure.at made.procedure made.arguments None)
+  statement_finding setting point (ReceiveTree at channel) = do
+    number ← use_as (item_of (Channel Input)) (point.names channel.text) channel.at
+    give (point, Receive at number None)
+  statement_finding setting point (SendTree at channel value) = do
+    number ← use_as (item_of (Channel Output)) (point.names channel.text) channel.at
+    e ← typed_finding point.names Int value
+    give (point, Send at number e)
   statement_finding setting point (IfTree at condition body) = do
     e ← typed_finding point.names Boolean condition
     inner ← block_finding setting point body
@@ -232,9 +194,12 @@ unfoldable mutual
     give (inner.0, While at point.loops e inner.1)
   statement_finding setting point (BreakTree at) = give (point, Leave at exits.Break)
   statement_finding setting point (ContinueTree at) = give (point, Leave at exits.Continue)
-  statement_finding setting point (ThrowTree at exception) = staying point (throw_finding point.names at exception)
-  statement_finding setting point (ReturnTree at value) =
-      staying point (return_finding setting.result point.names at value)
+  statement_finding setting point (ThrowTree at exception) = do
+    number ← use_as (item_of Exception) (point.names exception.text) exception.at
+    give (point, Leave at (exits.Throw number))
+  statement_finding setting point (ReturnTree at value) = do
+    statement ← return_finding setting.result point.names at value
+    give (point, statement)
   statement_finding setting point (TryTree at body catches) = do
     inner ← block_finding setting point body
     handled ← catches_finding setting inner.0 catches
@@ -258,7 +223,7 @@ unfoldable mutual
   pub catches_finding : Setting → Point → CatchTrees → Finding (Point × Handlers)
   catches_finding setting point NoCatch = give (point, NoMore)
   catches_finding setting point (CatchThen at exception body rest) = do
-    number ← exception_finding (point.names exception.text) exception.at
+    number ← use_as (item_of Exception) (point.names exception.text) exception.at
     inner ← block_finding setting point body
     others ← catches_finding setting inner.0 rest
     give (others.0, Catch exception.at number inner.1 others.1)

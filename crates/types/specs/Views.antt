@@ -16,6 +16,8 @@ use Rattle.resolved.specs.declared.tables.Slot.{Slot}
 use Rattle.resolved.specs.declared.tables.Thrown.{Thrown}
 use Rattle.resolved.specs.WellFormed.{cell_count}
 use Rattle.resolved.specs.declared.expression.Value.{Value}
+use Rattle.resolved.specs.declared.expression.Base.{Base}
+use Rattle.resolved.specs.declared.expression.Variable.{Variable}
 use Rattle.resolved.specs.Tree.{Expression, Block, Handlers}
 use Rattle.labels.specs.Label.{Label}
 use Rattle.labels.specs.LabelTable.{Extends}
@@ -40,17 +42,21 @@ use Rattle.types.specs.declared.scope.FoundScalar.{FoundScalar}
 use Rattle.types.specs.declared.statement.UsedCall.{UsedCall}
 use Rattle.types.specs.declared.top.CodeSignature.{CodeSignature}
 use Rattle.types.specs.declared.top.TopNames.{TopNames}
-use Rattle.types.specs.Finding.{Finding, IsRefusalOf}
-use Rattle.types.specs.Environment.{Environment, ScalarUse, ArrayUse}
+use Rattle.types.specs.Finding.{Finding, IsRefusalOf, ◌>>=◌}
+use Rattle.types.specs.Environment.{Environment}
 use Rattle.types.specs.Labels.{LabelScope}
 use Rattle.types.specs.Expressions.{Typed}
 use Rattle.types.specs.Statements.{Signature, Setting, Point, CallUse}
-use Rattle.types.specs.Resolution.{TopLevel, Tables, FirstValue, heads}
+use Rattle.types.specs.Resolution.{TopLevel, Tables, heads}
 use Rattle.types.specs.VariableEntries.{VariableEntries, IsInside, IsProcedureInside, optional_label_with}
 
 -- what a function gave is what is found: a value or a refusal, unless memory ran out
 abbrev pub Resolves : {X A : Type 0} → (X → A) → Result X (OrNoMemory TypeRefusal) → Finding A → Type 0
 Resolves view result finding = Answers (λ x. finding ≡ Ok (view x)) (IsRefusalOf finding) result
+
+-- the first, and then the second with what the first found
+abbrev pub and_then : {A B : Type 0} → Finding A → (A → Finding B) → Finding B
+and_then first next = first >>= next
 
 abbrev pub itself : {A : Type 0} → A → A
 itself x = x
@@ -78,11 +84,11 @@ abbrev pub or_else : {A : Type 0} → Option A → Option A → Option A
 or_else (Some x) other = Some x
 or_else None other = other
 
-abbrev pub scalar_use : FoundScalar → ScalarUse
-scalar_use scalar = record { variable = scalar.variable; base = scalar.base }
+abbrev pub scalar_use : FoundScalar → Variable × Base
+scalar_use scalar = (scalar.variable, scalar.base)
 
-abbrev pub array_use : FoundArray → ArrayUse
-array_use array = record { variable = array.variable; base = array.base; size = array.size }
+abbrev pub array_use : FoundArray → Variable × Base × ℕ
+array_use array = (array.variable, array.base, array.size)
 
 abbrev pub signature_view : CodeSignature → Signature
 signature_view signature = record { parameters = signature.parameters.items; result = signature.result }
@@ -199,5 +205,5 @@ pub record AreTablesInside (tables : ItemTables) : Type 0 where
   pub of_procedures : All (λ (procedure : Procedure). IsProcedureInside tables.variables.labels procedure) tables.procedures.items
   pub no_slots : tables.variables.slots ≡ []
 
-abbrev pub first_view : Option ℕ × Value → FirstValue
-first_view found = record { size = found.0; first = found.1 }
+abbrev pub first_view : Option ℕ × Value → Option ℕ × Value
+first_view found = (found.0, found.1)

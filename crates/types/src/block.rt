@@ -11,7 +11,7 @@ ghost use Rattle.syntax.specs.Tree.{NestedTree, TryTree, WhileTree, block_tree, 
 use crate::body::BodyScope;
 use crate::fault::TypeFault;
 use crate::operator::base_of;
-use crate::scope::{remove_all, require_exception};
+use crate::scope::{ItemKind, remove_all, require_item};
 use resolved::expression::Base;
 use resolved::statement::{Exit, Handler, Statement};
 use syntax::{Block, Catch};
@@ -97,7 +97,7 @@ impl<'a, 'n> BodyScope<'a, 'n> {
         let mut handlers = Vec::with_capacity(self.alloc, written.len())?;
         for one in written {
             let name = &one.exception;
-            let number = require_exception(self.look_up(name), name.at)?;
+            let number = require_item(ItemKind::Exception, self.look_up(name), name.at)?;
             let body = self.resolve_block(&one.body)?;
             handlers.push(Handler {
                 at: name.at,

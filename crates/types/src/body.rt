@@ -1,19 +1,20 @@
 //! A point of the body of a procedure.
 
+ghost use Rattle.types.specs.Environment.{item_of, use_as};
 ghost use Rattle.types.specs.Finding.{give};
 ghost use Rattle.types.specs.Statements.{label_scope, with_local};
-ghost use Rattle.types.specs.Views.{Resolves, IsLater, found_in, item_scope, item_scope_of, label_scope_of, names_of, new_slot_entry, point_of, setting_of, signature_view, taken};
+ghost use Rattle.types.specs.Views.{Resolves, IsLater, found_in, itself, item_scope, item_scope_of, label_scope_of, names_of, new_slot_entry, point_of, setting_of, signature_view, taken};
 ghost use Rattle.std.specs.Prelude.{None, OnOk, length, map, ◌+◌, ◌<◌, ◌≡◌, ◌≤◌};
 ghost use Rattle.syntax.specs.Limits.{most_nodes};
 ghost use Rattle.syntax.specs.Tree.{name_tree};
 
 use crate::fault::TypeFault;
 use crate::label::{ItemContext, LabelContext};
-use crate::scope::{Meaning, Names, find_in_either, insert};
+use crate::scope::{ItemKind, Meaning, Names, find_in_either, insert, require_item};
 use crate::top::TopNames;
 use crate::variables::{DeclaredVariables, NewSlot};
 use principals::Hierarchy;
-use resolved::expression::Base;
+use resolved::expression::{Base, Variable};
 use std::alloc::Global;
 use syntax::Name;
 
@@ -47,7 +48,12 @@ impl<'a, 'n> BodyScope<'a, 'n> {
               result = value;
             } }
         ensures point { point_of result ≡
-            record { names = found_in context.now.top.now.names; slots = variables.slots; loops = 0 } }
+            record {
+              names = found_in context.now.top.now.names;
+              slots = variables.slots;
+              loops =
+                  0;
+            } }
         ensures scope { item_scope_of result ≡ item_scope context.now variables }
         ensures variables { result.variables ≡ variables }
         ensures taken { taken result ≡ length variables.labels + length variables.slots }
@@ -69,6 +75,18 @@ impl<'a, 'n> BodyScope<'a, 'n> {
         ensures { result ≡ names_of self.now (name_tree name.now).text }
     {
         find_in_either(&self.locals, &self.top.names, name.text)
+    }
+
+    /// The number of the item of a kind that a name stands for.
+    ///
+    /// # Errors
+    ///
+    /// 301 where it stands for nothing, 403 where it stands for something else.
+    pub fn find_item(&self, kind: ItemKind, name: &Name<'_>) -> Result<u32, TypeFault>
+        ensures { Resolves itself result
+            (use_as (item_of kind) (names_of self.now (name_tree name.now).text) name.now.at) }
+    {
+        require_item(kind, self.look_up(name), name.at)
     }
 
     /// What the label of a local may name here.
@@ -101,22 +119,19 @@ impl<'a, 'n> BodyScope<'a, 'n> {
     }
 
     /// Declares a parameter or local of this name, which takes the next slot. Precondition: it is the name of the slot, and there are
-    /// fewer labels than a program may have nodes.
-    pub fn declare(
-        &mut self,
-        name: &'n str,
-        slot: NewSlot,
-        meaning: Meaning,
-    ) -> Result<(), TypeFault>
+    /// fewer labels, slots and loops than a program may have nodes.
+    pub fn declare(&mut self, name: &'n str, slot: NewSlot) -> Result<(), TypeFault>
         requires named { (new_slot_entry self.old.variables.labels slot).name ≡ name.now }
         requires fresh { names_of self.old name.now ≡ None }
-        requires room { length self.old.variables.labels < most_nodes }
+        requires room { taken self.old < most_nodes }
         ensures made { Resolves (λ _. point_of self.new) result
-            (give (with_local (point_of self.old) (new_slot_entry self.old.variables.labels slot)
-            meaning)) }
+            (give (with_local (point_of self.old)
+            (new_slot_entry self.old.variables.labels slot))) }
         ensures later { OnOk result (IsLater self.old self.new) }
         ensures grows { OnOk result (taken self.new ≤ taken self.old + 2) }
     {
+        let variable = Variable::Local(self.variables.slots().len() as u32);
+        let meaning = Meaning::Variable(variable, slot.base, slot.size);
         insert(self.alloc, &mut self.locals, name, meaning)?;
         self.declared.push(name)?;
         self.variables.declare(slot)?;

@@ -2,25 +2,27 @@
 
 ghost use Rattle.common.specs.declared.limits.TheConstants.{MAX_CELLS};
 ghost use Rattle.types.specs.Finding.{require};
-ghost use Rattle.types.specs.Resolution.{frames_finding, global_cells, global_cells_finding, next_global_cells};
+ghost use Rattle.types.specs.Resolution.{frames_finding, global_cells_finding, next_global_cells};
 ghost use Rattle.types.specs.Views.{Resolves, cells_of_slots, itself, tables_view};
 ghost use Rattle.resolved.specs.WellFormed.{cell_count};
 ghost use Rattle.std.specs.Prelude.{IfOk, map, nat_le, ◌≡◌, ◌≤◌};
-ghost use Rattle.syntax.specs.Tree.{global_value_tree, item_tree};
+ghost use Rattle.syntax.specs.Tree.{item_tree};
 
 use crate::fault::{TypeFault, TypeRefusal, TypeRefusalKind};
 use crate::program::ItemTables;
+use crate::top::size_of_global;
 use common::OrNoMemory;
 use common::limits::MAX_CELLS;
 use resolved::tables::Slot;
-use syntax::{GlobalValue, Item};
+use syntax::Item;
 
-fn cells_of_global(value: &GlobalValue) -> u32
-    ensures { result ≡ global_cells (global_value_tree value.now) }
+/// The cells of a variable.
+fn cells_of(size: Option<u32>) -> u32
+    ensures { result ≡ cell_count size }
 {
-    match value {
-        GlobalValue::Scalar(_) => 1,
-        GlobalValue::Array(size) => size.size,
+    match size {
+        None => 1,
+        Some(length) => length,
     }
 }
 
@@ -33,7 +35,7 @@ fn add_global(cells: u32, item: &Item<'_>) -> Result<u32, TypeFault>
     match item {
         Item::Channel(_) | Item::Exception { .. } | Item::Procedure(_) => Ok(cells),
         Item::Global(global) => {
-            let more = cells_of_global(&global.value);
+            let more = cells_of(size_of_global(&global.value));
             if more <= MAX_CELLS - cells {
                 Ok(cells + more)
             } else {
@@ -58,22 +60,13 @@ pub fn count_global_cells(items: &[Item<'_>]) -> Result<u32, TypeFault>
     Ok(cells)
 }
 
-fn cells_of_slot(size: Option<u32>) -> u32
-    ensures { result ≡ cell_count size }
-{
-    match size {
-        None => 1,
-        Some(length) => length,
-    }
-}
-
 /// Whether a frame of these slots has few enough cells.
 fn fits(slots: &[Slot]) -> bool
     ensures { result ≡ nat_le (cells_of_slots slots.now) MAX_CELLS }
 {
     let mut cells = 0;
     for slot in slots {
-        let more = cells_of_slot(slot.size);
+        let more = cells_of(slot.size);
         if more > MAX_CELLS - cells {
             return false;
         }

@@ -1,15 +1,18 @@
 //! Channels and globals.
 
+ghost use Rattle.resolved.specs.WellFormed.{same_base};
+ghost use Rattle.types.specs.declared.fault.TypeRefusalKind.TheVariants.{WrongType};
+ghost use Rattle.types.specs.Finding.{give_if};
 ghost use Rattle.types.specs.Resolution as spec;
 ghost use Rattle.types.specs.Resolution.{channel_finding, first_finding, global_finding};
 ghost use Rattle.types.specs.VariableEntries.{HasMoreLabels, IsInside};
 ghost use Rattle.types.specs.Views.{Resolves, first_view, item_scope};
 ghost use Rattle.resolved.specs.ProgramOf.{channel_entry, global_entry};
 ghost use Rattle.resolved.specs.Value.{zero_value};
-ghost use Rattle.std.specs.Prelude.{IfOk, OnOk, length, ◌<◌, ◌≡◌};
+ghost use Rattle.std.specs.Prelude.{IfOk, None, OnOk, length, ◌<◌, ◌≡◌};
 ghost use Rattle.syntax.specs.Limits.{most_nodes};
-ghost use Rattle.syntax.specs.Tree.{channel_tree, constant_tree, global_tree, global_value_tree};
-ghost use Rattle.syntax.specs.Written.{Anywhere, IsInteger, IsNameWithin, IsWrittenConstant, IsWrittenGlobalValue};
+ghost use Rattle.syntax.specs.Tree.{channel_tree, global_tree, global_value_tree};
+ghost use Rattle.syntax.specs.Written.{Anywhere, IsInteger, IsNameWithin, IsWrittenGlobalValue};
 ghost use Rattle.common.specs.declared.limits.TheConstants.{MAX_TEXT};
 
 use crate::fault::{TypeFault, TypeRefusal, TypeRefusalKind};
@@ -47,34 +50,32 @@ pub fn resolve_channel(
     })
 }
 
-/// The value of a constant, and its type.
-fn value_of(constant: Constant) -> (Value, Base)
-    requires small { IsWrittenConstant Anywhere (IsNameWithin MAX_TEXT) IsInteger
-        (constant_tree constant) }
-    ensures value { result.0 ≡ spec.constant_value (constant_tree constant) }
-    ensures base { result.1 ≡ spec.constant_base (constant_tree constant) }
+/// The number that is written so.
+fn signed_of(negative: bool, value: u32) -> i32
+    requires small { IsInteger value }
+    ensures { result ≡ spec.signed negative value }
 {
-    match constant {
-        Constant::Integer {
-            negative,
-            value,
-            ..
-        } => {
-            let number = value as i32;
-            (
-                Value::Number(if negative { -number } else { number }),
-                Base::Int,
-            )
-        }
-        Constant::Truth { value, .. } => (Value::Truth(value), Base::Boolean),
-    }
+    let number = value as i32;
+    if negative { -number } else { number }
 }
 
-fn at_of(constant: Constant) -> usize
-    ensures { result ≡ spec.constant_at (constant_tree constant) }
+/// The first value of a scalar, which has to be of its type.
+fn require_type(
+    given: Base,
+    base: Base,
+    value: Value,
+    at: usize,
+) -> Result<(Option<u32>, Value), TypeFault>
+    ensures { Resolves first_view result
+        (give_if (same_base given base) (None, value) WrongType at) }
 {
-    match constant {
-        Constant::Integer { at, .. } | Constant::Truth { at, .. } => at,
+    if is_same(given, base) {
+        Ok((None, value))
+    } else {
+        Err(OrNoMemory::Refused(TypeRefusal {
+            kind: TypeRefusalKind::WrongType,
+            at,
+        }))
     }
 }
 
@@ -96,16 +97,20 @@ fn resolve_first_value(base: Base, value: &GlobalValue) -> Result<(Option<u32>, 
     ensures { Resolves first_view result (first_finding base (global_value_tree value.now)) }
 {
     match value {
-        GlobalValue::Scalar(constant) => {
-            let (value, given) = value_of(*constant);
-            if is_same(given, base) {
-                Ok((None, value))
-            } else {
-                Err(OrNoMemory::Refused(TypeRefusal {
-                    kind: TypeRefusalKind::WrongType,
-                    at: at_of(*constant),
-                }))
-            }
+        GlobalValue::Scalar(
+            Constant::Integer {
+                at,
+                negative,
+                value,
+            },
+        ) => require_type(
+            Base::Int,
+            base,
+            Value::Number(signed_of(*negative, *value)),
+            *at,
+        ),
+        GlobalValue::Scalar(Constant::Truth { at, value }) => {
+            require_type(Base::Boolean, base, Value::Truth(*value), *at)
         }
         GlobalValue::Array(size) => Ok((Some(resolve_size(*size)?), zero_of(base))),
     }

@@ -6,8 +6,9 @@ ghost use Rattle.resolved.specs.ProgramOf.{written_at};
 ghost use Rattle.std.specs.Prelude.{IfOk, OnOk, length, map, ◌<◌, ◌≡◌};
 ghost use Rattle.syntax.specs.Limits.{most_nodes};
 ghost use Rattle.syntax.specs.Nodes.{optional_label_nodes};
-ghost use Rattle.syntax.specs.Tree.{label_tree, name_tree, optional_label_tree};
-ghost use Rattle.types.specs.Labels.{label_finding, named_label_finding, optional_label_finding, policy_finding, principal_finding, readers_finding, variable_label_finding};
+ghost use Rattle.syntax.specs.Tree.{VariableComponent, label_tree, name_tree, optional_label_tree};
+ghost use Rattle.types.specs.Finding.{of_each};
+ghost use Rattle.types.specs.Labels.{component_finding, label_finding, optional_label_finding, policy_finding, principal_finding, variable_label_finding};
 ghost use Rattle.types.specs.VariableEntries.{HasMoreLabels, IsInside, IsOptionInside, label_with, optional_label_with};
 ghost use Rattle.types.specs.Views.{Resolves, item_scope, itself, label_scope_of};
 
@@ -64,7 +65,7 @@ fn resolve_readers(
     names: &[Name<'_>],
 ) -> Result<Vec<u32>, TypeFault>
     ensures { Resolves (λ numbers. numbers.items) result
-        (readers_finding hierarchy.now (map name_tree names.now)) }
+        (of_each (principal_finding hierarchy.now) (map name_tree names.now)) }
 {
     let mut numbers = Vec::new(alloc);
     for name in names {
@@ -191,10 +192,10 @@ impl<'a> LabelContext<'a> {
     }
 
     /// The number of the label of the variable of this name.
-    #[tactic(auto, unfolding(crate::specs::Labels::named_label_finding))]
+    #[tactic(auto, unfolding(crate::specs::Labels::component_finding))]
     fn label_of(&self, name: &Name<'_>) -> Result<u32, TypeFault>
         ensures { Resolves (λ number. label_at self.now.variables.now.labels number) result
-            (named_label_finding (label_scope_of self.now) (name_tree name.now)) }
+            (component_finding (label_scope_of self.now) (VariableComponent (name_tree name.now))) }
     {
         let variable = require_variable(self.look_up(name), name.at)?;
         self.label_of_variable(variable, name.at)

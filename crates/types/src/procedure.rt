@@ -3,11 +3,11 @@
 ghost use Rattle.indexmap.specs.IndexSet.{contains};
 ghost use Rattle.labels.specs.LabelTable.{label_at};
 ghost use Rattle.types.specs.Finding.{along};
-ghost use Rattle.types.specs.Resolution.{begin_label_of, end_label_of, is_thrown, joined_all, next_parameter, next_thrown, procedure_entry_finding, result_finding, throws_finding};
+ghost use Rattle.types.specs.Resolution.{is_thrown, joined_all, next_parameter, next_thrown, procedure_entry_finding, result_finding};
 ghost use Rattle.types.specs.VariableEntries.{AreThrownInside, HasMoreLabels, IsInside, IsOptionInside, IsProcedureInside, IsResultInside};
 ghost use Rattle.types.specs.Views.{Resolves, IsLater, item_scope, item_scope_of, point_of, taken, throws_view, top_view};
 ghost use Rattle.resolved.specs.ProgramOf.{procedure_entry, result_entry, thrown_entry, written_at};
-ghost use Rattle.std.specs.Prelude.{[], IfOk, OnOk, length, map, nat_eq, ◌+◌, ◌*◌, ◌<◌, ◌≡◌, ◌≤◌, ℕ};
+ghost use Rattle.std.specs.Prelude.{[], IfOk, OnOk, length, map, nat_eq, unwrap_or, ◌+◌, ◌*◌, ◌<◌, ◌≡◌, ◌≤◌, ℕ};
 ghost use Rattle.syntax.specs.Limits.{most_nodes};
 ghost use Rattle.syntax.specs.Nodes.{optional_label_nodes, procedure_nodes, written_result_nodes};
 ghost use Rattle.syntax.specs.Tree.{written_result_tree, parameter_tree, procedure_tree, thrown_tree};
@@ -16,12 +16,11 @@ use crate::body::BodyScope;
 use crate::fault::{TypeFault, TypeRefusal, TypeRefusalKind};
 use crate::label::ItemContext;
 use crate::operator::base_of;
-use crate::scope::{Meaning, find, require_exception, require_fresh};
+use crate::scope::{ItemKind, find, require_fresh, require_item};
 use crate::top::result_of;
 use crate::variables::{DeclaredVariables, LabelParts};
 use common::OrNoMemory;
 use indexmap::IndexSet;
-use resolved::expression::Variable;
 use resolved::tables::{Procedure, ResultType, Thrown};
 use std::alloc::{AllocError, Global};
 use syntax::{Parameter, WrittenResult};
@@ -68,9 +67,8 @@ impl<'a, 'n> BodyScope<'a, 'n> {
         let label = self.item_label_context().resolve(&written.label)?;
         require_fresh(self.look_up(&written.name), written.name.at)?;
         let base = base_of(written.base);
-        let variable = Variable::Local(self.variables.slots().len() as u32);
         let slot = self.make_slot(written.at, base, None, Some(label), &written.name)?;
-        self.declare(written.name.text, slot, Meaning::Scalar(variable, base))?;
+        self.declare(written.name.text, slot)?;
         Ok(())
     }
 
@@ -112,7 +110,7 @@ fn add_thrown(
 {
     let name = &written.name;
     let found = find(&context.top.names, name.text);
-    let number = require_exception(found, name.at)?;
+    let number = require_item(ItemKind::Exception, found, name.at)?;
     if !seen.insert(number)? {
         return Err(OrNoMemory::Refused(TypeRefusal {
             kind: TypeRefusalKind::DeclaredTwice,
@@ -128,7 +126,6 @@ fn add_thrown(
 }
 
 /// The exceptions that a procedure declares in `throws`.
-#[tactic(auto, unfolding(crate::specs::Resolution::throws_finding))]
 fn resolve_throws(
     context: &ItemContext<'_>,
     variables: &mut DeclaredVariables,
@@ -136,7 +133,8 @@ fn resolve_throws(
 ) -> Result<Vec<Thrown>, TypeFault>
     requires room { length variables.old.labels + length written.now < most_nodes }
     ensures made { Resolves (λ throws. throws_view variables.new.labels throws) result
-        (throws_finding (item_scope context.now variables.old) (map thrown_tree written.now)) }
+        (along (next_thrown (item_scope context.now variables.old)) []
+        (map thrown_tree written.now)) }
     ensures inside { IfOk result (λ throws.
         AreThrownInside variables.new.labels throws.items) }
     ensures more { OnOk result (HasMoreLabels (length written.now) variables.old variables.new) }
@@ -153,7 +151,7 @@ fn resolve_throws(
 fn make_begin_label(variables: &DeclaredVariables, written: Option<u32>) -> u32
     requires inside { IsOptionInside variables.now.labels written }
     ensures label { label_at variables.now.labels result ≡
-        begin_label_of (written_at variables.now.labels written) }
+        unwrap_or (written_at variables.now.labels written) [] }
     ensures inside { IsInside variables.now.labels result }
 {
     match written {
@@ -201,9 +199,9 @@ fn make_end_label(
     requires written { IsOptionInside variables.old.labels written }
     requires begin { IsInside variables.old.labels begin }
     ensures label { IfOk result (λ number. label_at variables.new.labels number ≡
-        end_label_of (written_at variables.old.labels written)
-        (label_at variables.old.labels begin)
-        (map (thrown_entry variables.old.labels) throws.now)) }
+        unwrap_or (written_at variables.old.labels written)
+        (joined_all (label_at variables.old.labels begin)
+        (map (thrown_entry variables.old.labels) throws.now))) }
     ensures inside { IfOk result (λ number. IsInside variables.new.labels number) }
     ensures more { OnOk result (HasMoreLabels 1 variables.old variables.new) }
 {

@@ -17,7 +17,7 @@ use crate::fault::{TypeFault, TypeRefusal, TypeRefusalKind};
 use crate::item::{resolve_channel, resolve_global};
 use crate::label::ItemContext;
 use crate::procedure::resolve_procedure;
-use crate::scope::{Meaning, find};
+use crate::scope::{ItemKind, Meaning, find};
 use crate::top::TopNames;
 use crate::variables::DeclaredVariables;
 use common::OrNoMemory;
@@ -118,7 +118,7 @@ impl ItemTables {
 pub fn find_main(found: Option<Meaning>, tables: &ItemTables) -> Result<u32, TypeFault>
     ensures { Resolves itself result (main_finding found (tables_view tables.now).procedures) }
 {
-    let Some(Meaning::Procedure(number)) = found else {
+    let Some(Meaning::Item(ItemKind::Procedure, number)) = found else {
         return Err(OrNoMemory::Refused(TypeRefusal {
             kind: TypeRefusalKind::NoProperMain,
             at: 0,

@@ -1,6 +1,6 @@
 //! What names stand for, and the uses that places make of them.
 
-ghost use Rattle.types.specs.Environment.{array_finding, declaring, exception_finding, fresh_finding, input_finding, output_finding, procedure_finding, scalar_finding, variable_finding};
+ghost use Rattle.types.specs.Environment.{array_of, declaring, fresh_finding, item_of, scalar_of, use_as, variable_of};
 ghost use Rattle.types.specs.Finding.{give};
 ghost use Rattle.types.specs.Views.{Resolves, array_use, found_in, itself, or_else, scalar_use, texts_of, without};
 ghost use Rattle.types.specs.Resolution.{nothing_declared};
@@ -9,7 +9,7 @@ ghost use Rattle.std.specs.Prelude.{OnOk, List, [], ◌∷◌, ◌≡◌, ◌≤
 
 use crate::fault::{TypeFault, TypeRefusal, TypeRefusalKind};
 use crate::short_names::ShortNames;
-use common::OrNoMemory;
+use common::{Direction, OrNoMemory};
 use resolved::expression::{Base, Variable};
 use std::alloc::Global;
 use std::collections::BTreeMap;
@@ -20,18 +20,21 @@ pub const MOST_SHORT: usize = 15;
 /// The most bytes of a name whose number fits 64 bits.
 const MOST_IN_WORD: usize = 7;
 
-/// What a name stands for. Channels are numbered in their order, inputs and outputs together; so are globals, procedures and
+/// What an item is that is no variable.
+#[derive(Clone, Copy, Debug, PartialEq, Eq)]
+pub enum ItemKind {
+    Channel(Direction),
+    Exception,
+    Procedure,
+}
+
+/// What a name stands for: an item of a kind, by its number, or a global, parameter or local, with the type of its values and, if it
+/// is an array, its length. Channels are numbered in their order, inputs and outputs together; so are globals, procedures and
 /// exceptions, of which 0, 1 and 2 are `Arith`, `Bounds` and `End`; a local has the number of its slot.
 #[derive(Clone, Copy, Debug, PartialEq, Eq)]
 pub enum Meaning {
-    Input(u32),
-    Output(u32),
-    Exception(u32),
-    Procedure(u32),
-    /// A global, parameter or local that holds one value of this type.
-    Scalar(Variable, Base),
-    /// An array of values of this type, with its length.
-    Array(Variable, Base, u32),
+    Item(ItemKind, u32),
+    Variable(Variable, Base, Option<u32>),
 }
 
 /// A scalar that is used.
@@ -199,20 +202,22 @@ pub fn require_fresh(found: Option<Meaning>, at: usize) -> Result<(), TypeFault>
 /// # Errors
 ///
 /// 301 where it stands for nothing, 403 where it stands for something else than a scalar.
-#[tactic(auto, unfolding(crate::specs::Environment::scalar_finding))]
+#[tactic(auto, unfolding(crate::specs::Environment::use_as))]
 pub fn require_scalar(found: Option<Meaning>, at: usize) -> Result<FoundScalar, TypeFault>
-    ensures { Resolves scalar_use result (scalar_finding found at) }
+    ensures { Resolves scalar_use result (use_as scalar_of found at) }
 {
     match found {
         None => Err(OrNoMemory::Refused(TypeRefusal {
             kind: TypeRefusalKind::UnknownName,
             at,
         })),
-        Some(Meaning::Scalar(variable, base)) => Ok(FoundScalar { variable, base }),
-        Some(_) => Err(OrNoMemory::Refused(TypeRefusal {
-            kind: TypeRefusalKind::WrongUse,
-            at,
-        })),
+        Some(Meaning::Variable(variable, base, None)) => Ok(FoundScalar { variable, base }),
+        Some(Meaning::Item(_, _) | Meaning::Variable(_, _, Some(_))) => {
+            Err(OrNoMemory::Refused(TypeRefusal {
+                kind: TypeRefusalKind::WrongUse,
+                at,
+            }))
+        }
     }
 }
 
@@ -221,24 +226,26 @@ pub fn require_scalar(found: Option<Meaning>, at: usize) -> Result<FoundScalar, 
 /// # Errors
 ///
 /// 301 where it stands for nothing, 403 where it stands for something else than an array.
-#[tactic(auto, unfolding(crate::specs::Environment::array_finding))]
+#[tactic(auto, unfolding(crate::specs::Environment::use_as))]
 pub fn require_array(found: Option<Meaning>, at: usize) -> Result<FoundArray, TypeFault>
-    ensures { Resolves array_use result (array_finding found at) }
+    ensures { Resolves array_use result (use_as array_of found at) }
 {
     match found {
         None => Err(OrNoMemory::Refused(TypeRefusal {
             kind: TypeRefusalKind::UnknownName,
             at,
         })),
-        Some(Meaning::Array(variable, base, size)) => Ok(FoundArray {
+        Some(Meaning::Variable(variable, base, Some(size))) => Ok(FoundArray {
             variable,
             base,
             size,
         }),
-        Some(_) => Err(OrNoMemory::Refused(TypeRefusal {
-            kind: TypeRefusalKind::WrongUse,
-            at,
-        })),
+        Some(Meaning::Item(_, _) | Meaning::Variable(_, _, None)) => {
+            Err(OrNoMemory::Refused(TypeRefusal {
+                kind: TypeRefusalKind::WrongUse,
+                at,
+            }))
+        }
     }
 }
 
@@ -247,105 +254,51 @@ pub fn require_array(found: Option<Meaning>, at: usize) -> Result<FoundArray, Ty
 /// # Errors
 ///
 /// 301 where it stands for nothing, 403 where it stands for something else than a variable.
-#[tactic(auto, unfolding(crate::specs::Environment::variable_finding))]
+#[tactic(auto, unfolding(crate::specs::Environment::use_as))]
 pub fn require_variable(found: Option<Meaning>, at: usize) -> Result<Variable, TypeFault>
-    ensures { Resolves itself result (variable_finding found at) }
+    ensures { Resolves itself result (use_as variable_of found at) }
 {
     match found {
         None => Err(OrNoMemory::Refused(TypeRefusal {
             kind: TypeRefusalKind::UnknownName,
             at,
         })),
-        Some(Meaning::Scalar(variable, _) | Meaning::Array(variable, _, _)) => Ok(variable),
-        Some(_) => Err(OrNoMemory::Refused(TypeRefusal {
+        Some(Meaning::Variable(variable, _, _)) => Ok(variable),
+        Some(Meaning::Item(_, _)) => Err(OrNoMemory::Refused(TypeRefusal {
             kind: TypeRefusalKind::WrongUse,
             at,
         })),
     }
 }
 
-/// Requires that a name stands for an input, and gives its number.
-///
-/// # Errors
-///
-/// 301 where it stands for nothing, 403 where it stands for something else than an input.
-#[tactic(auto, unfolding(crate::specs::Environment::input_finding))]
-pub fn require_input(found: Option<Meaning>, at: usize) -> Result<u32, TypeFault>
-    ensures { Resolves itself result (input_finding found at) }
+/// The number of an item of a kind, if the meaning is one.
+fn number_of_item(kind: ItemKind, meaning: Meaning) -> Option<u32>
+    ensures { result ≡ item_of kind meaning }
 {
-    match found {
-        None => Err(OrNoMemory::Refused(TypeRefusal {
-            kind: TypeRefusalKind::UnknownName,
-            at,
-        })),
-        Some(Meaning::Input(channel)) => Ok(channel),
-        Some(_) => Err(OrNoMemory::Refused(TypeRefusal {
-            kind: TypeRefusalKind::WrongUse,
-            at,
-        })),
+    match meaning {
+        Meaning::Item(other, number) => { if other == kind { Some(number) } else { None } }
+        Meaning::Variable(_, _, _) => None,
     }
 }
 
-/// Requires that a name stands for an output, and gives its number.
+/// Requires that a name stands for an item of a kind, and gives its number.
 ///
 /// # Errors
 ///
-/// 301 where it stands for nothing, 403 where it stands for something else than an output.
-#[tactic(auto, unfolding(crate::specs::Environment::output_finding))]
-pub fn require_output(found: Option<Meaning>, at: usize) -> Result<u32, TypeFault>
-    ensures { Resolves itself result (output_finding found at) }
+/// 301 where it stands for nothing, 403 where it stands for something else.
+#[tactic(auto, unfolding(crate::specs::Environment::use_as))]
+pub fn require_item(kind: ItemKind, found: Option<Meaning>, at: usize) -> Result<u32, TypeFault>
+    ensures { Resolves itself result (use_as (item_of kind) found at) }
 {
-    match found {
-        None => Err(OrNoMemory::Refused(TypeRefusal {
+    let Some(meaning) = found else {
+        return Err(OrNoMemory::Refused(TypeRefusal {
             kind: TypeRefusalKind::UnknownName,
             at,
-        })),
-        Some(Meaning::Output(channel)) => Ok(channel),
-        Some(_) => Err(OrNoMemory::Refused(TypeRefusal {
-            kind: TypeRefusalKind::WrongUse,
-            at,
-        })),
-    }
-}
-
-/// Requires that a name stands for an exception, and gives its number.
-///
-/// # Errors
-///
-/// 301 where it stands for nothing, 403 where it stands for something else than an exception.
-#[tactic(auto, unfolding(crate::specs::Environment::exception_finding))]
-pub fn require_exception(found: Option<Meaning>, at: usize) -> Result<u32, TypeFault>
-    ensures { Resolves itself result (exception_finding found at) }
-{
-    match found {
+        }));
+    };
+    match number_of_item(kind, meaning) {
+        Some(number) => Ok(number),
         None => Err(OrNoMemory::Refused(TypeRefusal {
-            kind: TypeRefusalKind::UnknownName,
-            at,
-        })),
-        Some(Meaning::Exception(number)) => Ok(number),
-        Some(_) => Err(OrNoMemory::Refused(TypeRefusal {
-            kind: TypeRefusalKind::WrongUse,
-            at,
-        })),
-    }
-}
-
-/// Requires that a name stands for a procedure, and gives its number.
-///
-/// # Errors
-///
-/// 301 where it stands for nothing, 403 where it stands for something else than a procedure.
-#[tactic(auto, unfolding(crate::specs::Environment::procedure_finding))]
-pub fn require_procedure(found: Option<Meaning>, at: usize) -> Result<u32, TypeFault>
-    ensures { Resolves itself result (procedure_finding found at) }
-{
-    match found {
-        None => Err(OrNoMemory::Refused(TypeRefusal {
-            kind: TypeRefusalKind::UnknownName,
-            at,
-        })),
-        Some(Meaning::Procedure(number)) => Ok(number),
-        Some(_) => Err(OrNoMemory::Refused(TypeRefusal {
             kind: TypeRefusalKind::WrongUse,
             at,
         })),

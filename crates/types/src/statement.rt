@@ -1,24 +1,21 @@
 //! Statements that hold no others.
 
 ghost use Rattle.types.specs.Statements as spec;
-ghost use Rattle.types.specs.Statements.{arguments_finding, assign_finding, assigned_finding, call_finding, call_statement_finding, declare_array_finding, declare_finding, receive_finding, return_finding, send_finding, size_finding, store_finding, throw_finding};
+ghost use Rattle.types.specs.Statements.{arguments_finding, assigned_finding, call_finding, declare_array_finding, declare_finding, return_finding, size_finding, statement_finding};
 ghost use Rattle.types.specs.VariableEntries.{optional_label_with};
 ghost use Rattle.types.specs.Views.{Resolves, IsLater, at_point, call_use, expressions_of, itself, names_of, new_slot_entry, point_of, setting_of, signatures_of, taken};
 ghost use Rattle.resolved.specs.TreeOf.{statement_of};
 ghost use Rattle.std.specs.Prelude.{IfOk, OnOk, map, ◌+◌, ◌<◌, ◌≡◌, ◌≤◌};
 ghost use Rattle.syntax.specs.Limits.{most_nodes};
-ghost use Rattle.syntax.specs.Tree.{call_tree, expression_tree, name_tree, optional_expression_tree, optional_label_tree, right_tree, size_tree};
+ghost use Rattle.syntax.specs.Tree.{AssignElementTree, AssignTree, CallTree', ReceiveTree, ReceivedTree, SendTree, ThrowTree, call_tree, expression_tree, name_tree, optional_expression_tree, optional_label_tree, right_tree, size_tree};
 
 use crate::body::BodyScope;
 use crate::fault::{TypeFault, TypeRefusal, TypeRefusalKind};
 use crate::operator::is_same;
-use crate::scope::{
-    Meaning, require_array, require_exception, require_fresh, require_input, require_output,
-    require_procedure, require_scalar,
-};
+use crate::scope::{ItemKind, require_array, require_fresh, require_scalar};
 use crate::variables::{LabelParts, NewSlot};
-use common::OrNoMemory;
 use common::limits::MAX_ELEMENTS;
+use common::{Direction, OrNoMemory};
 use resolved::expression::{Base, Expression, Variable};
 use resolved::statement::{Exit, Statement};
 use std::alloc::AllocError;
@@ -75,13 +72,13 @@ impl<'a, 'n> BodyScope<'a, 'n> {
     }
 
     /// A call.
-    #[tactic(auto, unfolding(crate::specs::Statements::call_finding, crate::specs::Statements::applied_finding))]
+    #[tactic(auto, unfolding(crate::specs::Statements::call_finding))]
     fn resolve_call(&self, written: &Call<'_>) -> Result<UsedCall, TypeFault>
         ensures { Resolves call_use result
             (call_finding (signatures_of self.now) (names_of self.now) (call_tree written.now)) }
     {
         let name = &written.procedure;
-        let number = require_procedure(self.look_up(name), name.at)?;
+        let number = self.find_item(ItemKind::Procedure, name)?;
         let (parameters, value) = self.top.signature(number);
         if parameters.len() != written.arguments.len() {
             return Err(OrNoMemory::Refused(TypeRefusal {
@@ -95,6 +92,30 @@ impl<'a, 'n> BodyScope<'a, 'n> {
             arguments,
             result: value,
         })
+    }
+
+    /// The assignment of what is received to a variable of a type, by a statement that begins at a byte.
+    #[tactic(auto, unfolding(crate::specs::Statements::assigned_finding))]
+    fn resolve_received(
+        &self,
+        at: usize,
+        target: Variable,
+        base: Base,
+        receive_at: usize,
+        channel: &Name<'_>,
+    ) -> Result<Statement, TypeFault>
+        ensures { Resolves statement_of result
+            (assigned_finding (signatures_of self.now) (names_of self.now) at target base
+            (ReceivedTree receive_at (name_tree channel.now))) }
+    {
+        if !is_same(Base::Int, base) {
+            return Err(OrNoMemory::Refused(TypeRefusal {
+                kind: TypeRefusalKind::WrongType,
+                at: receive_at,
+            }));
+        }
+        let number = self.find_item(ItemKind::Channel(Direction::Input), channel)?;
+        Ok(Statement::Receive(at, number, Some(target)))
     }
 
     /// The assignment of a right side to a variable of a type, by a statement that begins at a byte.
@@ -114,16 +135,7 @@ impl<'a, 'n> BodyScope<'a, 'n> {
             RightSide::Receive {
                 at: receive_at,
                 channel,
-            } => {
-                if !is_same(Base::Int, base) {
-                    return Err(OrNoMemory::Refused(TypeRefusal {
-                        kind: TypeRefusalKind::WrongType,
-                        at: *receive_at,
-                    }));
-                }
-                let number = require_input(self.look_up(channel), channel.at)?;
-                Ok(Statement::Receive(at, number, Some(target)))
-            }
+            } => self.resolve_received(at, target, base, *receive_at, channel),
             RightSide::Call(call) => {
                 let made = self.resolve_call(call)?;
                 if !gives(base, made.result) {
@@ -201,7 +213,7 @@ impl<'a, 'n> BodyScope<'a, 'n> {
         let variable = Variable::Local(self.variables.slots().len() as u32);
         let statement = self.resolve_right_side(at, variable, base, value)?;
         let slot = self.make_slot(at, base, None, written, name)?;
-        self.declare(name.text, slot, Meaning::Scalar(variable, base))?;
+        self.declare(name.text, slot)?;
         Ok(statement)
     }
 
@@ -233,11 +245,7 @@ impl<'a, 'n> BodyScope<'a, 'n> {
         let length = resolve_size(size)?;
         let number = self.variables.slots().len() as u32;
         let slot = self.make_slot(at, base, Some(length), label, name)?;
-        self.declare(
-            name.text,
-            slot,
-            Meaning::Array(Variable::Local(number), base, length),
-        )?;
+        self.declare(name.text, slot)?;
         Ok(Statement::Clear(at, number))
     }
 
@@ -247,15 +255,15 @@ impl<'a, 'n> BodyScope<'a, 'n> {
     ///
     /// 301 and 403 where a name stands for nothing or for something of another sort, 401 where a type is wrong, 402 where a call
     /// has another number of arguments than its procedure has parameters; or out of memory.
-    #[tactic(auto, unfolding(crate::specs::Statements::assign_finding))]
+    #[tactic(auto, unfolding(crate::specs::Statements::statement_finding))]
     pub fn resolve_assign(
         &self,
         target: &Name<'_>,
         value: &RightSide<'_>,
     ) -> Result<Statement, TypeFault>
-        ensures { Resolves statement_of result
-            (assign_finding (signatures_of self.now) (names_of self.now) (name_tree target.now)
-            (right_tree value.now)) }
+        ensures { Resolves (at_point self.now statement_of) result
+            (statement_finding (setting_of self.now) (point_of self.now)
+            (AssignTree (name_tree target.now) (right_tree value.now))) }
     {
         let found = require_scalar(self.look_up(target), target.at)?;
         self.resolve_right_side(target.at, found.variable, found.base, value)
@@ -267,16 +275,17 @@ impl<'a, 'n> BodyScope<'a, 'n> {
     ///
     /// 301 and 403 where a name stands for nothing or for something of another sort, 401 where the index is no int, where the
     /// value has another type than the elements, or where a type within them is wrong; or out of memory.
-    #[tactic(auto, unfolding(crate::specs::Statements::store_finding))]
+    #[tactic(auto, unfolding(crate::specs::Statements::statement_finding))]
     pub fn resolve_store(
         &self,
         name: &Name<'_>,
         index: &syntax::Expression<'_>,
         value: &syntax::Expression<'_>,
     ) -> Result<Statement, TypeFault>
-        ensures { Resolves statement_of result
-            (store_finding (names_of self.now) (name_tree name.now) (expression_tree index.now)
-            (expression_tree value.now)) }
+        ensures { Resolves (at_point self.now statement_of) result
+            (statement_finding (setting_of self.now) (point_of self.now)
+            (AssignElementTree (name_tree name.now) (expression_tree index.now)
+            (expression_tree value.now))) }
     {
         let found = require_array(self.look_up(name), name.at)?;
         let index = self.type_expression(Base::Int, index)?;
@@ -290,11 +299,11 @@ impl<'a, 'n> BodyScope<'a, 'n> {
     ///
     /// 301 and 403 where a name stands for nothing or for something of another sort, 402 where there are more or fewer arguments
     /// than parameters, 401 where the type of an argument is wrong; or out of memory.
-    #[tactic(auto, unfolding(crate::specs::Statements::call_statement_finding))]
+    #[tactic(auto, unfolding(crate::specs::Statements::statement_finding))]
     pub fn resolve_call_statement(&self, call: &Call<'_>) -> Result<Statement, TypeFault>
-        ensures { Resolves statement_of result
-            (call_statement_finding (signatures_of self.now) (names_of self.now)
-            (call_tree call.now)) }
+        ensures { Resolves (at_point self.now statement_of) result
+            (statement_finding (setting_of self.now) (point_of self.now)
+            (CallTree' (call_tree call.now))) }
     {
         let made = self.resolve_call(call)?;
         Ok(Statement::Call(call.procedure.at, made.procedure, made.arguments, None))
@@ -305,12 +314,13 @@ impl<'a, 'n> BodyScope<'a, 'n> {
     /// # Errors
     ///
     /// 301 where the name of the channel stands for nothing, 403 where it stands for something else than an input.
-    #[tactic(auto, unfolding(crate::specs::Statements::receive_finding))]
+    #[tactic(auto, unfolding(crate::specs::Statements::statement_finding))]
     pub fn resolve_receive(&self, at: usize, channel: &Name<'_>) -> Result<Statement, TypeFault>
-        ensures { Resolves statement_of result
-            (receive_finding (names_of self.now) at (name_tree channel.now)) }
+        ensures { Resolves (at_point self.now statement_of) result
+            (statement_finding (setting_of self.now) (point_of self.now)
+            (ReceiveTree at (name_tree channel.now))) }
     {
-        let number = require_input(self.look_up(channel), channel.at)?;
+        let number = self.find_item(ItemKind::Channel(Direction::Input), channel)?;
         Ok(Statement::Receive(at, number, None))
     }
 
@@ -320,18 +330,18 @@ impl<'a, 'n> BodyScope<'a, 'n> {
     ///
     /// 301 and 403 where a name stands for nothing or for something of another sort, 401 where the value is no int or a type
     /// within it is wrong; or out of memory.
-    #[tactic(auto, unfolding(crate::specs::Statements::send_finding))]
+    #[tactic(auto, unfolding(crate::specs::Statements::statement_finding))]
     pub fn resolve_send(
         &self,
         at: usize,
         channel: &Name<'_>,
         value: &syntax::Expression<'_>,
     ) -> Result<Statement, TypeFault>
-        ensures { Resolves statement_of result
-            (send_finding (names_of self.now) at (name_tree channel.now)
-            (expression_tree value.now)) }
+        ensures { Resolves (at_point self.now statement_of) result
+            (statement_finding (setting_of self.now) (point_of self.now)
+            (SendTree at (name_tree channel.now) (expression_tree value.now))) }
     {
-        let number = require_output(self.look_up(channel), channel.at)?;
+        let number = self.find_item(ItemKind::Channel(Direction::Output), channel)?;
         Ok(Statement::Send(at, number, self.type_expression(Base::Int, value)?))
     }
 
@@ -340,12 +350,13 @@ impl<'a, 'n> BodyScope<'a, 'n> {
     /// # Errors
     ///
     /// 301 where its name stands for nothing, 403 where it stands for something else than an exception.
-    #[tactic(auto, unfolding(crate::specs::Statements::throw_finding))]
+    #[tactic(auto, unfolding(crate::specs::Statements::statement_finding))]
     pub fn resolve_throw(&self, at: usize, name: &Name<'_>) -> Result<Statement, TypeFault>
-        ensures { Resolves statement_of result
-            (throw_finding (names_of self.now) at (name_tree name.now)) }
+        ensures { Resolves (at_point self.now statement_of) result
+            (statement_finding (setting_of self.now) (point_of self.now)
+            (ThrowTree at (name_tree name.now))) }
     {
-        let number = require_exception(self.look_up(name), name.at)?;
+        let number = self.find_item(ItemKind::Exception, name)?;
         Ok(Statement::Leave(at, Exit::Throw(number)))
     }
 

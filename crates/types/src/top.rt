@@ -2,7 +2,7 @@
 
 ghost use Rattle.common.specs.declared.exceptions.TheConstants.{BUILT_IN};
 ghost use Rattle.types.specs.Finding.{give};
-ghost use Rattle.types.specs.Resolution.{built_in, channel_meaning, global_meaning, item_meaning, item_name, next_name, result_base_of, signature_of, top_finding};
+ghost use Rattle.types.specs.Resolution.{built_in, size_of, item_meaning, item_name, next_name, result_base_of, signature_of, top_finding};
 ghost use Rattle.types.specs.Statements as spec;
 ghost use Rattle.types.specs.Views.{Resolves, signature_view, top_view};
 ghost use Rattle.std.specs.Prelude.{IfOk, OnOk, length, map, ◌+◌, ◌<◌, ◌≡◌};
@@ -11,8 +11,7 @@ ghost use Rattle.syntax.specs.Tree.{global_value_tree, item_tree, name_tree, wri
 
 use crate::fault::TypeFault;
 use crate::operator::base_of;
-use crate::scope::{Meaning, Names, find, insert, require_fresh};
-use common::Direction;
+use crate::scope::{ItemKind, Meaning, Names, find, insert, require_fresh};
 use common::exceptions::{ARITH, ARITH_NAME, BOUNDS, BOUNDS_NAME, BUILT_IN, END, END_NAME};
 use resolved::expression::{Base, Variable};
 use std::alloc::{AllocError, Global};
@@ -35,22 +34,13 @@ pub struct TopNames {
     pub signatures: Vec<CodeSignature>,
 }
 
-fn channel_meaning_of(direction: Direction, number: u32) -> Meaning
-    ensures { result ≡ channel_meaning direction number }
+/// The length of a global that is an array.
+pub fn size_of_global(value: &GlobalValue) -> Option<u32>
+    ensures { result ≡ size_of (global_value_tree value.now) }
 {
-    match direction {
-        Direction::Input => Meaning::Input(number),
-        Direction::Output => Meaning::Output(number),
-    }
-}
-
-fn global_meaning_of(base: Base, number: u32, value: &GlobalValue) -> Meaning
-    ensures { result ≡ global_meaning base number (global_value_tree value.now) }
-{
-    let variable = Variable::Global(number);
     match value {
-        GlobalValue::Scalar(_) => Meaning::Scalar(variable, base),
-        GlobalValue::Array(size) => Meaning::Array(variable, base, size.size),
+        GlobalValue::Scalar(_) => None,
+        GlobalValue::Array(size) => Some(size.size),
     }
 }
 
@@ -110,9 +100,24 @@ impl TopNames {
         ensures { Resolves top_view result (give built_in) }
     {
         let mut names = Names::new(alloc);
-        insert(alloc, &mut names, ARITH_NAME, Meaning::Exception(ARITH))?;
-        insert(alloc, &mut names, BOUNDS_NAME, Meaning::Exception(BOUNDS))?;
-        insert(alloc, &mut names, END_NAME, Meaning::Exception(END))?;
+        insert(
+            alloc,
+            &mut names,
+            ARITH_NAME,
+            Meaning::Item(ItemKind::Exception, ARITH),
+        )?;
+        insert(
+            alloc,
+            &mut names,
+            BOUNDS_NAME,
+            Meaning::Item(ItemKind::Exception, BOUNDS),
+        )?;
+        insert(
+            alloc,
+            &mut names,
+            END_NAME,
+            Meaning::Item(ItemKind::Exception, END),
+        )?;
         Ok(TopNames {
             names,
             channels: 0,
@@ -128,12 +133,18 @@ impl TopNames {
         ensures { result ≡ item_meaning (top_view self.now) (item_tree item.now) }
     {
         match item {
-            Item::Channel(channel) => channel_meaning_of(channel.direction, self.channels),
-            Item::Exception { .. } => Meaning::Exception(self.exceptions),
-            Item::Global(global) => {
-                global_meaning_of(base_of(global.base), self.globals, &global.value)
+            Item::Channel(channel) => {
+                Meaning::Item(ItemKind::Channel(channel.direction), self.channels)
             }
-            Item::Procedure(_) => Meaning::Procedure(self.signatures.len() as u32),
+            Item::Exception { .. } => Meaning::Item(ItemKind::Exception, self.exceptions),
+            Item::Global(global) => Meaning::Variable(
+                Variable::Global(self.globals),
+                base_of(global.base),
+                size_of_global(&global.value),
+            ),
+            Item::Procedure(_) => {
+                Meaning::Item(ItemKind::Procedure, self.signatures.len() as u32)
+            }
         }
     }
 

@@ -50,6 +50,13 @@ module _ (c : Coverage) (at : ℕ) (good : IsCoverage c) where
     ]
   ]
 
+  -- where no number is above the offset, each handler that waits ends before it
+  pub all_over : ((k : ℕ) → k < c.ends.width → leaf c.ends k ≤ at) → (x : Handler) → Waits c x → x.end ≤ at
+  all_over low x w = elim (good.ends w.index x w.inside w.there) [
+    | inl zero_is ↦ absurd (omega (arith, zero_is, w.waits))
+    | inr end ↦ omega (arith, end, low w.index (omega (arith, w.inside, good.room)))
+  ]
+
   pub above_inside : (index : ℕ) → at < leaf c.ends index → index < length c.handlers.items
   above_inside index above = elim (cases_lt index (length c.handlers.items)) [
     | inl less ↦ less

@@ -28,7 +28,7 @@ use Rattle.verifier.specs.Search.{list_for, shape_at, shape_for, table, AreMet, 
 use Rattle.verifier.specs.declared.fault.CodeRefusalKind.TheVariants.{OperandKind, FallsOffEnd}
 use Rattle.verifier.specs.declared.coverage.Coverage.{Coverage}
 use Rattle.verifier.specs.declared.search.ReachedOffsets.{ReachedOffsets}
-use Rattle.verifier.proofs.Offsets.{code_length_least, start_inside}
+use Rattle.verifier.proofs.Offsets.{code_length_least}
 use Rattle.verifier.proofs.Indices.{begins_at, by_index, first_offset, last_offset, length-indices, number_found, numbered_at}
 use Rattle.verifier.proofs.Laws.{IsFinished, flows_well, changed_at}
 
@@ -71,9 +71,6 @@ stands_last p index to number is e boundary last =
       | inl ends ↦ record { inside = omega (arith, last); there = ap (offset_at p.code) last ∙ last_offset p.code ∙ sym ends }
       | inr begins ↦ absurd (let no : Some begins.0 ≡ None = sym begins.1 ∙ by_index p.code index to None is e in cc)
     ]
-
-pub not_last : (number count : ℕ) → number ≤ count → number ≢ count → number < count
-not_last number count most ne = elim (cases_lt number count) [ inl less ↦ less | inr more ↦ absurd (ne (omega (arith, most, more))) ]
 
 -- an edge to the end is refused
 pub falls_at : (m : ModuleContents) (p : ProcedureContents) (s : ReachedOffsets) (busy : List ℕ) (at to : ℕ) (after : List ValueKind) → IsSearching m p s busy → IsAtEdge m p s at to after → to ≡ code_length p.code → IsRefusedForOperands m p to FallsOffEnd

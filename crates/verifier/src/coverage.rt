@@ -2,7 +2,7 @@
 
 ghost use Rattle.modules.specs.declared.declaration.Handler.{Handler as TheHandler};
 ghost use Rattle.std.specs.List.{Contains};
-ghost use Rattle.std.specs.Prelude.{IfNone, IfOk, IfSome, length, ℕ, ◌<◌, ◌^◌, ◌≡◌, ◌⊎◌, ◌≤◌};
+ghost use Rattle.std.specs.Prelude.{IfNone, IfSome, OnOk, false, length, ℕ, ◌<◌, ◌^◌, ◌≡◌, ◌⊎◌, ◌≤◌};
 ghost use Rattle.verifier.specs.Coverage.{IsCoverage, IsSortedByStart, Waits, left};
 
 use crate::ends::MaximumTree;
@@ -19,20 +19,36 @@ pub(crate) struct Coverage {
 }
 
 impl Coverage {
-    /// Handlers that all wait.
-    pub(crate) fn new(alloc: Global, handlers: &[Handler]) -> Result<Coverage, AllocError>
-        requires { length handlers.now < 2 ^ 32 }
-        ensures coverage { IfOk result IsCoverage }
-        ensures real { IfOk result (λ c. (h : TheHandler) → Waits c h → Contains handlers.now h) }
-        ensures all { IfOk result (λ c. (h : TheHandler) (at : ℕ) →
-            Contains handlers.now h → at < h.end → Waits c h) }
-    {
-        let handlers = sort_by_start(alloc, handlers)?;
-        let mut ends = MaximumTree::new(alloc, handlers.len())?;
-        for index in 0..handlers.len() {
-            ends.set(index, handlers[index].end);
+    /// No handler.
+    pub(crate) fn new(alloc: Global) -> Coverage {
+        Coverage {
+            handlers: Vec::new(alloc),
+            ends: MaximumTree::new(alloc),
         }
-        Ok(Coverage { handlers, ends })
+    }
+
+    /// Handlers that all wait, in place of those before. Memory is used again.
+    pub(crate) fn restart(&mut self, handlers: &[Handler]) -> Result<(), AllocError>
+        requires { length handlers.now < 2 ^ 32 }
+        ensures coverage { OnOk result (IsCoverage self.new) }
+        ensures real { OnOk result ((h : TheHandler) → Waits self.new h → Contains handlers.now h) }
+        ensures all { OnOk result ((h : TheHandler) (at : ℕ) →
+            Contains handlers.now h → at < h.end → Waits self.new h) }
+    {
+        sort_by_start(&mut self.handlers, handlers)?;
+        self.ends.restart(self.handlers.len())?;
+        for index in 0..self.handlers.len() {
+            self.ends.set(index, self.handlers[index].end);
+        }
+        Ok(())
+    }
+
+    /// Whether a handler that waits may cover an offset.
+    pub(crate) fn may_cover(&self, at: u32) -> bool
+        requires { IsCoverage self.now }
+        ensures { result ≡ false → (x : TheHandler) → Waits self.now x → x.end ≤ at }
+    {
+        self.ends.has_above(at)
     }
 
     /// Takes a handler that waits and covers an offset, if there is one. It waits no more.
@@ -62,14 +78,12 @@ impl Coverage {
     }
 }
 
-// The handlers in the order of their starts.
-fn sort_by_start(alloc: Global, handlers: &[Handler]) -> Result<Vec<Handler>, AllocError>
-    ensures { IfOk result (λ sorted. IsSortedByStart handlers.now sorted.items) }
+// Takes handlers in the order of their starts, in place of those before.
+fn sort_by_start(sorted: &mut Vec<Handler>, handlers: &[Handler]) -> Result<(), AllocError>
+    ensures { OnOk result (IsSortedByStart handlers.now sorted.new.items) }
 {
-    let mut sorted = Vec::new(alloc);
-    for handler in handlers {
-        sorted.push(*handler)?;
-    }
+    sorted.clear();
+    sorted.extend_from_slice(handlers)?;
     sorted.sort_by_key(|handler| handler.start)?;
-    Ok(sorted)
+    Ok(())
 }

@@ -1,6 +1,6 @@
 //! Numbers among which the first one above another is found in a few steps.
 
-ghost use Rattle.std.specs.Prelude.{IfNone, IfOk, IfSome, ℕ, ◌+◌, ◌<◌, ◌^◌, ◌≡◌, ◌≢◌, ◌≤◌};
+ghost use Rattle.std.specs.Prelude.{IfNone, IfSome, OnOk, false, ℕ, ◌+◌, ◌<◌, ◌^◌, ◌≡◌, ◌≢◌, ◌≤◌};
 ghost use Rattle.verifier.specs.Coverage.{IsGreater, IsTree, leaf};
 
 use std::alloc::{AllocError, Global};
@@ -14,21 +14,37 @@ pub(crate) struct MaximumTree {
 }
 
 impl MaximumTree {
-    /// At least this many numbers, each of them 0.
-    pub(crate) fn new(alloc: Global, count: usize) -> Result<MaximumTree, AllocError>
+    /// A tree that has yet no numbers.
+    pub(crate) fn new(alloc: Global) -> MaximumTree {
+        MaximumTree {
+            nodes: Vec::new(alloc),
+            width: 0,
+        }
+    }
+
+    /// At least this many numbers, each of them 0, in place of those before. Memory is used again.
+    pub(crate) fn restart(&mut self, count: usize) -> Result<(), AllocError>
         requires { count ≤ 2 ^ 32 }
-        ensures tree { IfOk result (λ ends. IsTree ends.nodes.items ends.width) }
-        ensures room { IfOk result (λ ends. count ≤ ends.width) }
-        ensures zeros { IfOk result (λ ends. (k : ℕ) → leaf ends k ≡ 0) }
+        ensures tree { OnOk result (IsTree self.new.nodes.items self.new.width) }
+        ensures room { OnOk result (count ≤ self.new.width) }
+        ensures zeros { OnOk result ((k : ℕ) → leaf self.new k ≡ 0) }
     {
         let mut width = 1;
         while width < count {
             width *= 2;
         }
-        Ok(MaximumTree {
-            nodes: vec![in alloc; 0; 2 * width]?,
-            width,
-        })
+        self.nodes.clear();
+        self.nodes.resize(2 * width, 0)?;
+        self.width = width;
+        Ok(())
+    }
+
+    /// Whether one of the numbers is greater than another one.
+    pub(crate) fn has_above(&self, low: u32) -> bool
+        requires { IsTree self.now.nodes.items self.now.width }
+        ensures { result ≡ false → (k : ℕ) → k < self.now.width → leaf self.now k ≤ low }
+    {
+        low < self.nodes[1]
     }
 
     /// The index of the first number that is greater than another one.

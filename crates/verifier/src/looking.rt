@@ -4,18 +4,20 @@ ghost use Rattle.common.specs.Answers.{IfRefused};
 ghost use Rattle.common.specs.declared.fault.OrNoMemory.TheVariants.{NoMemory};
 ghost use Rattle.std.specs.Prelude.{IfErr, IfNone, IfOk, IfSome, Some, length, ◌<◌, ◌^◌, ◌≡◌, ◌⊎◌};
 ghost use Rattle.verifier.specs.Boundaries.{KeepsBoundaries};
+ghost use Rattle.verifier.specs.Positions.{positioned};
 ghost use Rattle.verifier.specs.Refusals.{IsCodeRefusal};
 ghost use Rattle.verifier.specs.Search.{IsSearchableBody};
 ghost use Rattle.verifier.specs.Verified.{HasCodes, AddsVerifiedCode, IsRefusalOf};
 
 use crate::body::IndexedProcedure;
 use crate::fault::{CodeRefusal, VerifyFault};
-use crate::fixed::find_body_refusal;
+use crate::fixed::place_code;
 use crate::index::Index;
 use crate::parameters::PackedModule;
 use crate::positions::Code;
-use crate::search::{FlowRefusal, ReachedOffsets, find_refusal};
+use crate::search::{FlowRefusal, FlowSearch};
 use common::OrNoMemory;
+use modules::Instruction;
 use std::alloc::Global;
 
 /// What is kept of the procedures of a module: the code of each, and the index of that code.
@@ -40,15 +42,13 @@ pub(crate) fn look_for_refusals(
     let procedures = program.procedures();
     let mut codes = Vec::with_capacity(alloc, procedures.len())?;
     let mut indexes = Vec::with_capacity(alloc, procedures.len())?;
-    let mut search = ReachedOffsets::new(alloc)?;
+    let mut search = FlowSearch::new(alloc)?;
     let mut found = None;
     let mut number = 0;
     for procedure in procedures {
         let body = IndexedProcedure::new(alloc, program, procedure)?;
-        if let Some(refusal) = find_body_refusal(&body, number) {
-            return Err(OrNoMemory::Refused(refusal));
-        }
-        found = look_for_flow_refusal(alloc, &mut search, &body, number, found, &mut codes)?;
+        let placed = place_code(alloc, &body, number)?;
+        found = look_for_flow_refusal(&mut search, &body, number, found, placed, &mut codes)?;
         indexes.push(body.index)?;
         number += 1;
     }
@@ -59,15 +59,16 @@ pub(crate) fn look_for_refusals(
 }
 
 // Looks for a refusal of the flow of a procedure whose targets are right, unless one was found before. Where there is
-// none, the procedure's code is added.
+// none, the procedure's code is added, which is placed.
 fn look_for_flow_refusal(
-    alloc: Global,
-    search: &mut ReachedOffsets,
+    search: &mut FlowSearch,
     body: &IndexedProcedure,
     number: u32,
     found: Option<CodeRefusal>,
+    placed: Vec<Instruction>,
     codes: &mut Vec<Code>,
 ) -> Result<Option<CodeRefusal>, VerifyFault>
+    requires placed { placed.items ≡ positioned body.now.procedure.now.code }
     requires boundaries { KeepsBoundaries body.now.procedure.now }
     requires body { IsSearchableBody body.now }
     requires few { length body.now.procedure.now.handlers < 2 ^ 32 }
@@ -82,9 +83,9 @@ fn look_for_flow_refusal(
     if found.is_some() {
         return Ok(found);
     }
-    match find_refusal(alloc, search, body) {
+    match search.find_refusal(body) {
         Ok(greatest_depth) => {
-            codes.push(Code::of(alloc, body, greatest_depth)?)?;
+            codes.push(Code::new(placed, greatest_depth))?;
             Ok(None)
         }
         Err(OrNoMemory::NoMemory) => Err(OrNoMemory::NoMemory),

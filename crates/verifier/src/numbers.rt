@@ -1,4 +1,4 @@
-//! Numbers for places, where a place may have none.
+//! Numbers at indexes, where an index may have none.
 
 ghost use Rattle.std.specs.Prelude.{IfOk, None, OnOk, Some, length, replicate, slice_index_or, set, ◌+◌, ◌<◌, ◌^◌, ◌≡◌};
 ghost use Rattle.verifier.specs.Numbers as numbers;
@@ -6,10 +6,10 @@ ghost use Rattle.verifier.specs.Numbers as numbers;
 use std::alloc::{AllocError, Global};
 use std::marker::Model;
 
-/// For each of this many places a number, or none. A place takes four bytes.
+/// At each of this many indexes a number, or none. An index takes four bytes.
 #[derive(Debug, Drop)]
 pub(crate) struct Numbers {
-    // The number of each place and 1, or 0 where it has none.
+    // The number at each index and 1, or 0 where it has none.
     marks: Vec<u32>,
 }
 
@@ -23,7 +23,7 @@ impl Model for Numbers {
 }
 
 impl Numbers {
-    /// This many places without numbers.
+    /// This many indexes without numbers.
     pub(crate) fn new(alloc: Global, count: usize) -> Result<Numbers, AllocError>
         ensures { IfOk result (λ numbers. numbers ≡ replicate count None) }
     {
@@ -31,7 +31,7 @@ impl Numbers {
         Ok(Numbers { marks })
     }
 
-    /// This many places without numbers, in place of those before.
+    /// This many indexes without numbers, in place of those before.
     pub(crate) fn restart(&mut self, count: usize) -> Result<(), AllocError>
         ensures { OnOk result (self.new ≡ replicate count None) }
     {
@@ -40,14 +40,14 @@ impl Numbers {
         Ok(())
     }
 
-    /// How many places there are.
+    /// How many indexes there are.
     pub(crate) fn len(&self) -> usize
         ensures { result ≡ length self.now }
     {
         self.marks.len()
     }
 
-    /// The number of a place, if there is the place and it has one.
+    /// The number at an index, if there is the index and it has one.
     pub(crate) fn at(&self, index: usize) -> Option<u32>
         ensures { result ≡ slice_index_or self.now index None }
     {
@@ -57,7 +57,7 @@ impl Numbers {
         }
     }
 
-    /// Gives a place a number.
+    /// Gives an index a number.
     pub(crate) fn set(&mut self, index: usize, number: u32)
         requires index { index < length self.old }
         requires number { number + 1 < 2 ^ 32 }

@@ -39,7 +39,8 @@ pub fn bit_of(kind: ValueKind) -> u64
 
 // The kinds as bits, where one more kind stands before them.
 fn bits_with(bits: u64, kind: ValueKind) -> u64
-    ensures { (kinds : List ValueKind) → bits ≡ packed 64 kinds → result ≡ packed 64 (kind ∷ kinds) }
+    ensures { (kinds : List ValueKind) → bits ≡ packed 64 kinds → result ≡ packed 64
+        (kind ∷ kinds) }
 {
     bits % HIGHEST * 2 + bit_of(kind)
 }
@@ -149,7 +150,8 @@ impl Operands {
         }
     }
 
-    // Makes the list with one more operand on it, which is not there.
+    // Makes the list with one more operand on it, which is not there. It is not inlined: there are few lists.
+    #[inline(never)]
     fn add(&mut self, list: u32, kind: ValueKind) -> Result<u32, AllocError>
         requires there { list < length self.old }
         requires room { length self.old < 2 ^ 32 }

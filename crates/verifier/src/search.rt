@@ -111,7 +111,7 @@ impl ReachedOffsets {
         ensures rejected { IfErr result (IfRefused
             (IsOperandFlowRefusal body.now.program.now body.now.procedure.now)) }
     {
-        if number == self.shapes.len() {
+        if number >= self.shapes.len() {
             return Err(refuse(CodeRefusalKind::FallsOffEnd, to));
         }
         match self.shapes.at(number) {
@@ -156,6 +156,25 @@ impl ReachedOffsets {
         Ok(())
     }
 
+    // Control goes from an offset to a handler, with no operands. It is not inlined, so that the loop over instructions has all
+    // registers for itself.
+    #[inline(never)]
+    fn enter(&mut self, body: &IndexedProcedure, at: u32, to: u32) -> Result<(), FlowFault>
+        requires searching { IsSearching body.now.program.now body.now.procedure.now self.old
+            (at ∷ []) }
+        requires edge { IsAtEdge body.now.program.now body.now.procedure.now self.old at to
+            (list_of self.old.operands 0) }
+        requires boundary { IsBoundary body.now.procedure.now to }
+        requires body { IsSearchableBody body.now }
+        requires room { length self.old.operands + left self.old ≤ 2 ^ 32 }
+        ensures accepted { OnOk result (Flowed body.now.program.now body.now.procedure.now self.old
+            self.new at to 0) }
+        ensures rejected { IfErr result (IfRefused
+            (IsOperandFlowRefusal body.now.program.now body.now.procedure.now)) }
+    {
+        self.reach(body, at, to, 0)
+    }
+
     // The list that an instruction at an offset leaves.
     fn apply(
         &mut self,
@@ -166,7 +185,8 @@ impl ReachedOffsets {
     ) -> Result<u32, FlowFault>
         requires searching { IsSearching body.now.program.now body.now.procedure.now self.old
             (at ∷ []) }
-        requires shape { table body.now.procedure.now self.old at ≡ Some (list_of self.old.operands list) }
+        requires shape { table body.now.procedure.now self.old at ≡ Some (list_of self.old.operands
+            list) }
         requires list { list < length self.old.operands }
         requires instruction { instruction_at body.now.procedure.now.code at ≡ Some instruction }
         requires room { length self.old.operands < 2 ^ 32 }
@@ -242,8 +262,11 @@ impl ReachedOffsets {
         ensures rejected { IfErr result (IfRefused
             (IsOperandFlowRefusal body.now.program.now body.now.procedure.now)) }
     {
+        if !coverage.may_cover(at) {
+            return Ok(());
+        }
         while let Some(handler) = coverage.take(at) {
-            self.reach(body, at, handler.target, 0)?;
+            self.enter(body, at, handler.target)?;
         }
         Ok(())
     }
@@ -264,7 +287,8 @@ impl ReachedOffsets {
             instruction (list_of self.old.operands list) }
         requires list { list < length self.old.operands }
         requires number { offset_at body.now.procedure.now.code number ≡ at }
-        requires jumps { (to : ℕ) → targets.target_of instruction ≡ Some to → table body.now.procedure.now self.old to
+        requires jumps { (to : ℕ) → targets.target_of instruction ≡ Some to → table
+            body.now.procedure.now self.old to
             ≡ Some (list_of self.old.operands list) }
         requires caught { (h : Handler) → Contains body.now.procedure.now.handlers h →
             h.start ≤ at → at < h.end → table body.now.procedure.now self.old h.target ≡ Some [] }
@@ -273,7 +297,8 @@ impl ReachedOffsets {
         requires room { length self.old.operands + left self.old ≤ 2 ^ 32 }
         ensures next { IfOk result (IsSearchingNext body.now.program.now body.now.procedure.now
             self.new) }
-        ensures keeps { OnOk result ((offset : ℕ) (kinds : List ValueKind) → table body.now.procedure.now self.old offset
+        ensures keeps { OnOk result ((offset : ℕ) (kinds : List ValueKind) → table
+            body.now.procedure.now self.old offset
             ≡ Some kinds → table body.now.procedure.now self.new offset ≡ Some kinds) }
         ensures same { OnOk result (self.new.operands ≡ self.old.operands) }
         ensures left { IfOk result (λ next. left self.new + count next ≤ left self.old) }
@@ -329,13 +354,15 @@ impl ReachedOffsets {
         Ok(next)
     }
 
-    // Looks at a place.
+    // Looks at a place of the procedure's code.
     fn look(
         &mut self,
         body: &IndexedProcedure,
+        code: &[Instruction],
         coverage: &mut Coverage,
         listed: ListedOffset,
     ) -> Result<Option<ListedOffset>, FlowFault>
+        requires code { code.now ≡ body.now.procedure.now.code }
         requires searching { IsSearching body.now.program.now body.now.procedure.now self.old
             (listed.at ∷ []) }
         requires there { HasInstruction body.now.procedure.now self.old listed.at }
@@ -352,7 +379,7 @@ impl ReachedOffsets {
         ensures rejected { IfErr result (IfRefused
             (IsOperandFlowRefusal body.now.program.now body.now.procedure.now)) }
     {
-        let instruction = body.procedure.code()[listed.number as usize];
+        let instruction = code[listed.number as usize];
         self.visit(body, coverage, listed, instruction)
     }
 
@@ -399,9 +426,10 @@ impl ReachedOffsets {
         ensures rejected { IfErr result (IfRefused
             (IsOperandFlowRefusal body.now.program.now body.now.procedure.now)) }
     {
+        let code = body.procedure.code();
         let mut next = Some(self.listed_at(body, at));
         while let Some(listed) = next {
-            next = self.look(body, coverage, listed)?;
+            next = self.look(body, code, coverage, listed)?;
         }
         Ok(())
     }
@@ -426,31 +454,44 @@ impl ReachedOffsets {
     }
 }
 
-/// Looks for a refusal of the flow of a procedure whose targets are right, and answers the greatest number of operands where there
-/// is none. Memory that the search has is used again.
-pub(crate) fn find_refusal(
-    alloc: Global,
-    search: &mut ReachedOffsets,
-    body: &IndexedProcedure,
-) -> Result<u32, FlowFault>
-    requires boundaries { KeepsBoundaries body.now.procedure.now }
-    requires body { IsSearchableBody body.now }
-    requires few { length body.now.procedure.now.handlers < 2 ^ 32 }
-    ensures accepted { OnOk result (FlowsWell body.now.program.now body.now.procedure.now) }
-    ensures depth { IfOk result (λ depth. IsGreatestDepth body.now.program.now
-        body.now.procedure.now depth) }
-    ensures rejected { IfErr result (IfRefused
-        (IsOperandFlowRefusal body.now.program.now body.now.procedure.now)) }
-{
-    let count = body.procedure.code().len();
-    if count == 0 {
-        return Err(refuse(CodeRefusalKind::FallsOffEnd, 0));
+/// The memory of searches, which is used again for each procedure.
+#[derive(Drop)]
+pub(crate) struct FlowSearch {
+    reached: ReachedOffsets,
+    coverage: Coverage,
+}
+
+impl FlowSearch {
+    /// A search that has not begun.
+    pub(crate) fn new(alloc: Global) -> Result<FlowSearch, AllocError> {
+        Ok(FlowSearch {
+            reached: ReachedOffsets::new(alloc)?,
+            coverage: Coverage::new(alloc),
+        })
     }
-    let mut coverage = Coverage::new(alloc, body.procedure.handlers())?;
-    search.operands.restart();
-    search.shapes.restart(count)?;
-    search.shapes.set(0, 0);
-    search.work.restart()?;
-    search.run(body, &mut coverage)?;
-    Ok(search.operands.greatest_depth())
+
+    /// Looks for a refusal of the flow of a procedure whose targets are right, and answers the greatest number of operands where
+    /// there is none.
+    pub(crate) fn find_refusal(&mut self, body: &IndexedProcedure) -> Result<u32, FlowFault>
+        requires boundaries { KeepsBoundaries body.now.procedure.now }
+        requires body { IsSearchableBody body.now }
+        requires few { length body.now.procedure.now.handlers < 2 ^ 32 }
+        ensures accepted { OnOk result (FlowsWell body.now.program.now body.now.procedure.now) }
+        ensures depth { IfOk result (λ depth. IsGreatestDepth body.now.program.now
+            body.now.procedure.now depth) }
+        ensures rejected { IfErr result (IfRefused
+            (IsOperandFlowRefusal body.now.program.now body.now.procedure.now)) }
+    {
+        let count = body.procedure.code().len();
+        if count == 0 {
+            return Err(refuse(CodeRefusalKind::FallsOffEnd, 0));
+        }
+        self.coverage.restart(body.procedure.handlers())?;
+        self.reached.operands.restart();
+        self.reached.shapes.restart(count)?;
+        self.reached.shapes.set(0, 0);
+        self.reached.work.restart()?;
+        self.reached.run(body, &mut self.coverage)?;
+        Ok(self.reached.operands.greatest_depth())
+    }
 }

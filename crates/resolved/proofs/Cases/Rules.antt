@@ -114,7 +114,7 @@ if_refused : (labelling : Labelling)
 unfolding int_wrap
 if_refused labelling = refl
 
--- `if (x > 0) { return; } send pub, 1;`: two ends are possible, so the second statement is not reached at the first one's label
+-- `if (x > 0) { return; } send pub, 1;`: two exits are possible, so the second statement is not reached at the first one's label
 if_return_refused : (labelling : Labelling)
     → fits (secret_program [] (if_then (positive (var 0)) (ReturnWith 0 None ∷ []) ∷ send_public (int 1) ∷ [])) labelling ≡ false
 unfolding int_wrap
@@ -126,7 +126,7 @@ while_fits : fits (secret_program [] (while_loop (positive (var 0)) [] ∷ send_
 unfolding int_wrap
 while_fits = refl
 
--- `while (true) { send pub, 1; if (x > 0) { break; } }`: the second round tells of x, since the body's normal end comes back
+-- `while (true) { send pub, 1; if (x > 0) { break; } }`: the second round tells of x, since the body's normal exit comes back
 while_refused : (label : Label)
     → fits (secret_program [] (while_loop (Logical true) (
     send_public (int 1) ∷ if_then (positive (var 0)) (Leave 0 Break ∷ []) ∷ []) ∷ [])) (loop_is label) ≡ false
@@ -150,8 +150,8 @@ unfolding int_wrap
 public_loop_fits = refl
 
 -- ---- leaving
--- `try { while (true) { if (x > 0) { break; } throw Oops; } send pub, 1; } catch (Oops) { }`: the loop has two ends, and its normal
--- end has the label of `break`; and `while (true) { break; } send pub, 1;`, where it has one end
+-- `try { while (true) { if (x > 0) { break; } throw Oops; } send pub, 1; } catch (Oops) { }`: the loop has two exits, and its normal
+-- exit has the label of `break`; and `while (true) { break; } send pub, 1;`, where it has one exit
 break_refused : (label : Label)
     → fits (secret_program [] (
     try_to (while_loop (Logical true) (if_then (positive (var 0)) (Leave 0 Break ∷ []) ∷ Leave 0 (Throw oops) ∷ [])
@@ -211,8 +211,8 @@ block_refused : (labelling : Labelling) → fits (program (record (procedure (in
 unfolding int_wrap
 block_refused labelling = refl
 
--- `try { if (x > 0) { throw Oops; } x = 1; send pub, 1; } catch (Oops) { }`: the `if` has two ends, and all that follows in the block
--- is reached at the label of its normal end
+-- `try { if (x > 0) { throw Oops; } x = 1; send pub, 1; } catch (Oops) { }`: the `if` has two exits, and all that follows in the block
+-- is reached at the label of its normal exit
 rest_refused : (labelling : Labelling) → fits (secret_program [] (
     try_to (if_then (positive (var 0)) (Leave 0 (Throw oops) ∷ []) ∷ set_to 0 (int 1) ∷ send_public (int 1) ∷ []) (on oops []) ∷ []))
     labelling ≡ false
@@ -220,7 +220,7 @@ unfolding int_wrap
 rest_refused labelling = refl
 
 -- with a public y, `try { if (y > 0) { return; } if (x > 0) { throw Oops; } throw Oops; } catch (Oops) { send pub, 1; }`: the rest of the
--- block, which has one end, is no statement of its own and so no single path
+-- block, which has one exit, is no statement of its own and so no single path
 no_single_path : (labelling : Labelling) → fits (secret_program (int_slot [] ∷ []) (
     try_to (
     if_then (positive (var 1)) (ReturnWith 0 None ∷ []) ∷ if_then (positive (var 0)) (Leave 0 (Throw oops) ∷ []) ∷ Leave 0 (Throw oops) ∷ [])
@@ -278,7 +278,7 @@ end_label_refused : (labelling : Labelling) → fits (calling_k alice alice alic
 unfolding int_wrap calling_k
 end_label_refused labelling = refl
 
--- ---- the ends of a procedure
+-- ---- the exits of a procedure
 -- k with `throws (Arith{})`: that it throws would tell of n
 procedure_refused : (labelling : Labelling) → fits (calling_k alice alice [] []) labelling ≡ false
 unfolding int_wrap calling_k

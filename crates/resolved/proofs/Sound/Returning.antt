@@ -74,7 +74,7 @@ returned_to_some target (Ended Continue returned s) h = tt
 returned_to_some target (Ended (Throw exception) returned s) h = tt
 returned_to_some target (Stopped stop s) h = tt
 
--- a return is the normal end of its call
+-- a return is the normal exit of its call
 leaving_some : (back : SourceState → SourceState) (outcome : Outcome) → ReturnsSome (leaving back outcome)
 leaving_some back (Ended Normal returned s) = tt
 leaving_some back (Ended Return returned s) = tt

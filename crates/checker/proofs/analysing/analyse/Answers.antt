@@ -10,7 +10,7 @@ use Rattle.common.proofs.Casting.{cast-answer, mapped-ok}
 use Rattle.common.specs.Answers.{IfRefused}
 use Rattle.path_map.specs.FirstFault.{IsFirstEndFault}
 use Rattle.resolved.specs.CoreOf.{program_of}
-use Rattle.resolved.specs.EndFaults.{end_faults}
+use Rattle.resolved.specs.ExitFaults.{exit_faults}
 use Rattle.std.proofs.Common.{◌≡◌}
 use Rattle.syntax.specs.Tree.{program_tree}
 use Rattle.types.specs.Finding.{IsRefusalOf, give}
@@ -62,5 +62,5 @@ returns-in_err-ends-clause-first_fault c =
           c.in_ok-core.ensures.cases (λ fault no. no) c.resolve.ensures.accepted;
     } in
     rw (p.1, p.2) (IfErr-at_err (IfRefused (IsFound h source)) c.in_err-ends.was
-    (cast-answer (IsFirstEndFault (end_faults program)) (IsFound h source) (λ r s is first. rw is (ended h source program r from first))
+    (cast-answer (IsFirstEndFault (exit_faults program)) (IsFound h source) (λ r s is first. rw is (ended h source program r from first))
     c.ends.result c.map_err-2.result c.map_err-2.ensures.cases c.ends.ensures.first_fault))

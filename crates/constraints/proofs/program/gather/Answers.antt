@@ -4,7 +4,7 @@ use Rattle.labels.specs.LabelLattice.{label_lattice}
 use Rattle.path_map.specs.EndsOf.{AreEndsOf}
 use Rattle.resolved.specs.CoreOf.{program_of}
 use Rattle.resolved.specs.declared.program.Core.{Core}
-use Rattle.resolved.specs.EndFaults.{end_faults}
+use Rattle.resolved.specs.ExitFaults.{exit_faults}
 use Rattle.resolved.specs.Labelled.{FitsDemands, program_demands}
 use Rattle.resolved.specs.WellFormed.{program_nodes}
 use Rattle.solver.specs.Constraints.{constraint_of}
@@ -35,7 +35,7 @@ returns-clause-gathered c =
     let begun : Made = record { number = progress.number; constraints = progress.constraints } in
     subst (λ (k : Core). AreConstraintsOf (program_of k) (map (constraint_of (label_lattice (program_of k).hierarchy) k.labels) c.spread_calls.new.made.constraints.items)) c.in_ok-table.ensures
     (all-gathered table.core.now table.core.now.labels progress begun c.spread_calls.new.made c.in_ok-progress.ensures.added c.in_ok-spread_calls.ensures c.in_ok-progress.ensures.number refl
-    (subst (λ (k : Core). end_faults (program_of k) ≡ []) (sym c.in_ok-table.ensures) c.requires.ended))
+    (subst (λ (k : Core). exit_faults (program_of k) ≡ []) (sym c.in_ok-table.ensures) c.requires.ended))
 
 pub returns-clause-fits : goal.returns-clause-fits
 returns-clause-fits c = λ labelling.
@@ -45,7 +45,7 @@ returns-clause-fits c = λ labelling.
     subst (λ (k : Core). FitsDemands (program_of k).hierarchy labelling (program_demands (program_of k))
     ↔ FitsConstraints (program_of k) (map (constraint_of (label_lattice (program_of k).hierarchy) k.labels) c.spread_calls.new.made.constraints.items) labelling) c.in_ok-table.ensures
     (all-fit table.core.now table.core.now.labels progress begun c.spread_calls.new.made c.in_ok-progress.ensures.added c.in_ok-spread_calls.ensures c.in_ok-progress.ensures.number refl
-    (subst (λ (k : Core). end_faults (program_of k) ≡ []) (sym c.in_ok-table.ensures) c.requires.ended) labelling)
+    (subst (λ (k : Core). exit_faults (program_of k) ≡ []) (sym c.in_ok-table.ensures) c.requires.ended) labelling)
 
 pub returns-clause-in_range : goal.returns-clause-in_range
 returns-clause-in_range c =

@@ -1,6 +1,7 @@
-use Rattle.std.proofs.Common.{ap, arith, length, refl, subst, sym, ◌∙◌, ◌+◌, ◌<◌, [], take}
+use Rattle.std.proofs.Common.{ap, arith, length, refl, subst, sym, List, ◌∙◌, ◌≡◌, ◌*◌, ◌+◌, ◌<◌, ◌≤◌, [], take}
 use Rattle.std.proofs.lemmas.List.{length-map}
-use Rattle.constraints.specs.Merging.{AreSpreadSoFar, row_of, rows_of}
+use Rattle.constraints.specs.Merging.{AreLaidOut, AreSpreadSoFar, row_of, rows_of}
+use Rattle.constraints.specs.declared.merging.Parts.{Parts}
 use Rattle.constraints.specs.Spreading.{AreRowsOf, Declares, all_calls, made_list}
 use Rattle.constraints.proofs.Bodies.{procedures-numbered}
 use Rattle.gathering.specs.Names.{real_unknowns}
@@ -21,7 +22,7 @@ loop-i-init c = record {
     are_spread = whole-none c.args.table.now.core.now c.args.table.now.core.now.labels c.args.journal.now (Declares c.args.table.now.core.now) [] c.args.made.now.number refl;
     are_taken = taken-none (IsOver c.in_ok-following.following) (over-same c.in_ok-following.following) (rows_of c.in_ok-kept.kept.items) c.args.made.now.constraints.items;
   };
-  count = c.in_ok-kept.ensures.count;
+  count = omega (arith, c.in_ok-kept.ensures.count, c.kept_count-count.ensures);
   few = omega arith;
 }
 
@@ -45,7 +46,7 @@ loop-i-preserved c =
           c.loop-i-test.true c.row-item.is c.deref-in-loop-i.ensures.value (subst (AreRowsOf c.len.result c.deref.result.now) (sym c.deref-row-items.ensures.value) c.in_ok-rows.ensures)
           so_far.are_spread taken.holds refl)
           taken.are_taken;
-      count = c.in_ok-spread_row.ensures.count ∙ c.loop-i.invariant.count;
+      count = omega (arith, c.in_ok-spread_row.ensures.count, c.loop-i.invariant.count);
       few =
           let more = calls-more rows i c.row-item.result c.deref-in-loop-i.result.now c.loop-i-test.true c.row-item.is c.deref-in-loop-i.ensures.value in
           omega (arith, c.loop-i.invariant.few, c.in_ok-spread_row.ensures.few, more);
@@ -76,7 +77,7 @@ returns c =
     let following = c.in_ok-following.following in
     let base = c.args.made.now.constraints.items in
     let ways : AreWays (real_unknowns (program_of core)) base following =
-    subst (λ n. AreWays n base following) c.args.table.now.count (subst (λ list. AreWays c.args.table.now.unknowns list following) c.deref-2.ensures.value c.in_ok-following.ensures) in
+    subst (λ n. AreWays n base following) c.args.table.now.count (subst (λ list. AreWays c.args.table.now.unknowns list following) c.deref-3.ensures.value c.in_ok-following.ensures) in
     let whole : AreSpreadSoFar (IsOver following) core table journal journal.calls.items (rows_of c.in_ok-kept.kept.items) (rows_of c.loop-i.kept.items) c.args.made.now c.loop-i.made = record {
       spread = so_far.spread;
       are_spread = calls-all core table journal c.deref-row-items.result.now c.len.result c.loop-i.i journal.calls.items c.args.made.now.number c.loop-i.made.number so_far.spread
@@ -84,5 +85,9 @@ returns c =
           (subst (λ list. AreRowsOf c.len.result list c.deref-row-items.result.now) c.deref.ensures.value are) so_far.are_spread;
       are_taken = so_far.are_taken;
     } in
+    let kept_is : c.deref-5.result.now ≡ c.loop-i.kept.items = c.deref-5.ensures.value in
+    let laid : AreLaidOut (rows_of c.loop-i.kept.items) (length c.loop-i.kept.items) c.loop-i.made.number c.lay_out.new.made.number c.loop-i.made.constraints.items c.lay_out.new.made.constraints.items =
+    subst (λ (kept : List Parts). AreLaidOut (rows_of kept) (length kept) c.loop-i.made.number c.lay_out.new.made.number c.loop-i.made.constraints.items c.lay_out.new.made.constraints.items) kept_is c.in_ok-lay_out.ensures.laid in
+    let few : 2 * c.lay_out.new.made.number ≤ 2 * c.loop-i.made.number + length c.loop-i.kept.items + 1 = omega (arith, c.in_ok-lay_out.ensures.few, ap length kept_is) in
     shared-all (IsOver following) core table journal journal.calls.items (rows_of c.in_ok-kept.kept.items) (rows_of c.loop-i.kept.items) (length c.loop-i.kept.items) c.args.made.now c.loop-i.made
-    c.lay_out.new.made (λ a b over. over (real_unknowns (program_of core)) base ways) c.in_ok-kept.ensures.nothing (length-map c.loop-i.kept.items row_of) c.loop-i.invariant.count whole c.in_ok-lay_out.ensures.laid c.in_ok-lay_out.ensures.few
+    c.lay_out.new.made (λ a b over. over (real_unknowns (program_of core)) base ways) c.in_ok-kept.ensures.nothing (length-map c.loop-i.kept.items row_of) c.loop-i.invariant.count whole laid few

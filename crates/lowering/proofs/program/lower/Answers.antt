@@ -6,7 +6,7 @@ use Rattle.modules.specs.Format.{module_file}
 use Rattle.layout.specs.Offsets.{laid_out}
 use Rattle.layout.specs.Runs.{graph_after_steps}
 use Rattle.resolved.specs.CoreOf.{program_of}
-use Rattle.resolved.specs.EndFaults.{end_faults}
+use Rattle.resolved.specs.ExitFaults.{exit_faults}
 use Rattle.resolved.specs.Names.{HasNames}
 use Rattle.resolved.specs.declared.program.Core.{Core}
 use Rattle.verifier.specs.Refusals.{IsNotRefused}
@@ -27,7 +27,7 @@ graph_is graph lent core is same = is ∙ ap (λ (one : Core). graph_of (program
 
 pub make_graph-requires-clause-ends : goal.make_graph-requires-clause-ends
 make_graph-requires-clause-ends c =
-    subst (λ (core : Core). end_faults (program_of core) ≡ []) (sym c.core.ensures.core) c.core.ensures.checked.ended
+    subst (λ (core : Core). exit_faults (program_of core) ≡ []) (sym c.core.ensures.core) c.core.ensures.checked.ended
 
 pub make_graph-requires-clause-names : goal.make_graph-requires-clause-names
 make_graph-requires-clause-names c =

@@ -2,7 +2,7 @@ use Rattle.std.proofs.Common.{◌≡◌, ◌<◌, ap, sym, ◌∙◌, ◌++◌, 
 use Rattle.std.specs.Prelude.{◌==◌, if◌then◌else◌}
 use Rattle.std.proofs.lemmas.Bool.{ltb-true}
 use Rattle.std.proofs.lemmas.List.{get_or_read}
-use Rattle.path_map.specs.declared.keeping.RowForm.TheVariants.{Whole, Both, Changed}
+use Rattle.path_map.specs.declared.keeping.KeptForm.TheVariants.{Whole, Both, Changed}
 use Rattle.path_map.specs.Exceptions.{is_one_of}
 use Rattle.path_map.specs.Listed.{listed}
 use Rattle.path_map.specs.RowLists.{changed, row_at}

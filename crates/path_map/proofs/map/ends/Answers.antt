@@ -4,7 +4,7 @@ use Rattle.std.specs.Prelude.{IsTrue}
 use Rattle.resolved.specs.WellFormed.{procedure_fits}
 use Rattle.path_map.proofs.Fitting.{procedure-fits}
 use Rattle.resolved.specs.CoreOf.{program_of}
-use Rattle.resolved.specs.EndFaults.{end_faults, procedure_faults}
+use Rattle.resolved.specs.ExitFaults.{exit_faults, procedure_faults}
 use Rattle.resolved.specs.ProgramOf.{procedure_entry}
 use Rattle.path_map.specs.FirstFault.{IsFirstEndFault}
 use Rattle.path_map.specs.Paths.{AreAlike, block_paths}
@@ -37,7 +37,7 @@ returns-in_err-walk_procedure-clause-first_fault c =
     let procedure = procedure_entry c.args.core.now.labels c.procedure-item.result in
     let all = map (procedure_entry c.args.core.now.labels) c.args.core.now.procedures.items in
     let tail = map (procedure_entry c.args.core.now.labels) (drop (c.loop-procedure.procedure-index + 1) c.deref-procedure-items.result.now) in
-    let first : IfRefused (IsFirstEndFault (end_faults program)) c.in_err-walk_procedure.field-0.0 =
+    let first : IfRefused (IsFirstEndFault (exit_faults program)) c.in_err-walk_procedure.field-0.0 =
     beside-first program all procedure tail c.loop-procedure.table c.in_err-walk_procedure.field-0.0
     (subst (λ list. WithEnds program all list c.loop-procedure.table)
     (next-procedure (procedure_entry c.args.core.now.labels) c.deref-procedure-items.result.now c.loop-procedure.procedure-index c.procedure-item.result c.loop-procedure-test.true c.procedure-item.is) c.loop-procedure.invariant)

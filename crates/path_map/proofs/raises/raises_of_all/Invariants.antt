@@ -1,5 +1,5 @@
 use Rattle.std.proofs.Common.{◌≡◌, ℕ, ◌||◌, map, drop}
-use Rattle.resolved.specs.Ends.{raises_all}
+use Rattle.resolved.specs.Exits.{raises_all}
 use Rattle.resolved.specs.TreeOf.{expression_of}
 use Rattle.path_map.specs.Exceptions.{is_one_of, raised_list}
 use Rattle.path_map.proofs.raises.raises_of_all.Given as goal

@@ -1,5 +1,5 @@
 use Rattle.std.proofs.Common.{subst, sym, [], ◌∷◌, ◌++◌}
-use Rattle.path_map.specs.declared.keeping.RowForm.TheVariants.{Whole}
+use Rattle.path_map.specs.declared.keeping.KeptForm.TheVariants.{Whole}
 use Rattle.path_map.specs.Entries.{IsRowOf}
 use Rattle.path_map.specs.Sets.{members}
 use Rattle.path_map.proofs.RowLists.{pushed-row}

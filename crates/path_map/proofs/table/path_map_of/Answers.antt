@@ -1,5 +1,5 @@
 use Rattle.std.proofs.Common.{◌∙◌}
-use Rattle.path_map.specs.ThrownEnds.{has_exception}
+use Rattle.path_map.specs.ThrownExits.{has_exception}
 use Rattle.path_map.proofs.Kept.{entry-value}
 use Rattle.path_map.proofs.table.path_map_of.Goals as goal
 

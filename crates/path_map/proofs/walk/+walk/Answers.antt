@@ -3,12 +3,12 @@ use Rattle.std.proofs.Common.{◌≡◌, refl, sym, ap, ◌∙◌, subst, ◌+�
 use Rattle.std.proofs.lemmas.Bool.{not-false}
 use Rattle.std.proofs.lemmas.Result.{IfOk-weaker, IfErr-weaker, on_ok_weaker}
 use Rattle.resolved.specs.CoreOf.{program_of}
-use Rattle.resolved.specs.Ends.{block_ends, raises, raises_all, index_raises, statement_ends}
-use Rattle.resolved.specs.EndFaults.{block_faults, handlers_faults, inner_faults}
+use Rattle.resolved.specs.Exits.{block_exits, raises, raises_all, index_raises, statement_exits}
+use Rattle.resolved.specs.ExitFaults.{block_faults, handlers_faults, inner_faults}
 use Rattle.resolved.specs.Tree as T
 use Rattle.resolved.specs.TreeOf.{expression_of, some_expression_of, statement_of, block_of, handlers_of}
 use Rattle.resolved.specs.declared.statement.Exit.{Exit}
-use Rattle.resolved.specs.declared.fault.EndRefusalKind.TheVariants as kind
+use Rattle.resolved.specs.declared.fault.ExitRefusalKind.TheVariants as kind
 use Rattle.common.specs.declared.fault.OrNoMemory.TheVariants.{Refused}
 use Rattle.path_map.specs.FirstFault.{IsFirstEndFault}
 use Rattle.path_map.specs.Paths.{block_paths, rest_paths, inner_paths}
@@ -29,7 +29,7 @@ pub walk_block-returns-clause-found : goal.walk_block-returns-clause-found
 walk_block-returns-clause-found t c =
     let program = program_of c.args.walk.now.core.now in
     let block = block_of c.args.block.now in
-    reserved (block_ends program block) (rest_paths program block) c.args.table.now c.reserve.new.self c.walk_statements.new.table c.in_ok-at.at
+    reserved (block_exits program block) (rest_paths program block) c.args.table.now c.reserve.new.self c.walk_statements.new.table c.in_ok-at.at
     (members c.new-own.result) (members c.walk_statements.new.raised) c.in_ok-exits.exits c.in_ok-at.ensures.room c.in_ok-at.ensures.number c.in_ok-exits.ensures.found
     c.put.new.self (members c.args.raised.now) (members c.unite.new.self) c.new-own.ensures.empty c.in_ok-unite.ensures.united c.in_ok-put.ensures
 
@@ -37,7 +37,7 @@ pub walk_statement-returns-clause-found : goal.walk_statement-returns-clause-fou
 walk_statement-returns-clause-found t c =
     let program = program_of c.args.walk.now.core.now in
     let statement = statement_of c.args.statement.now in
-    reserved (statement_ends program statement) (inner_paths program statement) c.args.table.now c.reserve.new.self c.walk_form.new.table c.in_ok-at.at
+    reserved (statement_exits program statement) (inner_paths program statement) c.args.table.now c.reserve.new.self c.walk_form.new.table c.in_ok-at.at
     (members c.new-own.result) (members c.walk_form.new.raised) c.in_ok-exits.exits c.in_ok-at.ensures.room c.in_ok-at.ensures.number c.in_ok-exits.ensures.found
     c.put.new.self (members c.args.raised.now) (members c.unite.new.self) c.new-own.ensures.empty c.in_ok-unite.ensures.united c.in_ok-put.ensures
 
@@ -45,14 +45,14 @@ pub walk_block-put-requires : goal.walk_block-put-requires
 walk_block-put-requires t c =
     let program = program_of c.args.walk.now.core.now in
     let block = block_of c.args.block.now in
-    has-room (block_ends program block) (rest_paths program block) c.args.table.now c.reserve.new.self c.walk_statements.new.table c.in_ok-at.at
+    has-room (block_exits program block) (rest_paths program block) c.args.table.now c.reserve.new.self c.walk_statements.new.table c.in_ok-at.at
     (members c.new-own.result) (members c.walk_statements.new.raised) c.in_ok-exits.exits c.in_ok-at.ensures.room c.in_ok-at.ensures.number c.in_ok-exits.ensures.found
 
 pub walk_statement-put-requires : goal.walk_statement-put-requires
 walk_statement-put-requires t c =
     let program = program_of c.args.walk.now.core.now in
     let statement = statement_of c.args.statement.now in
-    has-room (statement_ends program statement) (inner_paths program statement) c.args.table.now c.reserve.new.self c.walk_form.new.table c.in_ok-at.at
+    has-room (statement_exits program statement) (inner_paths program statement) c.args.table.now c.reserve.new.self c.walk_form.new.table c.in_ok-at.at
     (members c.new-own.result) (members c.walk_form.new.raised) c.in_ok-exits.exits c.in_ok-at.ensures.room c.in_ok-at.ensures.number c.in_ok-exits.ensures.found
 
 -- statements without blocks
@@ -218,8 +218,8 @@ walk_form-returns-in_ok-unite-in-Try-clause-accepted t c =
     faults-at program c.args.statement.now (T.Try c.in-Try.field-0 block handlers)
     (tree-try c.args.statement.now c.in-Try.field-0 c.in-Try.block c.in-Try.handlers c.deref-in-Try.result.now c.deref-in-Try-2.result.now c.in-Try.is c.deref-in-Try.ensures.value c.deref-in-Try-2.ensures.value)
     c.args.in_loop
-    (none-both (block_faults program c.args.in_loop true block) (handlers_faults program c.args.in_loop (block_ends program block) handlers) c.in_ok-tried-in-Try.ensures.accepted
-    (c.in_ok-handled-in-Try.ensures.accepted (block_ends program block)
+    (none-both (block_faults program c.args.in_loop true block) (handlers_faults program c.args.in_loop (block_exits program block) handlers) c.in_ok-tried-in-Try.ensures.accepted
+    (c.in_ok-handled-in-Try.ensures.accepted (block_exits program block)
     (tried-throws program c.in-Try.field-0 block handlers c.args.table.now c.walk_block-in-Try.new.table (members c.new-inner.result) (members c.walk_block-in-Try.new.raised) c.in_ok-tried-in-Try.tried
     c.new-inner.ensures.empty c.in_ok-tried-in-Try.ensures.found)))
 
@@ -232,7 +232,7 @@ walk_form-returns-in_err-tried-in-Try-clause-first_fault t c =
     first-at program c.args.statement.now (T.Try c.in-Try.field-0 block handlers)
     (tree-try c.args.statement.now c.in-Try.field-0 c.in-Try.block c.in-Try.handlers c.deref-in-Try.result.now c.in-Try.handlers.items c.in-Try.is c.deref-in-Try.ensures.value refl)
     c.args.in_loop c.in_err-tried-in-Try.field-0.0
-    (first-left (block_faults program c.args.in_loop true block) (handlers_faults program c.args.in_loop (block_ends program block) handlers) c.in_err-tried-in-Try.field-0.0
+    (first-left (block_faults program c.args.in_loop true block) (handlers_faults program c.args.in_loop (block_exits program block) handlers) c.in_err-tried-in-Try.field-0.0
     c.in_err-tried-in-Try.ensures.first_fault) in
     search (rules, first)
 
@@ -245,9 +245,9 @@ walk_form-returns-in_err-handled-in-Try-clause-first_fault t c =
     first-at program c.args.statement.now (T.Try c.in-Try.field-0 block handlers)
     (tree-try c.args.statement.now c.in-Try.field-0 c.in-Try.block c.in-Try.handlers c.deref-in-Try.result.now c.deref-in-Try-2.result.now c.in-Try.is c.deref-in-Try.ensures.value c.deref-in-Try-2.ensures.value)
     c.args.in_loop c.in_err-handled-in-Try.field-0.0
-    (first-right (block_faults program c.args.in_loop true block) (handlers_faults program c.args.in_loop (block_ends program block) handlers) c.in_err-handled-in-Try.field-0.0
+    (first-right (block_faults program c.args.in_loop true block) (handlers_faults program c.args.in_loop (block_exits program block) handlers) c.in_err-handled-in-Try.field-0.0
     c.in_ok-tried-in-Try.ensures.accepted
-    (c.in_err-handled-in-Try.ensures.first_fault (block_ends program block)
+    (c.in_err-handled-in-Try.ensures.first_fault (block_exits program block)
     (tried-throws program c.in-Try.field-0 block handlers c.args.table.now c.walk_block-in-Try.new.table (members c.new-inner.result) (members c.walk_block-in-Try.new.raised) c.in_ok-tried-in-Try.tried
     c.new-inner.ensures.empty c.in_ok-tried-in-Try.ensures.found))) in
     search (rules, first)
@@ -258,8 +258,8 @@ walk_form-returns-in-Nested-clause-found t c =
     let program = program_of c.args.walk.now.core.now in
     let block = block_of c.deref-in-Nested.result.now in
     IfOk-weaker c.walk_block-in-Nested.result
-    (λ x. IsFound (block_ends program block) (block_paths program block) c.args.table.now c.walk_block-in-Nested.new.table (members c.args.raised.now) (members c.walk_block-in-Nested.new.raised) x)
-    (λ x. IsFound (statement_ends program (statement_of c.args.statement.now)) (inner_paths program (statement_of c.args.statement.now)) c.args.table.now c.walk_block-in-Nested.new.table (members c.args.raised.now) (members c.walk_block-in-Nested.new.raised) x)
+    (λ x. IsFound (block_exits program block) (block_paths program block) c.args.table.now c.walk_block-in-Nested.new.table (members c.args.raised.now) (members c.walk_block-in-Nested.new.raised) x)
+    (λ x. IsFound (statement_exits program (statement_of c.args.statement.now)) (inner_paths program (statement_of c.args.statement.now)) c.args.table.now c.walk_block-in-Nested.new.table (members c.args.raised.now) (members c.walk_block-in-Nested.new.raised) x)
     (λ x found.
     found-at program c.args.statement.now (T.Nested c.in-Nested.field-0 block)
     (tree-nested c.args.statement.now c.in-Nested.field-0 c.in-Nested.block c.deref-in-Nested.result.now c.in-Nested.is c.deref-in-Nested.ensures.value)

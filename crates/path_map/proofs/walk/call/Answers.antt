@@ -1,4 +1,4 @@
-use Rattle.resolved.specs.Ends.{declared_by}
+use Rattle.resolved.specs.Exits.{declared_by}
 use Rattle.resolved.specs.Program.{procedure_at}
 use Rattle.resolved.specs.CoreOf.{program_of}
 use Rattle.std.proofs.Common.{ap, ◌∙◌, true}

@@ -1,4 +1,4 @@
-use Rattle.resolved.specs.Ends.{raises}
+use Rattle.resolved.specs.Exits.{raises}
 use Rattle.resolved.specs.TreeOf.{expression_of}
 use Rattle.path_map.specs.Exceptions.{raised_list}
 use Rattle.path_map.specs.Sets.{members}

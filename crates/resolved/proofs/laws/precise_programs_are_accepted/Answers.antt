@@ -10,9 +10,9 @@ pub returns-clause-raising_argument : goal.returns-clause-raising_argument
 unfolding int_wrap
 returns-clause-raising_argument c = record { formed = refl; ended = refl; labelled = (λ unwritten. [], refl) }
 
-pub returns-clause-two_normal_ends : goal.returns-clause-two_normal_ends
+pub returns-clause-two_normal_exits : goal.returns-clause-two_normal_exits
 unfolding int_wrap
-returns-clause-two_normal_ends c = record { formed = refl; ended = refl; labelled = (λ unwritten. [], refl) }
+returns-clause-two_normal_exits c = record { formed = refl; ended = refl; labelled = (λ unwritten. [], refl) }
 
 pub returns-clause-handler_of_one : goal.returns-clause-handler_of_one
 unfolding int_wrap

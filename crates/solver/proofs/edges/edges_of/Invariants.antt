@@ -1,12 +1,12 @@
-use Rattle.std.proofs.Common.{◌≡◌, ℕ, length, take}
-use Rattle.solver.specs.Links.{edges_at, links_of, row_at}
+use Rattle.std.proofs.Common.{◌≡◌, length}
+use Rattle.solver.specs.EdgePlaces.{AreFilledTo}
 use Rattle.solver.specs.declared.constraints.Atom.TheVariants.{Unknown, Written}
 use Rattle.solver.proofs.edges.edges_of.Given as goal
 
-abbrev pub invariant-loop-i : goal.invariant-loop-i
-invariant-loop-i g l = record {
-  written : (k : ℕ) → row_at l.edges.written.items k ≡ edges_at (Written k) (links_of 0 (take l.i l.constraints));
-  unknown : (k : ℕ) → row_at l.edges.unknown.items k ≡ edges_at (Unknown k) (links_of 0 (take l.i l.constraints));
-  written_count : length l.edges.written.items ≡ l.written;
-  unknown_count : length l.edges.unknown.items ≡ l.unknowns;
+abbrev pub invariant-loop-by : goal.invariant-loop-by
+invariant-loop-by g l = record {
+  written : AreFilledTo Written l.constraints l.by l.filling.written.places.items l.filling.written.list.items;
+  unknown : AreFilledTo Unknown l.constraints l.by l.filling.unknown.places.items l.filling.unknown.list.items;
+  written_count : length l.filling.written.places.items ≡ l.written;
+  unknown_count : length l.filling.unknown.places.items ≡ l.unknowns;
 }

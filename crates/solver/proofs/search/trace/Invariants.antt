@@ -6,4 +6,4 @@ abbrev pub invariant-loop-next : goal.invariant-loop-next
 invariant-loop-next l = Searched l.edges l.value l.search.marks.items l.search.found.items l.next
 
 abbrev pub decreases-loop-next : goal.decreases-loop-next
-decreases-loop-next l = length l.edges.unknown.items - l.next
+decreases-loop-next l = length l.edges.unknown - l.next

@@ -16,7 +16,7 @@ rows_of-requires-clause-edges g c = are-edges c.args.constraints.now c.in_ok-edg
 
 pub rows_of-requires-clause-range : goal.rows_of-requires-clause-range
 rows_of-requires-clause-range g c =
-    let count : length c.in_ok-edges.edges.written.items ≡ length (g.W.WrittenElements.elements c.args.written.now) = omega (arith, c.in_ok-edges.ensures.written_count, c.len-count.ensures) in
+    let count : length c.in_ok-edges.edges.written ≡ length (g.W.WrittenElements.elements c.args.written.now) = omega (arith, c.in_ok-edges.ensures.written_count, c.len-count.ensures) in
     rw (count, c.in_ok-edges.ensures.unknown_count) c.requires
 
 pub returns-in-None-clause-accepted : goal.returns-in-None-clause-accepted
@@ -38,7 +38,7 @@ pub returns-in-None-clause-looks : goal.returns-in-None-clause-looks
 returns-in-None-clause-looks g c =
     let cs = c.args.constraints.now in
     let table = g.W.WrittenElements.elements c.args.written.now in
-    let count : length c.in_ok-edges.edges.written.items ≡ length table = omega (arith, c.in_ok-edges.ensures.written_count, c.len-count.ensures) in
+    let count : length c.in_ok-edges.edges.written ≡ length table = omega (arith, c.in_ok-edges.ensures.written_count, c.len-count.ensures) in
     subst (λ (solution : Solved). AreLooks (length table) cs solution.looks) (sym c.of.ensures)
     (looks-last (length table) cs c.in_ok-edges.edges c.in_ok-reached.reached.rows c.in_ok-reached.reached.looks count c.in_ok-reached.ensures.looks)
 

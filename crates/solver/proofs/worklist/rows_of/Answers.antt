@@ -17,9 +17,9 @@ pub loop-by-init : goal.loop-by-init
 loop-by-init g c =
     let rows = c.in_ok-new.field-0 in
     let is = c.in_ok-new.ensures in
-    let all : length rows ≡ length c.args.edges.now.unknown.items = ap length is ∙ (length-replicate _ _ ∙ omega (arith, c.len-2.ensures, c.args.edges.now.unknown.ok.0)) in
-    let sized : AreSized (length c.args.edges.now.written.items) rows =
-    subst (λ (r : List (List Bool)). AreSized (length c.args.edges.now.written.items) r) (sym is) (All-replicate (λ (row : List Bool). length row ≤ length c.args.edges.now.written.items) _ [] (omega arith)) in
+    let all : length rows ≡ length c.args.edges.now.unknown = ap length is ∙ (length-replicate _ _ ∙ c.len-2.ensures) in
+    let sized : AreSized (length c.args.edges.now.written) rows =
+    subst (λ (r : List (List Bool)). AreSized (length c.args.edges.now.written) r) (sym is) (All-replicate (λ (row : List Bool). length row ≤ length c.args.edges.now.written) _ [] (omega arith)) in
     let empty : (u n : ℕ) → has_at rows u n ≡ false = λ u n. ap (λ (r : List (List Bool)). has_at r u n) is ∙ has_at-none _ u n in
     record {
       work = work-first c.args.constraints.now c.args.edges.now c.requires.edges rows c.in_ok-queue.queue.waits.items c.in_ok-queue.queue.order.items all sized empty c.in_ok-queue.ensures;

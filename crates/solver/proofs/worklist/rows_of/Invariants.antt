@@ -10,4 +10,4 @@ invariant-loop-by g l = record {
 }
 
 abbrev pub decreases-loop-by : goal.decreases-loop-by
-decreases-loop-by g l = length l.queue.order.items + room (written_left l.constraints 0 (length l.edges.written.items)) l.edges.unknown.items l.reached.rows
+decreases-loop-by g l = length l.queue.order.items + room (written_left l.constraints 0 (length l.edges.written)) l.edges.unknown l.reached.rows

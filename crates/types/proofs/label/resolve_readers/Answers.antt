@@ -1,12 +1,11 @@
 use Rattle.std.proofs.Common.{[], arith, get_or}
 use Rattle.std.proofs.lemmas.List.{get_or_default}
 use Rattle.std.proofs.lemmas.Result.{err_from_is_err_and}
-use Rattle.types.specs.Labels.{principal_finding, readers_finding}
+use Rattle.types.specs.Labels.{principal_finding}
 use Rattle.types.proofs.Loops.{starts, collects, collects_wrong, goes_to_end}
 use Rattle.types.proofs.label.resolve_readers.Goals as goal
 
 pub loop-name-init : goal.loop-name-init
-unfolding readers_finding
 loop-name-init c = starts _ _ c.args.names.now _ [] c.new-numbers.ensures.items
 
 pub returns-in_err-find_principal : goal.returns-in_err-find_principal

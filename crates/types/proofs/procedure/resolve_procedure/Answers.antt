@@ -1,5 +1,5 @@
 use Rattle.std.proofs.Common.{◌≡◌, ◌+◌, ◌*◌, ◌≤◌, ◌∙◌, [], ap, sym, subst, map, length, arith, Ok}
-use Rattle.std.specs.Prelude.{string_bytes, sum_by}
+use Rattle.std.specs.Prelude.{string_bytes, sum_by, unwrap_or}
 use Rattle.std.proofs.lemmas.List.{length-map}
 use Rattle.std.proofs.lemmas.Result.{err_from_is_err_and}
 use Rattle.labels.specs.LabelTable.{Extends, label_at}
@@ -10,7 +10,7 @@ use Rattle.resolved.specs.TreeOf.{block_of}
 use Rattle.common.specs.Answers.{IfRefused}
 use Rattle.types.specs.Finding.{IsRefusalOf, along}
 use Rattle.types.specs.Labels.{optional_label_finding}
-use Rattle.types.specs.Resolution.{end_label_of, next_parameter, parameters_finding, setting_within, throws_finding}
+use Rattle.types.specs.Resolution.{next_parameter, parameters_finding, setting_within, joined_all, next_thrown}
 use Rattle.types.specs.Statements.{after_block, block_finding}
 use Rattle.types.specs.VariableEntries.{VariableEntries}
 use Rattle.types.specs.Views.{item_scope, item_scope_of, point_of, setting_of, taken, throws_view, top_view}
@@ -86,20 +86,20 @@ ended c =
     let third = c.declare_parameters.new.self.variables in
     optional_in_scope (item_scope c.args.context.now third) scope (procedure_tree c.args.written.now).end _ (same_scope c.args.context.now c.args.variables third (declared_globals c)) c.in_ok-end.ensures.made
 
-throws_are : (c : After-deref-2) → throws_finding (item_scope c.args.context.now c.add_optional_label-2.new.variables) (map thrown_tree c.deref-2.result.now)
-    ≡ throws_finding (item_scope c.args.context.now c.args.variables) (procedure_tree c.args.written.now).throws
+throws_are : (c : After-deref-2) → along (next_thrown (item_scope c.args.context.now c.add_optional_label-2.new.variables)) [] (map thrown_tree c.deref-2.result.now)
+    ≡ along (next_thrown (item_scope c.args.context.now c.args.variables)) [] (procedure_tree c.args.written.now).throws
 throws_are c =
     let scope = item_scope c.args.context.now c.args.variables in
     let globals = c.in_ok-end.ensures.more.globals ∙ declared_globals c in
-    ap (λ one. throws_finding one (map thrown_tree c.deref-2.result.now)) (same_scope c.args.context.now c.args.variables c.add_optional_label-2.new.variables globals)
-    ∙ ap (λ list. throws_finding scope (map thrown_tree list)) c.deref-2.ensures.value
+    ap (λ one. along (next_thrown one) [] (map thrown_tree c.deref-2.result.now)) (same_scope c.args.context.now c.args.variables c.add_optional_label-2.new.variables globals)
+    ∙ ap (λ list. along (next_thrown scope) [] (map thrown_tree list)) c.deref-2.ensures.value
 
 throws_room : (c : After-deref-2) → length c.deref-2.result.now ≤ sum_by thrown_nodes (procedure_tree c.args.written.now).throws
 throws_room c = throws_need thrown_tree c.deref-2.result.now c.args.written.now.throws.items c.deref-2.ensures.value
 
 -- ---- with the exceptions
 
-thrown : (c : After-deref-3) → throws_finding (item_scope c.args.context.now c.args.variables) (procedure_tree c.args.written.now).throws
+thrown : (c : After-deref-3) → along (next_thrown (item_scope c.args.context.now c.args.variables)) [] (procedure_tree c.args.written.now).throws
     ≡ Ok (throws_view c.resolve_throws.new.variables.labels c.in_ok-throws.throws)
 thrown c = sym (throws_are (goal.at.make_end_label-requires-clause-room c).After-deref-2) ∙ c.in_ok-throws.ensures.made
 
@@ -238,11 +238,11 @@ returns-clause-made c =
     let sixth = c.make_end_label.new.variables.labels in
     let last = c.resolve_body.new.self.variables.labels in
     let entered = label_at second c.make_begin_label-begin_label.result in
-    let ends : label_at sixth c.in_ok-end_label.end_label ≡ end_label_of (written_at fourth c.in_ok-end.end) entered (throws_view fifth c.in_ok-throws.throws) =
+    let ends : label_at sixth c.in_ok-end_label.end_label ≡ unwrap_or (written_at fourth c.in_ok-end.end) (joined_all entered (throws_view fifth c.in_ok-throws.throws)) =
     c.in_ok-end_label.ensures.label
-    ∙ (λ i. end_label_of (same_written fourth fifth c.in_ok-throws.ensures.more.extended c.in_ok-end.end c.in_ok-end.ensures.inside i)
-    (same_label second fifth (thrown_labels at.After-deref-3) c.make_begin_label-begin_label.result c.make_begin_label-begin_label.ensures.inside i)
-    (map (thrown_entry fifth) (c.deref-3.ensures.value i))) in
+    ∙ (λ i. unwrap_or (same_written fourth fifth c.in_ok-throws.ensures.more.extended c.in_ok-end.end c.in_ok-end.ensures.inside i)
+    (joined_all (same_label second fifth (thrown_labels at.After-deref-3) c.make_begin_label-begin_label.result c.make_begin_label-begin_label.ensures.inside i)
+    (map (thrown_entry fifth) (c.deref-3.ensures.value i)))) in
     let counted : c.len.result ≡ length (procedure_tree c.args.written.now).parameters = omega (arith, length-map c.args.written.now.parameters.items parameter_tree) in
     let found = procedure_found _ _ _ _ _ c.in_ok-value.ensures.made (begun at.After-deref)
     _ (declared at.After-deref-2) _ (ended at.After-deref-2) _ (thrown at.After-deref-3) (after_block (point_of c.declare_parameters.new.self) (point_of c.resolve_body.new.self)) (block_of c.in_ok-statements.statements.items)

@@ -1,4 +1,11 @@
-use Rattle.std.proofs.Common.{◌≡◌, ◌<◌, ◌^◌, [], ℕ, Some, None, slice_get, length, arith, ap, sym, subst, ◌∙◌, ◌++◌, ◌∷◌, map, List, Option, ◌⊎◌, inl, inr}
+use Rattle.std.proofs.lemmas.Result.{err_from_is_err_and}
+use Rattle.common.specs.Answers.{IfRefused}
+use Rattle.common.specs.declared.fault.OrNoMemory.{OrNoMemory}
+use Rattle.common.specs.declared.fault.OrNoMemory.TheVariants.{NoMemory, Refused}
+use Rattle.modules.specs.Contents.{ModuleContents}
+use Rattle.verifier.specs.Refusals.{IsCodeRefusal}
+use Rattle.verifier.specs.Verified.{own_refusals}
+use Rattle.std.proofs.Common.{◌≡◌, ◌<◌, ◌^◌, refl, get_or, drop, [], ℕ, Some, None, slice_get, length, arith, ap, sym, subst, ◌∙◌, ◌++◌, ◌∷◌, map, List, Option, ◌⊎◌, inl, inr}
 use Rattle.std.specs.Prelude.{IfNone, IfSome}
 use Rattle.modules.specs.Contents.{ProcedureContents}
 use Rattle.verifier.specs.Fixed.{fixed_refusals, procedure_refusals}
@@ -27,16 +34,23 @@ look_for_flow_refusal-requires-clause-few c =
 pub look_for_flow_refusal-requires-clause-boundaries : goal.look_for_flow_refusal-requires-clause-boundaries
 look_for_flow_refusal-requires-clause-boundaries c =
     boundaries c.in_ok-body.body.program.now c.in_ok-body.body.procedure.now
-    (own_right c.in_ok-body.body.program.now c.loop-procedure.number c.in_ok-body.body.procedure.now (sym c.in_default.is ∙ c.find_body_refusal.ensures))
+    (own_right c.in_ok-body.body.program.now c.loop-procedure.number c.in_ok-body.body.procedure.now (sym c.in_ok-placed.ensures.right))
 
-pub returns-in-Some-clause-rejected : goal.returns-in-Some-clause-rejected
-returns-in-Some-clause-rejected c =
-    let m = c.args.program.now in
+-- a procedure that is refused by itself makes its module refused
+module _ (m q : ModuleContents) (number index : ℕ) (procedures : List ProcedureContents) (item body : ProcedureContents) (same_module : q ≡ m) (same_procedure : body ≡ item) (is : item ≡ get_or procedures index item) (inside : index < length procedures) (are : procedures ≡ m.procedures) (same : slice_get (procedure_refusals m number (drop index procedures)) 0 ≡ slice_get (procedure_refusals m 0 procedures) 0) where
+  refused : (fault : OrNoMemory CodeRefusal) → IfRefused (λ refusal. slice_get (own_refusals q number body) 0 ≡ Some refusal) fault → IfRefused (IsCodeRefusal m) fault
+  refused NoMemory wrong = tt
+  refused (Refused refusal) wrong =
+      reported_first m refusal
+      (sym (ap (λ (all : List ProcedureContents). slice_get (procedure_refusals m 0 all) 0) (sym are)
+      ∙ sym same
+      ∙ procedure_some m q number index procedures item body same_module same_procedure is inside (Some refusal) (sym wrong) refusal refl))
+
+pub returns-in_err-placed-clause-rejected : goal.returns-in_err-placed-clause-rejected
+returns-in_err-placed-clause-rejected c =
     let l = c.loop-procedure in
-    reported_first m c.in-Some.refusal
-    (sym (ap (λ all. slice_get (procedure_refusals m 0 all) 0) (sym c.procedures-procedures.ensures.procedures)
-    ∙ sym l.invariant.same
-    ∙ procedure_some m c.in_ok-body.body.program.now l.number l.procedure-index c.procedures-procedures.result.now c.procedure-item.result c.in_ok-body.body.procedure.now c.in_ok-body.ensures.program c.in_ok-body.ensures.procedure c.procedure-item.is c.loop-procedure-test.true c.find_body_refusal.result c.find_body_refusal.ensures c.in-Some.refusal c.in-Some.is))
+    let p = err_from_is_err_and c.from_residual-in_err-placed.result c.from_residual-in_err-placed.ensures.1 in
+    rw (p.1, p.2) (refused c.args.program.now c.in_ok-body.body.program.now l.number l.procedure-index c.procedures-procedures.result.now c.procedure-item.result c.in_ok-body.body.procedure.now c.in_ok-body.ensures.program c.in_ok-body.ensures.procedure c.procedure-item.is c.loop-procedure-test.true c.procedures-procedures.ensures.procedures l.invariant.same c.in_err-placed.field-0.0 c.in_err-placed.ensures.wrong)
 
 pub loop-procedure-preserved : goal.loop-procedure-preserved
 loop-procedure-preserved c =
@@ -51,7 +65,7 @@ loop-procedure-preserved c =
     record {
       number_is = omega (arith, l.invariant.number_is);
       same =
-          sym (procedure_none m b.body.program.now l.number l.procedure-index procedures c.procedure-item.result b.body.procedure.now b.ensures.program b.ensures.procedure c.procedure-item.is c.loop-procedure-test.true c.find_body_refusal.result c.find_body_refusal.ensures c.in_default.is)
+          sym (procedure_none m b.body.program.now l.number l.procedure-index procedures c.procedure-item.result b.body.procedure.now b.ensures.program b.ensures.procedure c.procedure-item.is c.loop-procedure-test.true None (sym c.in_ok-placed.ensures.right) refl)
           ∙ l.invariant.same;
       found = λ refusal e. elim (subst (λ (o : Option CodeRefusal). IfSome o (λ f. (l.found ≡ Some f) ⊎ IsRefusalOf b.body.program.now l.number b.body.procedure.now f)) e now.ensures.some) [
         | inl before ↦ l.invariant.found refusal before
@@ -71,12 +85,12 @@ loop-procedure-preserved c =
           l.codes.items c.look_for_flow_refusal.new.codes.items now_added.last long now_added.added now_added.depth (l.invariant.depths now_added.none_before);
     }
 
-pub returns-in-Some-found-clause-rejected : goal.returns-in-Some-found-clause-rejected
-returns-in-Some-found-clause-rejected c =
+pub returns-in-Some-clause-rejected : goal.returns-in-Some-clause-rejected
+returns-in-Some-clause-rejected c =
     let m = c.args.program.now in
     let l = c.loop-procedure in
     let none : fixed_refusals m ≡ [] = none_left m l.number l.procedure-index c.procedures-procedures.result.now c.procedures-procedures.ensures.procedures c.loop-procedure-test.false l.invariant.same in
-    reported_flow m c.in-Some-found.refusal none (l.invariant.found c.in-Some-found.refusal c.in-Some-found.is)
+    reported_flow m c.in-Some.refusal none (l.invariant.found c.in-Some.refusal c.in-Some.is)
 
 pub returns-in-None-clause-accepted : goal.returns-in-None-clause-accepted
 returns-in-None-clause-accepted c =

@@ -12,7 +12,7 @@ loop-thrown-preserved c =
     parted-next (λ (x : ThrownLabel). HasOneExitUnknown c.args.self.now.journal.now c.args.calls.now x.exception) c.args.labels.now c.loop-thrown.fixed.items c.loop-thrown.varied.items _ _
     c.loop-thrown.thrown-index (get_or c.args.labels.now c.loop-thrown.thrown-index none) c.has_one_exit_unknown-one.result c.loop-thrown-test.true
     (λ d. sym (get_or_default c.args.labels.now c.loop-thrown.thrown-index none d c.loop-thrown-test.true))
-    (λ e. c.has_one_exit_unknown-one.ensures e c.args.calls.now c.args.barrier c.are_under-under.ensures c.range_of-first.ensures.first c.range_of-first.ensures.last)
+    (λ e. c.has_one_exit_unknown-one.ensures e c.args.calls.now c.args.barrier c.are_together-under.ensures c.range_of-first.ensures.first c.range_of-first.ensures.last)
     c.in_ok-put.ensures.fixed c.in_ok-put.ensures.varied c.loop-thrown.invariant
 
 pub returns-clause-all : goal.returns-clause-all

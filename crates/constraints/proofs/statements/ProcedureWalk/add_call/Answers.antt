@@ -9,7 +9,7 @@ use Rattle.gathering.specs.Walk.{argument_constraints, call_atoms, call_flows, i
 use Rattle.solver.specs.declared.constraints.Atom.TheVariants as stored
 use Rattle.constraints.specs.LeftSides.{scope_of}
 use Rattle.constraints.specs.ExitUnknowns.{exit_unknowns_around}
-use Rattle.constraints.specs.Walks.{kept_ends}
+use Rattle.constraints.specs.Walks.{kept_exits}
 use Rattle.constraints.proofs.Added.{added-then, alone-left}
 use Rattle.constraints.proofs.statements.ProcedureWalk.add_call.Goals as goal
 
@@ -26,7 +26,7 @@ returns c = λ named stands.
     let raised : List NamedAtom = named ∷ named_atoms (raise_atoms_all scope arguments) in
     let own : List NamedAtom = inner_atom k ∷ [] in
     let received : List NamedAtom = inner_atom k ∷ named_atoms (call_atoms program c.args.site.callee Normal ++ one (label_of program (ToValue c.args.site.callee))) in
-    let ends = call_flows program c.args.site.callee k exit_unknowns (kept_ends arguments) in
+    let ends = call_flows program c.args.site.callee k exit_unknowns (kept_exits arguments) in
     let demands = target_constraint scope c.args.site.at 6 received c.args.site.target in
     let passed = argument_constraints scope c.args.site.at k c.args.site.callee 0 arguments in
     let begun = rule_constraint scope c.args.site.at 6 own (ToBegin c.args.site.callee) in
@@ -35,4 +35,4 @@ returns c = λ named stands.
     (c.in_ok-add_rule.ensures procedure own (alone-left core table (inner_atom k) (stored.Unknown k) c.in_ok-begin.begin.items c.in_ok-begin.ensures refl))
     (added-then core table passed (demands ++ ends) _ _ _ (c.in_ok-add_arguments.ensures k refl)
     (added-then core table demands ends _ _ _ (c.in_ok-add_target.ensures received (c.in_ok-received.ensures (inner_atom k) refl))
-    (c.in_ok-add_call_ends.ensures k refl))))
+    (c.in_ok-add_call_exits.ensures k refl))))

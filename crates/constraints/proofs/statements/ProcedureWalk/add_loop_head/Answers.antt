@@ -1,7 +1,7 @@
 use Rattle.std.proofs.Common.{List, [], ◌∷◌, ◌++◌, refl}
 use Rattle.lattices.specs.Constraints.{renamed}
 use Rattle.resolved.specs.CoreOf.{program_of}
-use Rattle.resolved.specs.Ends.{raises}
+use Rattle.resolved.specs.Exits.{raises}
 use Rattle.resolved.specs.Labelled.{label_of, value_label}
 use Rattle.resolved.specs.TreeOf.{expression_of}
 use Rattle.resolved.specs.declared.statement.Exit.TheVariants.{Normal}

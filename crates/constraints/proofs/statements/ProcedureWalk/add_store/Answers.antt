@@ -1,7 +1,7 @@
 use Rattle.std.proofs.Common.{List, ◌∷◌, ◌++◌}
 use Rattle.resolved.specs.declared.statement.Exit.TheVariants.{Normal}
 use Rattle.resolved.specs.declared.target.Target.TheVariants.{ToVariable}
-use Rattle.resolved.specs.Ends.{raises, index_raises}
+use Rattle.resolved.specs.Exits.{raises, index_raises}
 use Rattle.resolved.specs.Labelled.{value_label}
 use Rattle.resolved.specs.TreeOf.{expression_of}
 use Rattle.gathering.specs.Names.{NamedAtom, named_atoms}
@@ -25,4 +25,4 @@ returns c = λ n named stands.
     let found = raises index ++ raises value ++ index_raises index c.args.store.length in
     added-then core table (rule_constraint scope c.args.store.at 3 p (ToVariable procedure c.args.store.array)) (flow q (exit_unknowns Normal) ++ raised_flows q exit_unknowns found) _ _ _
     (c.in_ok-add_rule.ensures procedure p (c.in_ok-stored.ensures named stands))
-    (c.in_ok-add_ends.ensures q found (left-same core table q c.in_ok-left.left.items c.deref.result.now c.deref.ensures (c.in_ok-left.ensures named stands)) c.raises_of_store-found.ensures)
+    (c.in_ok-add_exits.ensures q found (left-same core table q c.in_ok-left.left.items c.deref.result.now c.deref.ensures (c.in_ok-left.ensures named stands)) c.raises_of_store-found.ensures)

@@ -1,5 +1,5 @@
 use Rattle.std.proofs.Common.{List, ◌∷◌, ◌++◌}
-use Rattle.resolved.specs.Ends.{raises}
+use Rattle.resolved.specs.Exits.{raises}
 use Rattle.resolved.specs.Labelled.{value_label}
 use Rattle.resolved.specs.TreeOf.{expression_of}
 use Rattle.gathering.specs.Names.{NamedAtom, named_atoms}
@@ -22,4 +22,4 @@ returns c = λ named stands.
     let q : List NamedAtom = named ∷ named_atoms (raise_atoms scope value) in
     added-then core table (rule_constraint scope c.args.demand.at (rule_number c.args.demand.rule) p c.args.demand.target) (flow q (exit_unknowns c.args.exit) ++ raised_flows q exit_unknowns (raises value)) _ _ _
     (c.in_ok-add_rule.ensures procedure p (c.in_ok-valued.ensures named stands))
-    (c.in_ok-add_ends.ensures q (raises value) (left-same core table q c.in_ok-left.left.items c.deref.result.now c.deref.ensures (c.in_ok-left.ensures named stands)) c.raises_of-found.ensures)
+    (c.in_ok-add_exits.ensures q (raises value) (left-same core table q c.in_ok-left.left.items c.deref.result.now c.deref.ensures (c.in_ok-left.ensures named stands)) c.raises_of-found.ensures)

@@ -1,5 +1,5 @@
 use Rattle.std.proofs.Common.{refl, ◌∷◌}
-use Rattle.resolved.specs.Ends.{raises}
+use Rattle.resolved.specs.Exits.{raises}
 use Rattle.resolved.specs.Labelled.{value_label}
 use Rattle.resolved.specs.TreeOf.{expression_of}
 use Rattle.gathering.specs.Names.{named_atoms}

@@ -1,7 +1,7 @@
 use Rattle.std.proofs.Common.{◌≡◌, ap, sym, ◌∙◌, ◌&&◌, true, false}
 use Rattle.std.proofs.lemmas.Result.{on_ok_weaker}
 use Rattle.resolved.specs.declared.expression.Expression as E
-use Rattle.resolved.specs.Ends.{divisor_can_raise, is_division, raises}
+use Rattle.resolved.specs.Exits.{divisor_can_raise, is_division, raises}
 use Rattle.resolved.specs.Labelled.{Join, any_of, value_label}
 use Rattle.resolved.specs.TreeOf.{expression_of}
 use Rattle.gathering.specs.Walk.{raise_atoms}

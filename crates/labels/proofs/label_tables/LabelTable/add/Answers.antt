@@ -62,29 +62,29 @@ returns-clause-label c =
     let parts : (part : ℕ) → has (numbers_in c.in_ok-row.row) part ≡ some_made_of es kept part =
     rw (c.as_slice-3.ensures.value, c.as_slice-4.ensures.value) at c.in_ok-row.ensures.parts in
     let own : arc_slice_items c.in_ok-from_vec-2.field-0 ≡ written_label c.args.own.items = c.in_ok-from_vec-2.ensures ∙ c.each_once-own.ensures in
-    let e : Entry = record { key = record { named = c.in_ok-from_vec.field-0; own = c.in_ok-from_vec-2.field-0 }; row = c.in_ok-row.row } in
-    let short : length (row_of e) ≤ length es = omega (arith, c.in_ok-row.ensures.short, ap length c.as_slice-3.ensures.value) in
+    let e : Entry = record { key = record { named = c.in_ok-from_vec.field-0; own = c.in_ok-from_vec-2.field-0 }; row = c.in_ok-held.held } in
+    let short : length (row_of e) ≤ length es = omega (arith, ap length c.in_ok-held.ensures, c.in_ok-row.ensures.short, ap length c.as_slice-3.ensures.value) in
     subst (λ (labels : List Label). label_at (labels_in c.push.new.self.items) c.len-number.result ≡ written_label (c.args.own.items ++ labels_of labels c.args.named.items)) c.self.view_is
     (pushed-is es c.push.new.self.items e c.args.own.items kept c.args.named.items c.len-number.result c.in_ok-push.ensures.items c.self.invariant.are short
-    (c.len-number.ensures ∙ c.self.inside.entries.ok.0) own parts same)
+    (c.len-number.ensures ∙ c.self.inside.entries.ok.0) own (λ part. ap (λ row. has row part) c.in_ok-held.ensures ∙ parts part) same)
 
 pub returns-clause-extended : goal.returns-clause-extended
 returns-clause-extended c =
     let es = c.self.inside.entries.items in
-    let e : Entry = record { key = record { named = c.in_ok-from_vec.field-0; own = c.in_ok-from_vec-2.field-0 }; row = c.in_ok-row.row } in
-    let short : length (row_of e) ≤ length es = omega (arith, c.in_ok-row.ensures.short, ap length c.as_slice-3.ensures.value) in
+    let e : Entry = record { key = record { named = c.in_ok-from_vec.field-0; own = c.in_ok-from_vec-2.field-0 }; row = c.in_ok-held.held } in
+    let short : length (row_of e) ≤ length es = omega (arith, ap length c.in_ok-held.ensures, c.in_ok-row.ensures.short, ap length c.as_slice-3.ensures.value) in
     subst (λ (labels : List Label). Extends labels (labels_in c.push.new.self.items)) c.self.view_is (extends-pushed es c.push.new.self.items e c.in_ok-push.ensures.items c.self.invariant.are short)
 
 pub returns-clause-few : goal.returns-clause-few
 returns-clause-few c =
     let es = c.self.inside.entries.items in
-    let e : Entry = record { key = record { named = c.in_ok-from_vec.field-0; own = c.in_ok-from_vec-2.field-0 }; row = c.in_ok-row.row } in
+    let e : Entry = record { key = record { named = c.in_ok-from_vec.field-0; own = c.in_ok-from_vec-2.field-0 }; row = c.in_ok-held.held } in
     omega (arith, length-labels c.push.new.self.items, length-labels es, ap length c.in_ok-push.ensures.items, length_push es e, ap length c.self.view_is)
 
 pub returns-clause-inside : goal.returns-clause-inside
 returns-clause-inside c =
     let es = c.self.inside.entries.items in
-    let e : Entry = record { key = record { named = c.in_ok-from_vec.field-0; own = c.in_ok-from_vec-2.field-0 }; row = c.in_ok-row.row } in
+    let e : Entry = record { key = record { named = c.in_ok-from_vec.field-0; own = c.in_ok-from_vec-2.field-0 }; row = c.in_ok-held.held } in
     omega (arith, length-labels c.push.new.self.items, ap length c.in_ok-push.ensures.items, length_push es e, c.len-number.ensures, c.self.inside.entries.ok.0)
 
 pub invariant_of-self : goal.invariant_of-self
@@ -93,8 +93,8 @@ invariant_of-self c = c.self.invariant
 pub invariant_of-self-2 : goal.invariant_of-self-2
 invariant_of-self-2 c =
     let es = c.self.inside.entries.items in
-    let e : Entry = record { key = record { named = c.in_ok-from_vec.field-0; own = c.in_ok-from_vec-2.field-0 }; row = c.in_ok-row.row } in
-    let short : length (row_of e) ≤ length es = omega (arith, c.in_ok-row.ensures.short, ap length c.as_slice-3.ensures.value) in
+    let e : Entry = record { key = record { named = c.in_ok-from_vec.field-0; own = c.in_ok-from_vec-2.field-0 }; row = c.in_ok-held.held } in
+    let short : length (row_of e) ≤ length es = omega (arith, ap length c.in_ok-held.ensures, c.in_ok-row.ensures.short, ap length c.as_slice-3.ensures.value) in
     let own : arc_slice_items c.in_ok-from_vec-2.field-0 ≡ written_label c.args.own.items = c.in_ok-from_vec-2.ensures ∙ c.each_once-own.ensures in
     let canonical : All IsCanonicalPolicy (arc_slice_items c.in_ok-from_vec-2.field-0) =
     subst (λ (list : List ReaderPolicy). All IsCanonicalPolicy list) (sym own) (IsCanonicalLabel-written c.args.own.items c.requires.canonical).each_canonical in

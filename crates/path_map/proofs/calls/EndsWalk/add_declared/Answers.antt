@@ -3,7 +3,7 @@ use Rattle.std.specs.Prelude.{Some}
 use Rattle.std.proofs.lemmas.Bool.{ltb-true}
 use Rattle.std.proofs.lemmas.List.{get_or_read}
 use Rattle.resolved.specs.CoreOf.{program_of}
-use Rattle.resolved.specs.Ends.{declared_by}
+use Rattle.resolved.specs.Exits.{declared_by}
 use Rattle.resolved.specs.Program.{procedure_at}
 use Rattle.path_map.specs.Exits.{raised_by}
 use Rattle.path_map.specs.Exceptions.{exceptions_of, is_one_of}

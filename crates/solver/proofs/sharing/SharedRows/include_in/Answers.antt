@@ -1,10 +1,9 @@
 use Rattle.std.proofs.Common.{◌≡◌, ◌<◌, ◌≤◌, ap, sym, subst, ◌∙◌, ◌||◌, ℕ, List, Bool, [], get_or, length, arith}
 use Rattle.std.proofs.lemmas.List.{get_or_default}
 use Rattle.labels.specs.Row.{has}
-use Rattle.solver.specs.Sharing.{bits_of, kept_at, nothing_kept}
-use Rattle.solver.specs.declared.sharing.RowForm.TheVariants.{Whole}
+use Rattle.solver.specs.Sharing.{nothing_kept}
 use Rattle.solver.specs.declared.sharing.Kept.{Kept}
-use Rattle.solver.proofs.Standing.{bits-form, map-read}
+use Rattle.solver.proofs.Standing.{whole-row}
 use Rattle.solver.proofs.sharing.SharedRows.include_in.Goals as goal
 use Rattle.solver.proofs.sharing.SharedRows.include_in.Goals.{In-Whole}
 
@@ -15,11 +14,9 @@ own_is c =
     let number = c.index.result.now in
     let there : c.args.unknown < length of = omega (arith, c.if-unknown-len.true, c.len.ensures, c.self.inside.of.ok.0) in
     let inside : number < length kept = subst (λ (k : ℕ). k < length kept) (sym c.index.ensures) (c.self.invariant.inside c.args.unknown number there) in
-    let form : (kept_at kept number).form ≡ Whole c.in-Whole.own =
-    ap (λ (x : Kept). x.form) (get_or_default kept number nothing_kept c.index-then-unknown-len.result.now inside ∙ sym c.index-then-unknown-len.ensures) ∙ c.in-Whole.is in
-    let whole : bits_of kept number ≡ c.in-Whole.own = bits-form kept c.self.invariant.forms number inside (Whole c.in-Whole.own) form in
-    sym whole ∙ (ap (bits_of kept) c.index.ensures ∙ (sym (map-read (bits_of kept) of c.args.unknown number there)
-    ∙ ap (λ (rows : List (List Bool)). get_or rows c.args.unknown []) c.self.view_is))
+    whole-row kept of c.args.self.now c.args.unknown number c.in-Whole.own c.self.invariant.forms there c.index.ensures inside
+    (ap (λ (x : Kept). x.form) (get_or_default kept number nothing_kept c.index-then-unknown-len.result.now inside ∙ sym c.index-then-unknown-len.ensures) ∙ c.in-Whole.is)
+    c.self.view_is
 
 pub include-requires : goal.include-requires
 include-requires c = subst (λ (row : List Bool). length row ≤ length c.args.row.now) (sym (own_is (goal.at.include-requires c).In-Whole)) c.requires

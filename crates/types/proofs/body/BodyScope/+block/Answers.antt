@@ -1,3 +1,4 @@
+use Rattle.types.specs.declared.scope.ItemKind.TheVariants.{Exception}
 use Rattle.std.proofs.Common.{◌≡◌, ◌+◌, ◌≤◌, ◌∙◌, ap, sym, subst, map, arith, refl, Ok, OnOk}
 use Rattle.std.proofs.lemmas.Result.{err_from_is_err_and}
 use Rattle.syntax.proofs.Rows.{if_is, while_is, try_is, nested_is}
@@ -8,7 +9,7 @@ use Rattle.resolved.specs.Tree.{If}
 use Rattle.resolved.specs.TreeOf.{expression_of, block_of, handlers_of, statement_of}
 use Rattle.common.specs.Answers.{IfRefused}
 use Rattle.types.specs.Finding.{IsRefusalOf}
-use Rattle.types.specs.Environment.{exception_finding}
+use Rattle.types.specs.Environment.{use_as, item_of}
 use Rattle.types.specs.Statements.{statement_finding, block_finding, catches_finding}
 use Rattle.types.specs.Views.{Resolves, at_point, point_of, setting_of, taken}
 use Rattle.types.proofs.Along.{statement_fits, statement_part, statement_wrong, statement_right, statements_done, exception_wrong, body_wrong, catch_fits, catch_part, catch_right, catches_done}
@@ -263,17 +264,17 @@ pub resolve_catches-returns-in_err-number-clause-made : goal.resolve_catches-ret
 resolve_catches-returns-in_err-number-clause-made t c =
     let p = err_from_is_err_and c.from_residual-in_err-number.result c.from_residual-in_err-number.ensures.1 in
     rw (p.1, p.2) (exception_wrong c.loop-one.invariant c.one-item.result c.one-item.is c.loop-one-test.true c.in_err-number.field-0.0
-    (subst (λ found. IfRefused (IsRefusalOf (exception_finding found c.one-item.result.exception.at)) c.in_err-number.field-0.0) c.look_up.ensures c.in_err-number.ensures))
+    (subst (λ found. IfRefused (IsRefusalOf (use_as (item_of Exception) found c.one-item.result.exception.at)) c.in_err-number.field-0.0) c.look_up.ensures c.in_err-number.ensures))
 
 pub resolve_catches-returns-in_err-body-clause-made : goal.resolve_catches-returns-in_err-body-clause-made
 resolve_catches-returns-in_err-body-clause-made t c =
     let p = err_from_is_err_and c.from_residual-in_err-body.result c.from_residual-in_err-body.ensures.1 in
-    rw (p.1, p.2) (body_wrong c.loop-one.invariant c.one-item.result c.one-item.is c.loop-one-test.true c.in_ok-number.number (sym (ap (λ found. exception_finding found c.one-item.result.exception.at) c.look_up.ensures) ∙ c.in_ok-number.ensures)
+    rw (p.1, p.2) (body_wrong c.loop-one.invariant c.one-item.result c.one-item.is c.loop-one-test.true c.in_ok-number.number (sym (ap (λ found. use_as (item_of Exception) found c.one-item.result.exception.at) c.look_up.ensures) ∙ c.in_ok-number.ensures)
     c.in_err-body.field-0.0 c.in_err-body.ensures.made)
 
 pub resolve_catches-loop-one-preserved : goal.resolve_catches-loop-one-preserved
 resolve_catches-loop-one-preserved t c =
-    rw c.in_ok-push.ensures.items (catch_right c.loop-one.invariant c.one-item.result c.one-item.is c.loop-one-test.true c.in_ok-number.number (sym (ap (λ found. exception_finding found c.one-item.result.exception.at) c.look_up.ensures) ∙ c.in_ok-number.ensures)
+    rw c.in_ok-push.ensures.items (catch_right c.loop-one.invariant c.one-item.result c.one-item.is c.loop-one-test.true c.in_ok-number.number (sym (ap (λ found. use_as (item_of Exception) found c.one-item.result.exception.at) c.look_up.ensures) ∙ c.in_ok-number.ensures)
     c.resolve_block.new.self (record { at = c.one-item.result.exception.at; exception = c.in_ok-number.number; body = c.in_ok-body.body }) refl refl c.in_ok-body.ensures.made c.in_ok-body.ensures.later c.in_ok-body.ensures.grows)
 
 pub resolve_catches-returns-clause-made : goal.resolve_catches-returns-clause-made

@@ -1,16 +1,23 @@
 use Rattle.std.proofs.Common.{◌≡◌, [], ◌∷◌, None, length, take, Ok, ap, sym, ◌∙◌, refl, arith, length-append}
 use Rattle.std.specs.Prelude.{string_bytes}
 use Rattle.std.proofs.Math.Seq.{take-append_seam}
+use Rattle.resolved.specs.declared.expression.Variable.TheVariants.{Local}
+use Rattle.types.specs.declared.scope.Meaning.TheVariants as meanings
 use Rattle.types.specs.Environment.{declaring}
 use Rattle.types.specs.Views.{found_in, names_of, new_slot_entry, or_else}
+use Rattle.types.proofs.Declarations.{next_slot}
 use Rattle.types.proofs.Tables.{inner_named, inner_none, without_last}
 use Rattle.types.proofs.body.BodyScope.declare.Goals as goal
 
 pub returns-clause-made : goal.returns-clause-made
 returns-clause-made c =
     let before = c.args.self.now in
-    let named : declaring (string_bytes c.args.slot.name) c.args.meaning (names_of before) ≡ (λ other. or_else (found_in c.insert.new.table other) (found_in before.top.now.names other)) =
-    ap (λ name. declaring name c.args.meaning (names_of before)) c.requires.named
+    let name = string_bytes c.args.slot.name in
+    let number = length c.slots.result.now in
+    let next : number ≡ length before.variables.slots = next_slot before.variables.labels c.slots.result.now before.variables.slots number c.slots.ensures refl in
+    let named : declaring name (meanings.Variable (Local (length before.variables.slots)) c.args.slot.base c.args.slot.size) (names_of before) ≡ (λ other. or_else (found_in c.insert.new.table other) (found_in before.top.now.names other)) =
+    ap (λ n. declaring name (meanings.Variable (Local n) c.args.slot.base c.args.slot.size) (names_of before)) (sym next)
+    ∙ ap (λ one. declaring one (meanings.Variable (Local number) c.args.slot.base c.args.slot.size) (names_of before)) c.requires.named
     ∙ inner_named (λ other. found_in before.locals other) (λ other. found_in before.top.now.names other) _ _ _ c.in_ok-insert.ensures in
     let all = sym c.in_ok-declare.ensures.slots in
     λ i. Ok (record { names = named i; slots = all i; loops = before.loops })
@@ -27,7 +34,7 @@ returns-clause-later c =
       labels = c.in_ok-declare.ensures.extended;
       result = refl;
       declared = ap (take (length declared)) c.in_ok-push.ensures.items ∙ take-append_seam declared _;
-      locals = without_last declared _ _ _ c.args.meaning (found_in before.locals) (found_in c.insert.new.table) c.in_ok-push.ensures.items refl fresh c.in_ok-insert.ensures;
+      locals = without_last declared _ _ _ (meanings.Variable (Local (length c.slots.result.now)) c.args.slot.base c.args.slot.size) (found_in before.locals) (found_in c.insert.new.table) c.in_ok-push.ensures.items refl fresh c.in_ok-insert.ensures;
     }
 
 pub returns-clause-grows : goal.returns-clause-grows

@@ -1,8 +1,6 @@
-use Rattle.std.proofs.Common.{length, refl}
 use Rattle.syntax.specs.Tree.{parameter_tree}
 use Rattle.types.specs.VariableEntries.{label_with}
 use Rattle.types.specs.Views.{item_scope_of, new_slot_entry, point_of}
-use Rattle.types.proofs.Declarations.{next_slot}
 use Rattle.types.proofs.Procedures.{item_labelled, parameter_declared}
 use Rattle.types.proofs.body.BodyScope.declare_parameter.Goals as goal
 
@@ -11,7 +9,7 @@ returns-clause-made c =
     let before = c.args.self.now in
     let tree = parameter_tree c.args.written.now in
     parameter_declared (item_scope_of before) (point_of before) (point_of c.declare.new.self) tree (label_with before.variables.labels c.in_ok-label.label) c.look_up.result c.base_of-base.result
-    (length c.slots.result.now) (new_slot_entry before.variables.labels c.in_ok-slot.slot)
+    (new_slot_entry before.variables.labels c.in_ok-slot.slot)
     (item_labelled tree.label c.in_ok-label.label _ _ _ _ c.item_label_context.ensures.scope c.item_label_context.ensures.variables c.in_ok-label.ensures)
-    c.look_up.ensures c.in_ok-require_fresh.ensures.made c.base_of-base.ensures (next_slot before.variables.labels c.slots.result.now before.variables.slots (length c.slots.result.now) c.slots.ensures refl)
+    c.look_up.ensures c.in_ok-require_fresh.ensures.made c.base_of-base.ensures
     c.in_ok-slot.ensures c.in_ok-declare.ensures.made

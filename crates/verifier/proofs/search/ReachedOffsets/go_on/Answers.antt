@@ -1,5 +1,4 @@
-use Rattle.std.proofs.Common.{◌≡◌, ◌+◌, ◌<◌, Some, length, true, false, refl, ap, sym, subst, arith, ℕ, ◌∙◌}
-use Rattle.verifier.specs.Boundaries.{IsBoundary}
+use Rattle.std.proofs.Common.{◌≡◌, ◌+◌, ◌<◌, Some, length, true, false, refl, ap, sym, subst, arith, ◌∙◌}
 use Rattle.modules.specs.Targets.{goes_on}
 use Rattle.verifier.specs.Operands.{list_of}
 use Rattle.verifier.specs.Search.{table, waiting}

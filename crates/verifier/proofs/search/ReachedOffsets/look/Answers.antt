@@ -17,9 +17,9 @@ read code found number at i d same there is =
 pub bounds-code-listed : goal.bounds-code-listed
 bounds-code-listed c =
     let r = c.requires in
-    omega (arith, number_inside c.args.body.now.procedure.now.code c.args.listed.number c.args.listed.at r.there.instruction r.listed.number r.there.there, ap length c.code.ensures)
+    omega (arith, number_inside c.args.body.now.procedure.now.code c.args.listed.number c.args.listed.at r.there.instruction r.listed.number r.there.there, ap length c.requires.code)
 
 pub visit-requires-clause-instruction : goal.visit-requires-clause-instruction
 visit-requires-clause-instruction c =
     let r = c.requires in
-    read c.args.body.now.procedure.now.code c.code.result.now c.args.listed.number c.args.listed.at r.there.instruction _ c.code.ensures r.listed.number r.there.there
+    read c.args.body.now.procedure.now.code c.args.code.now c.args.listed.number c.args.listed.at r.there.instruction _ c.requires.code r.listed.number r.there.there

@@ -1,5 +1,0 @@
-use Rattle.isolation.proofs.Laws.{ends-unread}
-use Rattle.isolation.proofs.confinement.possible_ends_are_unread.Goals as goal
-
-pub returns : goal.returns
-returns c = ends-unread

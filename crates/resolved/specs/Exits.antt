@@ -1,0 +1,128 @@
+-- The exits that a statement may have, found without running it.
+-- Source: our own rules; several exits of a statement as in JFlow (Myers 1999).
+use Rattle.std.specs.Prelude.{ℕ, List, [], ◌∷◌, ◌++◌, Bool, true, false, not, map, filter, ◌==◌, ◌||◌, if◌then◌else◌, Some, None}
+use Rattle.std.specs.List.{list_any, list_all}
+use Rattle.resolved.specs.declared.expression.Prefix.TheVariants.{Negate}
+use Rattle.resolved.specs.declared.expression.Operator.{Operator}
+use Rattle.resolved.specs.declared.expression.Operator.TheVariants.{Compute, Divide, Bits, Compare, Match}
+use Rattle.resolved.specs.declared.statement.Exit.{Exit}
+use Rattle.resolved.specs.declared.statement.Exit.TheVariants.{Normal, Return, Break, Continue, Throw}
+use Rattle.resolved.specs.contracts.statement.ExitPartialEq.TheImpl.{eq-value}
+use Rattle.resolved.specs.Tree.{Expression, Integer, Logical, Read, Element, Unary, Binary, Short, Statement, Assign, Clear, Store, Receive, Send, Call, If, While, Leave, ReturnWith, Try, Nested, Block, Empty, Then, Handlers, NoMore, Catch}
+use Rattle.resolved.specs.Program.{Program, ThrownEntry, procedure_at}
+use Rattle.resolved.specs.Value.{literal_number, in_range}
+use Rattle.common.specs.Integers.{is_zero}
+use Rattle.common.specs.declared.exceptions.TheConstants.{ARITH, BOUNDS, END}
+
+-- whether two exits are the same
+abbrev pub same_exit : Exit → Exit → Bool
+same_exit one other = eq-value.it one other
+
+-- whether an exit is among these
+abbrev pub has_exit : List Exit → Exit → Bool
+has_exit exits exit = list_any (same_exit exit) exits
+
+-- whether these, which may name one several times, are one exit only
+abbrev pub one_exit : List Exit → Bool
+one_exit [] = false
+one_exit (exit ∷ rest) = list_all (same_exit exit) rest
+
+-- whether an index may be out of range: a literal is where it is not in range, and every other index may be
+abbrev pub index_can_raise : Expression → (length : ℕ) → Bool
+index_can_raise (Integer n) length = not (in_range (literal_number n) length)
+index_can_raise other length = true
+
+-- whether a divisor may be 0: a literal, or a minus sign before one, where it is 0, and every other divisor
+abbrev pub divisor_can_raise : Expression → Bool
+divisor_can_raise (Integer n) = is_zero (literal_number n)
+divisor_can_raise (Unary Negate (Integer n)) = is_zero (literal_number n)
+divisor_can_raise other = true
+
+-- whether an operator divides
+abbrev pub is_division : Operator → Bool
+is_division (Compute computation) = false
+is_division (Divide division) = true
+is_division (Bits operator) = false
+is_division (Compare relation) = false
+is_division (Match sameness) = false
+
+-- the exceptions of an access with this index, and of an operator with this right operand
+abbrev pub index_raises : Expression → (length : ℕ) → List ℕ
+index_raises index length = if index_can_raise index length then BOUNDS ∷ [] else []
+
+abbrev pub operator_raises : Operator → Expression → List ℕ
+operator_raises operator e = if is_division operator then (if divisor_can_raise e then ARITH ∷ [] else []) else []
+
+-- the exceptions that an expression can raise: those of all its parts
+abbrev pub raises : Expression → List ℕ
+raises (Integer n) = []
+raises (Logical b) = []
+raises (Read x) = []
+raises (Element array length index) = raises index ++ index_raises index length
+raises (Unary prefix e) = raises e
+raises (Binary operator d e) = raises d ++ raises e ++ operator_raises operator e
+raises (Short connective d e) = raises d ++ raises e
+
+abbrev pub raises_all : List Expression → List ℕ
+raises_all [] = []
+raises_all (e ∷ rest) = raises e ++ raises_all rest
+
+abbrev pub thrown_exits : List ℕ → List Exit
+thrown_exits exceptions = map (λ exception. Throw exception) exceptions
+
+-- the exceptions that a procedure declares
+abbrev pub declared_by : List ThrownEntry → List ℕ
+declared_by entries = map (λ (entry : ThrownEntry). entry.exception) entries
+
+-- whether an exit of a loop's body is one of the loop
+abbrev pub leaves_loop : Exit → Bool
+leaves_loop Normal = false
+leaves_loop Return = true
+leaves_loop Break = false
+leaves_loop Continue = false
+leaves_loop (Throw exception) = true
+
+-- whether one of the handlers takes an exception
+abbrev pub handles : Handlers → (exception : ℕ) → Bool
+handles NoMore exception = false
+handles (Catch at handled body rest) exception = exception == handled || handles rest exception
+
+-- whether an exit of the block of a `try` passes its handlers: every exit does but an exception that one of them takes
+abbrev pub passes : Handlers → Exit → Bool
+passes handlers (Throw exception) = not (handles handlers exception)
+passes handlers other = true
+
+-- the exits of a first part, its normal exit replaced by the exits of what follows
+abbrev pub then_exits : List Exit → List Exit → List Exit
+then_exits first rest =
+    if has_exit first Normal then filter (λ exit. not (same_exit Normal exit)) first ++ rest else first
+
+-- the possible exits of statements, blocks and handlers; one may be named several times
+abbrev mutual
+  pub statement_exits : Program → Statement → List Exit
+  statement_exits program (Assign at x e) = Normal ∷ thrown_exits (raises e)
+  statement_exits program (Clear at slot) = Normal ∷ []
+  statement_exits program (Store at array length index e) =
+      Normal ∷ thrown_exits (raises index ++ raises e ++ index_raises index length)
+  statement_exits program (Receive at channel target) = Normal ∷ Throw END ∷ []
+  statement_exits program (Send at channel e) = Normal ∷ thrown_exits (raises e)
+  statement_exits program (Call at procedure arguments target) =
+      Normal ∷ thrown_exits (raises_all arguments ++ declared_by (procedure_at program procedure).throws)
+  statement_exits program (If at e then_block else_block) =
+      thrown_exits (raises e) ++ block_exits program then_block ++ block_exits program else_block
+  statement_exits program (While at loop e body) =
+      Normal ∷ (thrown_exits (raises e) ++ filter leaves_loop (block_exits program body))
+  statement_exits program (Leave at exit) = exit ∷ []
+  statement_exits program (ReturnWith at None) = Return ∷ []
+  statement_exits program (ReturnWith at (Some e)) = Return ∷ thrown_exits (raises e)
+  statement_exits program (Try at block handlers) =
+      filter (passes handlers) (block_exits program block) ++ handlers_exits program handlers
+  statement_exits program (Nested at block) = block_exits program block
+
+  pub block_exits : Program → Block → List Exit
+  block_exits program Empty = Normal ∷ []
+  block_exits program (Then statement rest) = then_exits (statement_exits program statement) (block_exits program rest)
+
+  pub handlers_exits : Program → Handlers → List Exit
+  handlers_exits program NoMore = []
+  handlers_exits program (Catch at handled body rest) = block_exits program body ++ handlers_exits program rest
