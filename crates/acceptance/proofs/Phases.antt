@@ -17,7 +17,7 @@ use Rattle.parser.proofs.Programs.{one_tree}
 use Rattle.parser.proofs.Refusals.{spelled_or_refused, spelled_not_refused, one_refusal}
 use Rattle.principals.specs.ActsFor.{PrincipalHierarchy}
 use Rattle.principals.specs.declared.fault.HierarchyRefusal.{HierarchyRefusal}
-use Rattle.principals.specs.Laws.{HasOneHierarchy, IsReadOrRefused, IsNotReadAndRefused, HasOneRefusal}
+use Rattle.principals.specs.Laws.{HasOneHierarchy, IsReadOrRefused, IsNotReadAndRefused, HierarchiesHaveOneRefusal}
 use Rattle.syntax.specs.Grammar.{SpellsProgram}
 use Rattle.syntax.specs.Tree.{ProgramTree}
 use Rattle.labels.specs.Label.{ReaderPolicy}
@@ -218,7 +218,7 @@ pub record HierarchyLaws : Type 0 where
   pub read_or_refused : IsReadOrRefused
   pub one_hierarchy : HasOneHierarchy
   pub not_both : IsNotReadAndRefused
-  pub one_refusal : HasOneRefusal
+  pub one_refusal : HierarchiesHaveOneRefusal
 
 module _ (laws : HierarchyLaws) where
   -- ---- the hierarchy

@@ -5,14 +5,14 @@ use Rattle.std.specs.List.{AllByRecursion}
 use Rattle.std.proofs.lemmas.Bool.{lt-ltb, eq-eqb}
 use Rattle.std.proofs.lemmas.List.{append-nil}
 use Rattle.modules.specs.declared.fault.FormatRefusalKind.TheVariants.{BadValue}
-use Rattle.modules.specs.Form.{number_at, stop_at, Coding, Form, Byte, Number, Text, Nothing, Marked, Checked, Then, Counted, Code, Named, spelled_each, spelled_instruction, spelled_code, spelled, FitEach, IsCoded, Fits, ◌>>=◌, Read, bytes_at, each_at, meant, operand_at, instruction_in, code_at, read}
+use Rattle.modules.specs.ByteFormat.{number_at, stop_at, Coding, ByteFormat, Byte, Number, Text, Nothing, Marked, Checked, Then, Counted, Code, Named, spelled_each, spelled_instruction, spelled_code, spelled, FitEach, IsCoded, Fits, ◌>>=◌, Read, bytes_at, each_at, meant, operand_at, instruction_in, code_at, read}
 use Rattle.bytecode.proofs.Steps.{bytes_again, number_again}
 use Rattle.bytecode.proofs.Coherent.{Coherent}
 
-abbrev IsReadAgain : {A : Type 0} → Form A → Type 0
+abbrev IsReadAgain : {A : Type 0} → ByteFormat A → Type 0
 IsReadAgain {A} form = (x : A) (rest : List ℕ) → Fits form x → read form (spelled form x ++ rest) ≡ Ok (x, rest)
 
-each_again : {A : Type 0} (one : List A → Form A) → ((before : List A) → IsReadAgain (one before)) → (before xs : List A) (rest : List ℕ) → FitEach (λ seen x. Fits (one seen) x) before xs
+each_again : {A : Type 0} (one : List A → ByteFormat A) → ((before : List A) → IsReadAgain (one before)) → (before xs : List A) (rest : List ℕ) → FitEach (λ seen x. Fits (one seen) x) before xs
     → each_at (λ seen left. read (one seen) left) (length xs) before (spelled_each (λ seen x. spelled (one seen) x) before xs ++ rest) ≡ Ok (before ++ xs, rest)
 each_again one law before [] rest fits = ap (λ l. Ok (l, rest)) (sym (append-nil before))
 each_again {A} one law before (x ∷ xs) rest fits =
@@ -52,7 +52,7 @@ code_again {A} coding (suc most) before (x ∷ xs) rest coded inside =
     ∙ code_again coding most (before ++ x ∷ []) xs rest coded.1 (omega (arith, size, inside))
     ∙ ap (λ l. Ok (l, rest)) (append_assoc before (x ∷ []) xs)
 
-pub again : {A : Type 0} (form : Form A) → Coherent form → IsReadAgain form
+pub again : {A : Type 0} (form : ByteFormat A) → Coherent form → IsReadAgain form
 again Byte coherent x rest fits = refl
 again Number coherent x rest fits = number_again x rest fits
 again Text coherent x rest fits =

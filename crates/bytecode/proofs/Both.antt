@@ -3,7 +3,7 @@ use Rattle.std.proofs.Common.{◌≡◌, ◌⊎◌, inl, inr, ℕ, ◌-◌, cond
 use Rattle.std.proofs.lemmas.Bool.{cases_lt, eqb-true}
 use Rattle.std.proofs.lemmas.List.{append-nil, get_or_past, nil_from_length}
 use Rattle.modules.specs.Contents.{ModuleContents}
-use Rattle.modules.specs.Form.{Form, Spells, spelled, Read, read, read_all, stop_at, ◌>>=◌}
+use Rattle.modules.specs.ByteFormat.{ByteFormat, Spells, spelled, Read, read, read_all, stop_at, ◌>>=◌}
 use Rattle.modules.specs.Format.{module_file}
 use Rattle.modules.specs.declared.fault.FormatRefusalKind.TheVariants.{Trailing}
 use Rattle.modules.specs.declared.fault.ReadRefusal.{ReadRefusal}
@@ -16,7 +16,7 @@ use Rattle.bytecode.proofs.Lawful.{module_file-coherent}
 use Rattle.bytecode.proofs.Steps.{IsBytes, step, passed, same_value}
 use Rattle.bytecode.proofs.Taken.{taken}
 
-pub all_taken : {A : Type 0} (form : Form A) → Coherent form → (bytes : List ℕ) (x : A) → IsBytes bytes → read_all form bytes ≡ Ok x → Spells form x bytes
+pub all_taken : {A : Type 0} (form : ByteFormat A) → Coherent form → (bytes : List ℕ) (x : A) → IsBytes bytes → read_all form bytes ≡ Ok x → Spells form x bytes
 all_taken form coherent bytes x fits e =
     let s = step (read form bytes) (λ found. cond (eqb (length found.1) 0) (Ok found.0) (Err (stop_at Trailing found.1))) x e in
     let p = passed (eqb (length s.0.1) 0) (Ok s.0.0) (stop_at Trailing s.0.1) x s.2 in
@@ -26,7 +26,7 @@ all_taken form coherent bytes x fits e =
     let joined : bytes ≡ spelled form s.0.0 = t.joined ∙ ap (λ (rest : List ℕ). spelled form s.0.0 ++ rest) ended ∙ append-nil (spelled form s.0.0) in
     (rw (← same) t.fits, rw (← same) joined)
 
-pub all_again : {A : Type 0} (form : Form A) → Coherent form → (bytes : List ℕ) (x : A) → Spells form x bytes → read_all form bytes ≡ Ok x
+pub all_again : {A : Type 0} (form : ByteFormat A) → Coherent form → (bytes : List ℕ) (x : A) → Spells form x bytes → read_all form bytes ≡ Ok x
 all_again {A} form coherent bytes x h =
     let found : read form bytes ≡ Ok (x, []) = ap (read form) (h.1 ∙ sym (append-nil (spelled form x))) ∙ again form coherent x [] h.0 in
     ap (λ (r : Read A). r >>= λ y. cond (eqb (length y.1) 0) (Ok y.0) (Err (stop_at Trailing y.1))) found
@@ -38,7 +38,7 @@ pub module_again : (bytes : List ℕ) (m : ModuleContents) → Spells module_fil
 module_again bytes m h = all_again module_file module_file-coherent bytes m h
 
 -- the spellings of two values, of which one is a prefix of the other, are one, and so are the values
-pub one_spelling : {A : Type 0} (form : Form A) → Coherent form → (x y : A) (a b more others : List ℕ) → Spells form x a → Spells form y b → a ++ more ≡ b ++ others → (x ≡ y) × (a ≡ b)
+pub one_spelling : {A : Type 0} (form : ByteFormat A) → Coherent form → (x y : A) (a b more others : List ℕ) → Spells form x a → Spells form y b → a ++ more ≡ b ++ others → (x ≡ y) × (a ≡ b)
 one_spelling {A} form coherent x y a b more others h k e =
     let left : read form (a ++ more) ≡ Ok (x, more) = ap (λ (bytes : List ℕ). read form (bytes ++ more)) h.1 ∙ again form coherent x more h.0 in
     let right : read form (b ++ others) ≡ Ok (y, others) = ap (λ (bytes : List ℕ). read form (bytes ++ others)) k.1 ∙ again form coherent y others k.0 in

@@ -1,14 +1,14 @@
 -- What the two laws need of a format: fields are what a value was made of, and an instruction that was read has the opcode and
 -- the operand that it was read from.
 use Rattle.std.proofs.Common.{◌≡◌, ℕ, ◌^◌, ◌<◌, List, length, Some}
-use Rattle.modules.specs.Form.{Coding, Form, Byte, Number, Text, Nothing, Marked, Checked, Then, Counted, Code, Named, Fits}
+use Rattle.modules.specs.ByteFormat.{Coding, ByteFormat, Byte, Number, Text, Nothing, Marked, Checked, Then, Counted, Code, Named, Fits}
 use Rattle.bytecode.proofs.Steps.{IsBytes}
 
 pub record IsLawful {A : Type 0} (coding : Coding A) : Type 0 where
   pub opcode : (byte : ℕ) (operand : List ℕ) (x : A) → IsBytes operand → coding.operand_width byte ≡ Some (length operand) → coding.instruction byte operand ≡ Some x → coding.opcode x ≡ byte
   pub operand : (byte : ℕ) (operand : List ℕ) (x : A) → IsBytes operand → coding.operand_width byte ≡ Some (length operand) → coding.instruction byte operand ≡ Some x → coding.operand x ≡ operand
 
-abbrev pub Coherent : {A : Type 0} → Form A → Type 0
+abbrev pub Coherent : {A : Type 0} → ByteFormat A → Type 0
 Coherent Byte = Unit {0}
 Coherent Number = Unit {0}
 Coherent Text = Unit {0}

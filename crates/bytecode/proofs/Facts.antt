@@ -25,7 +25,7 @@ use Rattle.labels.proofs.Ascending.{sorted_nil}
 use Rattle.labels.specs.Label.{Label}
 use Rattle.labels.specs.Canonical.{policy_cmp, IsCanonicalPolicy}
 use Rattle.labels.specs.PolicyOrder.{policy_cmp-total}
-use Rattle.modules.specs.Form.{Fits, FitEach, Counted, read}
+use Rattle.modules.specs.ByteFormat.{Fits, FitEach, Counted, read}
 use Rattle.bytecode.proofs.Steps.{IsBytes}
 use Rattle.bytecode.proofs.Taken.{taken}
 use Rattle.bytecode.proofs.Lawful.{number_below-coherent, principals-coherent, pair_after-coherent}

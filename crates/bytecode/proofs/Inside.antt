@@ -4,7 +4,7 @@ use Rattle.std.proofs.lemmas.List.{length-drop}
 use Rattle.std.specs.Int.{w32, from_be_bytes}
 use Rattle.modules.specs.declared.fault.ReadRefusal.{ReadRefusal}
 use Rattle.modules.specs.declared.fault.FormatRefusalKind.TheVariants.{BadValue, Trailing}
-use Rattle.modules.specs.Form.{Coding, Form, Byte, Number, Text, Nothing, Marked, Checked, Then, Counted, Code, Named, stop_at, short, ◌>>=◌, Read, number_at, bytes_at, each_at, meant, operand_at, instruction_in, code_at, spelled_instruction, read, read_all}
+use Rattle.modules.specs.ByteFormat.{Coding, ByteFormat, Byte, Number, Text, Nothing, Marked, Checked, Then, Counted, Code, Named, stop_at, short, ◌>>=◌, Read, number_at, bytes_at, each_at, meant, operand_at, instruction_in, code_at, spelled_instruction, read, read_all}
 
 -- at most this many bytes are left, after the value or at the refusal
 abbrev IsInside : {A : Type 0} → ℕ → Read A → Type 0
@@ -64,7 +64,7 @@ code_inside coding (suc most) zero before bytes = omega arith
 code_inside coding (suc most) (suc room) before bytes =
     next_at (length bytes) (instruction_in coding (suc room) bytes) (λ x. code_at coding most (suc room - length (spelled_instruction coding x.0)) (before ++ x.0 ∷ []) x.1) (instruction_inside coding (suc room) bytes) (λ x. code_inside coding most (suc room - length (spelled_instruction coding x.0)) (before ++ x.0 ∷ []) x.1)
 
-inside : {A : Type 0} (form : Form A) (bytes : List ℕ) → IsInside (length bytes) (read form bytes)
+inside : {A : Type 0} (form : ByteFormat A) (bytes : List ℕ) → IsInside (length bytes) (read form bytes)
 inside Byte [] = omega arith
 inside Byte (b ∷ bytes) = omega arith
 inside Number bytes = number_inside bytes
@@ -94,9 +94,9 @@ trailing true x other stop n e h = absurd cc
 trailing false x other stop n e h = let same : other ≡ stop = cc in subst (λ (s : ReadRefusal). s.left ≤ n) same h
 
 -- all of the bytes as a value of the format
-all_inside : {A : Type 0} (form : Form A) (bytes : List ℕ) (r : Read A) → IsInside (length bytes) r → (stop : ReadRefusal) → (r >>= λ found. cond (eqb (length found.1) 0) (Ok found.0) (Err (stop_at Trailing found.1))) ≡ Err stop → stop.left ≤ length bytes
+all_inside : {A : Type 0} (form : ByteFormat A) (bytes : List ℕ) (r : Read A) → IsInside (length bytes) r → (stop : ReadRefusal) → (r >>= λ found. cond (eqb (length found.1) 0) (Ok found.0) (Err (stop_at Trailing found.1))) ≡ Err stop → stop.left ≤ length bytes
 all_inside form bytes (Ok x) h stop e = trailing (eqb (length x.1) 0) x.0 (stop_at Trailing x.1) stop (length bytes) e h
 all_inside form bytes (Err other) h stop e = let same : other ≡ stop = cc in subst (λ (s : ReadRefusal). s.left ≤ length bytes) same h
 
-pub stop_inside : {A : Type 0} (form : Form A) (bytes : List ℕ) (stop : ReadRefusal) → read_all form bytes ≡ Err stop → stop.left ≤ length bytes
+pub stop_inside : {A : Type 0} (form : ByteFormat A) (bytes : List ℕ) (stop : ReadRefusal) → read_all form bytes ≡ Err stop → stop.left ≤ length bytes
 stop_inside form bytes stop e = all_inside form bytes (read form bytes) (inside form bytes) stop e

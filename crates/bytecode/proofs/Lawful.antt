@@ -1,25 +1,26 @@
 -- The module file is coherent: its two laws hold.
-use Rattle.std.proofs.Common.{◌≡◌, ℕ, zero, suc, ◌+◌, ◌^◌, ◌<◌, Bool, true, false, ◌||◌, cond, ltb, eqb, List, [], ◌∷◌, length, Option, Some, None, refl, sym, ap, subst, ◌∙◌, arith, inl, inr, ◌⊎◌, lit<}
+use Rattle.std.proofs.Common.{map, ◌≡◌, ℕ, zero, suc, ◌+◌, ◌^◌, ◌<◌, Bool, true, false, ◌||◌, cond, ltb, eqb, List, [], ◌∷◌, length, Option, Some, None, refl, sym, ap, subst, ◌∙◌, arith, inl, inr, ◌⊎◌, lit<}
 use Rattle.std.specs.Int.{w32, cast_signed, cast_unsigned, from_be_bytes, to_be_bytes}
 use Rattle.std.specs.List.{find, AllByRecursion}
 use Rattle.std.proofs.lemmas.Bool.{ltb-true, eqb-true}
 use Rattle.std.proofs.lemmas.Int.{of_z-to_z}
 use Rattle.std.proofs.lemmas.Nat.{be_bytes_4}
 use Rattle.modules.specs.declared.instruction.Instruction.{Instruction}
-use Rattle.modules.specs.declared.instruction.Instruction.TheVariants.{PushBoolean}
+use Rattle.modules.specs.declared.instruction.Instruction.TheVariants.{PushBoolean, Pop, Return, ReturnValue, Operate}
+use Rattle.modules.specs.declared.instruction.MachineOperator.{MachineOperator}
 use Rattle.modules.specs.declared.version.Version.{Version}
 use Rattle.modules.specs.declared.version.Version.TheVariants.{One, Two}
-use Rattle.modules.specs.declared.value.ValueKind.{ValueKind}
-use Rattle.modules.specs.declared.value.ValueKind.TheVariants as kind
+use Rattle.common.specs.declared.base_type.BaseType.{BaseType}
+use Rattle.common.specs.declared.base_type.BaseType.TheVariants as kind
 use Rattle.modules.specs.declared.declaration.Slot.TheVariants as slot
 use Rattle.modules.specs.declared.declaration.Global.TheVariants as global
 use Rattle.modules.specs.declared.fault.FormatRefusalKind.TheVariants.{BadValue}
 use Rattle.modules.specs.Contents.{ProcedureContents}
 use Rattle.modules.specs.Code.{width_of}
-use Rattle.modules.specs.Form.{Form, Number, Checked, Fits}
+use Rattle.modules.specs.ByteFormat.{ByteFormat, Number, Checked, Fits}
 use Rattle.modules.specs.declared.opcode.Operand.{Operand}
 use Rattle.modules.specs.declared.opcode.Operand.TheVariants.{Absent, Int, Boolean, Number as Numbered}
-use Rattle.modules.specs.Opcodes.{entry_of, opcode_of, operand_of, operand_width, numbered, plain, with_opcode, instruction_of, examples, has_instruction, width_in, width_after, instructions}
+use Rattle.modules.specs.Opcodes.{entry_of, opcode_of, operand_of, operand_width, numbered, operators, plain, with_opcode, instruction_of, examples, has_instruction, width_in, width_after, instructions}
 use Rattle.modules.specs.Format.{name_after, number_below, principals, pair_after, hierarchy, exceptions, direction_of, direction_byte, direction, reader_after, policy_after, label, channel_after, channels, kind_of, kind_byte, variable_kind, of_scalar, first_value, global_of, global_fields, global_after, globals, slot_fields, slot_after, slots, returned_of, returned_byte, returned, handler, handlers, procedure, procedures, main, declared, program, contents, version_number, version, module_file}
 use Rattle.bytecode.proofs.Steps.{IsBytes}
 use Rattle.bytecode.proofs.Coherent.{IsLawful, Coherent}
@@ -62,8 +63,16 @@ four_has byte operand x len fits e =
     let int : to_be_bytes w32 (cast_unsigned w32 (cast_signed w32 n)) ≡ operand = ap (to_be_bytes w32) (of_z-to_z w32 n small) ∙ here in
     with_operand byte operand (numbered n) x (int, (here, (here, (here, (here, (here, (here, (here, (here, (here, (here, (here, (here, (here, (here, (here, tt)))))))))))))))) e
 
+-- what holds of the instructions without an operand
+have_plain : (P : Instruction → Type 0) → P Pop → P Return → P ReturnValue → ((operator : MachineOperator) → P (Operate operator)) → AllByRecursion P plain
+have_plain P pop return value each = (pop, (return, (value, along operators)))
+  where
+    along : (all : List MachineOperator) → AllByRecursion P (map Operate all)
+    along [] = tt
+    along (operator ∷ all) = (each operator, along all)
+
 spelled_by : (byte : ℕ) (operand : List ℕ) (x : Instruction) → IsBytes operand → (length operand ≡ 0) ⊎ ((length operand ≡ 1) ⊎ (length operand ≡ 4)) → instruction_of byte operand ≡ Some x → Has byte operand x
-spelled_by byte [] x fits size e = with_operand byte [] plain x (refl, (refl, (refl, (refl, (refl, (refl, (refl, (refl, (refl, (refl, (refl, (refl, (refl, (refl, (refl, (refl, (refl, (refl, (refl, (refl, (refl, (refl, (refl, (refl, tt)))))))))))))))))))))))) e
+spelled_by byte [] x fits size e = with_operand byte [] plain x (have_plain (λ y. operand_of y ≡ []) refl refl refl (λ operator. refl)) e
 spelled_by byte (b ∷ []) x fits size e = flagged_has byte b x (eqb b 0) (eqb b 1) refl refl e
 spelled_by byte (a ∷ b ∷ []) x fits size e = absurd (elim size [ inl h ↦ omega arith | inr more ↦ elim more [ inl h ↦ omega arith | inr h ↦ omega arith ] ])
 spelled_by byte (a ∷ b ∷ c ∷ []) x fits size e = absurd (elim size [ inl h ↦ omega arith | inr more ↦ elim more [ inl h ↦ omega arith | inr h ↦ omega arith ] ])
@@ -83,7 +92,7 @@ flagged_width byte x false true e = with_width byte 2 (PushBoolean true ∷ []) 
 flagged_width byte x false false e = absurd cc
 
 pub width_by : (byte : ℕ) (operand : List ℕ) (x : Instruction) → (length operand ≡ 0) ⊎ ((length operand ≡ 1) ⊎ (length operand ≡ 4)) → instruction_of byte operand ≡ Some x → width_of x ≡ 1 + length operand
-width_by byte [] x size e = with_width byte 1 plain x (refl, (refl, (refl, (refl, (refl, (refl, (refl, (refl, (refl, (refl, (refl, (refl, (refl, (refl, (refl, (refl, (refl, (refl, (refl, (refl, (refl, (refl, (refl, (refl, tt)))))))))))))))))))))))) e
+width_by byte [] x size e = with_width byte 1 plain x (have_plain (IsWide 1) refl refl refl (λ operator. refl)) e
 width_by byte (b ∷ []) x size e = flagged_width byte x (eqb b 0) (eqb b 1) e
 width_by byte (a ∷ b ∷ []) x size e = absurd (elim size [ inl h ↦ omega arith | inr more ↦ elim more [ inl h ↦ omega arith | inr h ↦ omega arith ] ])
 width_by byte (a ∷ b ∷ c ∷ []) x size e = absurd (elim size [ inl h ↦ omega arith | inr more ↦ elim more [ inl h ↦ omega arith | inr h ↦ omega arith ] ])
@@ -165,15 +174,15 @@ pub channels-coherent : (count : ℕ) (declared : List (List ℕ)) → Coherent 
 unfolding channels channel_after direction
 channels-coherent count declared = λ before. (((tt, λ byte fits. direction-back byte fits.1), λ _. (name_after-coherent _ _, λ _. label-coherent count)), λ fields fits. refl)
 
-of_scalar-coherent : (b : Bool) (form : Form ℕ) → Coherent form → Coherent (of_scalar b form)
+of_scalar-coherent : (b : Bool) (form : ByteFormat ℕ) → Coherent form → Coherent (of_scalar b form)
 of_scalar-coherent true form h = h
 of_scalar-coherent false form h = tt
 
-first_value-coherent : (kind : ValueKind) (size : ℕ) → Coherent (first_value kind size)
+first_value-coherent : (kind : BaseType) (size : ℕ) → Coherent (first_value kind size)
 first_value-coherent kind.Int size = of_scalar-coherent (eqb size 0) _ tt
 first_value-coherent kind.Boolean size = of_scalar-coherent (eqb size 0) _ tt
 
-abbrev global_fields_are : ValueKind → ℕ → ℕ → ValueKind × (ℕ × ℕ)
+abbrev global_fields_are : BaseType → ℕ → ℕ → BaseType × (ℕ × ℕ)
 global_fields_are kind size first = (kind, (size, first))
 
 int_back : (size first : ℕ) (b : Bool) → eqb size 0 ≡ b → Fits (of_scalar b Number) first → global_fields (cond b (global.Int (cast_signed w32 first)) (global.Array kind.Int size)) ≡ (kind.Int, (size, first))
@@ -191,7 +200,7 @@ boolean_back size first true h fits =
     ap (made 0) (boolean-back first fits.1) ∙ ap (λ (s : ℕ). made s first) (sym (eqb-true size 0 h))
 boolean_back size first false h fits = ap (global_fields_are kind.Boolean size) (sym fits)
 
-global-back : (kind : ValueKind) (size first : ℕ) → Fits (first_value kind size) first → global_fields (global_of (kind, (size, first))) ≡ (kind, (size, first))
+global-back : (kind : BaseType) (size first : ℕ) → Fits (first_value kind size) first → global_fields (global_of (kind, (size, first))) ≡ (kind, (size, first))
 global-back kind.Int size first fits = int_back size first (eqb size 0) refl fits
 global-back kind.Boolean size first fits = boolean_back size first (eqb size 0) refl fits
 
@@ -199,10 +208,10 @@ pub globals-coherent : Coherent globals
 unfolding globals global_after variable_kind
 globals-coherent = λ before. (((tt, λ byte fits. kind-back byte fits.1), λ kind. (tt, λ size. first_value-coherent kind size)), λ fields fits. global-back fields.0 fields.1.0 fields.1.1 fits.1.1)
 
-abbrev slot_fields_are : ValueKind → ℕ → ValueKind × ℕ
+abbrev slot_fields_are : BaseType → ℕ → BaseType × ℕ
 slot_fields_are kind size = (kind, size)
 
-slot-back : (kind : ValueKind) (size : ℕ) (b : Bool) → eqb size 0 ≡ b → slot_fields (cond b (slot.Scalar kind) (slot.Array kind size)) ≡ (kind, size)
+slot-back : (kind : BaseType) (size : ℕ) (b : Bool) → eqb size 0 ≡ b → slot_fields (cond b (slot.Scalar kind) (slot.Array kind size)) ≡ (kind, size)
 slot-back kind size true h = ap (slot_fields_are kind) (sym (eqb-true size 0 h))
 slot-back kind size false h = refl
 

@@ -3,7 +3,7 @@ use Rattle.std.proofs.Common.{◌≡◌, ℕ, suc, ◌-◌, ◌+◌, ◌<◌, Li
 use Rattle.common.specs.Answers.{IfRefused}
 use Rattle.common.specs.declared.fault.OrNoMemory.{OrNoMemory}
 use Rattle.common.specs.declared.fault.OrNoMemory.TheVariants.{NoMemory, Refused}
-use Rattle.modules.specs.Form.{Read, each_at, ◌>>=◌}
+use Rattle.modules.specs.ByteFormat.{Read, each_at, ◌>>=◌}
 use Rattle.modules.specs.declared.fault.ReadRefusal.{ReadRefusal}
 
 -- a function fails as reading does, or because memory ran out

@@ -14,7 +14,7 @@ use Rattle.lexer.specs.Words.{is_name_text}
 use Rattle.common.specs.declared.fault.OrNoMemory.{OrNoMemory}
 use Rattle.common.specs.declared.fault.OrNoMemory.TheVariants.{NoMemory, Refused}
 use Rattle.modules.specs.Contents.{ChannelContents}
-use Rattle.modules.specs.Form.{Form, Named, Then, Counted, Checked, Text, Read, read, each_at, number_at}
+use Rattle.modules.specs.ByteFormat.{ByteFormat, Named, Then, Counted, Checked, Text, Read, read, each_at, number_at}
 use Rattle.modules.specs.declared.fault.ReadRefusal.{ReadRefusal}
 use Rattle.bytecode.proofs.Loop.{ReadingFails, each_fails, each_goes_on}
 use Rattle.modules.specs.declared.fault.FormatRefusalKind.TheVariants.{BadValue}
@@ -75,13 +75,13 @@ one_name taken before rest = read (name_after taken before) rest
 pub names_go_on : (taken now : List ℕ → Bool) (count i : ℕ) (before : List (List ℕ)) (bytes name after : List ℕ) (total : Read (List (List ℕ))) → i < count → ((q : List ℕ) → now q ≡ (taken q || is_among before q))
     → read (name_after now []) bytes ≡ Ok (name, after) → each_at (one_name taken) (count - i) before bytes ≡ total → each_at (one_name taken) (count - (i + 1)) (before ++ name ∷ []) after ≡ total
 names_go_on taken now count i before bytes name after total lt holds found so_far =
-    let same : read (name_after now []) bytes ≡ read (name_after taken before) bytes = ap (λ (form : Form (List ℕ)). read form bytes) (in_set taken now before holds) in
+    let same : read (name_after now []) bytes ≡ read (name_after taken before) bytes = ap (λ (form : ByteFormat (List ℕ)). read form bytes) (in_set taken now before holds) in
     each_goes_on (one_name taken) count i before bytes name after total lt (sym same ∙ found) so_far
 
 pub names_fails : (e : OrNoMemory ReadRefusal) (taken now : List ℕ → Bool) (count i : ℕ) (before : List (List ℕ)) (bytes : List ℕ) (total : Read (List (List ℕ))) → i < count → ((q : List ℕ) → now q ≡ (taken q || is_among before q))
     → ReadingFails e (read (name_after now []) bytes) → each_at (one_name taken) (count - i) before bytes ≡ total → ReadingFails e total
 names_fails e taken now count i before bytes total lt holds found so_far =
-    let same : read (name_after now []) bytes ≡ read (name_after taken before) bytes = ap (λ (form : Form (List ℕ)). read form bytes) (in_set taken now before holds) in
+    let same : read (name_after now []) bytes ≡ read (name_after taken before) bytes = ap (λ (form : ByteFormat (List ℕ)). read form bytes) (in_set taken now before holds) in
     let P : Read (List ℕ) → Type 0 = λ r. ReadingFails e r in
     each_fails e (one_name taken) count i before bytes total lt (subst P same found) so_far
 
@@ -104,7 +104,7 @@ none_taken set empty q = rw empty refl
 abbrev pub one_channel : ℕ → (List ℕ → Bool) → List ChannelContents → List ℕ → Read ChannelContents
 one_channel count taken before rest = read (channel_after count taken before) rest
 
-abbrev channel_named : Form (List ℕ) → ℕ → Form ChannelContents
+abbrev channel_named : ByteFormat (List ℕ) → ℕ → ByteFormat ChannelContents
 channel_named form count =
     Named (λ fields. record { direction = fields.0; name = fields.1.0; label = fields.1.1 })
     (λ channel. (channel.direction, (channel.name, channel.label)))
@@ -113,7 +113,7 @@ channel_named form count =
 pub same_channel : (count : ℕ) (taken now : List ℕ → Bool) (before : List ChannelContents) (bytes : List ℕ) → ((q : List ℕ) → now q ≡ (taken q || is_among (channel_names before) q))
     → one_channel count now [] bytes ≡ one_channel count taken before bytes
 unfolding channel_after
-same_channel count taken now before bytes holds = ap (λ (form : Form (List ℕ)). read (channel_named form count) bytes) (in_set taken now (channel_names before) holds)
+same_channel count taken now before bytes holds = ap (λ (form : ByteFormat (List ℕ)). read (channel_named form count) bytes) (in_set taken now (channel_names before) holds)
 
 pub channels_go_on : (principals : ℕ) (taken now : List ℕ → Bool) (count i : ℕ) (before : List ChannelContents) (bytes : List ℕ) (channel : ChannelContents) (after : List ℕ) (total : Read (List ChannelContents)) → i < count
     → ((q : List ℕ) → now q ≡ (taken q || is_among (channel_names before) q)) → one_channel principals now [] bytes ≡ Ok (channel, after)

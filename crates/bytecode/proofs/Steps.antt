@@ -5,7 +5,7 @@ use Rattle.std.proofs.lemmas.Bool.{cases_lt, ltb-false, le-ltb}
 use Rattle.std.proofs.lemmas.List.{take_at, drop_at, take-append-drop, length-append, length-take, get_or-drop, get_or-take, get_or_past}
 use Rattle.std.proofs.lemmas.Nat.{be_bytes_4, from_be_bytes-to_be_bytes_4}
 use Rattle.modules.specs.declared.fault.ReadRefusal.{ReadRefusal}
-use Rattle.modules.specs.Form.{short, ◌>>=◌, number_at, bytes_at}
+use Rattle.modules.specs.ByteFormat.{short, ◌>>=◌, number_at, bytes_at}
 
 -- each element is a byte
 pub record IsBytes (bytes : List ℕ) : Type 0 where

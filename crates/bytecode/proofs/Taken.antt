@@ -5,19 +5,19 @@ use Rattle.std.specs.List.{AllByRecursion}
 use Rattle.std.proofs.lemmas.Bool.{ltb-true, eqb-true}
 use Rattle.std.proofs.lemmas.List.{append-nil}
 use Rattle.modules.specs.declared.fault.FormatRefusalKind.TheVariants.{BadValue}
-use Rattle.modules.specs.Form.{Coding, Form, Byte, Number, Text, Nothing, Marked, Checked, Then, Counted, Code, Named, spelled_each, spelled_instruction, spelled_code, spelled, FitEach, IsCoded, Fits, stop_at, ◌>>=◌, number_at, bytes_at, each_at, meant, operand_at, instruction_in, code_at, read}
+use Rattle.modules.specs.ByteFormat.{Coding, ByteFormat, Byte, Number, Text, Nothing, Marked, Checked, Then, Counted, Code, Named, spelled_each, spelled_instruction, spelled_code, spelled, FitEach, IsCoded, Fits, stop_at, ◌>>=◌, number_at, bytes_at, each_at, meant, operand_at, instruction_in, code_at, read}
 use Rattle.bytecode.proofs.Steps.{IsBytes, bytes_rest, step, passed, same_value, bytes_taken_at, number_taken_at}
 use Rattle.bytecode.proofs.Coherent.{IsLawful, Coherent}
 
 -- what a reading of a format gives
-pub record Takes {A : Type 0} (form : Form A) (bytes : List ℕ) (x : A) (rest : List ℕ) : Type 0 where
+pub record Takes {A : Type 0} (form : ByteFormat A) (bytes : List ℕ) (x : A) (rest : List ℕ) : Type 0 where
   pub fits : Fits form x
   pub joined : bytes ≡ spelled form x ++ rest
   pub after : IsBytes rest
 
 -- ---- values one after the other
 
-pub record TakesEach {A : Type 0} (one : List A → Form A) (count : ℕ) (before : List A) (bytes : List ℕ) (xs : List A) (rest : List ℕ) : Type 0 where
+pub record TakesEach {A : Type 0} (one : List A → ByteFormat A) (count : ℕ) (before : List A) (bytes : List ℕ) (xs : List A) (rest : List ℕ) : Type 0 where
   pub tail : List A
   pub complete : xs ≡ before ++ tail
   pub many : length tail ≡ count
@@ -25,10 +25,10 @@ pub record TakesEach {A : Type 0} (one : List A → Form A) (count : ℕ) (befor
   pub joined : bytes ≡ spelled_each (λ seen x. spelled (one seen) x) before tail ++ rest
   pub after : IsBytes rest
 
-abbrev IsTaken : {A : Type 0} → Form A → Type 0
+abbrev IsTaken : {A : Type 0} → ByteFormat A → Type 0
 IsTaken {A} form = (bytes : List ℕ) (x : A) (rest : List ℕ) → IsBytes bytes → read form bytes ≡ Ok (x, rest) → Takes form bytes x rest
 
-each_taken : {A : Type 0} (one : List A → Form A) → ((before : List A) → IsTaken (one before)) → (count : ℕ) (before : List A) (bytes : List ℕ) (xs : List A) (rest : List ℕ) → IsBytes bytes
+each_taken : {A : Type 0} (one : List A → ByteFormat A) → ((before : List A) → IsTaken (one before)) → (count : ℕ) (before : List A) (bytes : List ℕ) (xs : List A) (rest : List ℕ) → IsBytes bytes
     → each_at (λ seen left. read (one seen) left) count before bytes ≡ Ok (xs, rest) → TakesEach one count before bytes xs rest
 each_taken one law zero before bytes xs rest fits e =
     let both = same_value (before, bytes) (xs, rest) e in
@@ -137,7 +137,7 @@ code_taken coding lawful (suc most) (suc room) before bytes xs rest fits le e =
 
 -- ---- every format
 
-pub taken : {A : Type 0} (form : Form A) → Coherent form → IsTaken form
+pub taken : {A : Type 0} (form : ByteFormat A) → Coherent form → IsTaken form
 taken Byte coherent [] x rest fits e = absurd cc
 taken Byte coherent (b ∷ bytes) x rest fits e =
     let both = same_value (b, bytes) (x, rest) e in

@@ -13,7 +13,7 @@ use Rattle.principals.specs.ActsFor.{PrincipalHierarchy}
 use Rattle.modules.specs.declared.instruction.Instruction.{Instruction}
 use Rattle.modules.specs.declared.version.Version.{Version}
 use Rattle.modules.specs.declared.version.Version.TheVariants.{One}
-use Rattle.modules.specs.declared.value.ValueKind.TheVariants as kind
+use Rattle.common.specs.declared.base_type.BaseType.TheVariants as kind
 use Rattle.modules.specs.declared.declaration.Slot.{Slot}
 use Rattle.modules.specs.declared.declaration.Global.{Global}
 use Rattle.modules.specs.declared.declaration.Global.TheVariants as global
@@ -21,7 +21,7 @@ use Rattle.modules.specs.declared.declaration.Handler.{Handler}
 use Rattle.modules.specs.declared.fault.FormatRefusalKind.TheVariants.{BadValue}
 use Rattle.modules.specs.Contents.{ChannelContents, ProcedureContents, ModuleContents}
 use Rattle.modules.specs.Code.{code_length, width_of}
-use Rattle.modules.specs.Form.{Form, Number, Checked, Fits, FitEach, spelled, spelled_each, spelled_code}
+use Rattle.modules.specs.ByteFormat.{ByteFormat, Number, Checked, Fits, FitEach, spelled, spelled_each, spelled_code}
 use Rattle.modules.specs.Opcodes.{instructions}
 use Rattle.modules.specs.Format.{direction_byte, kind_byte, returned_byte, magic, version, version_number, is_built_in, is_among, channel_names, name_after, number_below, principals, pair_after, hierarchy, exceptions, direction, reader_after, policy_after, label, channel_after, channels, declared, of_scalar, global_after, globals, slot_after, slots, variable_kind, returned, handler, handlers, procedure, procedures, main, program, contents, module_file}
 use Rattle.bytecode.specs.Writing.{number_bytes, list_bytes, text_bytes, pair_bytes, policy_bytes, channel_bytes, variable_bytes, slot_bytes, handler_bytes, instruction_bytes, code_bytes, procedure_bytes, module_bytes, IsShort, PolicyFits, ChannelFits, ProcedureFits, ModuleFits}
@@ -29,23 +29,23 @@ use Rattle.bytecode.specs.Writing.{number_bytes, list_bytes, text_bytes, pair_by
 -- ---- lists
 
 -- values whose bytes do not depend on those before them
-each_bytes : {A : Type 0} (one : List A → Form A) (f : A → List ℕ) → ((before : List A) (x : A) → Fits (one before) x → spelled (one before) x ≡ f x) → (before xs : List A) → FitEach (λ seen x. Fits (one seen) x) before xs
+each_bytes : {A : Type 0} (one : List A → ByteFormat A) (f : A → List ℕ) → ((before : List A) (x : A) → Fits (one before) x → spelled (one before) x ≡ f x) → (before xs : List A) → FitEach (λ seen x. Fits (one seen) x) before xs
     → spelled_each (λ seen x. spelled (one seen) x) before xs ≡ flat_map f xs
 each_bytes one f same before [] h = refl
 each_bytes {A} one f same before (x ∷ xs) h =
     ap (λ (bytes : List ℕ). bytes ++ spelled_each (λ seen y. spelled (one seen) y) (before ++ x ∷ []) xs) (same before x h.0)
     ∙ ap (λ (bytes : List ℕ). f x ++ bytes) (each_bytes one f same (before ++ x ∷ []) xs h.1)
 
-counted_bytes : {A : Type 0} (one : List A → Form A) (f : A → List ℕ) → ((before : List A) (x : A) → Fits (one before) x → spelled (one before) x ≡ f x) → (xs : List A) → FitEach (λ seen x. Fits (one seen) x) [] xs
+counted_bytes : {A : Type 0} (one : List A → ByteFormat A) (f : A → List ℕ) → ((before : List A) (x : A) → Fits (one before) x → spelled (one before) x ≡ f x) → (xs : List A) → FitEach (λ seen x. Fits (one seen) x) [] xs
     → number_bytes (length xs) ++ spelled_each (λ seen x. spelled (one seen) x) [] xs ≡ list_bytes f xs
 counted_bytes one f same xs h = ap (λ (bytes : List ℕ). number_bytes (length xs) ++ bytes) (each_bytes one f same [] xs h)
 
 -- what each element has, whatever stands before it
-each_has : {A : Type 0} (one : List A → Form A) (P : A → Type 0) → ((before : List A) (x : A) → Fits (one before) x → P x) → (before xs : List A) → FitEach (λ seen x. Fits (one seen) x) before xs → AllByRecursion P xs
+each_has : {A : Type 0} (one : List A → ByteFormat A) (P : A → Type 0) → ((before : List A) (x : A) → Fits (one before) x → P x) → (before xs : List A) → FitEach (λ seen x. Fits (one seen) x) before xs → AllByRecursion P xs
 each_has one P has before [] h = tt
 each_has one P has before (x ∷ xs) h = (has before x h.0, each_has one P has (before ++ x ∷ []) xs h.1)
 
-all_have : {A : Type 0} (one : List A → Form A) (P : A → Type 0) → ((before : List A) (x : A) → Fits (one before) x → P x) → (xs : List A) → FitEach (λ seen x. Fits (one seen) x) [] xs → All P xs
+all_have : {A : Type 0} (one : List A → ByteFormat A) (P : A → Type 0) → ((before : List A) (x : A) → Fits (one before) x → P x) → (xs : List A) → FitEach (λ seen x. Fits (one seen) x) [] xs → All P xs
 all_have one P has xs h = All-from_recursion P xs (each_has one P has [] xs h)
 
 two : {a b x y : List ℕ} → a ≡ x → b ≡ y → a ++ b ≡ x ++ y

@@ -1,7 +1,7 @@
 -- What bytes are refused for.
 -- Source: our own.
 use Rattle.std.specs.Prelude.{ℕ, ◌-◌, List, length, Option, Some, None, Result, Ok, Err}
-use Rattle.modules.specs.Form.{read_all}
+use Rattle.modules.specs.ByteFormat.{read_all}
 use Rattle.modules.specs.Format.{module_file}
 use Rattle.modules.specs.declared.fault.ReadRefusal.{ReadRefusal}
 use Rattle.bytecode.specs.declared.fault.FormatRefusal.{FormatRefusal}

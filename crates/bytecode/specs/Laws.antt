@@ -2,7 +2,7 @@
 -- Source: our own.
 use Rattle.std.specs.Prelude.{◌≡◌, ◌⊎◌, ℕ, ◌<◌, List, Some, All}
 use Rattle.modules.specs.Contents.{ModuleContents}
-use Rattle.modules.specs.Form.{Spells}
+use Rattle.modules.specs.ByteFormat.{Spells}
 use Rattle.modules.specs.Format.{module_file}
 use Rattle.bytecode.specs.Decoded.{first_refusal}
 use Rattle.bytecode.specs.declared.fault.FormatRefusal.{FormatRefusal}

@@ -1,6 +1,6 @@
 //! Reading of channels.
 
-ghost use Rattle.modules.specs.Form.{Counted, each_at, read};
+ghost use Rattle.modules.specs.ByteFormat.{Counted, each_at, read};
 ghost use Rattle.modules.specs.Format.{any, channel_after, declared, direction};
 ghost use Rattle.bytecode.specs.Reading.{Decodes, texts};
 ghost use Rattle.std.specs.BTreeSet.{contains_text};

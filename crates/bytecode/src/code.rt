@@ -1,7 +1,7 @@
 //! Reading of code.
 
 ghost use Rattle.modules.specs.Code.{width_of};
-ghost use Rattle.modules.specs.Form.{Code, code_at, instruction_in, read};
+ghost use Rattle.modules.specs.ByteFormat.{Code, code_at, instruction_in, read};
 ghost use Rattle.modules.specs.Opcodes.{instructions};
 ghost use Rattle.bytecode.specs.Reading.{Decodes};
 ghost use Rattle.modules.specs.declared.version.Version.{Version};

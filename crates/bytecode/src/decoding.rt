@@ -4,7 +4,7 @@ ghost use Rattle.modules.specs.Contents.{ModuleContents};
 ghost use Rattle.modules.specs.ContentsOf.{contents_of};
 ghost use Rattle.common.specs.Answers.{Answers, IfRefused};
 ghost use Rattle.bytecode.specs.Decoded.{first_refusal};
-ghost use Rattle.modules.specs.Form.{read, read_all, Spells};
+ghost use Rattle.modules.specs.ByteFormat.{read, read_all, Spells};
 ghost use Rattle.modules.specs.Format.{contents, main, module_file, program, version};
 ghost use Rattle.bytecode.specs.Reading.{Decodes, fields_of};
 ghost use Rattle.std.specs.Prelude.{IfErr, IfOk, Some, ◌≡◌};
@@ -135,8 +135,8 @@ fn read_all_of_file(alloc: Global, bytes: &[u8]) -> Result<Contents, FieldFault>
 /// The module that the bytes spell.
 ///
 /// A refusal is the first one in reading order, field by field from the left, with the offset of the field's first byte,
-/// within code that of the offending byte, and for bytes that end too early their length. Nothing is reserved by a count
-/// that the bytes claim, nor by a length of code where fewer bytes follow: lists grow by what was read.
+/// within code that of the offending byte, and for bytes that end too early their length. No more than a few places are
+/// reserved by a count that the bytes claim, and none by a length of code where fewer bytes follow: lists grow by what was read.
 pub fn decode(alloc: Global, bytes: &[u8]) -> Result<Module, FormatFault>
     // What is read is spelled so, each byte of it.
     ensures accepted { IfOk result (λ m. Spells module_file m bytes.now) }

@@ -1,6 +1,6 @@
 //! Writing of modules.
 
-ghost use Rattle.modules.specs.Form.{Fits, Spells};
+ghost use Rattle.modules.specs.ByteFormat.{Fits, Spells};
 ghost use Rattle.modules.specs.Format.{module_file};
 ghost use Rattle.bytecode.specs.Reading.{texts};
 ghost use Rattle.bytecode.specs.Writing.{code_bytes, IsShort, list_bytes, module_bytes, number_bytes, pair_bytes, procedure_bytes, ProcedureFits, text_bytes};
@@ -8,11 +8,11 @@ ghost use Rattle.std.specs.Prelude.{All, IfOk, length, OnOk, ◌++◌, ◌≡◌
 
 use crate::decoding::MAGIC;
 use crate::writing::{Field, put_instruction, put_list, put_number};
+use common::BaseType;
 use modules::code_length;
 use modules::instruction::Instruction;
 use modules::module::Module;
 use modules::procedure::Procedure;
-use modules::value::ValueKind;
 use principals::Hierarchy;
 use std::alloc::{AllocError, Global};
 
@@ -38,8 +38,8 @@ impl Field for Procedure {
     fn put(&self, out: &mut Vec<u8>) -> Result<(), AllocError> {
         let returned = match self.returned() {
             None => 0,
-            Some(ValueKind::Int) => 1,
-            Some(ValueKind::Boolean) => 2,
+            Some(BaseType::Int) => 1,
+            Some(BaseType::Boolean) => 2,
         };
         out.push(returned)?;
         put_number(out, self.parameters())?;

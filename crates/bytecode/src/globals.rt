@@ -1,33 +1,33 @@
 //! Reading of globals.
 
 ghost use Rattle.common.specs.declared.limits.TheConstants.{MAX_CELLS};
-ghost use Rattle.modules.specs.Form.{read};
+ghost use Rattle.modules.specs.ByteFormat.{read};
 ghost use Rattle.modules.specs.Format.{first_value, global_after, global_cells, global_of, globals, variable_kind};
 ghost use Rattle.bytecode.specs.Reading.{Decodes};
 ghost use Rattle.std.specs.Prelude.{◌<◌, ◌≡◌, ◌≤◌};
 
 use crate::limit::{cells_of_size, is_size};
 use crate::reading::{Element, FieldFault, read_byte, read_each, read_number, refuse};
+use common::BaseType;
 use modules::FormatRefusalKind;
 use modules::declaration::Global as Variable;
-use modules::value::ValueKind;
 use std::alloc::Global;
 
 /// The kind of a global or of a slot.
 #[tactic(auto, unfolding(modules::specs::Format::variable_kind))]
-pub(crate) fn read_kind(bytes: &[u8]) -> Result<(ValueKind, &[u8]), FieldFault>
+pub(crate) fn read_kind(bytes: &[u8]) -> Result<(BaseType, &[u8]), FieldFault>
     ensures { Decodes (λ x. (x.0, x.1.now)) result (read variable_kind bytes.now) }
 {
     let (kind, rest) = read_byte(bytes)?;
     match kind {
-        0 => Ok((ValueKind::Int, rest)),
-        1 => Ok((ValueKind::Boolean, rest)),
+        0 => Ok((BaseType::Int, rest)),
+        1 => Ok((BaseType::Boolean, rest)),
         _ => Err(refuse(FormatRefusalKind::BadValue, bytes)),
     }
 }
 
 /// The first value of a scalar, and 0 for an array, which has none.
-fn read_first_value(kind: ValueKind, size: u32, bytes: &[u8]) -> Result<(u32, &[u8]), FieldFault>
+fn read_first_value(kind: BaseType, size: u32, bytes: &[u8]) -> Result<(u32, &[u8]), FieldFault>
     ensures { Decodes (λ x. (x.0, x.1.now)) result (read (first_value kind size) bytes.now) }
 {
     if size != 0 {
@@ -35,8 +35,8 @@ fn read_first_value(kind: ValueKind, size: u32, bytes: &[u8]) -> Result<(u32, &[
     }
     let (value, rest) = read_number(bytes)?;
     match kind {
-        ValueKind::Int => Ok((value, rest)),
-        ValueKind::Boolean => {
+        BaseType::Int => Ok((value, rest)),
+        BaseType::Boolean => {
             if value > 1 {
                 return Err(refuse(FormatRefusalKind::BadValue, bytes));
             }
@@ -45,15 +45,15 @@ fn read_first_value(kind: ValueKind, size: u32, bytes: &[u8]) -> Result<(u32, &[
     }
 }
 
-fn global_of(kind: ValueKind, size: u32, first: u32) -> Variable
+fn global_of(kind: BaseType, size: u32, first: u32) -> Variable
     ensures { result ≡ global_of (kind, (size, first)) }
 {
     if size != 0 {
         return Variable::Array(kind, size);
     }
     match kind {
-        ValueKind::Int => Variable::Int(first.cast_signed()),
-        ValueKind::Boolean => Variable::Boolean(first == 1),
+        BaseType::Int => Variable::Int(first.cast_signed()),
+        BaseType::Boolean => Variable::Boolean(first == 1),
     }
 }
 

@@ -1,6 +1,6 @@
 //! Reading of hierarchies and labels.
 
-ghost use Rattle.modules.specs.Form.{Counted, read};
+ghost use Rattle.modules.specs.ByteFormat.{Counted, read};
 ghost use Rattle.modules.specs.Format.{any, hierarchy, label, number_below, pair_after, policy_after, principals, reader_after};
 ghost use Rattle.bytecode.specs.Reading.{Decodes, texts};
 

@@ -2,7 +2,7 @@
 
 ghost use Rattle.modules.specs.Contents.{ModuleContents};
 ghost use Rattle.bytecode.specs.Decoded.{first_refusal};
-ghost use Rattle.modules.specs.Form.{Fits, read_all, spelled, Spells};
+ghost use Rattle.modules.specs.ByteFormat.{Fits, read_all, spelled, Spells};
 ghost use Rattle.modules.specs.Format.{module_file};
 ghost use Rattle.modules.specs.declared.fault.ReadRefusal.{ReadRefusal};
 ghost use Rattle.bytecode.specs.Laws.{BytesAreSpelledOrRefused};

@@ -1,6 +1,6 @@
 //! Reading of names.
 
-ghost use Rattle.modules.specs.Form.{each_at, read};
+ghost use Rattle.modules.specs.ByteFormat.{each_at, read};
 ghost use Rattle.modules.specs.Format.{exceptions, is_among, is_built_in, is_new_name, name_after};
 ghost use Rattle.bytecode.specs.Reading.{Decodes, texts};
 ghost use Rattle.std.specs.BTreeSet.{contains_text};

@@ -1,7 +1,7 @@
 //! Reading of procedures.
 
 ghost use Rattle.common.specs.declared.limits.TheConstants.{MAX_CELLS};
-ghost use Rattle.modules.specs.Form.{read};
+ghost use Rattle.modules.specs.ByteFormat.{read};
 ghost use Rattle.modules.specs.Format.{handler, handlers, procedure, procedures, returned, slot_after, slot_cells, slot_of, slots};
 ghost use Rattle.bytecode.specs.Reading.{Decodes};
 ghost use Rattle.std.specs.Prelude.{◌≡◌, ◌≤◌};
@@ -10,9 +10,9 @@ use crate::code::read_code;
 use crate::globals::read_kind;
 use crate::limit::{cells_of_size, is_size};
 use crate::reading::{Element, FieldFault, read_byte, read_each, read_number, refuse};
+use common::BaseType;
 use modules::declaration::{Handler, Slot};
 use modules::procedure::Procedure;
-use modules::value::ValueKind;
 use modules::{FormatRefusalKind, Version};
 use std::alloc::Global;
 
@@ -59,7 +59,7 @@ fn read_handlers(alloc: Global, bytes: &[u8]) -> Result<(Vec<Handler>, &[u8]), F
     read_each(alloc, &HandlerField, (), count, rest)
 }
 
-fn slot_of(kind: ValueKind, size: u32) -> Slot
+fn slot_of(kind: BaseType, size: u32) -> Slot
     ensures { result ≡ slot_of (kind, size) }
 {
     if size == 0 {
@@ -121,14 +121,14 @@ fn read_slots(
 
 /// The kind of value that a procedure returns, if any.
 #[tactic(auto, unfolding(modules::specs::Format::returned))]
-fn read_returned(bytes: &[u8]) -> Result<(Option<ValueKind>, &[u8]), FieldFault>
+fn read_returned(bytes: &[u8]) -> Result<(Option<BaseType>, &[u8]), FieldFault>
     ensures { Decodes (λ x. (x.0, x.1.now)) result (read returned bytes.now) }
 {
     let (kind, rest) = read_byte(bytes)?;
     match kind {
         0 => Ok((None, rest)),
-        1 => Ok((Some(ValueKind::Int), rest)),
-        2 => Ok((Some(ValueKind::Boolean), rest)),
+        1 => Ok((Some(BaseType::Int), rest)),
+        2 => Ok((Some(BaseType::Boolean), rest)),
         _ => Err(refuse(FormatRefusalKind::BadValue, bytes)),
     }
 }

@@ -1,6 +1,6 @@
 //! Reading of fields, each at the front of the bytes that are left.
 
-ghost use Rattle.modules.specs.Form.{byte_at, bytes_at, each_at, number_at, Read, stop_at};
+ghost use Rattle.modules.specs.ByteFormat.{byte_at, bytes_at, each_at, number_at, Read, stop_at};
 ghost use Rattle.common.specs.declared.fault.OrNoMemory.TheVariants.{Refused};
 ghost use Rattle.bytecode.specs.Reading.{Decodes};
 ghost use Rattle.std.specs.Prelude.{[], IfOk, List, ℕ, ◌++◌, ◌∷◌, ◌≡◌};
@@ -91,7 +91,10 @@ pub(crate) fn give_back<T>(items: &mut Vec<T>)
     }
 }
 
-/// This many fields, one after the other. Nothing is reserved by the count, and the list keeps little more room than it takes.
+/// The most fields for which there is room by a count alone, which the bytes only claim: most lists have fewer.
+const FEW: u32 = 16;
+
+/// This many fields, one after the other. By the count room is made for a few alone, and the list keeps little more room than it takes.
 pub(crate) fn read_each<'a, E: Element>(
     alloc: Global,
     element: &E,
@@ -106,7 +109,7 @@ where
     ensures { Decodes (λ x. (x.0.items, x.1.now)) result (each_at (E.reads element.now) count []
         bytes.now) }
 {
-    let mut items = Vec::new(alloc);
+    let mut items = Vec::with_capacity(alloc, count.min(FEW) as usize)?;
     let mut rest = bytes;
     for _ in 0..count {
         let (item, after) = element.read(alloc, &mut state, &items, rest)?;

@@ -7,13 +7,12 @@ ghost use Rattle.std.specs.Prelude.{[], All, List, OnOk, ℕ, ◌++◌, ◌∷�
 ghost use Rattle.std.specs.String.{string_bytes};
 
 use byteorder::{BigEndian, ByteOrder};
-use common::Direction;
+use common::{BaseType, Direction};
 use labels::Policy;
 use modules::channel::Channel;
 use modules::declaration::{Global as Variable, Handler, Slot};
 use modules::instruction::Instruction;
 use modules::opcode::{Operand, entry_of};
-use modules::value::ValueKind;
 use std::alloc::AllocError;
 
 /// Writes a number in four bytes.
@@ -119,12 +118,12 @@ impl Field for Channel {
 }
 
 /// Writes a kind as a byte.
-fn put_kind(out: &mut Vec<u8>, kind: ValueKind) -> Result<(), AllocError>
+fn put_kind(out: &mut Vec<u8>, kind: BaseType) -> Result<(), AllocError>
     ensures { OnOk result (out.new.items ≡ out.old.items ++ kind_byte kind ∷ []) }
 {
     let byte = match kind {
-        ValueKind::Int => 0,
-        ValueKind::Boolean => 1,
+        BaseType::Int => 0,
+        BaseType::Boolean => 1,
     };
     out.push(byte)?;
     Ok(())
@@ -138,12 +137,12 @@ impl Field for Variable {
     fn put(&self, out: &mut Vec<u8>) -> Result<(), AllocError> {
         match *self {
             Variable::Int(first) => {
-                put_kind(out, ValueKind::Int)?;
+                put_kind(out, BaseType::Int)?;
                 put_number(out, 0)?;
                 put_number(out, first.cast_unsigned())
             }
             Variable::Boolean(first) => {
-                put_kind(out, ValueKind::Boolean)?;
+                put_kind(out, BaseType::Boolean)?;
                 put_number(out, 0)?;
                 put_number(out, if first { 1 } else { 0 })
             }

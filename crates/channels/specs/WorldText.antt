@@ -69,7 +69,7 @@ kind_of inputs before (name ∷ rest) =
     else (if list_any (λ line. gives_to name line) before then Some RepeatedChannel
     else (if list_all is_int (numbers_of (name ∷ rest)) then None else Some NumberOutOfRange)))
 
--- what is wrong with the line at a place, counted from 0
+-- what is wrong with the line at an index, counted from 0
 abbrev pub kind_at : List (List ℕ) → List (List (List ℕ)) → ℕ → Option WorldRefusalKind
 kind_at inputs lines index = kind_of inputs (take index lines) (slice_index_or lines index [])
 

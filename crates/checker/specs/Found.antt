@@ -24,8 +24,8 @@ abbrev pub of_end : ExitRefusal → PhaseRefusal
 of_end refusal = record { kind = kinds.End refusal.kind; at = refusal.at }
 
 -- the source is refused so
-abbrev pub IsFound : PrincipalHierarchy → (source : List ℕ) → PhaseRefusal → Type 0
-IsFound h source found = IsSourceRefused h source found.kind found.at
+abbrev pub IsFoundRefusal : PrincipalHierarchy → (source : List ℕ) → PhaseRefusal → Type 0
+IsFoundRefusal h source found = IsSourceRefused h source found.kind found.at
 
 -- the source is refused before its labels are looked at: for another reason than that a flow is not allowed
 abbrev pub IsBeforeLabels : PhaseRefusal → Type 0

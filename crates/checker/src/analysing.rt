@@ -1,7 +1,7 @@
 //! The phases that come before labels, in their order.
 
 ghost use Rattle.acceptance.specs.Accepted.{IsResolvedFrom, IsText, IsTreeOf};
-ghost use Rattle.checker.specs.Found.{IsBeforeLabels, IsFound};
+ghost use Rattle.checker.specs.Found.{IsBeforeLabels, IsFoundRefusal};
 ghost use Rattle.common.specs.Answers.{IfRefused};
 ghost use Rattle.path_map.specs.EndsOf.{AreEndsOf};
 ghost use Rattle.principals.specs.ActsFor.{PrincipalHierarchy};
@@ -46,7 +46,7 @@ pub(crate) fn analyse(
         AreEndsOf (program_of analysed.core) analysed.ends) }
 
     // A refusal is the first fault, at its byte, and not one of labels.
-    ensures first_fault { IfErr result (IfRefused (IsFound hierarchy.now source.now)) }
+    ensures first_fault { IfErr result (IfRefused (IsFoundRefusal hierarchy.now source.now)) }
     ensures before_labels { IfErr result (IfRefused IsBeforeLabels) }
 {
     if source.len() > MAX_TEXT {
@@ -66,7 +66,7 @@ fn read(alloc: Global, source: &str) -> Result<syntax::Program<'_>, OrNoMemory<P
     requires text { IsText source.now }
     ensures spelled { IfOk result (λ tree. IsTreeOf source.now (program_tree tree)) }
     ensures first_fault { (h : PrincipalHierarchy) → IfErr result (IfRefused
-        (IsFound h source.now)) }
+        (IsFoundRefusal h source.now)) }
     ensures before_labels { IfErr result (IfRefused IsBeforeLabels) }
 {
     let tokens = lex(alloc, source).map_err(OrNoMemory::cast)?;

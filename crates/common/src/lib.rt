@@ -1,7 +1,8 @@
-//! What several crates share, and what knows none of them: the directions of channels, what was sent on one, limits, the
+//! What several crates share, and what knows none of them: base types, the directions of channels, what was sent on one, limits, the
 //! built-in exceptions, and the shape of faults.
 #![tactic(auto)]
 
+pub mod base_type;
 pub mod direction;
 pub mod exceptions;
 pub mod fault;
@@ -10,6 +11,7 @@ pub mod limits;
 pub mod sent;
 pub mod version;
 
+pub use base_type::BaseType;
 pub use direction::Direction;
 pub use fault::OrNoMemory;
 pub use sent::Pair;

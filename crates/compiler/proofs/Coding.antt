@@ -4,7 +4,7 @@ use Rattle.principals.specs.ActsFor.{ActsFor, PrincipalHierarchy}
 use Rattle.isolation.specs.Larger.{IsolatedUnderLarger}
 use Rattle.resolved.specs.Program.{Program}
 use Rattle.modules.specs.Contents.{ModuleContents}
-use Rattle.modules.specs.Form.{Spells}
+use Rattle.modules.specs.ByteFormat.{Spells}
 use Rattle.modules.specs.Format.{module_file}
 use Rattle.layout.specs.Offsets.{laid_out}
 use Rattle.layout.specs.Runs.{graph_after_steps}

@@ -4,7 +4,7 @@
 use Rattle.std.specs.Prelude.{ℕ, List}
 use Rattle.resolved.specs.Program.{Program}
 use Rattle.modules.specs.Contents.{ModuleContents}
-use Rattle.modules.specs.Form.{Spells}
+use Rattle.modules.specs.ByteFormat.{Spells}
 use Rattle.modules.specs.Format.{module_file}
 use Rattle.modules.specs.Isolated.{StaysIsolated}
 use Rattle.modules.specs.Machine.{after_steps}

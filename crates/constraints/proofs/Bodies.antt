@@ -33,7 +33,8 @@ use Rattle.solver.specs.declared.constraints.Atom.{Atom}
 use Rattle.constraints.specs.Added.{AreAdded, IsPart, Stored}
 use Rattle.constraints.specs.LeftSides.{scope_of}
 use Rattle.constraints.specs.Procedures.{AreDeclaredExitUnknowns, HasPassedProcedure, StaysInPlace, IsOf, IsProcedureWalked, end_exit_unknowns_of, number_in}
-use Rattle.constraints.specs.Ready.{AreThrownInside, IsBlockReady, IsProcedureReady, exception_count, most_unknowns}
+use Rattle.path_map.specs.Walks.{AreThrownInside, exception_count}
+use Rattle.constraints.specs.Ready.{IsBlockReady, IsProcedureReady, most_unknowns}
 use Rattle.constraints.specs.ExitUnknowns.{AreLevelled, AreWithin, no_entry, exit_unknowns_of}
 use Rattle.constraints.specs.Thinned.{AreNoted, Thinned, ThinnedWhole}
 use Rattle.constraints.specs.Journals.{AreOrdered, AreUpTo, IsUpToDate, entry_from, moments_at, noted_all}
@@ -224,7 +225,7 @@ procedure-room core entries f barrier procedure now ready =
 
 -- its declared exceptions have entries
 pub throws-inside : (core : Core) (entries : List Exits) (f barrier : ℕ) (procedure : Procedure) (throws : List Thrown) (now : Progress)
-    → IsProcedureReady core entries f barrier procedure now → throws ≡ procedure.throws.items → AreThrownInside throws now.thrown.items
+    → IsProcedureReady core entries f barrier procedure now → throws ≡ procedure.throws.items → AreThrownInside (length now.thrown.items) throws
 throws-inside core entries f barrier procedure throws now ready throws_are =
     let program : Program = program_of core in
     let entry : ProcedureEntry = here (scope_of core f) in

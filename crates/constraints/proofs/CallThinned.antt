@@ -1,6 +1,6 @@
 -- A call: in place of the flows of the exceptions that its callee declares, it is noted.
 use Rattle.std.proofs.Common.{◌≡◌, refl, sym, ap, ◌∙◌, subst, ℕ, ◌+◌, ◌≤◌, length, length-append, List, [], ◌∷◌, ◌++◌, true, arith, append_assoc, inl, inr, ⊎_elim}
-use Rattle.std.specs.Prelude.{◌⊎◌, IsTrue, Option, Some, None, Contains, nat_le, if◌then◌else◌, slice_index_or}
+use Rattle.std.specs.Prelude.{◌⊎◌, IsTrue, Option, Some, None, Contains, nat_le, if◌then◌else◌, slice_index_or, flat_map}
 use Rattle.std.specs.Global.{Global}
 use Rattle.std.specs.declared.vec.Vec.{Vec}
 use Rattle.std.proofs.lemmas.Bool.{le-leb}
@@ -14,7 +14,7 @@ use Rattle.resolved.specs.declared.program.Core.{Core}
 use Rattle.resolved.specs.declared.statement.Exit.TheVariants.{Normal, Throw}
 use Rattle.resolved.specs.declared.target.Target.TheVariants.{ToBegin, ToValue}
 use Rattle.resolved.specs.CoreOf.{program_of}
-use Rattle.resolved.specs.Exits.{declared_by, raises_all, thrown_exits}
+use Rattle.resolved.specs.Exits.{raises, declared_by, thrown_exits}
 use Rattle.resolved.specs.Labelled.{Scope, label_of, one}
 use Rattle.resolved.specs.Program.{Program, ThrownEntry, procedure_at}
 use Rattle.resolved.specs.Tree.{Expression}
@@ -104,7 +104,7 @@ call-splits : (scope : Scope) (pc : NamedAtom) (exit_unknowns : walk.ExitUnknown
 unfolding declared_flows
 call-splits scope pc exit_unknowns n at callee arguments target =
     let program : Program = scope.program in
-    let raised : List ℕ = raised_once (raises_all arguments) in
+    let raised : List ℕ = raised_once (flat_map raises arguments) in
     let declared : List ℕ = declared_by (procedure_at program callee).throws in
     let a : List NamedConstraint = inner_constraint (pc ∷ named_atoms (raise_atoms_all scope arguments)) n in
     let b : List NamedConstraint = rule_constraint scope at 6 (inner_atom n ∷ []) (ToBegin callee) in

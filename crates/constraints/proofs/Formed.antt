@@ -1,11 +1,15 @@
 -- A walk past each form of statement with blocks, from walks past its pieces.
 use Rattle.std.proofs.Common.{◌≡◌, refl, sym, ap, ◌∙◌, subst, ℕ, suc, ◌+◌, List, [], ◌∷◌, ◌++◌, map, drop, arith, append_assoc, append-nil, Bool, true}
-use Rattle.std.specs.Prelude.{Some, None, false, length, slice_index_or}
+use Rattle.std.specs.Prelude.{Some, None, false, length, slice_index_or, OnOk, Result}
 use Rattle.labels.specs.Label.{Label}
 use Rattle.lattices.specs.Constraints.{renamed}
 use Rattle.resolved.specs.CoreOf.{program_of}
 use Rattle.resolved.specs.declared.program.Core.{Core}
 use Rattle.resolved.specs.declared.statement.Exit.{Exit}
+use Rattle.std.proofs.lemmas.Result.{on_ok_weaker}
+use Rattle.constraints.specs.ByWalk.{IsFormWalkedBy}
+use Rattle.constraints.specs.declared.around.Context.{Context}
+use Rattle.constraints.specs.declared.statements.ProcedureWalk.{ProcedureWalk}
 use Rattle.resolved.specs.declared.statement.Statement as S
 use Rattle.resolved.specs.declared.statement.Handler.{Handler}
 use Rattle.resolved.specs.declared.statement.Exit.TheVariants.{Normal}
@@ -271,3 +275,9 @@ module _ (core : Core) (table : List Label) (entries : List Exits) (procedure : 
       (λ named. ap (λ t'. first t' named ++ second (within_single (one_exit ends) (with_normal (Some number) t)) named) (sym (none_is start))
       ∙ ap (λ t'. first (exit_unknowns_of none start) named ++ second t' named) (sym meant)) (omega arith)
       (passed-then core table entries pc (first (exit_unknowns_of none start)) (second (exit_unknowns_of inner start)) 0 (made_by_statement tree) beyond left old begun new one two)
+
+-- a statement by its tree, for a walk that came past the tree
+pub form-by : {A E : Type 0} (walk : ProcedureWalk) (context : Context) (s : S.Statement) (tree : Statement) (old new : Progress) (result : Result A E)
+    → statement_of s ≡ tree → OnOk result (IsFormWalkedBy walk context tree old new) → OnOk result (IsFormWalkedBy walk context (statement_of s) old new)
+form-by walk context s tree old new result is walked =
+    on_ok_weaker result (λ one. subst (λ tree'. IsFormWalkedBy walk context tree' old new) (sym is) one) walked

@@ -12,8 +12,8 @@ use Rattle.gathering.specs.Names.{real_unknowns}
 use Rattle.solver.specs.declared.constraints.Atom.{Atom}
 use Rattle.solver.specs.declared.constraints.Atom.TheVariants.{Unknown}
 use Rattle.constraints.specs.Added.{Stored}
-use Rattle.constraints.specs.Laying.{AreLaidSoFar, IsFound, IsFurther, IsMoreLaid, IsOfRow, IsPieceOf, IsRowBegun, LeadsOn, by_found}
-use Rattle.constraints.specs.Merging.{AreLaidOut, AreShared, AreSpreadShared, AreSpreadSoFar, AreTaken, ComesOf, Flows, FlowsOn, IsFollowed, IsKept, IsLaidOut, Row, itself, parts_at, unknowns_at}
+use Rattle.constraints.specs.Laying.{AreLaidSoFar, IsPieceFound, IsFurther, IsMoreLaid, IsOfRow, IsPieceOf, IsRowBegun, LeadsByLeft, by_found}
+use Rattle.constraints.specs.Merging.{AreLaidOut, HaveSameFlows, AreSpreadShared, AreSpreadSoFar, AreTaken, ComesOf, Flows, FlowsOn, IsFollowed, IsPartKept, IsLaidOut, Row, itself, parts_at, unknowns_at}
 use Rattle.constraints.specs.declared.journal.Called.{Called}
 use Rattle.constraints.specs.declared.journal.Journal.{Journal}
 use Rattle.constraints.specs.declared.laying.Further.{Further}
@@ -119,7 +119,7 @@ row-laid rows i first next held old middle new unknowns left written is begun ro
         (λ (k : Contains written p). inl (flows-more row.laid both p (Unknown i) (Contains-append_right begun.so_far.are.laid row.laid) (row.goes p (Contains-append_right left written p k))))
         (Contains-append_cases unknowns written p (subst (λ list. Contains list p) is h))
 
-    row-came : (p to : Atom) → (to ≡ Unknown i) × Contains (left ++ written) p → ComesOf (IsKept rows) first next begun.so_far.are.stands p to
+    row-came : (p to : Atom) → (to ≡ Unknown i) × Contains (left ++ written) p → ComesOf (IsPartKept rows) first next begun.so_far.are.stands p to
     row-came p to came = ⊎_elim
         (λ (k : Contains left p). ⊎_elim
         (λ (kept : Contains (parts_at rows i) p). inl (i, came.0, kept))
@@ -140,7 +140,7 @@ more-same : (rows : List Row) (k first next : ℕ) (old middle : List Stored) (a
 more-same rows k first next old middle are = record { least = omega arith; laid = λ c h. h; stands = λ u below. refl }
 
 pub found-held : (rows : List Row) (k first next : ℕ) (had : List Further) (old middle : List Stored) (before : AreLaidSoFar rows k first next had old middle) (piece : List Atom) (further : Further)
-    → Contains had further → further.parts.items ≡ piece → IsFound rows k first next next had had old middle middle before piece (Some further.number)
+    → Contains had further → further.parts.items ≡ piece → IsPieceFound rows k first next next had had old middle middle before piece (Some further.number)
 found-held rows k first next had old middle before piece further there same = record {
   after = before;
   is_more = more-same rows k first next old middle before.are;
@@ -151,7 +151,7 @@ found-held rows k first next had old middle before piece further there same = re
 }
 
 pub found-none : (rows : List Row) (k first next : ℕ) (had : List Further) (old middle : List Stored) (before : AreLaidSoFar rows k first next had old middle) (piece : List Atom)
-    → IsFound rows k first next next had had old middle middle before piece None
+    → IsPieceFound rows k first next next had had old middle middle before piece None
 found-none rows k first next had old middle before piece = record {
   after = before;
   is_more = more-same rows k first next old middle before.are;
@@ -161,7 +161,7 @@ found-none rows k first next had old middle before piece = record {
 pub found-new : (rows : List Row) (k first next more : ℕ) (had held : List Further) (old middle new : List Stored) (before : AreLaidSoFar rows k first next had old middle) (piece : List Atom) (further : Further)
     → IsPieceOf rows k piece → more ≡ next + 1 → further.number ≡ next → further.parts.items ≡ piece → IsLaidOut next piece middle new
     → ((one : Further) → Contains held one → Contains had one ⊎ (one ≡ further))
-    → IsFound rows k first next more had held old middle new before piece (Some further.number)
+    → IsPieceFound rows k first next more had held old middle new before piece (Some further.number)
 found-new rows k first next more had held old middle new before piece further in_row more_is number parts row holds = record {
   after = record {
     are = record {
@@ -171,7 +171,7 @@ found-new rows k first next more had held old middle new before piece further in
       least = omega (arith, before.are.least, more_is);
       goes = λ j below p h. on-more before.are.laid both p (Unknown j) (Contains-append_left before.are.laid row.laid) (before.are.goes j below p h);
       came = λ p to flow. ⊎_elim
-          (λ h. comes-more (IsKept rows) (IsKept rows) first next more before.are.stands stands p to (λ a b j. j) (omega (arith, more_is)) stands-old
+          (λ h. comes-more (IsPartKept rows) (IsPartKept rows) first next more before.are.stands stands p to (λ a b j. j) (omega (arith, more_is)) stands-old
           (before.are.came p to (record { by = flow.by; among = h; starts = flow.starts; ends = flow.ends })))
           (λ h.
           let came = row.came p to (record { by = flow.by; among = h; starts = flow.starts; ends = flow.ends }) in
@@ -235,7 +235,7 @@ begun-none rows k first next held old middle so_far = record {
 
 pub begun-more : (rows : List Row) (k first next more : ℕ) (had held : List Further) (old middle new : List Stored) (done left piece : List Atom) (found : Option ℕ)
     → (begun : IsRowBegun rows k first next had old middle done left) → IsPieceOf rows k piece → 0 < length piece
-    → IsFound rows k first next more had held old middle new begun.so_far piece found → IsRowBegun rows k first more held old new (done ++ piece) (left ++ by_found found piece)
+    → IsPieceFound rows k first next more had held old middle new begun.so_far piece found → IsRowBegun rows k first more held old new (done ++ piece) (left ++ by_found found piece)
 begun-more rows k first next more had held old middle new done left piece found begun in_row some is = record {
   so_far = is.after;
   goes = λ p h. ⊎_elim
@@ -266,7 +266,7 @@ begun-more rows k first next more had held old middle new done left piece found 
       (Contains-append_cases left (by_found found piece) p h);
 }
   where
-    new-goes : (o : Option ℕ) → ((u : ℕ) → o ≡ Some u → IsFurther first more is.after.are.stands is.after.are.laid u piece) → (p : Atom) → Contains piece p → LeadsOn (left ++ by_found o piece) is.after.are.laid p
+    new-goes : (o : Option ℕ) → ((u : ℕ) → o ≡ Some u → IsFurther first more is.after.are.stands is.after.are.laid u piece) → (p : Atom) → Contains piece p → LeadsByLeft (left ++ by_found o piece) is.after.are.laid p
     new-goes None none p h = inl (Contains-append_right left piece p h)
     new-goes (Some u) further p h = inr (u, Contains-append_right left (Unknown u ∷ []) (Unknown u) (Contains-first (Unknown u) []), (further u refl).goes p h)
 
@@ -302,7 +302,7 @@ piece-among xs piece n m is p h =
 
 -- ---- all of them are those that were taken
 kept-flows : (Over : Atom → Atom → Type 0) (spread between : List Stored) (start rows : List Row) (old : List Stored) → ((k : ℕ) → parts_at start k ≡ []) → AreTaken Over spread start rows old between
-    → (part to : Atom) → IsKept rows part to → Flows spread part to
+    → (part to : Atom) → IsPartKept rows part to → Flows spread part to
 kept-flows Over spread between start rows old none taken part to kept = ⊎_elim
     (λ had. absurd (none_in_nil part (subst (λ list. Contains list part) (none kept.0) had)))
     (λ (came : Flows spread part (Unknown kept.0)). subst (Flows spread part) (sym kept.1) came)
@@ -310,7 +310,7 @@ kept-flows Over spread between start rows old none taken part to kept = ⊎_elim
 
 all-shared : (Over Others : Atom → Atom → Type 0) (others : (a b : Atom) → Over a b → Others a b) (same : (a : Atom) → Others a a) (spread between new : List Stored) (start rows : List Row) (old : List Stored) (first next : ℕ)
     → ((k : ℕ) → parts_at start k ≡ []) → (taken : AreTaken Over spread start rows old between) → (are : AreLaidOut rows (length rows) first next between new)
-    → AreShared Others first next spread (taken.rest ++ are.laid)
+    → HaveSameFlows Others first next spread (taken.rest ++ are.laid)
 all-shared Over Others others same spread between new start rows old first next none taken are =
     let shared : List Stored = taken.rest ++ are.laid in
     record {
@@ -332,7 +332,7 @@ all-shared Over Others others same spread between new start rows old first next 
           (taken.goes p to flow);
       came = λ p to flow. ⊎_elim
           (λ h. inl (record { by = flow.by; among = taken.only flow.by h; starts = flow.starts; ends = flow.ends }))
-          (λ h. comes-more (IsKept rows) (Flows spread) first next next are.stands are.stands p to (kept-flows Over spread between start rows old none taken) (omega arith) (λ u below. refl)
+          (λ h. comes-more (IsPartKept rows) (Flows spread) first next next are.stands are.stands p to (kept-flows Over spread between start rows old none taken) (omega arith) (λ u below. refl)
           (are.came p to (record { by = flow.by; among = h; starts = flow.starts; ends = flow.ends })))
           (Contains-append_cases taken.rest are.laid flow.by flow.among);
       inner = λ c h. ⊎_elim (λ k. inl (taken.only c k)) (λ k. inr (are.inner c k)) (Contains-append_cases taken.rest are.laid c h);

@@ -15,7 +15,6 @@ pub mod Passed
 pub mod Formed
 pub mod Along
 pub mod Begun
-pub mod Measured
 pub mod Declared
 pub mod Bodies
 pub mod Ready

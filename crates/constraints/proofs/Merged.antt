@@ -16,7 +16,7 @@ use Rattle.solver.specs.Constraints.{atom_of, constraint_of}
 use Rattle.solver.specs.declared.constraints.Atom.{Atom as StoredAtom}
 use Rattle.solver.specs.declared.constraints.Atom.TheVariants as stored
 use Rattle.constraints.specs.Added.{Stored}
-use Rattle.constraints.specs.Merging.{AreShared, ComesOf, Flows, FlowsOn, FlowsOver, IsFollowed, followed}
+use Rattle.constraints.specs.Merging.{HaveSameFlows, ComesOf, Flows, FlowsOn, FlowsOver, IsFollowed, followed}
 use Rattle.constraints.specs.Merging as following
 
 not-both : (b : Bool) → b ≡ true → b ≡ false → ⊥
@@ -163,7 +163,7 @@ module _ (l : Lattice Label) (table : List Label) where
     ends = ap (atom_of l table) flow.ends;
   }
 
-  module _ (real : ℕ) (further : ℕ → Bool) (cs : List Gathered) (walked spread shared : List Stored) (first next : ℕ) (are : AreShared (IsFollowed real walked) first next spread shared)
+  module _ (real : ℕ) (further : ℕ → Bool) (cs : List Gathered) (walked spread shared : List Stored) (first next : ℕ) (are : HaveSameFlows (IsFollowed real walked) first next spread shared)
       (below : (c : Stored) → Contains spread c → FitsIn (length table) first c) (from_first : (u : ℕ) → first ≤ u → IsTrue (further u))
       (old : IsRerouted (λ k. nat_le real k) further cs (map (constraint_of l table) walked) (map (constraint_of l table) spread)) where
     abbrev inner : ℕ → Bool
@@ -322,7 +322,7 @@ fits-more written unknowns more c most fits = (
   below-more written unknowns more c.right most fits.1,
 )
 
-pub shared-in-range : (Over : StoredAtom → StoredAtom → Type 0) (written first next : ℕ) (spread shared : List Stored) → first ≤ next → AreShared Over first next spread shared
+pub shared-in-range : (Over : StoredAtom → StoredAtom → Type 0) (written first next : ℕ) (spread shared : List Stored) → first ≤ next → HaveSameFlows Over first next spread shared
     → ((c : Stored) → Contains spread c → FitsIn written first c) → (c : Stored) → Contains shared c → FitsIn written next c
 shared-in-range Over written first next spread shared most are all c h = ⊎_elim
     (λ there. fits-more written first next c most (all c there))

@@ -18,17 +18,18 @@ use Rattle.resolved.specs.Program.{ProcedureEntry, Program, ThrownEntry}
 use Rattle.resolved.specs.ProgramOf.{thrown_entry}
 use Rattle.resolved.specs.Tree.{Expression, Statement, If, While, Try, Nested, Block, Then, Handlers, Catch}
 use Rattle.resolved.specs.TreeOf.{block_of, handlers_of, statement_of}
-use Rattle.resolved.specs.declared.expression.Base.TheVariants.{Boolean}
+use Rattle.common.specs.declared.base_type.BaseType.TheVariants.{Boolean}
 use Rattle.resolved.specs.Exits.{block_exits, one_exit, statement_exits}
 use Rattle.resolved.specs.Labelled.{here}
 use Rattle.resolved.specs.WellFormed.{block_fits, handlers_fit, has_base, is_exception, label_fits, statement_fits, throws_fit}
 use Rattle.path_map.specs.Exits.{Exits}
 use Rattle.path_map.specs.Exits.{exits_of}
 use Rattle.path_map.specs.Paths.{block_paths, handlers_paths, inner_paths, rest_paths, statement_paths}
+use Rattle.path_map.specs.Walks.{exception_count}
 use Rattle.gathering.specs.Names.{NamedAtom, NamedConstraint}
 use Rattle.gathering.specs.Walk.{handler_count, inner_block, made_by_block, made_by_handlers, made_by_statement, single}
 use Rattle.solver.specs.declared.constraints.Atom.{Atom}
-use Rattle.constraints.specs.Ready.{AreHandledInside, AreHandlersReady, AreStatementsReady, HasRoom, IsBlockReady, IsFormReady, IsReady, IsStatementReady, exception_count}
+use Rattle.constraints.specs.Ready.{AreHandledInside, AreHandlersReady, AreStatementsReady, MayMakeUnknowns, IsBlockReady, IsFormReady, IsReady, IsStatementReady}
 use Rattle.constraints.specs.ExitUnknowns.{AreLevelled, exit_unknowns_of, undone}
 use Rattle.constraints.specs.LeftSides.{scope_of}
 use Rattle.constraints.specs.Walked.{HasPassed, IsBlockWalked, IsStatementWalked, IsTried, IsWalked, step_constraints}
@@ -85,7 +86,7 @@ module _ (core : Core) (entries : List Exits) where
       → (ready : IsReady core entries exit_unknowns (first ++ second) fits made more old)
       → (drop old.index entries ≡ map exits_of first ++ (map exits_of second ++ ready.left) → drop new.index entries ≡ map exits_of second ++ ready.left)
       → new.thrown.items ≡ old.thrown.items → AreLevelled inner old.thrown.items → IsTrue fitting
-      → HasRoom own new → inner.level + deeper ≤ new.number
+      → MayMakeUnknowns own new → inner.level + deeper ≤ new.number
       → IsReady core entries inner second fitting own deeper new
   ready-moved exit_unknowns inner first second fits fitting made own more deeper old new ready moved thrown levelled fit room deep = record {
     left = ready.left;
@@ -144,7 +145,7 @@ module _ (program : Program) (width : ℕ) (wide : exceptions program ≤ width)
       let below : declared.exception < exceptions program = ltb-true declared.exception (exceptions program) first.0 in
       All-cons (λ (d : Thrown). d.exception < width) declared rest (omega (arith, below, wide)) (thrown-inside labels rest last.1)
 
--- what holds of each element of a list, of the one at a place
+-- what holds of each element of a list, of the one at an index
 pub held-at : {X : Type 0} (P : X → Type 0) (xs : List X) (i : ℕ) (x : X) → All P xs → i < length xs → x ≡ get_or xs i x → P x
 held-at P xs i x all inside is = subst P (sym is) (all i x inside)
 
@@ -247,7 +248,7 @@ module _ (core : Core) (table : List Label) (entries : List Exits) (procedure : 
 
   -- there are numbers for its handlers, and a level
   pub try-room : (at : ℕ) (block : Block) (handlers : List Handler) (exit_unknowns : ExitUnknowns) (old : Progress)
-      → IsFormReady core entries procedure exit_unknowns (Try at block (handlers_of handlers)) old → HasRoom (length handlers) old × (exit_unknowns.level < old.number)
+      → IsFormReady core entries procedure exit_unknowns (Try at block (handlers_of handlers)) old → MayMakeUnknowns (length handlers) old × (exit_unknowns.level < old.number)
   try-room at block handlers exit_unknowns old ready = (omega (arith, ready.room, count-of handlers), omega (arith, ready.deep))
 
   pub try-first : (at : ℕ) (block : Block) (handlers : List Handler) (exit_unknowns : ExitUnknowns) (tried : Tried) (old begun : Progress)
@@ -327,12 +328,12 @@ module _ (core : Core) (table : List Label) (entries : List Exits) (procedure : 
 
   -- there is a number for the normal exit of a statement
   pub along-room : (exit_unknowns : ExitUnknowns) (statement : Statement) (rest : Block) (now : Progress)
-      → AreStatementsReady core entries procedure exit_unknowns (Then statement rest) now → HasRoom 1 now
+      → AreStatementsReady core entries procedure exit_unknowns (Then statement rest) now → MayMakeUnknowns 1 now
   along-room exit_unknowns statement rest now ready = omega (arith, ready.room)
 
   -- and what a statement makes itself
   pub form-room : (exit_unknowns : ExitUnknowns) (tree : Statement) (made : ℕ) (now : Progress)
-      → IsFormReady core entries procedure exit_unknowns tree now → made ≤ made_by_statement tree → HasRoom made now
+      → IsFormReady core entries procedure exit_unknowns tree now → made ≤ made_by_statement tree → MayMakeUnknowns made now
   form-room exit_unknowns tree made now ready within = omega (arith, ready.room, within)
 
   -- the next handler, and those after it

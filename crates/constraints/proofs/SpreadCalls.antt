@@ -24,7 +24,7 @@ use Rattle.gathering.proofs.Ranged.{InRange, Ranged}
 use Rattle.gathering.proofs.RangedPrograms.{ranged-program}
 use Rattle.constraints.specs.Ready.{most_unknowns}
 use Rattle.constraints.specs.Journals.{IsRaised, raised_flow, exit_unknown_at}
-use Rattle.constraints.specs.Spreading.{Declares, IsJoin, IsNode, IsSpread, IsSpreadRaise, IsSpreadWhole, StandFrom, StandForThemselves}
+use Rattle.constraints.specs.Spreading.{Declares, IsJoiningFlow, IsNode, IsSpread, IsSpreadRaise, IsSpreadWhole, StandFrom, StandForThemselves}
 use Rattle.constraints.specs.Added.{Stored, wanted_constraint}
 use Rattle.constraints.specs.Thinned.{IsOwnOf, ThinnedWhole}
 use Rattle.constraints.specs.declared.journal.Called.{Called}
@@ -190,7 +190,7 @@ module _ (core : Core) (table : List Label) (walked : Progress) (from_number nex
   brought-old part from e (others u is f stand) = absurd (not-both (further (program_of core) u) f (subst (λ a. is_inner (further (program_of core)) a ≡ false) is e))
 
   -- ---- each constraint that was added
-  join-added : (c : NamedConstraint) → IsJoin stands from_number next_number calls c
+  join-added : (c : NamedConstraint) → IsJoiningFlow stands from_number next_number calls c
       → IsAdded (inner_number (program_of core)) (further (program_of core)) meanings (gathered_constraints (program_of core)) (numbered (program_of core) c)
   join-added c join =
       let least : count ≤ join.to = subst (λ n. n ≤ join.to) first join.from_first in
@@ -346,7 +346,7 @@ module _ (core : Core) (table : List Label) (walked : Progress) (from_number nex
       let below = numbers-below (program_of core) core.well_formed (numbered (program_of core) c) (contained_map (numbered (program_of core)) constraints c h) in
       (λ a there. atoms-more a (below.0 a there), atoms-more (numbered_atom (program_of core) c.right) below.1)
 
-  join-below : (c : NamedConstraint) → IsJoin stands from_number next_number calls c → AreBelow c
+  join-below : (c : NamedConstraint) → IsJoiningFlow stands from_number next_number calls c → AreBelow c
   join-below c join =
       subst AreBelow (sym join.is) (
         λ a there.

@@ -1,6 +1,6 @@
 -- Tables of parts that stand for labels, and what stands in them.
 use Rattle.std.proofs.Common.{◌≡◌, refl, sym, ap, ◌∙◌, subst, ℕ, suc, zero, ◌+◌, ◌<◌, ◌≤◌, List, [], ◌∷◌, ◌++◌, map, take, length, get_or, arith}
-use Rattle.std.specs.Prelude.{Option, Some, None, Bool, true, false, sum_by, if◌then◌else◌, nat_lt, ◌==◌}
+use Rattle.std.specs.Prelude.{Option, Some, None, Bool, true, false, sum_by, if◌then◌else◌, nat_lt, ◌==◌, unwrap_or}
 use Rattle.std.proofs.lemmas.Bool.{le-ltb, lt-ltb, ltb-false, ltb-true}
 use Rattle.std.proofs.lemmas.List.{get_or-map, get_or_past, map-append, length-map, length-take-le}
 use Rattle.std.proofs.lemmas.Option.{slice_get-get_or}
@@ -19,7 +19,7 @@ use Rattle.resolved.specs.declared.tables.Slot.{Slot}
 use Rattle.resolved.specs.declared.tables.Thrown.{Thrown}
 use Rattle.resolved.specs.declared.expression.Variable.TheVariants.{Local}
 use Rattle.resolved.specs.declared.target.Target.TheVariants.{ToLoop, ToVariable, ToParameter}
-use Rattle.resolved.specs.Labelled.{OfLocal, parameter_label, result_label, thrown_label, written_or}
+use Rattle.resolved.specs.Labelled.{OfLocal, result_label, thrown_label, written_or}
 use Rattle.resolved.specs.Exits.{declared_by}
 use Rattle.resolved.specs.Tree.{Empty}
 use Rattle.gathering.specs.Names.{Real, own_unknowns, unknowns_before}
@@ -28,7 +28,7 @@ use Rattle.path_map.proofs.Declared.{declared-same}
 use Rattle.solver.specs.declared.constraints.Atom.{Atom}
 use Rattle.solver.specs.declared.constraints.Atom.TheVariants as stored
 use Rattle.constraints.specs.LeftSides.{Part, Unknown, Written, part, part_of, left_parts, wanted_part}
-use Rattle.constraints.specs.Rows.{AreProcedureRows, IsRow, IsTable, label_among, slot_parts, thrown_parts, written_atom, written_part}
+use Rattle.constraints.specs.Rows.{AreProcedureRows, IsRow, IsPartTable, label_among, slot_parts, thrown_parts, written_atom, written_part}
 use Rattle.constraints.specs.declared.rows.ProcedureLabels.{ProcedureLabels}
 use Rattle.constraints.specs.declared.rows.ThrownLabel.{ThrownLabel}
 
@@ -217,7 +217,7 @@ part-at table atoms n d = looked-up (part table) (λ m. m) atoms (left_parts tab
 -- the label of a parameter
 pub parameter-at : (table : List Label) (first : ℕ) (slots : List SlotEntry) (atoms : List Atom) (n : ℕ) (nothing : Atom) (empty : SlotEntry)
     → empty.written ≡ None → part table nothing ≡ Written [] → left_parts table atoms ≡ slot_parts first slots
-    → part table (written_atom (get_or atoms n nothing) nothing) ≡ Written (parameter_label (get_or slots n empty).written)
+    → part table (written_atom (get_or atoms n nothing) nothing) ≡ Written (unwrap_or (get_or slots n empty).written [])
 parameter-at table first [] [] n nothing empty none is same = rw none (neither nothing is)
   where
     neither : (atom : Atom) → part table atom ≡ Written [] → part table (written_atom atom nothing) ≡ Written []
@@ -226,7 +226,7 @@ parameter-at table first [] [] n nothing empty none is same = rw none (neither n
 parameter-at table first (slot ∷ slots) (atom ∷ atoms) zero nothing empty none is same = go slot.written atom (let head : part table atom ≡ written_part slot.written first = cc in head)
   where
     go : (written : Option Label) (a : Atom) → part table a ≡ written_part written first
-        → part table (written_atom a nothing) ≡ Written (parameter_label written)
+        → part table (written_atom a nothing) ≡ Written (unwrap_or written [])
     go (Some label) (stored.Written m) e = e
     go None (stored.Unknown u) e = is
     go (Some label) (stored.Unknown u) e = absurd (cc)
@@ -353,7 +353,7 @@ pub table-made : (core : Core) (nothing : Atom) (rows : List ProcedureLabels) (o
     → ps ≡ core.procedures.items
     → outside.begin ≡ nothing → outside.end ≡ nothing → outside.value ≡ nothing → outside.slots.items ≡ [] → outside.throws.items ≡ []
     → outside.loops ≡ unknowns → outside.loop_count ≡ 0
-    → IsTable core nothing rows outside
+    → IsPartTable core nothing rows outside
 table-made core nothing rows outside ps unknowns none are counted same-ps ob oe ov os ot ol oc =
     let labels : List Label = core.labels in
     let program : Program = program_of core in

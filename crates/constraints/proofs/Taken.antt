@@ -114,7 +114,7 @@ taken-next handlers i handler first level number x start old new inside is numbe
     ∙ sym (ap (λ hs. entry_in_try hs (first + i) level x old) (next-handler handlers i handler handler.body.items inside is refl))
     ∙ before
 
--- the number of the handler at a place
+-- the number of the handler at an index
 pub number-at : (numbers : List ℕ) (number : ℕ → ℕ) (handlers : List Handler) (i : ℕ) (handler : Handler) (n d : ℕ) → numbers ≡ map (λ (h : Handler). number h.exception) handlers
     → i < length handlers → handler ≡ get_or handlers i handler → n ≡ get_or numbers i d → n ≡ number handler.exception
 number-at numbers number handlers i handler n d are inside is found =

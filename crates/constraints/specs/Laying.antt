@@ -30,7 +30,7 @@ pub record IsMoreLaid (rows : List Row) (k first next more : ℕ) (old middle ne
   pub stands : (u : ℕ) → u < next → after.stands u ≡ before.stands u
 
 -- a further unknown for a piece was found, or none
-pub record IsFound (rows : List Row) (k first next more : ℕ) (had held : List Further) (old middle new : List Stored) (before : AreLaidSoFar rows k first next had old middle) (piece : List Atom) (found : Option ℕ) : Type 0 where
+pub record IsPieceFound (rows : List Row) (k first next more : ℕ) (had held : List Further) (old middle new : List Stored) (before : AreLaidSoFar rows k first next had old middle) (piece : List Atom) (found : Option ℕ) : Type 0 where
   pub after : AreLaidSoFar rows k first more held old new
   pub is_more : IsMoreLaid rows k first next more old middle new before.are after.are
   pub stands_for : (u : ℕ) → found ≡ Some u → IsFurther first more after.are.stands after.are.laid u piece
@@ -41,8 +41,8 @@ by_found None piece = piece
 by_found (Some u) piece = Unknown u ∷ []
 
 -- a part is on a left side, or flows to a further unknown there
-abbrev pub LeadsOn : (left : List Atom) → List Stored → (part : Atom) → Type 0
-LeadsOn left laid part = Contains left part ⊎ ((u : ℕ) × Contains left (Unknown u) × Flows laid part (Unknown u))
+abbrev pub LeadsByLeft : (left : List Atom) → List Stored → (part : Atom) → Type 0
+LeadsByLeft left laid part = Contains left part ⊎ ((u : ℕ) × Contains left (Unknown u) × Flows laid part (Unknown u))
 
 -- a further unknown that stands for parts of a row
 pub record IsOfRow (rows : List Row) (k first next : ℕ) (stands : ℕ → List Atom) (atom : Atom) : Type 0 where
@@ -56,5 +56,5 @@ pub record IsOfRow (rows : List Row) (k first next : ℕ) (stands : ℕ → List
 -- some parts of a row go by a left side
 pub record IsRowBegun (rows : List Row) (k first next : ℕ) (held : List Further) (old new : List Stored) (done left : List Atom) : Type 0 where
   pub so_far : AreLaidSoFar rows k first next held old new
-  pub goes : (part : Atom) → Contains done part → LeadsOn left so_far.are.laid part
+  pub goes : (part : Atom) → Contains done part → LeadsByLeft left so_far.are.laid part
   pub came : (atom : Atom) → Contains left atom → Contains (parts_at rows k) atom ⊎ IsOfRow rows k first next so_far.are.stands atom

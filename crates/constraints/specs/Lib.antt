@@ -2,13 +2,16 @@ pub mod Laying
 pub mod LeftSides
 pub mod Rows
 pub mod Added
+pub mod ByTable
 pub mod ExitUnknowns
 pub mod Walks
 pub mod Walked
 pub mod Procedures
 pub mod Ready
+pub mod ByWalk
 pub mod Journals
 pub mod Thinned
 pub mod Spreading
+pub mod BySpreading
 pub mod Merging
 pub mod Following

@@ -105,7 +105,7 @@ pub record IsPassedOn (Goes : Atom → Atom → Type 0) (first next : ℕ) (stan
   pub each : (one : Atom) → Contains (stands by) one → Goes one to
 
 -- this is a further unknown, and stands for a part that flows somewhere
-pub record IsGathered (Goes : Atom → Atom → Type 0) (first next : ℕ) (stands : ℕ → List Atom) (part to : Atom) : Type 0 where
+pub record StandsForPart (Goes : Atom → Atom → Type 0) (first next : ℕ) (stands : ℕ → List Atom) (part to : Atom) : Type 0 where
   pub by : ℕ
   pub is : to ≡ Unknown by
   pub from_first : first ≤ by
@@ -116,11 +116,11 @@ pub record IsGathered (Goes : Atom → Atom → Type 0) (first next : ℕ) (stan
 
 abbrev pub ComesOf : (Goes : Atom → Atom → Type 0) → (first next : ℕ) → (stands : ℕ → List Atom) → (part to : Atom) → Type 0
 ComesOf Goes first next stands part to =
-    Goes part to ⊎ (IsPassedOn Goes first next stands part to ⊎ IsGathered Goes first next stands part to)
+    Goes part to ⊎ (IsPassedOn Goes first next stands part to ⊎ StandsForPart Goes first next stands part to)
 
 -- a part that is kept for an unknown
-abbrev pub IsKept : List Row → (part to : Atom) → Type 0
-IsKept rows part to = (k : ℕ) × (to ≡ Unknown k) × Contains (parts_at rows k) part
+abbrev pub IsPartKept : List Row → (part to : Atom) → Type 0
+IsPartKept rows part to = (k : ℕ) × (to ≡ Unknown k) × Contains (parts_at rows k) part
 
 -- the parts that are kept for the unknowns below a number were laid out
 pub record AreLaidOut (rows : List Row) (below first next : ℕ) (old new : List Stored) : Type 0 where
@@ -129,7 +129,7 @@ pub record AreLaidOut (rows : List Row) (below first next : ℕ) (old new : List
   pub stands : ℕ → List Atom
   pub least : first ≤ next
   pub goes : (k : ℕ) → k < below → (part : Atom) → Contains (parts_at rows k) part → FlowsOn laid part (Unknown k)
-  pub came : (part to : Atom) → Flows laid part to → ComesOf (IsKept rows) first next stands part to
+  pub came : (part to : Atom) → Flows laid part to → ComesOf (IsPartKept rows) first next stands part to
   pub inner : (c : Stored) → Contains laid c → IsInnerWithPart c
 
 -- a part flows on, or what it flows on to
@@ -139,7 +139,7 @@ pub record FlowsOver (Over : Atom → Atom → Type 0) (cs : List Stored) (part 
   pub goes : FlowsOn cs by to
 
 -- constraints by which the same flows as by others, straight or by further unknowns, but for what flows there anyway
-pub record AreShared (Over : Atom → Atom → Type 0) (first next : ℕ) (others shared : List Stored) : Type 0 where
+pub record HaveSameFlows (Over : Atom → Atom → Type 0) (first next : ℕ) (others shared : List Stored) : Type 0 where
   pub stands : ℕ → List Atom
   pub goes : (part to : Atom) → Flows others part to → FlowsOver Over shared part to
   pub came : (part to : Atom) → Flows shared part to → ComesOf (Flows others) first next stands part to
@@ -160,4 +160,4 @@ pub record AreSpreadShared (core : Core) (table : List Label) (journal : Journal
   pub are_spread : IsSpreadWhole core table journal (Declares core) calls old.number next spread
   pub shared : List Stored
   pub shared_is : new.constraints.items ≡ old.constraints.items ++ shared
-  pub are_shared : AreShared (IsFollowed (real_unknowns (program_of core)) old.constraints.items) next new.number spread shared
+  pub are_shared : HaveSameFlows (IsFollowed (real_unknowns (program_of core)) old.constraints.items) next new.number spread shared

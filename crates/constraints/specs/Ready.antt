@@ -2,13 +2,11 @@
 -- Source: our own.
 use Rattle.std.specs.Prelude.{◌≡◌, ℕ, ◌+◌, ◌*◌, ◌≤◌, ◌<◌, List, ◌++◌, drop, length, map, Bool, IsTrue}
 use Rattle.std.specs.List.{All}
-use Rattle.common.specs.declared.exceptions.TheConstants.{BUILT_IN}
 use Rattle.common.specs.declared.limits.TheConstants.{MAX_TEXT}
 use Rattle.resolved.specs.declared.program.Core.{Core}
 use Rattle.resolved.specs.declared.statement.Exit.{Exit}
 use Rattle.resolved.specs.declared.statement.Handler.{Handler}
 use Rattle.resolved.specs.declared.tables.Procedure.{Procedure}
-use Rattle.resolved.specs.declared.tables.Thrown.{Thrown}
 use Rattle.resolved.specs.CoreOf.{program_of}
 use Rattle.resolved.specs.Labelled.{here}
 use Rattle.resolved.specs.Tree.{Statement, Block, Handlers}
@@ -17,16 +15,13 @@ use Rattle.gathering.specs.Walk.{made_by_block, made_by_handlers, made_by_proced
 use Rattle.path_map.specs.Exits.{Exits}
 use Rattle.path_map.specs.Exits.{exits_of}
 use Rattle.path_map.specs.Paths.{block_paths, handlers_paths, inner_paths, rest_paths, statement_paths}
+use Rattle.path_map.specs.Walks.{exception_count}
 use Rattle.constraints.specs.LeftSides.{scope_of}
 use Rattle.constraints.specs.Procedures.{IsOf}
 use Rattle.constraints.specs.ExitUnknowns.{AreLevelled, AreWithin}
 use Rattle.constraints.specs.declared.progress.Progress.{Progress}
 use Rattle.constraints.specs.declared.exit_unknowns.ExitUnknown.{ExitUnknown}
 use Rattle.constraints.specs.declared.exit_unknowns.ExitUnknowns.{ExitUnknowns}
-
--- how many exceptions there are, built in and declared
-abbrev pub exception_count : Core → ℕ
-exception_count core = BUILT_IN + length (program_of core).exceptions
 
 -- the summaries of the exits of a program's statements and blocks, along which a walk goes
 abbrev pub entries_of : List (List Exit) → List Exits
@@ -37,15 +32,12 @@ abbrev pub most_unknowns : ℕ
 most_unknowns = 4 * MAX_TEXT
 
 -- this many inner unknowns may be made
-abbrev pub HasRoom : (made : ℕ) → (now : Progress) → Type 0
-HasRoom made now = now.number + made ≤ most_unknowns
+abbrev pub MayMakeUnknowns : (made : ℕ) → (now : Progress) → Type 0
+MayMakeUnknowns made now = now.number + made ≤ most_unknowns
 
 -- exceptions that have entries
 abbrev pub AreHandledInside : List Handler → (thrown : List ExitUnknown) → Type 0
 AreHandledInside handlers thrown = All (λ (handler : Handler). handler.exception < length thrown) handlers
-
-abbrev pub AreThrownInside : List Thrown → (thrown : List ExitUnknown) → Type 0
-AreThrownInside throws thrown = All (λ (declared : Thrown). declared.exception < length thrown) throws
 
 -- the path map goes on with these paths, no level is above that of the exit unknowns, each exception has an entry, what is walked fits the
 -- program, there is room for the inner unknowns that it makes, and there are this many more of these than levels
@@ -55,7 +47,7 @@ pub record IsReady (core : Core) (entries : List Exits) (exit_unknowns : ExitUnk
   pub levelled : AreLevelled exit_unknowns now.thrown.items
   pub wide : exception_count core ≤ length now.thrown.items
   pub fitting : IsTrue fits
-  pub room : HasRoom made now
+  pub room : MayMakeUnknowns made now
   pub deep : exit_unknowns.level + more ≤ now.number
 
 -- for a block of its own, and for its statements
@@ -94,5 +86,5 @@ pub record IsProcedureReady (core : Core) (entries : List Exits) (f barrier : �
   pub wide : exception_count core ≤ length now.thrown.items
   pub is : IsOf core f procedure
   pub fitting : IsTrue (procedure_fits (program_of core) (here (scope_of core f)))
-  pub room : HasRoom (made_by_procedure (scope_of core f)) now
+  pub room : MayMakeUnknowns (made_by_procedure (scope_of core f)) now
   pub deep : barrier ≤ now.number

@@ -59,7 +59,7 @@ label_among (thrown ∷ rest) exception default =
     if exception == thrown.exception then thrown.label else label_among rest exception default
 
 -- the parts of a whole program, by the table of its labels
-pub record IsTable (core : Core) (nothing : Atom) (rows : List ProcedureLabels) (outside : ProcedureLabels) : Type 0 where
+pub record IsPartTable (core : Core) (nothing : Atom) (rows : List ProcedureLabels) (outside : ProcedureLabels) : Type 0 where
   pub nothing_is : part core.labels nothing ≡ Written []
   pub rows_are : (f : ℕ) → IsRow core.labels (unknowns_before (program_of core) f) (procedure_at (program_of core) f)
       (slice_index_or rows f outside)

@@ -44,7 +44,7 @@ abbrev pub joining_flow : (parts : List ℕ) → (to : ℕ) → NamedConstraint
 joining_flow parts to = record { at = 0; rule = 0; left = map inner_atom parts; target = None; right = inner_atom to }
 
 -- to one of the unknowns in a range, which stands for what its parts stand for
-pub record IsJoin (stands : ℕ → List ℕ) (first next : ℕ) (calls : List Called) (c : NamedConstraint) : Type 0 where
+pub record IsJoiningFlow (stands : ℕ → List ℕ) (first next : ℕ) (calls : List Called) (c : NamedConstraint) : Type 0 where
   pub to : ℕ
   pub parts : List ℕ
   pub from_first : first ≤ to
@@ -71,7 +71,7 @@ pub record IsSpreadRaise (core : Core) (journal : Journal) (stands : ℕ → Lis
 
 abbrev pub IsSpread : Core → Journal → (stands : ℕ → List ℕ) → (first next : ℕ) → List Called → NamedConstraint → Type 0
 IsSpread core journal stands first next calls c =
-    IsJoin stands first next calls c ⊎ IsSpreadRaise core journal stands first next calls c
+    IsJoiningFlow stands first next calls c ⊎ IsSpreadRaise core journal stands first next calls c
 
 -- what is made: the number of the next unknown, and constraints
 pub record MadeList : Type 0 where
@@ -121,13 +121,13 @@ AreCallsOf callee calls = (called : Called) → Contains calls called → called
 abbrev pub exceptions_of : List ThrownLabel → List ℕ
 exceptions_of labels = map (λ (thrown : ThrownLabel). thrown.exception) labels
 
-abbrev pub IsLabelOf : Core → (table : List Label) → (callee : ℕ) → ThrownLabel → Type 0
-IsLabelOf core table callee x =
+abbrev pub IsThrownLabelOf : Core → (table : List Label) → (callee : ℕ) → ThrownLabel → Type 0
+IsThrownLabelOf core table callee x =
     Contains (declared_by (procedure_at (program_of core) callee).throws) x.exception
     × (part table x.label ≡ Written (thrown_label (procedure_at (program_of core) callee).throws x.exception))
 
 abbrev pub AreLabelsOf : Core → (table : List Label) → (callee : ℕ) → List ThrownLabel → Type 0
-AreLabelsOf core table callee labels = (x : ThrownLabel) → Contains labels x → IsLabelOf core table callee x
+AreLabelsOf core table callee labels = (x : ThrownLabel) → Contains labels x → IsThrownLabelOf core table callee x
 
 -- the flows of exceptions by an unknown, to the exit unknowns that they have at a call
 abbrev pub fixed_flows : Program → Journal → Called → (callee node : ℕ) → List ThrownLabel → List NamedConstraint

@@ -1,6 +1,6 @@
 -- Private: what is gathered of statements.
 -- Source: our own.
-use Rattle.std.specs.Prelude.{ℕ, List, [], ◌∷◌, ◌++◌, Option}
+use Rattle.std.specs.Prelude.{ℕ, List, [], ◌∷◌, ◌++◌, Option, flat_map}
 use Rattle.labels.specs.Label.{Label}
 use Rattle.lattices.specs.Constraints.{renamed}
 use Rattle.resolved.specs.declared.expression.Variable.{Variable}
@@ -10,7 +10,7 @@ use Rattle.resolved.specs.declared.statement.Exit.TheVariants.{Normal}
 use Rattle.resolved.specs.declared.target.Target.{Target}
 use Rattle.resolved.specs.declared.target.Target.TheVariants.{ToBegin, ToLoop, ToValue}
 use Rattle.resolved.specs.Tree.{Expression, Statement}
-use Rattle.resolved.specs.Exits.{raises, raises_all, thrown_exits}
+use Rattle.resolved.specs.Exits.{raises, thrown_exits}
 use Rattle.resolved.specs.Labelled.{Scope, label_of, one, value_label}
 use Rattle.gathering.specs.Names.{NamedAtom, NamedConstraint, Real, named_atoms}
 use Rattle.gathering.specs.Walk as walk
@@ -42,7 +42,7 @@ loop_head_constraints scope pc exit_unknowns inner at loop e =
 
 -- the exits of a call but for the exceptions that its callee declares, and what is gathered of it but for their flows
 abbrev pub kept_exits : List Expression → List Exit
-kept_exits arguments = Normal ∷ thrown_exits (raised_once (raises_all arguments))
+kept_exits arguments = Normal ∷ thrown_exits (raised_once (flat_map raises arguments))
 
 abbrev pub kept_call : Scope → (pc : NamedAtom) → walk.ExitUnknowns → ℕ → (at callee : ℕ) → List Expression → Option Variable → List NamedConstraint
 kept_call scope pc exit_unknowns n at callee arguments target =

@@ -1,8 +1,8 @@
 //! How a constraint is added: one that stands for a demand, or an inner one.
-ghost use Rattle.constraints.specs.Added.{AreAdded, IsGatheredAt, IsLeft, flow_if};
+ghost use Rattle.constraints.specs.ByTable.{scope_at, IsLeftBy, AreAddedBy, IsGatheredBy};
+ghost use Rattle.constraints.specs.Added.{flow_if};
 ghost use Rattle.constraints.specs.ExitUnknowns.{exit_unknowns_around};
 ghost use Rattle.path_map.specs.Exceptions.{AreRaised};
-ghost use Rattle.constraints.specs.LeftSides.{scope_of};
 ghost use Rattle.gathering.specs.Names.{NamedAtom};
 ghost use Rattle.gathering.specs.Walk.{flow, inner_constraint, raised_flows, rule_constraint};
 ghost use Rattle.solver.specs.Rule.{rule_number};
@@ -29,10 +29,9 @@ impl<'a> Table<'a> {
         constraints: &mut Vec<Constraint<Option<Target>>>,
     ) -> Result<(), AllocError>
         ensures { OnOk result ((procedure : ℕ) (atoms : List NamedAtom) →
-            IsLeft self.now.core.now self.now.core.now.labels atoms left.items →
-            AreAdded self.now.core.now self.now.core.now.labels
-            (rule_constraint (scope_of self.now.core.now procedure) at (rule_number rule) atoms
-            target)
+            IsLeftBy self.now atoms left.items →
+            AreAddedBy self.now
+            (rule_constraint (scope_at self.now procedure) at (rule_number rule) atoms target)
             constraints.old.items constraints.new.items) }
     {
         let right = self.part(target);
@@ -53,9 +52,8 @@ impl<'a> Table<'a> {
         number: u32,
         constraints: &mut Vec<Constraint<Option<Target>>>,
     ) -> Result<(), AllocError>
-        ensures { OnOk result ((atoms : List NamedAtom) →
-            IsLeft self.now.core.now self.now.core.now.labels atoms left.items →
-            AreAdded self.now.core.now self.now.core.now.labels (inner_constraint atoms number)
+        ensures { OnOk result ((atoms : List NamedAtom) → IsLeftBy self.now atoms left.items →
+            AreAddedBy self.now (inner_constraint atoms number)
             constraints.old.items constraints.new.items) }
     {
         let right = Atom::Unknown(number);
@@ -77,7 +75,7 @@ impl<'a> Table<'a> {
         exit_unknown: Option<u32>,
         constraints: &mut Vec<Constraint<Option<Target>>>,
     ) -> Result<(), AllocError>
-        ensures { OnOk result (IsGatheredAt self.now.core.now self.now.core.now.labels pc
+        ensures { OnOk result (IsGatheredBy self.now pc
             (λ (named : NamedAtom). flow (named ∷ []) exit_unknown)
             constraints.old.items constraints.new.items) }
     {
@@ -95,9 +93,8 @@ impl<'a> Table<'a> {
         exit_unknown: Option<u32>,
         constraints: &mut Vec<Constraint<Option<Target>>>,
     ) -> Result<(), AllocError>
-        ensures { OnOk result ((atoms : List NamedAtom) →
-            IsLeft self.now.core.now self.now.core.now.labels atoms left.now →
-            AreAdded self.now.core.now self.now.core.now.labels (flow atoms exit_unknown)
+        ensures { OnOk result ((atoms : List NamedAtom) → IsLeftBy self.now atoms left.now →
+            AreAddedBy self.now (flow atoms exit_unknown)
             constraints.old.items constraints.new.items) }
     {
         match exit_unknown {
@@ -115,9 +112,8 @@ impl<'a> Table<'a> {
         exit_unknown: Option<u32>,
         constraints: &mut Vec<Constraint<Option<Target>>>,
     ) -> Result<(), AllocError>
-        ensures { OnOk result ((atoms : List NamedAtom) →
-            IsLeft self.now.core.now self.now.core.now.labels atoms left.now →
-            AreAdded self.now.core.now self.now.core.now.labels (flow_if test atoms exit_unknown)
+        ensures { OnOk result ((atoms : List NamedAtom) → IsLeftBy self.now atoms left.now →
+            AreAddedBy self.now (flow_if test atoms exit_unknown)
             constraints.old.items constraints.new.items) }
     {
         if test {
@@ -136,10 +132,8 @@ impl<'a> Table<'a> {
         constraints: &mut Vec<Constraint<Option<Target>>>,
     ) -> Result<(), AllocError>
         ensures { OnOk result ((atoms : List NamedAtom) (exceptions : List ℕ) →
-            IsLeft self.now.core.now self.now.core.now.labels atoms left.now →
-            AreRaised found exceptions →
-            AreAdded self.now.core.now self.now.core.now.labels
-            (raised_flows atoms (exit_unknowns_around around.now) exceptions)
+            IsLeftBy self.now atoms left.now → AreRaised found exceptions →
+            AreAddedBy self.now (raised_flows atoms (exit_unknowns_around around.now) exceptions)
             constraints.old.items constraints.new.items) }
     {
         let arith = around.exit_unknown(Exit::Throw(ARITH));

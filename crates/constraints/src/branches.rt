@@ -1,7 +1,6 @@
 //! The pieces of what is gathered of statements with blocks.
-ghost use Rattle.constraints.specs.Ready.{entries_of};
-ghost use Rattle.constraints.specs.Added.{IsGatheredAt};
-ghost use Rattle.constraints.specs.LeftSides.{scope_of};
+ghost use Rattle.constraints.specs.ByTable.{IsGatheredBy};
+ghost use Rattle.constraints.specs.ByWalk.{scope_in, entries_in};
 ghost use Rattle.constraints.specs.ExitUnknowns.{exit_unknowns_around};
 ghost use Rattle.constraints.specs.Walks.{loop_head_constraints};
 ghost use Rattle.gathering.specs.Names.{NamedAtom, named_atoms};
@@ -31,7 +30,7 @@ impl<'a> ProcedureWalk<'a> {
     /// The possible exits that the path map has under this number.
     pub fn exits_at(&self, number: usize) -> Exits
         ensures { (exits : Exits) (rest : List Exits) →
-            drop number (entries_of self.now.map.now) ≡ exits ∷ rest → result ≡ exits }
+            drop number (entries_in self.now) ≡ exits ∷ rest → result ≡ exits }
     {
         if number >= self.map.len() {
             return Exits::of_all(false, Raised::Nothing);
@@ -47,11 +46,9 @@ impl<'a> ProcedureWalk<'a> {
         constraints: &mut Vec<Constraint<Option<Target>>>,
     ) -> Result<(), AllocError>
         ensures { OnOk result ((ends : List Exit) → exits ≡ exits_of ends →
-            IsGatheredAt self.now.table.now.core.now self.now.table.now.core.now.labels
-            around.now.pc
-            (λ (named : NamedAtom).
-            single (one_exit ends) named (exit_unknowns_around around.now) ends)
-            constraints.old.items constraints.new.items) }
+            IsGatheredBy self.now.table.now around.now.pc
+            (λ (named : NamedAtom). single (one_exit ends) named (exit_unknowns_around around.now)
+            ends) constraints.old.items constraints.new.items) }
     {
         match exits.single() {
             None => Ok(()),
@@ -72,12 +69,10 @@ impl<'a> ProcedureWalk<'a> {
         pc: Atom,
         constraints: &mut Vec<Constraint<Option<Target>>>,
     ) -> Result<(), AllocError>
-        ensures { OnOk result (IsGatheredAt self.now.table.now.core.now
-            self.now.table.now.core.now.labels pc
-            (λ (named : NamedAtom). inner_constraint (named ∷ named_atoms (value_label
-            (scope_of self.now.table.now.core.now self.now.procedure)
-            (expression_of condition.now))) number)
-            constraints.old.items constraints.new.items) }
+        ensures { OnOk result (IsGatheredBy self.now.table.now pc
+            (λ (named : NamedAtom). inner_constraint
+            (named ∷ named_atoms (value_label (scope_in self.now) (expression_of condition.now)))
+            number) constraints.old.items constraints.new.items) }
     {
         let left = self
             .table
@@ -93,12 +88,10 @@ impl<'a> ProcedureWalk<'a> {
         around: &Around,
         constraints: &mut Vec<Constraint<Option<Target>>>,
     ) -> Result<(), AllocError>
-        ensures { OnOk result (IsGatheredAt self.now.table.now.core.now
-            self.now.table.now.core.now.labels around.now.pc
-            (λ (named : NamedAtom). raised_flows (named ∷ named_atoms (raise_atoms
-            (scope_of self.now.table.now.core.now self.now.procedure)
-            (expression_of condition.now))) (exit_unknowns_around around.now)
-            (raises (expression_of condition.now)))
+        ensures { OnOk result (IsGatheredBy self.now.table.now around.now.pc
+            (λ (named : NamedAtom). raised_flows
+            (named ∷ named_atoms (raise_atoms (scope_in self.now) (expression_of condition.now)))
+            (exit_unknowns_around around.now) (raises (expression_of condition.now)))
             constraints.old.items constraints.new.items) }
     {
         let left = self
@@ -118,12 +111,9 @@ impl<'a> ProcedureWalk<'a> {
         pc: Atom,
         constraints: &mut Vec<Constraint<Option<Target>>>,
     ) -> Result<(), AllocError>
-        ensures { OnOk result (IsGatheredAt self.now.table.now.core.now
-            self.now.table.now.core.now.labels pc
-            (λ (named : NamedAtom). rule_constraint
-            (scope_of self.now.table.now.core.now self.now.procedure) at 8 (named ∷ [])
-            (ToLoop self.now.procedure number))
-            constraints.old.items constraints.new.items) }
+        ensures { OnOk result (IsGatheredBy self.now.table.now pc
+            (λ (named : NamedAtom). rule_constraint (scope_in self.now) at 8 (named ∷ [])
+            (ToLoop self.now.procedure number)) constraints.old.items constraints.new.items) }
     {
         let left = left_of_pc(self.alloc, pc)?;
         let target = Target::ToLoop(self.procedure, number);
@@ -141,13 +131,10 @@ impl<'a> ProcedureWalk<'a> {
         around: &Around,
         constraints: &mut Vec<Constraint<Option<Target>>>,
     ) -> Result<(), AllocError>
-        ensures { OnOk result (IsGatheredAt self.now.table.now.core.now
-            self.now.table.now.core.now.labels around.now.pc
-            (λ (named : NamedAtom). loop_head_constraints
-            (scope_of self.now.table.now.core.now self.now.procedure) named
+        ensures { OnOk result (IsGatheredBy self.now.table.now around.now.pc
+            (λ (named : NamedAtom). loop_head_constraints (scope_in self.now) named
             (exit_unknowns_around around.now) inner site.at site.number
-            (expression_of condition.now))
-            constraints.old.items constraints.new.items) }
+            (expression_of condition.now)) constraints.old.items constraints.new.items) }
     {
         self.add_turn(site.at, site.number, around.pc, constraints)?;
         let loop_atom = self.table.part(Target::ToLoop(self.procedure, site.number));

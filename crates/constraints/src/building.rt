@@ -58,7 +58,7 @@ fn slot_parts(
     ensures { IfOk result (λ atoms. left_parts labels.now atoms.items
         ≡ slot_parts first (map (slot_entry labels.now) slots.now)) }
 {
-    let mut atoms = Vec::new(alloc);
+    let mut atoms = Vec::with_capacity(alloc, slots.len())?;
     for (i, slot) in slots.iter().enumerate() {
         atoms.push(slot_part(labels, slot, first + i as u32))?;
     }
@@ -77,7 +77,7 @@ fn thrown_labels(
         ≡ map (λ (entry : ThrownEntry). Written entry.label)
         (map (thrown_entry labels.now) throws.now)) }
 {
-    let mut found = Vec::new(alloc);
+    let mut found = Vec::with_capacity(alloc, throws.len())?;
     for thrown in throws {
         found.push(ThrownLabel {
             exception: thrown.exception,
@@ -131,7 +131,7 @@ pub(crate) fn rows_of(
     ensures count { IfOk result (λ found. found.1
         ≡ sum_by own_unknowns (map (procedure_entry labels.now) procedures.now)) }
 {
-    let mut rows = Vec::new(alloc);
+    let mut rows = Vec::with_capacity(alloc, procedures.len())?;
     let mut first = 0;
     for procedure in procedures {
         rows.push(row_of(alloc, labels, procedure, first)?)?;

@@ -1,12 +1,12 @@
 //! The constraints of calls.
-ghost use Rattle.constraints.specs.Added.{AreAdded, IsGatheredAt, IsLeftFrom, IsPart, flow_if};
-ghost use Rattle.constraints.specs.LeftSides.{scope_of};
+ghost use Rattle.constraints.specs.ByTable.{program_in, IsPartBy, IsLeftFromBy, AreAddedBy, IsGatheredBy};
+ghost use Rattle.constraints.specs.ByWalk.{scope_in};
+ghost use Rattle.constraints.specs.Added.{flow_if};
 ghost use Rattle.constraints.specs.ExitUnknowns.{exit_unknowns_around};
 ghost use Rattle.constraints.specs.Walks.{kept_call, kept_exits};
 ghost use Rattle.gathering.specs.Names.{NamedAtom, named_atoms};
 ghost use Rattle.gathering.specs.Walk.{argument_constraints, call_atoms, call_flows, flow, inner_atom, raised_once};
 ghost use Rattle.path_map.specs.Exceptions.{AreRaised};
-ghost use Rattle.resolved.specs.CoreOf.{program_of};
 ghost use Rattle.resolved.specs.Exits.{thrown_exits};
 ghost use Rattle.resolved.specs.Labelled.{any_of, label_of, one};
 ghost use Rattle.resolved.specs.Program.{procedure_at};
@@ -30,17 +30,15 @@ use std::alloc::AllocError;
 impl<'a> ProcedureWalk<'a> {
     // Whether a procedure declares exceptions.
     fn throws_any(&self, callee: u32) -> bool
-        ensures { result ≡ any_of
-            (procedure_at (program_of self.now.table.now.core.now) callee).throws }
+        ensures { result ≡ any_of (procedure_at (program_in self.now.table.now) callee).throws }
     {
         !self.table.row(callee).throws.is_empty()
     }
 
     // The label of a call, and what its normal exit has beside it.
     fn left_of_end(&self, own: Atom, callee: u32) -> Result<Left, AllocError>
-        ensures { IfOk result (λ left. IsLeftFrom self.now.table.now.core.now
-            self.now.table.now.core.now.labels own
-            (call_atoms (program_of self.now.table.now.core.now) callee Normal) left.items) }
+        ensures { IfOk result (λ left. IsLeftFromBy self.now.table.now own
+            (call_atoms (program_in self.now.table.now) callee Normal) left.items) }
     {
         if self.throws_any(callee) {
             return self
@@ -52,11 +50,9 @@ impl<'a> ProcedureWalk<'a> {
 
     // The label of the value of a call.
     fn left_of_result(&self, own: Atom, callee: u32) -> Result<Left, AllocError>
-        ensures { IfOk result (λ left. IsLeftFrom self.now.table.now.core.now
-            self.now.table.now.core.now.labels own
-            (call_atoms (program_of self.now.table.now.core.now) callee Normal
-            ++ one (label_of (program_of self.now.table.now.core.now) (ToValue callee)))
-            left.items) }
+        ensures { IfOk result (λ left. IsLeftFromBy self.now.table.now own (call_atoms
+            (program_in self.now.table.now) callee Normal ++ one
+            (label_of (program_in self.now.table.now) (ToValue callee))) left.items) }
     {
         let mut left = self.left_of_end(own, callee)?;
         self.table.add_label(Target::ToValue(callee), &mut left)?;
@@ -72,13 +68,9 @@ impl<'a> ProcedureWalk<'a> {
         arguments: &[Expression],
         constraints: &mut Vec<Constraint<Option<Target>>>,
     ) -> Result<(), AllocError>
-        ensures { OnOk result ((k : ℕ) →
-            IsPart self.now.table.now.core.now self.now.table.now.core.now.labels
-            (inner_atom k) own →
-            AreAdded self.now.table.now.core.now self.now.table.now.core.now.labels
-            (argument_constraints (scope_of self.now.table.now.core.now self.now.procedure)
-            at k callee 0 (map expression_of arguments.now))
-            constraints.old.items constraints.new.items) }
+        ensures { OnOk result ((k : ℕ) → IsPartBy self.now.table.now (inner_atom k) own →
+            AreAddedBy self.now.table.now (argument_constraints (scope_in self.now) at k callee 0
+            (map expression_of arguments.now)) constraints.old.items constraints.new.items) }
     {
         for (parameter, argument) in arguments.iter().enumerate() {
             let left = self
@@ -99,10 +91,9 @@ impl<'a> ProcedureWalk<'a> {
         around: &Around,
         constraints: &mut Vec<Constraint<Option<Target>>>,
     ) -> Result<(), AllocError>
-        ensures { OnOk result (IsGatheredAt self.now.table.now.core.now
-            self.now.table.now.core.now.labels around.now.pc
-            (λ (named : NamedAtom). flow (named ∷ named_atoms (call_atoms
-            (program_of self.now.table.now.core.now) callee (Throw exception)))
+        ensures { OnOk result (IsGatheredBy self.now.table.now around.now.pc
+            (λ (named : NamedAtom). flow (named ∷ named_atoms
+            (call_atoms (program_in self.now.table.now) callee (Throw exception)))
             (exit_unknowns_around around.now (Throw exception)))
             constraints.old.items constraints.new.items) }
     {
@@ -126,10 +117,9 @@ impl<'a> ProcedureWalk<'a> {
         around: &Around,
         constraints: &mut Vec<Constraint<Option<Target>>>,
     ) -> Result<(), AllocError>
-        ensures { OnOk result (IsGatheredAt self.now.table.now.core.now
-            self.now.table.now.core.now.labels around.now.pc
-            (λ (named : NamedAtom). flow_if test (named ∷ named_atoms (call_atoms
-            (program_of self.now.table.now.core.now) callee (Throw exception)))
+        ensures { OnOk result (IsGatheredBy self.now.table.now around.now.pc
+            (λ (named : NamedAtom). flow_if test (named ∷ named_atoms
+            (call_atoms (program_in self.now.table.now) callee (Throw exception)))
             (exit_unknowns_around around.now (Throw exception)))
             constraints.old.items constraints.new.items) }
     {
@@ -148,11 +138,8 @@ impl<'a> ProcedureWalk<'a> {
         constraints: &mut Vec<Constraint<Option<Target>>>,
     ) -> Result<(), AllocError>
         ensures { OnOk result ((k : ℕ) (exceptions : List ℕ) →
-            IsPart self.now.table.now.core.now self.now.table.now.core.now.labels
-            (inner_atom k) around.now.pc →
-            AreRaised found exceptions →
-            AreAdded self.now.table.now.core.now self.now.table.now.core.now.labels
-            (call_flows (program_of self.now.table.now.core.now) callee k
+            IsPartBy self.now.table.now (inner_atom k) around.now.pc → AreRaised found exceptions →
+            AreAddedBy self.now.table.now (call_flows (program_in self.now.table.now) callee k
             (exit_unknowns_around around.now) (thrown_exits (raised_once exceptions)))
             constraints.old.items constraints.new.items) }
     {
@@ -171,13 +158,9 @@ impl<'a> ProcedureWalk<'a> {
         around: &Around,
         constraints: &mut Vec<Constraint<Option<Target>>>,
     ) -> Result<(), AllocError>
-        ensures { OnOk result ((k : ℕ) →
-            IsPart self.now.table.now.core.now self.now.table.now.core.now.labels
-            (inner_atom k) around.now.pc →
-            AreAdded self.now.table.now.core.now self.now.table.now.core.now.labels
-            (call_flows (program_of self.now.table.now.core.now) callee k
-            (exit_unknowns_around around.now)
-            (kept_exits (map expression_of arguments.now)))
+        ensures { OnOk result ((k : ℕ) → IsPartBy self.now.table.now (inner_atom k) around.now.pc →
+            AreAddedBy self.now.table.now (call_flows (program_in self.now.table.now) callee k
+            (exit_unknowns_around around.now) (kept_exits (map expression_of arguments.now)))
             constraints.old.items constraints.new.items) }
     {
         let left = self.left_of_end(around.pc, callee)?;
@@ -198,10 +181,8 @@ impl<'a> ProcedureWalk<'a> {
         around: &Around,
         constraints: &mut Vec<Constraint<Option<Target>>>,
     ) -> Result<(), AllocError>
-        ensures { OnOk result (IsGatheredAt self.now.table.now.core.now
-            self.now.table.now.core.now.labels around.now.pc
-            (λ (named : NamedAtom). kept_call
-            (scope_of self.now.table.now.core.now self.now.procedure) named
+        ensures { OnOk result (IsGatheredBy self.now.table.now around.now.pc
+            (λ (named : NamedAtom). kept_call (scope_in self.now) named
             (exit_unknowns_around around.now) number site.at site.callee
             (map expression_of arguments.now) site.target)
             constraints.old.items constraints.new.items) }

@@ -1,7 +1,6 @@
 //! The left sides that expressions ask for: the labels of their values, and what decides whether they raise an exception.
-ghost use Rattle.constraints.specs.LeftSides.{IsJoined, scope_of};
+ghost use Rattle.constraints.specs.ByTable.{scope_at, program_in, IsJoinedBy};
 ghost use Rattle.gathering.specs.Walk.{raise_atoms, raise_atoms_all};
-ghost use Rattle.resolved.specs.CoreOf.{program_of};
 ghost use Rattle.resolved.specs.Exits.{divisor_can_raise, is_division, raises};
 ghost use Rattle.resolved.specs.Labelled.{any_of, label_of, one, value_label};
 ghost use Rattle.resolved.specs.TreeOf.{expression_of};
@@ -32,8 +31,7 @@ fn can_divide_by_zero(operator: Operator, divisor: &Expression) -> bool
 impl<'a> Table<'a> {
     /// Adds the label of what a rule names.
     pub fn add_label(&self, target: Target, left: &mut Left) -> Result<(), AllocError>
-        ensures { OnOk result (IsJoined self.now.core.now self.now.core.now.labels
-            (one (label_of (program_of self.now.core.now) target))
+        ensures { OnOk result (IsJoinedBy self.now (one (label_of (program_in self.now) target))
             left.old.items left.new.items) }
     {
         left.push(self.part(target))?;
@@ -47,8 +45,8 @@ impl<'a> Table<'a> {
         expression: &Expression,
         left: &mut Left,
     ) -> Result<(), AllocError>
-        ensures { OnOk result (IsJoined self.now.core.now self.now.core.now.labels
-            (value_label (scope_of self.now.core.now procedure) (expression_of expression.now))
+        ensures { OnOk result (IsJoinedBy self.now
+            (value_label (scope_at self.now procedure) (expression_of expression.now))
             left.old.items left.new.items) }
     {
         match expression {
@@ -61,13 +59,13 @@ impl<'a> Table<'a> {
                 self.add_value(procedure, index, left)
             }
             Expression::Unary(_, operand) => self.add_value(procedure, operand, left),
-            Expression::Binary(_, first, second) => {
-                self.add_value(procedure, first, left)?;
-                self.add_value(procedure, second, left)
+            Expression::Binary(_, operands) => {
+                self.add_value(procedure, &operands.0, left)?;
+                self.add_value(procedure, &operands.1, left)
             }
-            Expression::Short(_, first, second) => {
-                self.add_value(procedure, first, left)?;
-                self.add_value(procedure, second, left)
+            Expression::Short(_, operands) => {
+                self.add_value(procedure, &operands.0, left)?;
+                self.add_value(procedure, &operands.1, left)
             }
         }
     }
@@ -80,8 +78,8 @@ impl<'a> Table<'a> {
         expression: &Expression,
         left: &mut Left,
     ) -> Result<bool, AllocError>
-        ensures joined { OnOk result (IsJoined self.now.core.now self.now.core.now.labels
-            (raise_atoms (scope_of self.now.core.now procedure) (expression_of expression.now))
+        ensures joined { OnOk result (IsJoinedBy self.now
+            (raise_atoms (scope_at self.now procedure) (expression_of expression.now))
             left.old.items left.new.items) }
         ensures raises { IfOk result (λ raised. raised
             ≡ any_of (raises (expression_of expression.now))) }
@@ -96,22 +94,22 @@ impl<'a> Table<'a> {
                 self.add_raise(procedure, index, left)
             }
             Expression::Unary(_, operand) => self.add_raise(procedure, operand, left),
-            Expression::Binary(operator, first, second) => {
-                let raised = self.add_raise(procedure, first, left)?;
-                if can_divide_by_zero(*operator, second) {
-                    self.add_value(procedure, second, left)?;
+            Expression::Binary(operator, operands) => {
+                let raised = self.add_raise(procedure, &operands.0, left)?;
+                if can_divide_by_zero(*operator, &operands.1) {
+                    self.add_value(procedure, &operands.1, left)?;
                     return Ok(true);
                 }
-                let again = self.add_raise(procedure, second, left)?;
+                let again = self.add_raise(procedure, &operands.1, left)?;
                 Ok(either(raised, again))
             }
-            Expression::Short(_, first, second) => {
-                let right = self.add_raise(procedure, second, left)?;
+            Expression::Short(_, operands) => {
+                let right = self.add_raise(procedure, &operands.1, left)?;
                 if right {
-                    self.add_value(procedure, first, left)?;
+                    self.add_value(procedure, &operands.0, left)?;
                     return Ok(true);
                 }
-                self.add_raise(procedure, first, left)
+                self.add_raise(procedure, &operands.0, left)
             }
         }
     }
@@ -123,9 +121,8 @@ impl<'a> Table<'a> {
         expressions: &[Expression],
         left: &mut Left,
     ) -> Result<(), AllocError>
-        ensures { OnOk result (IsJoined self.now.core.now self.now.core.now.labels
-            (raise_atoms_all (scope_of self.now.core.now procedure)
-            (map expression_of expressions.now))
+        ensures { OnOk result (IsJoinedBy self.now
+            (raise_atoms_all (scope_at self.now procedure) (map expression_of expressions.now))
             left.old.items left.new.items) }
     {
         for expression in expressions {

@@ -51,7 +51,7 @@ fn themselves(alloc: Global, count: u32) -> Result<Vec<u32>, AllocError>
     Ok(rows)
 }
 
-// What stands in a row for an unknown: itself where there is no place for it.
+// What stands in a row for an unknown: itself where the row has no entry for it.
 fn after(rows: &[u32], unknown: u32) -> u32
     ensures { result ≡ slice_index_or rows.now unknown unknown }
 {
@@ -61,7 +61,7 @@ fn after(rows: &[u32], unknown: u32) -> u32
     }
 }
 
-// Puts an unknown into a row for another one, if there is a place for it.
+// Puts an unknown into a row for another one, if the row has an entry for that.
 fn put(rows: &mut Vec<u32>, unknown: u32, next: u32)
     ensures { rows.new.items ≡ set rows.old.items unknown next }
 {

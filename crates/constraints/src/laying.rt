@@ -1,6 +1,6 @@
 //! Parts that are kept for unknowns, laid out as constraints: unknowns that rows have one after the other go to them by a further one.
 ghost use Rattle.constraints.specs.Added.{Stored};
-ghost use Rattle.constraints.specs.Laying.{AreLaidSoFar, IsFound, IsPieceOf, IsRowBegun, by_found};
+ghost use Rattle.constraints.specs.Laying.{AreLaidSoFar, IsPieceFound, IsPieceOf, IsRowBegun, by_found};
 ghost use Rattle.constraints.specs.Merging.{AreLaidOut, IsLaidOut, Row, rows_of};
 ghost use Rattle.constraints.specs.declared.laying.Further.{Further};
 ghost use Rattle.std.specs.Prelude.{Contains, IfOk, IsTrue, List, OnOk, [], drop, length, take, ℕ, ◌*◌, ◌+◌, ◌++◌, ◌<◌, ◌∷◌, ◌^◌, ◌≡◌, ◌≤◌, ◌⊎◌};
@@ -36,7 +36,7 @@ fn are_same(one: &[Atom], other: &[Atom]) -> bool
     true
 }
 
-// The parts from a number on, at most so many, none where there are none.
+// The parts from an index on, but no more than `most`, none where there are none.
 fn piece_from(parts: &[Atom], from: usize, most: usize) -> &[Atom]
     ensures more { from < length parts.now → 0 < most → 0 < length result.now }
     ensures within { from ≤ length parts.now → from + length result.now ≤ length parts.now }
@@ -83,7 +83,7 @@ fn piece_length(held: &[Further], unknowns: &[Atom], next: &[Atom]) -> usize
     PIECE
 }
 
-// Holds a further unknown in a place.
+// Holds a further unknown at an index, or behind all others.
 fn hold(held: &mut Vec<Further>, at: usize, further: Further) -> Result<(), AllocError>
     ensures { OnOk result ((one : Further) → Contains held.new.items one →
         Contains held.old.items one ⊎ (one ≡ further)) }
@@ -135,7 +135,7 @@ fn open(alloc: Global, parts: &[Atom], made: &mut Made) -> Result<Further, Alloc
     Ok(Further { number, parts })
 }
 
-// The further unknown that stands for a piece: that which is held in its place, or a new one, if that is wanted.
+// The further unknown that stands for a piece: that which is held at its index, or a new one, if that is wanted.
 fn further_of(
     alloc: Global,
     piece: &[Atom],
@@ -151,7 +151,7 @@ fn further_of(
         IsPieceOf rows k piece.now →
         (before : AreLaidSoFar rows k first made.old.number held.old.items old
         made.old.constraints.items) →
-        IsFound rows k first made.old.number made.new.number held.old.items held.new.items old
+        IsPieceFound rows k first made.old.number made.new.number held.old.items held.new.items old
         made.old.constraints.items made.new.constraints.items before piece.now found) }
 {
     if let Some(further) = held.get(at) {
@@ -214,6 +214,17 @@ fn left_of(
     Ok(left)
 }
 
+// Adds to a left side what is written of a row. Most rows have nothing.
+fn add_written(written: &[Atom], left: &mut Left) -> Result<(), AllocError>
+    ensures { OnOk result (left.new.items ≡ left.old.items ++ written.now) }
+{
+    if written.is_empty() {
+        return Ok(());
+    }
+    left.extend_from_slice(written)?;
+    Ok(())
+}
+
 // Lays out a row.
 fn lay_out_row(
     alloc: Global,
@@ -237,7 +248,7 @@ fn lay_out_row(
     let row = &rows[number];
     let next = unknowns_of(rows, number + 1);
     let mut left = left_of(alloc, &row.unknowns, next, most, held, made)?;
-    left.extend_from_slice(&row.written)?;
+    add_written(&row.written, &mut left)?;
     lay_out_one(number as u32, left, &mut made.constraints)?;
     Ok(())
 }

@@ -1,8 +1,6 @@
 //! Left sides that begin with the program-counter label (pc) of a statement.
-ghost use Rattle.constraints.specs.Added.{IsLeftFrom};
-ghost use Rattle.constraints.specs.LeftSides.{scope_of};
+ghost use Rattle.constraints.specs.ByTable.{scope_at, program_in, IsLeftFromBy};
 ghost use Rattle.gathering.specs.Walk.{raise_atoms, raise_atoms_all};
-ghost use Rattle.resolved.specs.CoreOf.{program_of};
 ghost use Rattle.resolved.specs.Labelled.{label_of, one, value_label};
 ghost use Rattle.resolved.specs.TreeOf.{expression_of};
 ghost use Rattle.std.specs.Prelude.{IfOk, [], map, ◌∷◌, ◌≡◌};
@@ -25,8 +23,8 @@ pub fn left_of_pc(alloc: Global, pc: Atom) -> Result<Left, AllocError>
 impl<'a> Table<'a> {
     /// The pc, and the label of what a rule names.
     pub fn left_of_label(&self, alloc: Global, pc: Atom, target: Target) -> Result<Left, AllocError>
-        ensures { IfOk result (λ left. IsLeftFrom self.now.core.now self.now.core.now.labels pc
-            (one (label_of (program_of self.now.core.now) target)) left.items) }
+        ensures { IfOk result (λ left. IsLeftFromBy self.now pc
+            (one (label_of (program_in self.now) target)) left.items) }
     {
         let mut left = left_of_pc(alloc, pc)?;
         self.add_label(target, &mut left)?;
@@ -41,9 +39,8 @@ impl<'a> Table<'a> {
         procedure: u32,
         expression: &Expression,
     ) -> Result<Left, AllocError>
-        ensures { IfOk result (λ left. IsLeftFrom self.now.core.now self.now.core.now.labels pc
-            (value_label (scope_of self.now.core.now procedure) (expression_of expression.now))
-            left.items) }
+        ensures { IfOk result (λ left. IsLeftFromBy self.now pc
+            (value_label (scope_at self.now procedure) (expression_of expression.now)) left.items) }
     {
         let mut left = left_of_pc(alloc, pc)?;
         self.add_value(procedure, expression, &mut left)?;
@@ -58,9 +55,8 @@ impl<'a> Table<'a> {
         procedure: u32,
         expression: &Expression,
     ) -> Result<Left, AllocError>
-        ensures { IfOk result (λ left. IsLeftFrom self.now.core.now self.now.core.now.labels pc
-            (raise_atoms (scope_of self.now.core.now procedure) (expression_of expression.now))
-            left.items) }
+        ensures { IfOk result (λ left. IsLeftFromBy self.now pc
+            (raise_atoms (scope_at self.now procedure) (expression_of expression.now)) left.items) }
     {
         let mut left = left_of_pc(alloc, pc)?;
         self.add_raise(procedure, expression, &mut left)?;
@@ -75,9 +71,8 @@ impl<'a> Table<'a> {
         procedure: u32,
         arguments: &[Expression],
     ) -> Result<Left, AllocError>
-        ensures { IfOk result (λ left. IsLeftFrom self.now.core.now self.now.core.now.labels pc
-            (raise_atoms_all (scope_of self.now.core.now procedure)
-            (map expression_of arguments.now))
+        ensures { IfOk result (λ left. IsLeftFromBy self.now pc
+            (raise_atoms_all (scope_at self.now procedure) (map expression_of arguments.now))
             left.items) }
     {
         let mut left = left_of_pc(alloc, pc)?;

@@ -1,9 +1,9 @@
 //! The pieces of a walk along blocks, statements and handlers that go into no block.
-ghost use Rattle.constraints.specs.Added.{IsPart};
-ghost use Rattle.constraints.specs.LeftSides.{scope_of};
-ghost use Rattle.constraints.specs.Ready.{entries_of, AreHandledInside, HasRoom};
+ghost use Rattle.constraints.specs.ByTable.{IsPartBy};
+ghost use Rattle.constraints.specs.ByWalk.{scope_in, entries_in, IsWalkedBy};
+ghost use Rattle.constraints.specs.Ready.{AreHandledInside, MayMakeUnknowns};
 ghost use Rattle.constraints.specs.ExitUnknowns.{exit_unknowns_of};
-ghost use Rattle.constraints.specs.Walked.{IsTried, IsWalked, branch_constraints};
+ghost use Rattle.constraints.specs.Walked.{IsTried, branch_constraints};
 ghost use Rattle.constraints.specs.Walks.{loop_head_constraints};
 ghost use Rattle.gathering.specs.Names.{NamedAtom};
 ghost use Rattle.gathering.specs.Walk.{block_constraints, call_constraints, inner_atom, onward_pc, rule_constraint, single};
@@ -38,9 +38,9 @@ pub(crate) struct Tried {
 impl<'a> ProcedureWalk<'a> {
     // The possible exits of the next block or statement.
     fn next_exits(&self, progress: &mut Progress) -> Exits
-        requires { progress.old.index < length (entries_of self.now.map.now) }
-        ensures found { drop progress.old.index (entries_of self.now.map.now)
-            ≡ result ∷ drop progress.new.index (entries_of self.now.map.now) }
+        requires { progress.old.index < length (entries_in self.now) }
+        ensures found { drop progress.old.index (entries_in self.now) ≡ result ∷ drop
+            progress.new.index (entries_in self.now) }
         ensures others { progress.new ≡ record progress.old { index = progress.new.index } }
     {
         let count = self.map.len();
@@ -56,13 +56,11 @@ impl<'a> ProcedureWalk<'a> {
         context: Context,
         progress: &mut Progress,
     ) -> Result<Exits, AllocError>
-        requires { progress.old.index < length (entries_of self.now.map.now) }
+        requires { progress.old.index < length (entries_in self.now) }
         ensures exits { IfOk result (λ exits. (first : Exits) (left : List Exits) →
-            drop progress.old.index (entries_of self.now.map.now) ≡ first ∷ left →
-            exits ≡ first) }
+            drop progress.old.index (entries_in self.now) ≡ first ∷ left → exits ≡ first) }
         ensures added { OnOk result ((ends : List Exit) →
-            IsWalked self.now.table.now.core.now self.now.table.now.core.now.labels
-            (entries_of self.now.map.now) context.pc context.exit_unknowns (ends ∷ [])
+            IsWalkedBy self.now context.pc context.exit_unknowns (ends ∷ [])
             (λ (named : NamedAtom). single (one_exit ends) named
             (exit_unknowns_of context.exit_unknowns progress.old.thrown.items) ends) 0
             progress.old progress.new) }
@@ -76,9 +74,8 @@ impl<'a> ProcedureWalk<'a> {
     // The pc of what follows a statement with these exits, whose normal exit has the exit unknown with this number.
     pub(crate) fn onward_pc(&self, exits: Exits, pc: Atom, number: u32) -> Atom
         ensures { (ends : List Exit) (named : NamedAtom) → exits ≡ exits_of ends →
-            IsPart self.now.table.now.core.now self.now.table.now.core.now.labels named pc →
-            IsPart self.now.table.now.core.now self.now.table.now.core.now.labels
-            (onward_pc (one_exit ends) named number) result }
+            IsPartBy self.now.table.now named pc →
+            IsPartBy self.now.table.now (onward_pc (one_exit ends) named number) result }
     {
         if exits.is_single() {
             return pc;
@@ -94,10 +91,8 @@ impl<'a> ProcedureWalk<'a> {
         progress: &mut Progress,
     ) -> Result<(), AllocError>
         ensures { OnOk result ((n : ℕ) →
-            IsWalked self.now.table.now.core.now self.now.table.now.core.now.labels
-            (entries_of self.now.map.now) context.pc context.exit_unknowns []
-            (λ (named : NamedAtom). block_constraints
-            (scope_of self.now.table.now.core.now self.now.procedure) reached named
+            IsWalkedBy self.now context.pc context.exit_unknowns []
+            (λ (named : NamedAtom). block_constraints (scope_in self.now) reached named
             (exit_unknowns_of context.exit_unknowns progress.old.thrown.items) n Empty) 0
             progress.old progress.new) }
     {
@@ -121,13 +116,10 @@ impl<'a> ProcedureWalk<'a> {
         context: Context,
         progress: &mut Progress,
     ) -> Result<u32, AllocError>
-        requires { HasRoom 1 progress.old }
+        requires { MayMakeUnknowns 1 progress.old }
         ensures number { IfOk result (λ number. number ≡ progress.old.number) }
-        ensures added { OnOk result (
-            IsWalked self.now.table.now.core.now self.now.table.now.core.now.labels
-            (entries_of self.now.map.now) context.pc context.exit_unknowns []
-            (λ (named : NamedAtom). branch_constraints
-            (scope_of self.now.table.now.core.now self.now.procedure) named
+        ensures added { OnOk result (IsWalkedBy self.now context.pc context.exit_unknowns []
+            (λ (named : NamedAtom). branch_constraints (scope_in self.now) named
             (exit_unknowns_of context.exit_unknowns progress.old.thrown.items) progress.old.number
             (expression_of condition.now)) 1 progress.old progress.new) }
     {
@@ -147,16 +139,13 @@ impl<'a> ProcedureWalk<'a> {
         context: Context,
         progress: &mut Progress,
     ) -> Result<(u32, u32), AllocError>
-        requires { HasRoom 2 progress.old }
+        requires { MayMakeUnknowns 2 progress.old }
         ensures inner { IfOk result (λ pcs. pcs.0 ≡ progress.old.number) }
         ensures back { IfOk result (λ pcs. pcs.1 ≡ progress.old.number + 1) }
-        ensures added { OnOk result (
-            IsWalked self.now.table.now.core.now self.now.table.now.core.now.labels
-            (entries_of self.now.map.now) context.pc context.exit_unknowns []
-            (λ (named : NamedAtom). loop_head_constraints
-            (scope_of self.now.table.now.core.now self.now.procedure) named
-            (exit_unknowns_of context.exit_unknowns progress.old.thrown.items) progress.old.number site.at
-            site.number (expression_of condition.now)) 2 progress.old progress.new) }
+        ensures added { OnOk result (IsWalkedBy self.now context.pc context.exit_unknowns []
+            (λ (named : NamedAtom). loop_head_constraints (scope_in self.now) named
+            (exit_unknowns_of context.exit_unknowns progress.old.thrown.items) progress.old.number
+            site.at site.number (expression_of condition.now)) 2 progress.old progress.new) }
     {
         let inner = progress.make(2);
         let back = inner + 1;
@@ -173,10 +162,8 @@ impl<'a> ProcedureWalk<'a> {
         progress: &mut Progress,
     ) -> Result<(), AllocError>
         ensures { OnOk result ((pc : Atom) (exit_unknowns : ExitUnknowns) →
-            IsWalked self.now.table.now.core.now self.now.table.now.core.now.labels
-            (entries_of self.now.map.now) pc exit_unknowns []
-            (λ (named : NamedAtom). rule_constraint
-            (scope_of self.now.table.now.core.now self.now.procedure) site.at 8
+            IsWalkedBy self.now pc exit_unknowns []
+            (λ (named : NamedAtom). rule_constraint (scope_in self.now) site.at 8
             (inner_atom back ∷ []) (ToLoop self.now.procedure site.number)) 0
             progress.old progress.new) }
     {
@@ -193,7 +180,7 @@ impl<'a> ProcedureWalk<'a> {
         progress: &mut Progress,
     ) -> Result<Tried, AllocError>
         requires inside { AreHandledInside handlers.now progress.old.thrown.items }
-        requires room { HasRoom (length handlers.now) progress.old }
+        requires room { MayMakeUnknowns (length handlers.now) progress.old }
         requires deep { exit_unknowns.level < progress.old.number }
         ensures { IfOk result (λ tried. IsTried exit_unknowns handlers.now
             progress.old progress.new tried) }
@@ -225,14 +212,11 @@ impl<'a> ProcedureWalk<'a> {
         context: Context,
         progress: &mut Progress,
     ) -> Result<(), AllocError>
-        requires { HasRoom 1 progress.old }
-        ensures { OnOk result (
-            IsWalked self.now.table.now.core.now self.now.table.now.core.now.labels
-            (entries_of self.now.map.now) context.pc context.exit_unknowns []
-            (λ (named : NamedAtom). call_constraints
-            (scope_of self.now.table.now.core.now self.now.procedure) named
-            (exit_unknowns_of context.exit_unknowns progress.old.thrown.items) progress.old.number site.at
-            site.callee (map expression_of arguments.now) site.target) 1
+        requires { MayMakeUnknowns 1 progress.old }
+        ensures { OnOk result (IsWalkedBy self.now context.pc context.exit_unknowns []
+            (λ (named : NamedAtom). call_constraints (scope_in self.now) named
+            (exit_unknowns_of context.exit_unknowns progress.old.thrown.items) progress.old.number
+            site.at site.callee (map expression_of arguments.now) site.target) 1
             progress.old progress.new) }
     {
         let number = progress.make(1);

@@ -1,6 +1,5 @@
 //! Walks past statements without blocks, but for calls.
-ghost use Rattle.constraints.specs.Ready.{entries_of};
-ghost use Rattle.constraints.specs.Walked.{IsFormWalked};
+ghost use Rattle.constraints.specs.ByWalk.{IsFormWalkedBy};
 ghost use Rattle.resolved.specs.Tree.{Assign, Clear, Leave, Receive, ReturnWith, Send, Store};
 ghost use Rattle.resolved.specs.TreeOf.{expression_of, some_expression_of};
 ghost use Rattle.std.specs.Prelude.{OnOk};
@@ -23,10 +22,8 @@ impl<'a> ProcedureWalk<'a> {
         context: Context,
         progress: &mut Progress,
     ) -> Result<(), AllocError>
-        ensures { OnOk result (IsFormWalked self.now.table.now.core.now
-            self.now.table.now.core.now.labels (entries_of self.now.map.now) self.now.procedure
-            context.pc context.exit_unknowns (Assign at variable (expression_of value.now))
-            progress.old progress.new) }
+        ensures { OnOk result (IsFormWalkedBy self.now context
+            (Assign at variable (expression_of value.now)) progress.old progress.new) }
     {
         let around = context.around(&progress.thrown);
         self.add_assign(at, variable, value, &around, &mut progress.constraints)
@@ -40,9 +37,7 @@ impl<'a> ProcedureWalk<'a> {
         context: Context,
         progress: &mut Progress,
     ) -> Result<(), AllocError>
-        ensures { OnOk result (IsFormWalked self.now.table.now.core.now
-            self.now.table.now.core.now.labels (entries_of self.now.map.now) self.now.procedure
-            context.pc context.exit_unknowns (Clear at slot)
+        ensures { OnOk result (IsFormWalkedBy self.now context (Clear at slot)
             progress.old progress.new) }
     {
         let around = context.around(&progress.thrown);
@@ -58,10 +53,8 @@ impl<'a> ProcedureWalk<'a> {
         context: Context,
         progress: &mut Progress,
     ) -> Result<(), AllocError>
-        ensures { OnOk result (IsFormWalked self.now.table.now.core.now
-            self.now.table.now.core.now.labels (entries_of self.now.map.now) self.now.procedure
-            context.pc context.exit_unknowns (Store store.at store.array store.length
-            (expression_of index.now) (expression_of value.now))
+        ensures { OnOk result (IsFormWalkedBy self.now context (Store store.at store.array
+            store.length (expression_of index.now) (expression_of value.now))
             progress.old progress.new) }
     {
         let around = context.around(&progress.thrown);
@@ -77,9 +70,7 @@ impl<'a> ProcedureWalk<'a> {
         context: Context,
         progress: &mut Progress,
     ) -> Result<(), AllocError>
-        ensures { OnOk result (IsFormWalked self.now.table.now.core.now
-            self.now.table.now.core.now.labels (entries_of self.now.map.now) self.now.procedure
-            context.pc context.exit_unknowns (Receive at channel target)
+        ensures { OnOk result (IsFormWalkedBy self.now context (Receive at channel target)
             progress.old progress.new) }
     {
         let around = context.around(&progress.thrown);
@@ -95,10 +86,8 @@ impl<'a> ProcedureWalk<'a> {
         context: Context,
         progress: &mut Progress,
     ) -> Result<(), AllocError>
-        ensures { OnOk result (IsFormWalked self.now.table.now.core.now
-            self.now.table.now.core.now.labels (entries_of self.now.map.now) self.now.procedure
-            context.pc context.exit_unknowns (Send at channel (expression_of value.now))
-            progress.old progress.new) }
+        ensures { OnOk result (IsFormWalkedBy self.now context
+            (Send at channel (expression_of value.now)) progress.old progress.new) }
     {
         let around = context.around(&progress.thrown);
         self.add_send(at, channel, value, &around, &mut progress.constraints)
@@ -112,9 +101,7 @@ impl<'a> ProcedureWalk<'a> {
         context: Context,
         progress: &mut Progress,
     ) -> Result<(), AllocError>
-        ensures { OnOk result (IsFormWalked self.now.table.now.core.now
-            self.now.table.now.core.now.labels (entries_of self.now.map.now) self.now.procedure
-            context.pc context.exit_unknowns (Leave at exit)
+        ensures { OnOk result (IsFormWalkedBy self.now context (Leave at exit)
             progress.old progress.new) }
     {
         let around = context.around(&progress.thrown);
@@ -129,10 +116,8 @@ impl<'a> ProcedureWalk<'a> {
         context: Context,
         progress: &mut Progress,
     ) -> Result<(), AllocError>
-        ensures { OnOk result (IsFormWalked self.now.table.now.core.now
-            self.now.table.now.core.now.labels (entries_of self.now.map.now) self.now.procedure
-            context.pc context.exit_unknowns (ReturnWith at (some_expression_of value.now))
-            progress.old progress.new) }
+        ensures { OnOk result (IsFormWalkedBy self.now context
+            (ReturnWith at (some_expression_of value.now)) progress.old progress.new) }
     {
         let around = context.around(&progress.thrown);
         self.add_return(at, value, &around, &mut progress.constraints)

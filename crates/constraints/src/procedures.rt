@@ -1,14 +1,14 @@
 //! The constraints of procedures.
-ghost use Rattle.constraints.specs.Added.{AreAdded};
-ghost use Rattle.constraints.specs.LeftSides.{scope_of};
-ghost use Rattle.constraints.specs.Procedures.{AreDeclaredExitUnknowns, StaysInPlace, IsOf, IsProcedureWalked, end_exit_unknowns_of, number_in};
-ghost use Rattle.constraints.specs.Ready.{entries_of, AreThrownInside, IsProcedureReady, most_unknowns};
+ghost use Rattle.constraints.specs.ByTable.{AreAddedBy, labels_in, program_in};
+ghost use Rattle.constraints.specs.ByWalk.{scope_in, IsWalkOf, IsProcedureReadyBy, IsProcedureWalkedBy};
+ghost use Rattle.constraints.specs.Procedures.{AreDeclaredExitUnknowns, StaysInPlace, end_exit_unknowns_of, number_in};
+ghost use Rattle.constraints.specs.Ready.{most_unknowns};
 ghost use Rattle.constraints.specs.ExitUnknowns.{AreWithin};
 ghost use Rattle.constraints.specs.Thinned.{ThinnedWhole};
 ghost use Rattle.gathering.specs.Walk.{exit_constraints, has_one_exit, program_constraints, thrown_constraints, unknown_count};
 ghost use Rattle.labels.specs.Label.{Label};
 ghost use Rattle.path_map.specs.EndsOf.{AreEndsOf};
-ghost use Rattle.resolved.specs.CoreOf.{program_of};
+ghost use Rattle.path_map.specs.Walks.{AreThrownInside};
 ghost use Rattle.resolved.specs.ProgramOf.{thrown_entry};
 ghost use Rattle.resolved.specs.Labelled.{here};
 ghost use Rattle.std.specs.Prelude.{IfOk, List, OnOk, length, map, suc, ℕ, ◌+◌, ◌<◌, ◌≡◌, ◌≤◌};
@@ -37,7 +37,7 @@ fn take_declared(
     level: u32,
     thrown: &mut Vec<ExitUnknown>,
 ) -> Result<(), AllocError>
-    requires inside { AreThrownInside throws.now thrown.old.items }
+    requires inside { AreThrownInside (length thrown.old.items) throws.now }
     requires room { number + length throws.now ≤ most_unknowns }
     ensures wide { OnOk result (length thrown.new.items ≡ length thrown.old.items) }
     ensures taken { OnOk result ((labels : List Label) (barrier : ℕ) → barrier < level →
@@ -66,12 +66,9 @@ impl<'a> ProcedureWalk<'a> {
         thrown: &[ExitUnknown],
         constraints: &mut Vec<Constraint<Option<Target>>>,
     ) -> Result<(), AllocError>
-        ensures { OnOk result (
-            at ≡ (here (scope_of self.now.table.now.core.now self.now.procedure)).at →
-            AreAdded self.now.table.now.core.now self.now.table.now.core.now.labels
-            (thrown_constraints (scope_of self.now.table.now.core.now self.now.procedure)
-            (number_in thrown.now)
-            (map (thrown_entry self.now.table.now.core.now.labels) throws.now))
+        ensures { OnOk result (at ≡ (here (scope_in self.now)).at →
+            AreAddedBy self.now.table.now (thrown_constraints (scope_in self.now)
+            (number_in thrown.now) (map (thrown_entry (labels_in self.now.table.now)) throws.now))
             constraints.old.items constraints.new.items) }
     {
         for declared in throws {
@@ -95,12 +92,10 @@ impl<'a> ProcedureWalk<'a> {
     ) -> Result<(), AllocError>
         ensures unchanged { OnOk result (StaysInPlace progress.old progress.new) }
         ensures added { OnOk result ((level : ℕ) (had : List ExitUnknown) →
-            IsOf self.now.table.now.core.now self.now.procedure procedure.now →
-            only ≡ has_one_exit (scope_of self.now.table.now.core.now self.now.procedure) →
-            AreDeclaredExitUnknowns (here (scope_of self.now.table.now.core.now
-            self.now.procedure)).throws (suc number) level had progress.old.thrown.items →
-            AreAdded self.now.table.now.core.now self.now.table.now.core.now.labels
-            (exit_constraints (scope_of self.now.table.now.core.now self.now.procedure) number)
+            IsWalkOf self.now procedure.now → only ≡ has_one_exit (scope_in self.now) →
+            AreDeclaredExitUnknowns (here (scope_in self.now)).throws (suc number) level had
+            progress.old.thrown.items →
+            AreAddedBy self.now.table.now (exit_constraints (scope_in self.now) number)
             progress.old.constraints.items progress.new.constraints.items) }
     {
         if only {
@@ -131,11 +126,9 @@ impl<'a> ProcedureWalk<'a> {
         barrier: u32,
         progress: &mut Progress,
     ) -> Result<(), AllocError>
-        requires { IsProcedureReady self.now.table.now.core.now (entries_of self.now.map.now)
-            self.now.procedure barrier procedure.now progress.old }
-        ensures { OnOk result (IsOf self.now.table.now.core.now self.now.procedure procedure.now →
-            IsProcedureWalked self.now.table.now.core.now self.now.table.now.core.now.labels
-            (entries_of self.now.map.now) self.now.procedure barrier progress.old progress.new) }
+        requires { IsProcedureReadyBy self.now barrier procedure.now progress.old }
+        ensures { OnOk result (IsWalkOf self.now procedure.now →
+            IsProcedureWalkedBy self.now barrier progress.old progress.new) }
     {
         let level = barrier + 1;
         let number = progress.number;
@@ -192,11 +185,11 @@ pub(crate) fn walk_procedures(
     table: &Table,
     ends: &Ends,
 ) -> Result<Progress, AllocError>
-    requires mapped { AreEndsOf (program_of table.now.core.now) ends.now }
-    ensures added { IfOk result (λ progress. ThinnedWhole table.now.core.now
-        table.now.core.now.labels (program_constraints (program_of table.now.core.now)) progress) }
+    requires mapped { AreEndsOf (program_in table.now) ends.now }
+    ensures added { IfOk result (λ progress. ThinnedWhole table.now.core.now (labels_in table.now)
+        (program_constraints (program_in table.now)) progress) }
     ensures number { IfOk result (λ progress. progress.number
-        ≡ unknown_count (program_of table.now.core.now)) }
+        ≡ unknown_count (program_in table.now)) }
 {
     // The exceptions that are declared come after those that are built in.
     let none = ExitUnknown {

@@ -1,5 +1,5 @@
 //! How far a walk along a program has come.
-ghost use Rattle.constraints.specs.Ready.{HasRoom};
+ghost use Rattle.constraints.specs.Ready.{MayMakeUnknowns};
 ghost use Rattle.std.specs.Prelude.{◌+◌, ◌≡◌};
 
 use crate::exit_unknowns::ExitUnknown;
@@ -21,7 +21,7 @@ pub struct Progress {
 impl Progress {
     // Makes this many inner unknowns, and gives the number of the first.
     pub(crate) fn make(&mut self, count: usize) -> u32
-        requires { HasRoom count self.old }
+        requires { MayMakeUnknowns count self.old }
         ensures first { result ≡ self.old.number }
         ensures made { self.new ≡ record self.old { number = self.old.number + count } }
     {

@@ -1,15 +1,15 @@
 //! The flows of the exceptions that calls raise: all calls at which an exception has one exit unknown reach it by one inner unknown.
-ghost use Rattle.constraints.specs.Added.{AreAdded, IsLeft, IsPart};
+ghost use Rattle.constraints.specs.BySpreading.{AreLabelsBy, AreSpreadToBy, AreSpreadBy};
+ghost use Rattle.constraints.specs.ByTable.{program_in, labels_in, IsPartBy, IsLeftBy, AreAddedBy};
 ghost use Rattle.constraints.specs.Following.{IsOver};
 ghost use Rattle.constraints.specs.Journals.{AreInOrder, HasOneExitUnknown};
 ghost use Rattle.constraints.specs.Merging.{AreSomeTaken, AreSpreadShared, rows_of};
 ghost use Rattle.constraints.specs.Ready.{most_unknowns};
-ghost use Rattle.constraints.specs.Spreading.{AreCallsOf, AreLabelsOf, AreRowsOf, AreSpread, AreSpreadTo, Declares, fixed_flows, made_list};
+ghost use Rattle.constraints.specs.Spreading.{AreCallsOf, AreRowsOf, fixed_flows, made_list};
 ghost use Rattle.constraints.specs.declared.journal.Called.{Called};
 ghost use Rattle.constraints.specs.declared.rows.ThrownLabel.{ThrownLabel};
 ghost use Rattle.gathering.specs.Names.{NamedAtom};
 ghost use Rattle.gathering.specs.Walk.{flow, inner_atom, inner_constraint};
-ghost use Rattle.resolved.specs.CoreOf.{program_of};
 ghost use Rattle.std.specs.List.{All};
 ghost use Rattle.std.specs.Prelude.{Contains, IfOk, IsTrue, List, OnOk, [], if◌then◌else◌, length, map, ℕ, ◌+◌, ◌++◌, ◌<◌, ◌∷◌, ◌≡◌, ◌≤◌, ◌⊎◌};
 
@@ -168,13 +168,10 @@ impl<'a> Spreading<'a> {
         requires { AreInOrder self.now.journal.now }
         ensures number { OnOk result (made.new.number ≡ made.old.number) }
         ensures added { OnOk result ((callee number : ℕ) →
-            IsPart self.now.table.now.core.now self.now.table.now.core.now.labels
-            (inner_atom number) node →
-            AreLabelsOf self.now.table.now.core.now self.now.table.now.core.now.labels callee
-            fixed.now →
-            AreAdded self.now.table.now.core.now self.now.table.now.core.now.labels
-            (fixed_flows (program_of self.now.table.now.core.now) self.now.journal.now called
-            callee number fixed.now)
+            IsPartBy self.now.table.now (inner_atom number) node →
+            AreLabelsBy self.now.table.now callee fixed.now →
+            AreAddedBy self.now.table.now (fixed_flows (program_in self.now.table.now)
+            self.now.journal.now called callee number fixed.now)
             made.old.constraints.items made.new.constraints.items) }
     {
         for thrown in fixed {
@@ -199,10 +196,8 @@ impl<'a> Spreading<'a> {
     ) -> Result<(), AllocError>
         ensures number { OnOk result (made.new.number ≡ made.old.number) }
         ensures added { OnOk result ((named of_label : NamedAtom) →
-            IsPart self.now.table.now.core.now self.now.table.now.core.now.labels named node →
-            IsPart self.now.table.now.core.now self.now.table.now.core.now.labels of_label label →
-            AreAdded self.now.table.now.core.now self.now.table.now.core.now.labels
-            (flow (named ∷ of_label ∷ []) exit_unknown)
+            IsPartBy self.now.table.now named node → IsPartBy self.now.table.now of_label label →
+            AreAddedBy self.now.table.now (flow (named ∷ of_label ∷ []) exit_unknown)
             made.old.constraints.items made.new.constraints.items) }
     {
         let left = vec![in self.alloc; node, label]?;
@@ -212,8 +207,7 @@ impl<'a> Spreading<'a> {
 
     // The parts of the labels of calls.
     fn owns(&self, calls: &[Called]) -> Result<Vec<Atom>, AllocError>
-        ensures { IfOk result (λ atoms.
-            IsLeft self.now.table.now.core.now self.now.table.now.core.now.labels
+        ensures { IfOk result (λ atoms. IsLeftBy self.now.table.now
             (map (λ (called : Called). inner_atom called.own) calls.now) atoms.items) }
     {
         let mut atoms = Vec::with_capacity(self.alloc, calls.len())?;
@@ -228,14 +222,11 @@ impl<'a> Spreading<'a> {
         requires { made.old.number < most_unknowns }
         ensures number { OnOk result (made.new.number ≡ made.old.number + 1) }
         ensures added { OnOk result ((atoms : List NamedAtom) →
-            IsLeft self.now.table.now.core.now self.now.table.now.core.now.labels
-            atoms parts.items →
-            AreAdded self.now.table.now.core.now self.now.table.now.core.now.labels
-            (inner_constraint atoms made.old.number)
+            IsLeftBy self.now.table.now atoms parts.items →
+            AreAddedBy self.now.table.now (inner_constraint atoms made.old.number)
             made.old.constraints.items made.new.constraints.items) }
-        ensures part { IfOk result (λ atom.
-            IsPart self.now.table.now.core.now self.now.table.now.core.now.labels
-            (inner_atom made.old.number) atom) }
+        ensures part { IfOk result (λ atom. IsPartBy self.now.table.now (inner_atom made.old.number)
+            atom) }
     {
         let number = made.number;
         made.number = number + 1;
@@ -255,16 +246,12 @@ impl<'a> Spreading<'a> {
         ensures number { OnOk result (made.new.number ≡ made.old.number + 1) }
         ensures count { OnOk result (length kept.new.items ≡ length kept.old.items) }
         ensures taken { OnOk result (AreSomeTaken (IsOver self.now.following.now)
-            (λ own. (atoms : List NamedAtom) →
-            IsLeft self.now.table.now.core.now self.now.table.now.core.now.labels
-            atoms parts.items →
-            AreAdded self.now.table.now.core.now self.now.table.now.core.now.labels
-            (inner_constraint atoms made.old.number) [] own)
+            (λ own. (atoms : List NamedAtom) → IsLeftBy self.now.table.now atoms parts.items →
+            AreAddedBy self.now.table.now (inner_constraint atoms made.old.number) [] own)
             (rows_of kept.old.items) (rows_of kept.new.items)
             made.old.constraints.items made.new.constraints.items) }
-        ensures part { IfOk result (λ atom.
-            IsPart self.now.table.now.core.now self.now.table.now.core.now.labels
-            (inner_atom made.old.number) atom) }
+        ensures part { IfOk result (λ atom. IsPartBy self.now.table.now (inner_atom made.old.number)
+            atom) }
     {
         let mut own = Made {
             number: made.number,
@@ -290,16 +277,11 @@ impl<'a> Spreading<'a> {
         ensures number { OnOk result (made.new.number ≡ made.old.number) }
         ensures count { OnOk result (length kept.new.items ≡ length kept.old.items) }
         ensures taken { OnOk result (AreSomeTaken (IsOver self.now.following.now)
-            (λ own. (callee number : ℕ) →
-            IsPart self.now.table.now.core.now self.now.table.now.core.now.labels
-            (inner_atom number) node →
-            AreLabelsOf self.now.table.now.core.now self.now.table.now.core.now.labels callee
-            fixed.now →
-            AreAdded self.now.table.now.core.now self.now.table.now.core.now.labels
-            (fixed_flows (program_of self.now.table.now.core.now) self.now.journal.now called
-            callee number fixed.now) [] own)
-            (rows_of kept.old.items) (rows_of kept.new.items)
-            made.old.constraints.items made.new.constraints.items) }
+            (λ own. (callee number : ℕ) → IsPartBy self.now.table.now (inner_atom number) node →
+            AreLabelsBy self.now.table.now callee fixed.now →
+            AreAddedBy self.now.table.now (fixed_flows (program_in self.now.table.now)
+            self.now.journal.now called callee number fixed.now) [] own) (rows_of kept.old.items)
+            (rows_of kept.new.items) made.old.constraints.items made.new.constraints.items) }
     {
         let mut own = Made {
             number: made.number,
@@ -321,10 +303,8 @@ impl<'a> Spreading<'a> {
         ensures number { OnOk result (made.new.number ≡ made.old.number) }
         ensures count { OnOk result (length kept.new.items ≡ length kept.old.items) }
         ensures spread { IfOk result (λ atom. AreSomeTaken (IsOver self.now.following.now)
-            (λ own. AreSpreadTo self.now.table.now.core.now
-            self.now.table.now.core.now.labels self.now.journal.now labels.now (called ∷ [])
-            (made_list made.old.number []) (made_list made.new.number own) atom)
-            (rows_of kept.old.items) (rows_of kept.new.items)
+            (λ own. AreSpreadToBy self.now labels.now (called ∷ []) (made_list made.old.number [])
+            (made_list made.new.number own) atom) (rows_of kept.old.items) (rows_of kept.new.items)
             made.old.constraints.items made.new.constraints.items) }
     {
         let node = Atom::Unknown(called.own);
@@ -348,10 +328,8 @@ fn spread(
     ensures fewer { OnOk result (made.new.number < made.old.number + length calls.now) }
     ensures count { OnOk result (length kept.new.items ≡ length kept.old.items) }
     ensures spread { IfOk result (λ atom. AreSomeTaken (IsOver of.now.following.now)
-        (λ own. AreSpreadTo of.now.table.now.core.now
-        of.now.table.now.core.now.labels of.now.journal.now labels.now calls.now
-        (made_list made.old.number []) (made_list made.new.number own) atom)
-        (rows_of kept.old.items) (rows_of kept.new.items)
+        (λ own. AreSpreadToBy of.now labels.now calls.now (made_list made.old.number [])
+        (made_list made.new.number own) atom) (rows_of kept.old.items) (rows_of kept.new.items)
         made.old.constraints.items made.new.constraints.items) }
 {
     let one = calls[0];
@@ -379,10 +357,8 @@ fn spread_halves(
     ensures fewer { OnOk result (made.new.number < made.old.number + length calls.now) }
     ensures count { OnOk result (length kept.new.items ≡ length kept.old.items) }
     ensures spread { IfOk result (λ atom. AreSomeTaken (IsOver of.now.following.now)
-        (λ own. AreSpreadTo of.now.table.now.core.now
-        of.now.table.now.core.now.labels of.now.journal.now varied.now calls.now
-        (made_list made.old.number []) (made_list made.new.number own) atom)
-        (rows_of kept.old.items) (rows_of kept.new.items)
+        (λ own. AreSpreadToBy of.now varied.now calls.now (made_list made.old.number [])
+        (made_list made.new.number own) atom) (rows_of kept.old.items) (rows_of kept.new.items)
         made.old.constraints.items made.new.constraints.items) }
 {
     if varied.is_empty() {
@@ -449,9 +425,7 @@ fn spread_row(
     ensures count { OnOk result (length kept.new.items ≡ length kept.old.items) }
     ensures spread { OnOk result (AreSomeTaken (IsOver of.now.following.now)
         (λ own. AreCallsOf callee calls.now →
-        AreSpread of.now.table.now.core.now of.now.table.now.core.now.labels of.now.journal.now
-        (Declares of.now.table.now.core.now) calls.now
-        (made_list made.old.number []) (made_list made.new.number own))
+        AreSpreadBy of.now calls.now (made_list made.old.number []) (made_list made.new.number own))
         (rows_of kept.old.items) (rows_of kept.new.items)
         made.old.constraints.items made.new.constraints.items) }
 {
@@ -463,7 +437,7 @@ fn spread_row(
     Ok(())
 }
 
-// For how many unknowns parts are kept: for so many, and for none where no call raises an exception, so that nothing will be spread.
+// For how many unknowns parts are kept: for those below the number, and for none where no call raises an exception, so that nothing will be spread.
 fn kept_count(table: &Table, calls: &[Called], number: u32) -> u32
     ensures { result ≤ number }
 {
@@ -484,7 +458,7 @@ pub(crate) fn spread_calls<'a>(
 ) -> Result<(), AllocError>
     requires ordered { AreInOrder journal.now }
     requires room { made.old.number + length journal.now.calls.items ≤ most_unknowns }
-    ensures { OnOk result (AreSpreadShared table.now.core.now table.now.core.now.labels journal.now
+    ensures { OnOk result (AreSpreadShared table.now.core.now (labels_in table.now) journal.now
         journal.now.calls.items made.old made.new) }
 {
     let rows = rows_of_calls(alloc, table.core.procedures.len(), &journal.calls)?;

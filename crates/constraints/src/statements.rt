@@ -1,8 +1,8 @@
 //! The constraints of statements without blocks, but for calls.
-ghost use Rattle.constraints.specs.Added.{AreAdded, IsGatheredAt, IsLeft};
-ghost use Rattle.constraints.specs.LeftSides.{scope_of};
+ghost use Rattle.constraints.specs.ByTable.{IsLeftBy, AreAddedBy, IsGatheredBy};
+ghost use Rattle.constraints.specs.ByWalk.{scope_in, IsSimpleBy};
 ghost use Rattle.constraints.specs.ExitUnknowns.{exit_unknowns_around};
-ghost use Rattle.constraints.specs.Walks.{IsSimple, valued_constraints};
+ghost use Rattle.constraints.specs.Walks.{valued_constraints};
 ghost use Rattle.gathering.specs.Names.{NamedAtom};
 ghost use Rattle.gathering.specs.Walk.{flow, raised_flows, target_constraint};
 ghost use Rattle.path_map.specs.Exceptions.{AreRaised};
@@ -45,11 +45,9 @@ impl<'a> ProcedureWalk<'a> {
         constraints: &mut Vec<Constraint<Option<Target>>>,
     ) -> Result<(), AllocError>
         ensures { OnOk result ((atoms : List NamedAtom) (exceptions : List ℕ) →
-            IsLeft self.now.table.now.core.now self.now.table.now.core.now.labels atoms left.now →
-            AreRaised found exceptions →
-            AreAdded self.now.table.now.core.now self.now.table.now.core.now.labels
-            (flow atoms (exit_unknowns_around around.now exit)
-            ++ raised_flows atoms (exit_unknowns_around around.now) exceptions)
+            IsLeftBy self.now.table.now atoms left.now → AreRaised found exceptions →
+            AreAddedBy self.now.table.now (flow atoms (exit_unknowns_around around.now exit) ++
+            raised_flows atoms (exit_unknowns_around around.now) exceptions)
             constraints.old.items constraints.new.items) }
     {
         let exit_unknown = around.exit_unknown(exit);
@@ -69,13 +67,10 @@ impl<'a> ProcedureWalk<'a> {
         around: &Around,
         constraints: &mut Vec<Constraint<Option<Target>>>,
     ) -> Result<(), AllocError>
-        ensures { OnOk result (IsGatheredAt self.now.table.now.core.now
-            self.now.table.now.core.now.labels around.now.pc
-            (λ (named : NamedAtom). valued_constraints
-            (scope_of self.now.table.now.core.now self.now.procedure) named
+        ensures { OnOk result (IsGatheredBy self.now.table.now around.now.pc
+            (λ (named : NamedAtom). valued_constraints (scope_in self.now) named
             (exit_unknowns_around around.now) demand.at (rule_number demand.rule)
-            (expression_of value.now)
-            demand.target exit)
+            (expression_of value.now) demand.target exit)
             constraints.old.items constraints.new.items) }
     {
         let valued = self
@@ -100,9 +95,7 @@ impl<'a> ProcedureWalk<'a> {
         around: &Around,
         constraints: &mut Vec<Constraint<Option<Target>>>,
     ) -> Result<(), AllocError>
-        ensures { OnOk result (IsSimple self.now.table.now.core.now
-            self.now.table.now.core.now.labels self.now.procedure
-            around.now.pc (exit_unknowns_around around.now)
+        ensures { OnOk result (IsSimpleBy self.now around.now
             (Assign at variable (expression_of value.now))
             constraints.old.items constraints.new.items) }
     {
@@ -124,9 +117,7 @@ impl<'a> ProcedureWalk<'a> {
         around: &Around,
         constraints: &mut Vec<Constraint<Option<Target>>>,
     ) -> Result<(), AllocError>
-        ensures { OnOk result (IsSimple self.now.table.now.core.now
-            self.now.table.now.core.now.labels self.now.procedure
-            around.now.pc (exit_unknowns_around around.now)
+        ensures { OnOk result (IsSimpleBy self.now around.now
             (Send at channel (expression_of value.now))
             constraints.old.items constraints.new.items) }
     {
@@ -147,10 +138,7 @@ impl<'a> ProcedureWalk<'a> {
         around: &Around,
         constraints: &mut Vec<Constraint<Option<Target>>>,
     ) -> Result<(), AllocError>
-        ensures { OnOk result (IsSimple self.now.table.now.core.now
-            self.now.table.now.core.now.labels self.now.procedure
-            around.now.pc (exit_unknowns_around around.now)
-            (Leave at exit)
+        ensures { OnOk result (IsSimpleBy self.now around.now (Leave at exit)
             constraints.old.items constraints.new.items) }
     {
         let exit_unknown = around.exit_unknown(exit);
@@ -167,9 +155,7 @@ impl<'a> ProcedureWalk<'a> {
         around: &Around,
         constraints: &mut Vec<Constraint<Option<Target>>>,
     ) -> Result<(), AllocError>
-        ensures { OnOk result (IsSimple self.now.table.now.core.now
-            self.now.table.now.core.now.labels self.now.procedure
-            around.now.pc (exit_unknowns_around around.now)
+        ensures { OnOk result (IsSimpleBy self.now around.now
             (ReturnWith at (some_expression_of value.now))
             constraints.old.items constraints.new.items) }
     {
@@ -200,10 +186,7 @@ impl<'a> ProcedureWalk<'a> {
         around: &Around,
         constraints: &mut Vec<Constraint<Option<Target>>>,
     ) -> Result<(), AllocError>
-        ensures { OnOk result (IsSimple self.now.table.now.core.now
-            self.now.table.now.core.now.labels self.now.procedure
-            around.now.pc (exit_unknowns_around around.now)
-            (Clear at slot)
+        ensures { OnOk result (IsSimpleBy self.now around.now (Clear at slot)
             constraints.old.items constraints.new.items) }
     {
         let target = Target::ToVariable(self.procedure, Variable::Local(slot));
@@ -230,10 +213,9 @@ impl<'a> ProcedureWalk<'a> {
         constraints: &mut Vec<Constraint<Option<Target>>>,
     ) -> Result<(), AllocError>
         ensures { OnOk result ((atoms : List NamedAtom) →
-            IsLeft self.now.table.now.core.now self.now.table.now.core.now.labels atoms left.items →
-            AreAdded self.now.table.now.core.now self.now.table.now.core.now.labels
-            (target_constraint (scope_of self.now.table.now.core.now self.now.procedure)
-            at (rule_number rule) atoms target)
+            IsLeftBy self.now.table.now atoms left.items →
+            AreAddedBy self.now.table.now
+            (target_constraint (scope_in self.now) at (rule_number rule) atoms target)
             constraints.old.items constraints.new.items) }
     {
         match target {
@@ -255,10 +237,7 @@ impl<'a> ProcedureWalk<'a> {
         around: &Around,
         constraints: &mut Vec<Constraint<Option<Target>>>,
     ) -> Result<(), AllocError>
-        ensures { OnOk result (IsSimple self.now.table.now.core.now
-            self.now.table.now.core.now.labels self.now.procedure
-            around.now.pc (exit_unknowns_around around.now)
-            (Receive at channel target)
+        ensures { OnOk result (IsSimpleBy self.now around.now (Receive at channel target)
             constraints.old.items constraints.new.items) }
     {
         let source = Target::ToChannel(channel);

@@ -1,8 +1,7 @@
 //! The constraints of stores into arrays.
-ghost use Rattle.constraints.specs.Added.{IsLeftFrom};
-ghost use Rattle.constraints.specs.LeftSides.{IsJoined, index_atoms, scope_of};
-ghost use Rattle.constraints.specs.ExitUnknowns.{exit_unknowns_around};
-ghost use Rattle.constraints.specs.Walks.{IsSimple};
+ghost use Rattle.constraints.specs.ByTable.{IsLeftFromBy, IsJoinedBy};
+ghost use Rattle.constraints.specs.ByWalk.{scope_in, IsSimpleBy};
+ghost use Rattle.constraints.specs.LeftSides.{index_atoms};
 ghost use Rattle.gathering.specs.Walk.{store_atoms};
 ghost use Rattle.path_map.specs.Exceptions.{AreRaised};
 ghost use Rattle.resolved.specs.Exits.{index_raises, raises};
@@ -30,11 +29,8 @@ impl<'a> ProcedureWalk<'a> {
         index: &Expression,
         value: &Expression,
     ) -> Result<Left, AllocError>
-        ensures { IfOk result (λ left. IsLeftFrom self.now.table.now.core.now
-            self.now.table.now.core.now.labels pc
-            (value_label (scope_of self.now.table.now.core.now self.now.procedure)
-            (expression_of index.now)
-            ++ value_label (scope_of self.now.table.now.core.now self.now.procedure)
+        ensures { IfOk result (λ left. IsLeftFromBy self.now.table.now pc (value_label
+            (scope_in self.now) (expression_of index.now) ++ value_label (scope_in self.now)
             (expression_of value.now)) left.items) }
     {
         let mut left = left_of_pc(self.alloc, pc)?;
@@ -51,10 +47,9 @@ impl<'a> ProcedureWalk<'a> {
         index: &Expression,
         value: &Expression,
     ) -> Result<Left, AllocError>
-        ensures { IfOk result (λ left. IsLeftFrom self.now.table.now.core.now
-            self.now.table.now.core.now.labels pc
-            (store_atoms (scope_of self.now.table.now.core.now self.now.procedure) length
-            (expression_of index.now) (expression_of value.now)) left.items) }
+        ensures { IfOk result (λ left. IsLeftFromBy self.now.table.now pc (store_atoms
+            (scope_in self.now) length (expression_of index.now) (expression_of value.now))
+            left.items) }
     {
         let mut left = left_of_pc(self.alloc, pc)?;
         self.add_index(length, index, &mut left)?;
@@ -64,10 +59,9 @@ impl<'a> ProcedureWalk<'a> {
 
     // Adds what decides whether the index of a store raises an exception.
     fn add_index(&self, length: u32, index: &Expression, left: &mut Left) -> Result<(), AllocError>
-        ensures { OnOk result (IsJoined self.now.table.now.core.now
-            self.now.table.now.core.now.labels
-            (index_atoms (scope_of self.now.table.now.core.now self.now.procedure) length
-            (expression_of index.now)) left.old.items left.new.items) }
+        ensures { OnOk result (IsJoinedBy self.now.table.now
+            (index_atoms (scope_in self.now) length (expression_of index.now))
+            left.old.items left.new.items) }
     {
         if index_can_raise(index, length) {
             return self.table.add_value(self.procedure, index, left);
@@ -85,11 +79,8 @@ impl<'a> ProcedureWalk<'a> {
         around: &Around,
         constraints: &mut Vec<Constraint<Option<Target>>>,
     ) -> Result<(), AllocError>
-        ensures { OnOk result (IsSimple self.now.table.now.core.now
-            self.now.table.now.core.now.labels self.now.procedure
-            around.now.pc (exit_unknowns_around around.now)
-            (Store store.at store.array store.length
-            (expression_of index.now) (expression_of value.now))
+        ensures { OnOk result (IsSimpleBy self.now around.now (Store store.at store.array
+            store.length (expression_of index.now) (expression_of value.now))
             constraints.old.items constraints.new.items) }
     {
         let target = Target::ToVariable(self.procedure, store.array);

@@ -1,6 +1,6 @@
 //! The parts of constraints that stand for the labels of a program.
 ghost use Rattle.constraints.specs.LeftSides.{Written, part, part_of};
-ghost use Rattle.constraints.specs.Rows.{IsRow, IsTable, label_among, written_atom};
+ghost use Rattle.constraints.specs.Rows.{IsRow, IsPartTable, label_among, written_atom};
 ghost use Rattle.gathering.specs.Names.{real_unknowns, unknowns_before};
 ghost use Rattle.resolved.specs.CoreOf.{program_of};
 ghost use Rattle.resolved.specs.Labelled.{thrown_label};
@@ -26,7 +26,7 @@ pub struct Table<'a> {
     nothing: Atom,
     rows: Vec<ProcedureLabels>,
     outside: ProcedureLabels,
-    ghost are: { IsTable core.now nothing rows.items outside },
+    ghost are: { IsPartTable core.now nothing rows.items outside },
     ghost count: { unknowns ≡ real_unknowns (program_of core.now) },
 }
 

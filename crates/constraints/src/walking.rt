@@ -1,6 +1,5 @@
 //! The walk along blocks, statements and handlers that adds what is gathered of them.
-ghost use Rattle.constraints.specs.Ready.{entries_of, AreHandlersReady, AreStatementsReady, IsBlockReady, IsFormReady, IsStatementReady};
-ghost use Rattle.constraints.specs.Walked.{AreHandlersWalked, AreStatementsWalked, IsBlockWalked, IsStatementWalked, IsFormWalked};
+ghost use Rattle.constraints.specs.ByWalk.{entries_in, IsBlockReadyBy, AreStatementsReadyBy, IsStatementReadyBy, IsFormReadyBy, AreHandlersReadyBy, IsBlockWalkedBy, AreStatementsWalkedBy, IsStatementWalkedBy, IsFormWalkedBy, AreHandlersWalkedBy};
 ghost use Rattle.path_map.specs.Exits.{Exits};
 ghost use Rattle.resolved.specs.Tree.{If, Try, While};
 ghost use Rattle.resolved.specs.TreeOf.{block_of, expression_of, handlers_of, statement_of};
@@ -28,11 +27,9 @@ pub(crate) fn walk_block(
     context: Context,
     progress: &mut Progress,
 ) -> Result<(), AllocError>
-    requires { IsBlockReady walk.now.table.now.core.now (entries_of walk.now.map.now)
-        walk.now.procedure context.exit_unknowns (block_of block.now) progress.old }
-    ensures { OnOk result (IsBlockWalked walk.now.table.now.core.now
-        walk.now.table.now.core.now.labels (entries_of walk.now.map.now) walk.now.procedure
-        context.pc context.exit_unknowns (block_of block.now) progress.old progress.new) }
+    requires { IsBlockReadyBy walk.now context.exit_unknowns (block_of block.now) progress.old }
+    ensures { OnOk result (IsBlockWalkedBy walk.now context (block_of block.now)
+        progress.old progress.new) }
 {
     let exits = walk.begin(context, progress)?;
     let exit_unknowns = context.exit_unknowns.within_single(exits.is_single());
@@ -52,11 +49,10 @@ fn walk_statements(
     context: Context,
     progress: &mut Progress,
 ) -> Result<(), AllocError>
-    requires { AreStatementsReady walk.now.table.now.core.now (entries_of walk.now.map.now)
-        walk.now.procedure context.exit_unknowns (block_of block.now) progress.old }
-    ensures { OnOk result (AreStatementsWalked walk.now.table.now.core.now
-        walk.now.table.now.core.now.labels (entries_of walk.now.map.now) walk.now.procedure
-        context.pc context.exit_unknowns (block_of block.now) progress.old progress.new) }
+    requires { AreStatementsReadyBy walk.now context.exit_unknowns (block_of block.now)
+        progress.old }
+    ensures { OnOk result (AreStatementsWalkedBy walk.now context (block_of block.now)
+        progress.old progress.new) }
 {
     let mut reached = true;
     let mut onward = context.pc;
@@ -87,14 +83,12 @@ fn walk_statement(
     context: Context,
     progress: &mut Progress,
 ) -> Result<Exits, AllocError>
-    requires { IsStatementReady walk.now.table.now.core.now (entries_of walk.now.map.now)
-        walk.now.procedure context.exit_unknowns (statement_of statement.now) progress.old }
+    requires { IsStatementReadyBy walk.now context.exit_unknowns (statement_of statement.now)
+        progress.old }
     ensures exits { IfOk result (λ exits. (first : Exits) (left : List Exits) →
-        drop progress.old.index (entries_of walk.now.map.now) ≡ first ∷ left → exits ≡ first) }
-    ensures added { OnOk result (IsStatementWalked walk.now.table.now.core.now
-        walk.now.table.now.core.now.labels (entries_of walk.now.map.now) walk.now.procedure
-        context.pc context.exit_unknowns number (statement_of statement.now)
-        progress.old progress.new) }
+        drop progress.old.index (entries_in walk.now) ≡ first ∷ left → exits ≡ first) }
+    ensures added { OnOk result (IsStatementWalkedBy walk.now context number
+        (statement_of statement.now) progress.old progress.new) }
 {
     let exit_unknowns = context.exit_unknowns.with_normal(None);
     let exits = walk.begin(
@@ -128,11 +122,10 @@ fn walk_form(
     context: Context,
     progress: &mut Progress,
 ) -> Result<(), AllocError>
-    requires { IsFormReady walk.now.table.now.core.now (entries_of walk.now.map.now)
-        walk.now.procedure context.exit_unknowns (statement_of statement.now) progress.old }
-    ensures { OnOk result (IsFormWalked walk.now.table.now.core.now
-        walk.now.table.now.core.now.labels (entries_of walk.now.map.now) walk.now.procedure
-        context.pc context.exit_unknowns (statement_of statement.now) progress.old progress.new) }
+    requires { IsFormReadyBy walk.now context.exit_unknowns (statement_of statement.now)
+        progress.old }
+    ensures { OnOk result (IsFormWalkedBy walk.now context (statement_of statement.now)
+        progress.old progress.new) }
 {
     match statement {
         Statement::Assign(at, variable, value) => {
@@ -177,14 +170,11 @@ fn walk_if(
     context: Context,
     progress: &mut Progress,
 ) -> Result<(), AllocError>
-    requires { IsFormReady walk.now.table.now.core.now (entries_of walk.now.map.now)
-        walk.now.procedure context.exit_unknowns
+    requires { IsFormReadyBy walk.now context.exit_unknowns
         (If 0 (expression_of condition.now) (block_of then_block.now) (block_of else_block.now))
         progress.old }
     ensures { OnOk result ((at : ℕ) →
-        IsFormWalked walk.now.table.now.core.now
-        walk.now.table.now.core.now.labels (entries_of walk.now.map.now) walk.now.procedure
-        context.pc context.exit_unknowns
+        IsFormWalkedBy walk.now context
         (If at (expression_of condition.now) (block_of then_block.now) (block_of else_block.now))
         progress.old progress.new) }
 {
@@ -206,12 +196,9 @@ fn walk_while(
     context: Context,
     progress: &mut Progress,
 ) -> Result<(), AllocError>
-    requires { IsFormReady walk.now.table.now.core.now (entries_of walk.now.map.now)
-        walk.now.procedure context.exit_unknowns
+    requires { IsFormReadyBy walk.now context.exit_unknowns
         (While site.at site.number (expression_of condition.now) (block_of body.now)) progress.old }
-    ensures { OnOk result (IsFormWalked walk.now.table.now.core.now
-        walk.now.table.now.core.now.labels (entries_of walk.now.map.now) walk.now.procedure
-        context.pc context.exit_unknowns
+    ensures { OnOk result (IsFormWalkedBy walk.now context
         (While site.at site.number (expression_of condition.now) (block_of body.now))
         progress.old progress.new) }
 {
@@ -234,14 +221,10 @@ fn walk_try(
     context: Context,
     progress: &mut Progress,
 ) -> Result<(), AllocError>
-    requires { IsFormReady walk.now.table.now.core.now (entries_of walk.now.map.now)
-        walk.now.procedure context.exit_unknowns (Try 0 (block_of block.now)
-        (handlers_of handlers.now))
-        progress.old }
+    requires { IsFormReadyBy walk.now context.exit_unknowns
+        (Try 0 (block_of block.now) (handlers_of handlers.now)) progress.old }
     ensures { OnOk result ((at : ℕ) →
-        IsFormWalked walk.now.table.now.core.now
-        walk.now.table.now.core.now.labels (entries_of walk.now.map.now) walk.now.procedure
-        context.pc context.exit_unknowns (Try at (block_of block.now) (handlers_of handlers.now))
+        IsFormWalkedBy walk.now context (Try at (block_of block.now) (handlers_of handlers.now))
         progress.old progress.new) }
 {
     let tried = walk.begin_try(handlers, context.exit_unknowns, progress)?;
@@ -272,13 +255,12 @@ fn walk_handlers(
     progress: &mut Progress,
 ) -> Result<(), AllocError>
     requires numbered { length numbers.now ≡ length handlers.now }
-    requires ready { AreHandlersReady walk.now.table.now.core.now (entries_of walk.now.map.now)
-        walk.now.procedure exit_unknowns (handlers_of handlers.now) progress.old }
+    requires ready { AreHandlersReadyBy walk.now exit_unknowns (handlers_of handlers.now)
+        progress.old }
     ensures { OnOk result ((number : ℕ → ℕ) (pc : Atom) →
         numbers.now ≡ map (λ (handler : Handler). number handler.exception) handlers.now →
-        AreHandlersWalked walk.now.table.now.core.now
-        walk.now.table.now.core.now.labels (entries_of walk.now.map.now) walk.now.procedure
-        pc exit_unknowns number (handlers_of handlers.now) progress.old progress.new) }
+        AreHandlersWalkedBy walk.now pc exit_unknowns number (handlers_of handlers.now)
+        progress.old progress.new) }
 {
     for (i, handler) in handlers.iter().enumerate() {
         let pc = Atom::Unknown(numbers[i]);

@@ -1,7 +1,8 @@
 //! The least labels of locals, as lines.
 
 ghost use Rattle.common.specs.Answers.{IfRefused};
-ghost use Rattle.explaining.specs.Locals.{AreLines, IsLocalLine, WritesLabels, WritesSomeLabels, if_unlabelled, local_of, locals_in};
+ghost use Rattle.explaining.specs.ByLocals.{AreLinesBy, IsLineBy};
+ghost use Rattle.explaining.specs.Locals.{WritesLabels, WritesSomeLabels, if_unlabelled, local_of, locals_in};
 ghost use Rattle.explaining.specs.Text.{Writes, WritesPrefix};
 ghost use Rattle.gathering.specs.Names.{unknowns_before};
 ghost use Rattle.resolved.specs.CoreOf.{program_of};
@@ -75,11 +76,11 @@ impl Locals<'_> {
             ≡ unknowns_before (program_of self.now.checked.now.core) self.now.procedure }
         requires few { self.now.first + length slots.now < 2 ^ 32 }
         ensures accepted { let labels = self.now.checked.now.core.labels in
-            OnOk result (Writes (AreLines self.now.marked.now.text.now self.now.checked.now
+            OnOk result (Writes (AreLinesBy self.now
             (locals_in self.now.procedure 0 (map (slot_entry labels) slots.now)))
             (O.taken out.old) (O.taken out.new)) }
         ensures prefix { let labels = self.now.checked.now.core.labels in
-            OnErr result (WritesPrefix (AreLines self.now.marked.now.text.now self.now.checked.now
+            OnErr result (WritesPrefix (AreLinesBy self.now
             (locals_in self.now.procedure 0 (map (slot_entry labels) slots.now)))
             (O.taken out.old) (O.taken out.new)) }
         ensures rejected { IfErr result (IfRefused (λ _. IsTrue (O.has_failed out.new))) }
@@ -102,11 +103,11 @@ impl Locals<'_> {
             ≡ unknowns_before (program_of self.now.checked.now.core) self.now.procedure }
         requires few { self.now.first + number < 2 ^ 32 }
         ensures accepted { let entry = slot_entry self.now.checked.now.core.labels slot.now in
-            OnOk result (Writes (AreLines self.now.marked.now.text.now self.now.checked.now
+            OnOk result (Writes (AreLinesBy self.now
             (if_unlabelled (local_of self.now.procedure number entry) entry.written))
             (O.taken out.old) (O.taken out.new)) }
         ensures prefix { let entry = slot_entry self.now.checked.now.core.labels slot.now in
-            OnErr result (WritesPrefix (AreLines self.now.marked.now.text.now self.now.checked.now
+            OnErr result (WritesPrefix (AreLinesBy self.now
             (if_unlabelled (local_of self.now.procedure number entry) entry.written))
             (O.taken out.old) (O.taken out.new)) }
         ensures rejected { IfErr result (IfRefused (λ _. IsTrue (O.has_failed out.new))) }
@@ -124,9 +125,9 @@ impl Locals<'_> {
         requires first { self.now.first
             ≡ unknowns_before (program_of self.now.checked.now.core) self.now.procedure }
         requires few { self.now.first + number < 2 ^ 32 }
-        ensures { IfOk result (λ line. IsLocalLine self.now.marked.now.text.now self.now.checked.now
-            (local_of self.now.procedure number
-            (slot_entry self.now.checked.now.core.labels slot.now)) (string_bytes line)) }
+        ensures { let entry = slot_entry self.now.checked.now.core.labels slot.now in
+            IfOk result (λ line. IsLineBy self.now
+            (local_of self.now.procedure number entry) (string_bytes line)) }
     {
         let label = self
             .checked

@@ -1,12 +1,18 @@
 -- What a run has shown where a stream failed or memory ran out.
 use Rattle.std.proofs.Common.{◌≡◌, ℕ, ◌≤◌, List, ap, ◌∙◌, subst, inr, Option, Result, Ok, Err, IfOk}
 use Rattle.std.specs.Io.KnownBytes.{Appends}
+use Rattle.std.specs.Prelude.{IsUtf8}
 use Rattle.std.specs.String.{string_bytes}
 use Rattle.labels.proofs.Prefixes.{prefix-itself}
 use Rattle.principals.specs.ActsFor.{PrincipalHierarchy}
+use Rattle.modules.specs.ByteFormat.{Spells}
 use Rattle.modules.specs.Contents.{ModuleContents}
+use Rattle.modules.specs.Format.{module_file}
 use Rattle.modules.specs.Machine.{Machine, Running, after_steps, exec, first_state, machine_code, sent_of}
 use Rattle.channels.specs.Sink.{AppendsPrefix}
+use Rattle.channels.specs.World.{input_names}
+use Rattle.channels.specs.WorldText.{IsWorldText, lines_of}
+use Rattle.verifier.specs.Refusals.{IsNotRefused}
 use Rattle.channels.specs.View.{ShowsAll, ShowsPrefix}
 use Rattle.machine.specs.Run.{ReportsStatus}
 use Rattle.machine.specs.declared.status.Status.{Status}
@@ -21,6 +27,10 @@ use Rattle.flowc.specs.View.{IsObserver, observer_view, view_text}
 -- what was written to its end was written as a prefix
 pub appended_all : (old new : Option (List ℕ)) (text : List ℕ) → Appends old new text → AppendsPrefix old new text
 appended_all old new text program = (text, prefix-itself text, program)
+
+-- a module that was taken, and a world that was taken for it
+pub sound_by : (code text : List ℕ) (m : ModuleContents) → Spells module_file m code → IsNotRefused m → IsUtf8 text → IsWorldText (input_names m) (lines_of text) → AreSound code text m
+sound_by code text m spelled not_refused encoded right = record { spelled = spelled; not_refused = not_refused; encoded = encoded; right = right }
 
 -- what can be run
 pub can_run : (code text : List ℕ) (under name : Option (List ℕ)) (m : ModuleContents) (h : PrincipalHierarchy) (principal : Option ℕ)

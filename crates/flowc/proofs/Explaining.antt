@@ -7,7 +7,7 @@ use Rattle.checker.specs.declared.fault.RefusedFlow.{RefusedFlow}
 use Rattle.checker.specs.Reported.{HasFlow, IsFirstFault, TextsAskForFlow}
 use Rattle.checker.specs.declared.fault.Refusal.{Refusal}
 use Rattle.explaining.specs.Flow.{flow_text}
-use Rattle.flowc.specs.Explained.{IsRefusedFor, Explains, ExplainsRefusal, ExplainsSome, ShowsChain}
+use Rattle.flowc.specs.Explained.{AreTextsRefusedFor, Explains, ExplainsRefusal, ExplainsSome, ShowsChain}
 use Rattle.flowc.specs.Explained.ExplainsSome.{chain}
 use Rattle.flowc.specs.Task.{status_of_fault}
 use Rattle.flowc.specs.declared.ended.Ended.{Ended}
@@ -17,7 +17,7 @@ use Rattle.flowc.specs.declared.fault.PerformFault.TheVariants.{Refused, CannotW
 -- what is known of a refusal
 module _ (h s : List ℕ) (refusal : Refusal) (old new : Option (List ℕ)) (first : IsFirstFault h s refusal) (has : HasFlow refusal)
     (asked : IfSome refusal.flow (TextsAskForFlow h s refusal)) where
-  refused_for : IsRefusedFor h s refusal
+  refused_for : AreTextsRefusedFor h s refusal
   refused_for = record { first = first; has_flow = has; asked = asked }
 
   -- a prefix of the chain of the flow went out

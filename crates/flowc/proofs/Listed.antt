@@ -1,7 +1,7 @@
 -- What a listing has shown where a stream failed or memory ran out.
 use Rattle.std.proofs.Common.{◌≡◌, ℕ, List, inr, subst, Option}
 use Rattle.modules.specs.Contents.{ModuleContents}
-use Rattle.modules.specs.Form.{Spells}
+use Rattle.modules.specs.ByteFormat.{Spells}
 use Rattle.modules.specs.Format.{module_file}
 use Rattle.channels.specs.Sink.{AppendsPrefix}
 use Rattle.listing.specs.Listing.{listing_text}

@@ -24,7 +24,7 @@ use Rattle.resolved.specs.Program.{Program}
 use Rattle.resolved.specs.SourceState.{World}
 use Rattle.modules.specs.Contents.{ModuleContents}
 use Rattle.bytecode.specs.Decoded.{first_refusal}
-use Rattle.modules.specs.Form.{Fits, Spells}
+use Rattle.modules.specs.ByteFormat.{Fits, Spells}
 use Rattle.modules.specs.Format.{module_file}
 use Rattle.modules.specs.Isolated.{AgreeOnInputs, IsIsolated, StaysIsolated, channel_label, module_view}
 use Rattle.modules.proofs.Own.{module-hierarchy, own-isolation, own-view}
@@ -47,7 +47,7 @@ use Rattle.host.specs.Meaning.{CanOpen, IsContained, hierarchy_under}
 use Rattle.host.proofs.Ends.{end_of_status, same_at}
 use Rattle.flowc.specs.Compiled.{NamedText, bytes_of, text_at}
 use Rattle.flowc.specs.Lines.{end_line}
-use Rattle.flowc.specs.Promises.{RunsAreIsolated, RunsEndAsTheSource, RunsShowThemselves, SessionsAreIsolated, SessionsEndAsTheSource, SessionsShowNoLess, SessionsShowNoMore, SilentModulesShowLess, SomeSessionsShowAll, StandardErrorIsFixed, module_in, program_in, program_view, seen_under}
+use Rattle.flowc.specs.Promises.{RunsAreIsolated, RunsEndAsTheSource, RunsShowThemselves, CompiledSessionsAreIsolated, SessionsEndAsTheSource, SessionsShowNoLess, SessionsShowNoMore, SilentModulesShowLess, SomeSessionsShowAll, StandardErrorIsFixed, module_in, program_in, program_view, seen_under}
 use Rattle.flowc.specs.Stdout.{CanRun, IsViewedUnder, numbers_in, text_shown}
 use Rattle.flowc.specs.Task.{reported_status}
 use Rattle.flowc.specs.Messages.{IsHierarchyLine, IsObserverLine, IsRefusedLine, IsUnderLine, IsWorldLine, reported_line}
@@ -196,7 +196,7 @@ there_isolated m fits stays None kept contained = own-isolation m fits stays
 there_isolated m fits stays (Some larger) kept contained = stays larger kept contained
 
 pub isolated : (one : (m n : ModuleContents) (bytes : List ℕ) → Spells module_file m bytes → Spells module_file n bytes → m ≡ n)
-    → sessions.SessionsAreIsolated → sessions.SessionsCanBeOpened → SessionsAreIsolated
+    → sessions.SessionsAreIsolated → sessions.SessionsCanBeOpened → CompiledSessionsAreIsolated
 isolated one law can_be said source code compiled under kept p first second agree pairs others shown other_shown =
     let m = module_in compiled in
     let can = can_be code first under p pairs shown in

@@ -21,7 +21,7 @@ use Rattle.std.proofs.lemmas.Result.{err_from_is_err_and}
 use Rattle.common.specs.declared.sent.Pair.{Pair}
 use Rattle.principals.specs.ActsFor.{PrincipalHierarchy, ContainsHierarchy}
 use Rattle.principals.specs.Laws.{HasOneHierarchy, IsNotReadAndRefused}
-use Rattle.modules.specs.Form.{Spells}
+use Rattle.modules.specs.ByteFormat.{Spells}
 use Rattle.modules.specs.Format.{module_file}
 use Rattle.host.specs.Meaning.{hierarchy_under}
 use Rattle.flowc.specs.View.{IsObserver}

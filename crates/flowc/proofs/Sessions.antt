@@ -1,4 +1,4 @@
--- A session of bytes that can be opened, by a host with one place, which shows what the bytes send within this many steps.
+-- A session of bytes that can be opened, by a host with room for one, which shows what the bytes send within this many steps.
 use Rattle.std.proofs.Common.{◌≡◌, ℕ, zero, suc, ◌≤◌, ◌<◌, ◌⊎◌, List, [], ◌∷◌, length, Option, Some, refl, sym, ap, ◌∙◌, subst, inl, inr, ⊎_elim, arith}
 use Rattle.principals.specs.ActsFor.{PrincipalHierarchy}
 use Rattle.common.specs.declared.sent.Pair.{Pair}

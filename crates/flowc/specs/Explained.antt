@@ -24,7 +24,7 @@ Explains hierarchy source old new =
     (checked : CheckedProgram) × IsCheckOf hierarchy source checked × WritesLabels checked source old new
 
 -- the first fault of two texts, with the flow where one is not allowed
-pub record IsRefusedFor (hierarchy source : List ℕ) (refusal : Refusal) : Type 0 where
+pub record AreTextsRefusedFor (hierarchy source : List ℕ) (refusal : Refusal) : Type 0 where
   pub first : IsFirstFault hierarchy source refusal
   pub has_flow : HasFlow refusal
   pub asked : IfSome refusal.flow (TextsAskForFlow hierarchy source refusal)
@@ -36,12 +36,12 @@ ShowsChain source (Some flow) old new = Appends old new (flow_text source flow)
 
 abbrev pub ExplainsRefusal : (hierarchy source : List ℕ) → (old new : Option (List ℕ)) → Type 0
 ExplainsRefusal hierarchy source old new =
-    (refusal : Refusal) × IsRefusedFor hierarchy source refusal × ShowsChain source refusal.flow old new
+    (refusal : Refusal) × AreTextsRefusedFor hierarchy source refusal × ShowsChain source refusal.flow old new
 
 -- where a stream failed or memory ran out: nothing was written, or a prefix of one of these
 pub data ExplainsSome (hierarchy source : List ℕ) (old new : Option (List ℕ)) : Type 0 where
   nothing : old ≡ new → ExplainsSome hierarchy source old new
   labels : (checked : CheckedProgram) → IsCheckOf hierarchy source checked
       → WritesSomeLabels checked source old new → ExplainsSome hierarchy source old new
-  chain : (refusal : Refusal) (flow : RefusedFlow) → IsRefusedFor hierarchy source refusal → refusal.flow ≡ Some flow
+  chain : (refusal : Refusal) (flow : RefusedFlow) → AreTextsRefusedFor hierarchy source refusal → refusal.flow ≡ Some flow
       → AppendsPrefix old new (flow_text source flow) → ExplainsSome hierarchy source old new

@@ -8,7 +8,7 @@ use Rattle.std.specs.declared.vec.Vec.{Vec}
 use Rattle.principals.specs.ActsFor.{PrincipalHierarchy, ContainsHierarchy, HasName}
 use Rattle.acceptance.specs.Accepted.{HasHierarchy}
 use Rattle.modules.specs.Contents.{ModuleContents}
-use Rattle.modules.specs.Form.{Spells}
+use Rattle.modules.specs.ByteFormat.{Spells}
 use Rattle.modules.specs.Format.{module_file}
 use Rattle.modules.specs.Machine.{after_steps, machine_code}
 use Rattle.channels.specs.Sink.{AppendsPrefix}

@@ -115,8 +115,8 @@ SessionsEndAsTheSource =
 
 -- isolation: two sessions of the bytes, opened by any hosts among any events, both under their own hierarchy or both under one that
 -- contains it, on worlds that agree there for a principal, show it lists of which one is a prefix of the other
-abbrev pub SessionsAreIsolated : Type 0
-SessionsAreIsolated =
+abbrev pub CompiledSessionsAreIsolated : Type 0
+CompiledSessionsAreIsolated =
     (hierarchy source code : List ℕ) (compiled : IsCompiled hierarchy source code) (under : Option PrincipalHierarchy)
     → IfSome under IsHierarchy → (p : ℕ) (first second : List InputNumbers)
     → AgreeOnInputs (hierarchy_in compiled under) (module_in compiled) p (numbers_of_channel (module_in compiled) first)

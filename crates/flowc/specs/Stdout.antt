@@ -9,7 +9,7 @@ use Rattle.principals.specs.ActsFor.{PrincipalHierarchy, ContainsHierarchy}
 use Rattle.acceptance.specs.Accepted.{HasHierarchy}
 use Rattle.labels.specs.Sent.{IsPrefix}
 use Rattle.modules.specs.Contents.{ModuleContents}
-use Rattle.modules.specs.Form.{Spells}
+use Rattle.modules.specs.ByteFormat.{Spells}
 use Rattle.modules.specs.Format.{module_file}
 use Rattle.modules.specs.Machine.{after_steps, machine_code, sent_after}
 use Rattle.channels.specs.Sink.{AppendsPrefix}

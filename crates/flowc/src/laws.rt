@@ -1,7 +1,7 @@
 //! What is promised of the bytes that two texts are compiled to, from the texts to what a principal is shown. They do nothing
 //! when they are called.
 
-ghost use Rattle.flowc.specs.Promises.{RunsAreIsolated, RunsEndAsTheSource, RunsShowThemselves, SessionsAreIsolated, SessionsEndAsTheSource, SessionsShowNoLess, SessionsShowNoMore, SilentModulesShowLess, SomeSessionsShowAll, StandardErrorIsFixed};
+ghost use Rattle.flowc.specs.Promises.{RunsAreIsolated, RunsEndAsTheSource, RunsShowThemselves, CompiledSessionsAreIsolated, SessionsEndAsTheSource, SessionsShowNoLess, SessionsShowNoMore, SilentModulesShowLess, SomeSessionsShowAll, StandardErrorIsFixed};
 
 /// Sessions of compiled bytes show what the source means: never more than a principal sees of the source, and all that it sees of it
 /// with any given amount of fuel where they have taken enough steps or have answered that their run has ended. Where one has
@@ -28,7 +28,7 @@ pub fn silent_modules_show_less()
 /// Sessions of compiled bytes are isolated: where two are opened on worlds that agree for a principal, by any hosts among any
 /// events, one of the lists that they show to it is a prefix of the other.
 pub fn sessions_are_isolated()
-    ensures { SessionsAreIsolated }
+    ensures { CompiledSessionsAreIsolated }
 {
     bytecode::laws::one_spelling();
     host::laws::sessions_are_isolated();

@@ -1,7 +1,7 @@
 //! Reads the files of modules and worlds, and reports what is wrong with them.
 
 ghost use Rattle.modules.specs.Contents.{ModuleContents};
-ghost use Rattle.modules.specs.Form.{Spells};
+ghost use Rattle.modules.specs.ByteFormat.{Spells};
 ghost use Rattle.modules.specs.Format.{module_file};
 ghost use Rattle.channels.specs.World.{input_names};
 ghost use Rattle.channels.specs.WorldText.{IsWorldText, lines_of, world_of};

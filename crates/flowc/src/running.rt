@@ -1,7 +1,7 @@
 //! Runs the module of a file on the world of another one.
 
 ghost use Rattle.modules.specs.Contents.{ModuleContents};
-ghost use Rattle.modules.specs.Form.{Spells};
+ghost use Rattle.modules.specs.ByteFormat.{Spells};
 ghost use Rattle.modules.specs.Format.{module_file};
 ghost use Rattle.modules.specs.Machine.{Running, first_state, sent_of};
 ghost use Rattle.channels.specs.World.{input_names};

@@ -19,7 +19,7 @@ use Rattle.host.specs.Values.{HostRuns, host_of}
 use Rattle.host.specs.declared.hosts.TheConstants.{MAX_SESSIONS}
 use Rattle.modules.specs.Contents.{ModuleContents}
 use Rattle.modules.specs.RefusalKinds.{format_refusal_number, format_refusal_words}
-use Rattle.modules.specs.Form.{Spells}
+use Rattle.modules.specs.ByteFormat.{Spells}
 use Rattle.modules.specs.Format.{module_file}
 use Rattle.principals.specs.ActsFor.{HasName, PrincipalHierarchy}
 use Rattle.flowc_c.specs.Hosts.{GivesAnswer, SaysPlaceOfHost}

@@ -1,6 +1,6 @@
 -- What decides whether an expression raises an exception, each part of it once: the same parts as the rules' label has.
 use Rattle.std.proofs.Common.{◌≡◌, subst, ℕ, Bool, true, false, List, [], ◌∷◌, ◌++◌, ◌&&◌, ⊎_elim}
-use Rattle.std.specs.Prelude.{Contains, if◌then◌else◌}
+use Rattle.std.specs.Prelude.{Contains, if◌then◌else◌, flat_map}
 use Rattle.std.proofs.lemmas.List.Elements.{Contains-append_cases, Contains-append_left, Contains-append_right}
 use Rattle.common.proofs.Elements.{none_in_nil}
 use Rattle.resolved.specs.declared.statement.Exit.{Exit}
@@ -9,7 +9,7 @@ use Rattle.resolved.specs.declared.target.Target.TheVariants.{ToEnd, ToThrown}
 use Rattle.resolved.specs.Tree.{Expression, Integer, Logical, Read, Element, Unary, Binary, Short}
 use Rattle.resolved.specs.Program.{Program, procedure_at}
 use Rattle.resolved.specs.Exits.{index_can_raise, divisor_can_raise, is_division, raises}
-use Rattle.resolved.specs.Labelled.{Scope, Join, LabelAtom, one, label_of, variable_label, value_label, raise_label, raise_labels, label_if, any_of, call_exit_labels}
+use Rattle.resolved.specs.Labelled.{Scope, Join, LabelAtom, one, label_of, variable_label, value_label, raise_label, label_if, any_of, call_exit_labels}
 use Rattle.gathering.specs.Walk.{raise_atoms, raise_atoms_all, store_atoms, call_atoms}
 
 abbrev pub Sub : Join → Join → Type 0
@@ -163,24 +163,24 @@ module _ (scope : Scope) where
   pub alike-value : (pc : Join) (e : Expression) → Alike (pc ++ value_label scope e) ((pc ++ raise_label scope e) ++ value_label scope e)
   alike-value pc e = absorbed pc (raise_label scope e) (value_label scope e) (raise-value e)
 
-  pub atoms_all-below : (es : List Expression) → Sub (raise_atoms_all scope es) (raise_labels scope es)
+  pub atoms_all-below : (es : List Expression) → Sub (raise_atoms_all scope es) (flat_map (raise_label scope) es)
   atoms_all-below [] = sub-nil []
   atoms_all-below (e ∷ rest) =
-      sub-both (raise_atoms scope e) (raise_atoms_all scope rest) (raise_label scope e ++ raise_labels scope rest)
-      (sub-first (raise_atoms scope e) (raise_label scope e) (raise_labels scope rest) (atoms-below e))
-      (sub-second (raise_atoms_all scope rest) (raise_label scope e) (raise_labels scope rest) (atoms_all-below rest))
+      sub-both (raise_atoms scope e) (raise_atoms_all scope rest) (raise_label scope e ++ flat_map (raise_label scope) rest)
+      (sub-first (raise_atoms scope e) (raise_label scope e) (flat_map (raise_label scope) rest) (atoms-below e))
+      (sub-second (raise_atoms_all scope rest) (raise_label scope e) (flat_map (raise_label scope) rest) (atoms_all-below rest))
 
-  pub atoms_all-all : (es : List Expression) → Sub (raise_labels scope es) (raise_atoms_all scope es)
+  pub atoms_all-all : (es : List Expression) → Sub (flat_map (raise_label scope) es) (raise_atoms_all scope es)
   atoms_all-all [] = sub-nil []
   atoms_all-all (e ∷ rest) =
-      sub-both (raise_label scope e) (raise_labels scope rest) (raise_atoms scope e ++ raise_atoms_all scope rest)
+      sub-both (raise_label scope e) (flat_map (raise_label scope) rest) (raise_atoms scope e ++ raise_atoms_all scope rest)
       (sub-first (raise_label scope e) (raise_atoms scope e) (raise_atoms_all scope rest) (atoms-all e))
-      (sub-second (raise_labels scope rest) (raise_atoms scope e) (raise_atoms_all scope rest) (atoms_all-all rest))
+      (sub-second (flat_map (raise_label scope) rest) (raise_atoms scope e) (raise_atoms_all scope rest) (atoms_all-all rest))
 
-  pub alike-arguments : (pc : Join) (es : List Expression) → Alike (pc ++ raise_atoms_all scope es) (pc ++ raise_labels scope es)
+  pub alike-arguments : (pc : Join) (es : List Expression) → Alike (pc ++ raise_atoms_all scope es) (pc ++ flat_map (raise_label scope) es)
   alike-arguments pc es = (
-    sub-both pc (raise_atoms_all scope es) (pc ++ raise_labels scope es) (sub-left pc (raise_labels scope es)) (sub-second (raise_atoms_all scope es) pc (raise_labels scope es) (atoms_all-below es)),
-    sub-both pc (raise_labels scope es) (pc ++ raise_atoms_all scope es) (sub-left pc (raise_atoms_all scope es)) (sub-second (raise_labels scope es) pc (raise_atoms_all scope es) (atoms_all-all es)),
+    sub-both pc (raise_atoms_all scope es) (pc ++ flat_map (raise_label scope) es) (sub-left pc (flat_map (raise_label scope) es)) (sub-second (raise_atoms_all scope es) pc (flat_map (raise_label scope) es) (atoms_all-below es)),
+    sub-both pc (flat_map (raise_label scope) es) (pc ++ raise_atoms_all scope es) (sub-left pc (raise_atoms_all scope es)) (sub-second (flat_map (raise_label scope) es) pc (raise_atoms_all scope es) (atoms_all-all es)),
   )
 
   -- a store

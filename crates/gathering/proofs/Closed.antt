@@ -1,6 +1,6 @@
 -- What flows to an inner unknown is part of what it stands for.
 use Rattle.std.proofs.Common.{◌≡◌, refl, sym, ap, ◌∙◌, subst, ℕ, suc, ◌+◌, Bool, true, false, not, List, [], ◌∷◌, ◌++◌, ⊎_elim}
-use Rattle.std.specs.Prelude.{Contains, Option, Some, None, ◌==◌, filter}
+use Rattle.std.specs.Prelude.{Contains, Option, Some, None, ◌==◌, filter, flat_map}
 use Rattle.std.proofs.lemmas.Bool.{or_left, or_right, eq-eqb}
 use Rattle.std.proofs.lemmas.List.Elements.{Contains-append_cases, Contains-append_left, Contains-append_right}
 use Rattle.common.proofs.Elements.{none_in_nil, Contains-cons_cases, Contains-later, Contains-first}
@@ -14,8 +14,8 @@ use Rattle.resolved.specs.declared.target.Target.TheVariants.{ToVariable, ToChan
 use Rattle.resolved.specs.Tree.{Expression, Statement, Assign, Clear, Store, Receive, Send, Call, If, While, Leave, ReturnWith, Try, Nested, Block, Empty, Then, Handlers, NoMore, Catch}
 use Rattle.resolved.specs.Program.{Program, procedure_at}
 use Rattle.common.specs.declared.exceptions.TheConstants.{END}
-use Rattle.resolved.specs.Exits.{same_exit, has_exit, one_exit, index_raises, raises, raises_all, thrown_exits, declared_by, leaves_loop, handles, passes, statement_exits, block_exits, handlers_exits}
-use Rattle.resolved.specs.Labelled.{Scope, Join, LabelAtom, one, label_of, value_label, raise_label, raise_labels, label_if, call_exit_labels, ExitLabels, at_exits, raised_exit_labels, loop_exit_labels, statement_rule, block_rule, handlers_rule, statement_exit_labels, block_exit_labels}
+use Rattle.resolved.specs.Exits.{same_exit, has_exit, one_exit, index_raises, raises, thrown_exits, declared_by, leaves_loop, handles, passes, statement_exits, block_exits, handlers_exits}
+use Rattle.resolved.specs.Labelled.{Scope, Join, LabelAtom, one, label_of, value_label, raise_label, label_if, call_exit_labels, ExitLabels, at_exits, raised_exit_labels, loop_exit_labels, statement_rule, block_rule, handlers_rule, statement_exit_labels, block_exit_labels}
 use Rattle.gathering.specs.Names.{Real, Inner, NamedAtom, NamedConstraint, named_atoms}
 use Rattle.gathering.specs.Walk.{inner_atom, rule_constraint, target_constraint, inner_constraint, ExitUnknowns, with_normal, in_loop, handler_count, handler_number, in_try, flow, flows, raised_once, raised_flows, single, within_single, by_exits, onward_pc, raise_atoms, raise_atoms_all, store_atoms, call_atoms, made_by_statement, made_by_block, argument_constraints, call_flows, call_exits, call_constraints, statement_constraints, block_constraints, handlers_constraints}
 use Rattle.gathering.proofs.Exits.{has-left, has-right, has-filter, then-rest, normal_or_other, exits-single, exits-many, taken_or_passed, in_try-taken, AmongTwo, same-thrown, raises-two, store-two, once-same, call-same}
@@ -233,11 +233,11 @@ module _ (m : ℕ → Join) where
         (closed-rule_constraint scope at rule left target) (closed-own q j exit_unknowns first raised two below take)
 
     pub closed-call : (at callee : ℕ) (arguments : List Expression) (target : Option Variable) (p : NamedAtom) (pc : Join) (exit_unknowns : ExitUnknowns) (n : ℕ) →
-        m n ≡ (pc ++ raise_labels scope arguments) → Below (p ∷ []) pc →
-        Take (statement_exits scope.program (Call at callee arguments target)) exit_unknowns (call_exit_labels scope.program callee (pc ++ raise_labels scope arguments)) →
+        m n ≡ (pc ++ flat_map (raise_label scope) arguments) → Below (p ∷ []) pc →
+        Take (statement_exits scope.program (Call at callee arguments target)) exit_unknowns (call_exit_labels scope.program callee (pc ++ flat_map (raise_label scope) arguments)) →
         Closed (call_constraints scope p exit_unknowns n at callee arguments target)
     closed-call at callee arguments target p pc exit_unknowns n is below take =
-        let j : Join = pc ++ raise_labels scope arguments in
+        let j : Join = pc ++ flat_map (raise_label scope) arguments in
         let ends : List Exit = call_exits scope.program callee arguments in
         let own : Below (inner_atom n ∷ []) j = below-inner n j is in
         let entry : List NamedConstraint = inner_constraint (p ∷ named_atoms (raise_atoms_all scope arguments)) n in
@@ -257,7 +257,7 @@ module _ (m : ℕ → Join) where
         take y k (call-there callee arguments y h) at_k a ((alike-call scope.program callee j y).0 a i)))))))
       where
         call-there : (callee : ℕ) (arguments : List Expression) (y : Exit) → has_exit (call_exits scope.program callee arguments) y ≡ true →
-            has_exit (Normal ∷ thrown_exits (raises_all arguments ++ declared_by (procedure_at scope.program callee).throws)) y ≡ true
+            has_exit (Normal ∷ thrown_exits (flat_map raises arguments ++ declared_by (procedure_at scope.program callee).throws)) y ≡ true
         call-there callee arguments y h = sym (call-same scope.program callee arguments y) ∙ h
 
     mutual

@@ -1,6 +1,6 @@
 -- Exits of statements and their exit unknowns, and the exceptions of expressions, each once.
 use Rattle.std.proofs.Common.{◌≡◌, refl, sym, ap, ◌∙◌, ℕ, Bool, true, false, not, List, [], ◌∷◌, ◌++◌, ◌||◌, ◌&&◌, ◌⊎◌, inl, inr, ⊎_elim, arith}
-use Rattle.std.specs.Prelude.{Option, Some, if◌then◌else◌, ◌==◌, filter}
+use Rattle.std.specs.Prelude.{Option, Some, if◌then◌else◌, ◌==◌, filter, flat_map}
 use Rattle.std.specs.List.{list_all, list_any}
 use Rattle.std.proofs.lemmas.Bool.{and_parts, or_left, or_right, or_cases}
 use Rattle.std.proofs.lemmas.List.Folds.{list_any-append}
@@ -11,7 +11,7 @@ use Rattle.resolved.specs.declared.statement.Exit.TheVariants.{Normal, Return, B
 use Rattle.resolved.specs.Tree.{Expression, Integer, Logical, Read, Element, Unary, Binary, Short, Handlers}
 use Rattle.resolved.specs.Program.{Program, procedure_at}
 use Rattle.common.specs.declared.exceptions.TheConstants.{ARITH, BOUNDS}
-use Rattle.resolved.specs.Exits.{same_exit, has_exit, one_exit, is_division, divisor_can_raise, index_can_raise, index_raises, operator_raises, raises, raises_all, thrown_exits, declared_by, then_exits, handles, passes}
+use Rattle.resolved.specs.Exits.{same_exit, has_exit, one_exit, is_division, divisor_can_raise, index_can_raise, index_raises, operator_raises, raises, thrown_exits, declared_by, then_exits, handles, passes}
 use Rattle.resolved.specs.Labelled.{Join, ExitLabels, at_exits}
 use Rattle.gathering.specs.Walk.{ExitUnknowns, with_normal, in_try, raised_once, call_exits}
 use Rattle.common.proofs.Cases.{by_test}
@@ -143,9 +143,9 @@ raises-two (Binary operator d e) =
     among-append (raises d ++ raises e) (operator_raises operator e) (among-append (raises d) (raises e) (raises-two d) (raises-two e)) (among-operator operator e)
 raises-two (Short connective d e) = among-append (raises d) (raises e) (raises-two d) (raises-two e)
 
-pub raises_all-two : (es : List Expression) → AmongTwo (raises_all es)
-raises_all-two [] = among-nil
-raises_all-two (e ∷ rest) = among-append (raises e) (raises_all rest) (raises-two e) (raises_all-two rest)
+pub arguments-two : (es : List Expression) → AmongTwo (flat_map raises es)
+arguments-two [] = among-nil
+arguments-two (e ∷ rest) = among-append (raises e) (flat_map raises rest) (raises-two e) (arguments-two rest)
 
 pub store-two : (index e : Expression) (length : ℕ) → AmongTwo (raises index ++ raises e ++ index_raises index length)
 store-two index e length =
@@ -165,8 +165,8 @@ once-more xs ys among x =
 
 -- the exits of a call, as the walk lists them
 pub call-same : (program : Program) (callee : ℕ) (arguments : List Expression) (e : Exit) →
-    has_exit (call_exits program callee arguments) e ≡ has_exit (Normal ∷ thrown_exits (raises_all arguments ++ declared_by (procedure_at program callee).throws)) e
+    has_exit (call_exits program callee arguments) e ≡ has_exit (Normal ∷ thrown_exits (flat_map raises arguments ++ declared_by (procedure_at program callee).throws)) e
 call-same program callee arguments e =
     let declared : List ℕ = declared_by (procedure_at program callee).throws in
-    ap (λ b. same_exit e Normal || b) (same-thrown (raised_once (raises_all arguments) ++ declared) (raises_all arguments ++ declared)
-    (once-more (raises_all arguments) declared (raises_all-two arguments)) e)
+    ap (λ b. same_exit e Normal || b) (same-thrown (raised_once (flat_map raises arguments) ++ declared) (flat_map raises arguments ++ declared)
+    (once-more (flat_map raises arguments) declared (arguments-two arguments)) e)

@@ -1,6 +1,6 @@
 -- What an inner unknown stands for feeds it.
 use Rattle.std.proofs.Common.{◌≡◌, refl, sym, ap, ◌∙◌, subst, ℕ, suc, ◌+◌, Bool, true, false, not, List, [], ◌∷◌, ◌++◌, ⊎_elim}
-use Rattle.std.specs.Prelude.{IsFalse, Contains, Option, Some, None, ◌==◌}
+use Rattle.std.specs.Prelude.{IsFalse, Contains, Option, Some, None, ◌==◌, flat_map}
 use Rattle.std.proofs.lemmas.Bool.{or_left, or_right, or_cases, eq-eqb}
 use Rattle.std.proofs.lemmas.List.Elements.{Contains-append_cases, Contains-append_left, Contains-append_right}
 use Rattle.common.proofs.Elements.{none_in_nil, Contains-cons_cases, Contains-later, Contains-first}
@@ -14,7 +14,7 @@ use Rattle.resolved.specs.Tree.{Expression, Statement, Assign, Clear, Store, Rec
 use Rattle.resolved.specs.Program.{Program}
 use Rattle.common.specs.declared.exceptions.TheConstants.{END}
 use Rattle.resolved.specs.Exits.{same_exit, has_exit, one_exit, index_raises, raises, thrown_exits, handles, passes, statement_exits, block_exits}
-use Rattle.resolved.specs.Labelled.{Scope, Join, LabelAtom, one, label_of, value_label, raise_label, raise_labels, label_if, call_exit_labels, ExitLabels, at_exits, raised_exit_labels, loop_exit_labels, statement_rule, block_rule, handlers_rule, statement_exit_labels, block_exit_labels}
+use Rattle.resolved.specs.Labelled.{Scope, Join, LabelAtom, one, label_of, value_label, raise_label, label_if, call_exit_labels, ExitLabels, at_exits, raised_exit_labels, loop_exit_labels, statement_rule, block_rule, handlers_rule, statement_exit_labels, block_exit_labels}
 use Rattle.gathering.specs.Names.{Real, Inner, is_inner_name, NamedAtom, NamedConstraint, named_atoms}
 use Rattle.gathering.specs.Walk.{inner_atom, rule_constraint, target_constraint, inner_constraint, ExitUnknowns, with_normal, in_loop, handler_count, handler_number, in_try, flow, flows, raised_once, raised_flows, single, within_single, by_exits, onward_pc, raise_atoms, raise_atoms_all, store_atoms, call_atoms, made_by_statement, made_by_block, argument_constraints, call_flows, call_exits, call_constraints, statement_constraints, block_constraints, handlers_constraints}
 use Rattle.gathering.proofs.Exits.{normal_or_other, exits-single, exits-many, exits-none, taken_or_passed, in_try-taken, single-end, AmongTwo, same-thrown, raises-two, store-two, once-same, call-same}
@@ -179,10 +179,10 @@ module _ (cs : List NamedConstraint) where
 
     pub fed-call : (at callee : ℕ) (arguments : List Expression) (target : Option Variable) (p : NamedAtom) (pc : Join) (exit_unknowns : ExitUnknowns) (n : ℕ) → Fed (p ∷ []) pc →
         Within (call_constraints scope p exit_unknowns n at callee arguments target) →
-        Fed (inner_atom n ∷ []) (pc ++ raise_labels scope arguments)
-        × Gives (statement_exits scope.program (Call at callee arguments target)) exit_unknowns (call_exit_labels scope.program callee (pc ++ raise_labels scope arguments))
+        Fed (inner_atom n ∷ []) (pc ++ flat_map (raise_label scope) arguments)
+        × Gives (statement_exits scope.program (Call at callee arguments target)) exit_unknowns (call_exit_labels scope.program callee (pc ++ flat_map (raise_label scope) arguments))
     fed-call at callee arguments target p pc exit_unknowns n fed within =
-        let j : Join = pc ++ raise_labels scope arguments in
+        let j : Join = pc ++ flat_map (raise_label scope) arguments in
         let ends : List Exit = call_exits scope.program callee arguments in
         let left : List NamedAtom = p ∷ named_atoms (raise_atoms_all scope arguments) in
         let entry : List NamedConstraint = inner_constraint left n in

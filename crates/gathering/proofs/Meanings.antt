@@ -1,11 +1,11 @@
 -- There are meanings for the inner unknowns: in their order, what each stands for.
 use Rattle.std.proofs.Common.{◌≡◌, refl, ap, ◌∙◌, subst, ℕ, zero, suc, ◌+◌, length, length-append, Bool, true, false, List, [], ◌∷◌, ◌++◌, ◌||◌, arith}
-use Rattle.std.specs.Prelude.{if◌then◌else◌, ◌==◌}
+use Rattle.std.specs.Prelude.{if◌then◌else◌, ◌==◌, flat_map}
 use Rattle.resolved.specs.declared.statement.Exit.TheVariants.{Normal, Continue, Throw}
 use Rattle.resolved.specs.declared.target.Target.TheVariants.{ToLoop}
 use Rattle.resolved.specs.Tree.{Statement, Assign, Clear, Store, Receive, Send, Call, If, While, Leave, ReturnWith, Try, Nested, Block, Empty, Then, Handlers, NoMore, Catch}
 use Rattle.resolved.specs.Exits.{handles}
-use Rattle.resolved.specs.Labelled.{Scope, Join, one, label_of, value_label, raise_label, raise_labels, ExitLabels, statement_exit_labels, block_exit_labels}
+use Rattle.resolved.specs.Labelled.{Scope, Join, one, label_of, value_label, raise_label, ExitLabels, statement_exit_labels, block_exit_labels}
 use Rattle.gathering.specs.Walk.{handler_count, handler_number, made_by_statement, made_by_block, made_by_handlers}
 use Rattle.gathering.proofs.Reached.{Agrees, AgreesIn, AgreesBy}
 
@@ -48,7 +48,7 @@ module _ (scope : Scope) where
     meanings pc (Store at array length index e) = []
     meanings pc (Receive at channel target) = []
     meanings pc (Send at channel e) = []
-    meanings pc (Call at procedure arguments target) = (pc ++ raise_labels scope arguments) ∷ []
+    meanings pc (Call at procedure arguments target) = (pc ++ flat_map (raise_label scope) arguments) ∷ []
     meanings pc (If at e then_block else_block) =
         let branch : Join = (pc ++ raise_label scope e) ++ value_label scope e in
         branch ∷ (meanings_in branch then_block ++ meanings_in branch else_block)

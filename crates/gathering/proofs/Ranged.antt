@@ -7,8 +7,8 @@ use Rattle.std.proofs.lemmas.List.Elements.{Contains-append_cases, Contains-appe
 use Rattle.common.proofs.Elements.{none_in_nil, Contains-cons_cases, Contains-later, Contains-first}
 use Rattle.labels.specs.Label.{Label}
 use Rattle.lattices.specs.Constraints.{Written, Unknown, renamed}
-use Rattle.resolved.specs.declared.expression.Base.{Base}
-use Rattle.resolved.specs.declared.expression.Base.TheVariants.{Int, Boolean}
+use Rattle.common.specs.declared.base_type.BaseType.{BaseType}
+use Rattle.common.specs.declared.base_type.BaseType.TheVariants.{Int, Boolean}
 use Rattle.resolved.specs.declared.expression.Variable.{Variable}
 use Rattle.resolved.specs.declared.expression.Variable.TheVariants.{Global, Local}
 use Rattle.resolved.specs.declared.statement.Exit.{Exit}
@@ -31,11 +31,11 @@ abbrev There : Option VariableType → Type 0
 There None = ⊥
 There (Some type) = Unit {0}
 
-scalar-there : (o : Option VariableType) (test : Base → Bool) → scalar_by o test ≡ true → There o
+scalar-there : (o : Option VariableType) (test : BaseType → Bool) → scalar_by o test ≡ true → There o
 scalar-there None test h = let i : false ≡ true = h in absurd (cc)
 scalar-there (Some type) test h = tt
 
-array-there : (o : Option VariableType) (len : ℕ) (test : Base → Bool) → array_by o len test ≡ true → There o
+array-there : (o : Option VariableType) (len : ℕ) (test : BaseType → Bool) → array_by o len test ≡ true → There o
 array-there None len test h = let i : false ≡ true = h in absurd (cc)
 array-there (Some type) len test h = tt
 
@@ -49,11 +49,11 @@ slot-there (s ∷ ss) zero h = omega arith
 slot-there (s ∷ ss) (suc n) h = let i : n < length ss = slot-there ss n h in omega (arith, i)
 
 -- a test on the base type of an expression that is given by a test on its target
-scalar-some : (o : Option VariableType) (test : Base → Bool) → scalar_by o test ≡ true → (base : Base) × (test base ≡ true)
+scalar-some : (o : Option VariableType) (test : BaseType → Bool) → scalar_by o test ≡ true → (base : BaseType) × (test base ≡ true)
 scalar-some None test h = let i : false ≡ true = h in absurd (cc)
 scalar-some (Some type) test h = (type.base, (and_parts _ (test type.base) h).1)
 
-array-some : (o : Option VariableType) (len : ℕ) (test : Base → Bool) → array_by o len test ≡ true → (base : Base) × (test base ≡ true)
+array-some : (o : Option VariableType) (len : ℕ) (test : BaseType → Bool) → array_by o len test ≡ true → (base : BaseType) × (test base ≡ true)
 array-some None len test h = let i : false ≡ true = h in absurd (cc)
 array-some (Some type) len test h = (type.base, (and_parts _ (test type.base) h).1)
 
@@ -237,7 +237,7 @@ module _ (program : Program) (bound : ℕ) where
     variable-ok (Global n) h = tt
     variable-ok (Local n) h = slot-ok (slot_at own n).written n (slot-there own.slots n h)
 
-    pub value-ok : (base : Base) (e : Expression) → has_base program own base e ≡ true → JoinInRange (value_label own_scope e)
+    pub value-ok : (base : BaseType) (e : Expression) → has_base program own base e ≡ true → JoinInRange (value_label own_scope e)
     value-ok base (Integer n) h = join-nil
     value-ok base (Logical b) h = join-nil
     value-ok base (Read x) h =
@@ -267,7 +267,7 @@ module _ (program : Program) (bound : ℕ) where
     pub ranged-rule : (at rule : ℕ) (left : List NamedAtom) (target : Target) → AllInRange left → InRange (renamed Real (label_of program target)) → Ranged (rule_constraint own_scope at rule left target)
     ranged-rule at rule left target h ok = ranged-one _ h ok
 
-    pub ranged-target : (at rule : ℕ) (left : List NamedAtom) (target : Option Variable) (test : Base → Bool) → AllInRange left → target_by program own target test ≡ true → Ranged (target_constraint own_scope at rule left target)
+    pub ranged-target : (at rule : ℕ) (left : List NamedAtom) (target : Option Variable) (test : BaseType → Bool) → AllInRange left → target_by program own target test ≡ true → Ranged (target_constraint own_scope at rule left target)
     ranged-target at rule left None test h fits = ranged-nil
     ranged-target at rule left (Some x) test h fits = ranged-rule at rule left (ToVariable f x) h (variable-ok x (scalar-there (variable_type program own x) test fits))
 

@@ -1,11 +1,12 @@
 -- Programs of which each statement is reached, and what the inner unknowns stand for in them.
+use Rattle.std.specs.Prelude.{flat_map}
 use Rattle.std.proofs.Common.{◌≡◌, ℕ, suc, ◌+◌, true, ◌++◌}
 use Rattle.resolved.specs.declared.statement.Exit.TheVariants.{Normal, Continue, Throw}
 use Rattle.resolved.specs.declared.target.Target.TheVariants.{ToLoop}
 use Rattle.resolved.specs.Tree.{Statement, Assign, Clear, Store, Receive, Send, Call, If, While, Leave, ReturnWith, Try, Nested, Block, Empty, Then, Handlers, NoMore, Catch}
 use Rattle.resolved.specs.Program.{Program}
 use Rattle.resolved.specs.Exits.{has_exit, handles, statement_exits}
-use Rattle.resolved.specs.Labelled.{Scope, Join, one, label_of, value_label, raise_label, raise_labels, ExitLabels, statement_exit_labels, block_exit_labels}
+use Rattle.resolved.specs.Labelled.{Scope, Join, one, label_of, value_label, raise_label, ExitLabels, statement_exit_labels, block_exit_labels}
 use Rattle.gathering.specs.Walk.{handler_count, handler_number, made_by_statement, made_by_block}
 
 -- each statement is reached: the one before it can end normally
@@ -45,7 +46,7 @@ module _ (scope : Scope) (m : ℕ → Join) where
     Agrees n pc (Store at array length index e) = Unit {0}
     Agrees n pc (Receive at channel target) = Unit {0}
     Agrees n pc (Send at channel e) = Unit {0}
-    Agrees n pc (Call at procedure arguments target) = m n ≡ (pc ++ raise_labels scope arguments)
+    Agrees n pc (Call at procedure arguments target) = m n ≡ (pc ++ flat_map (raise_label scope) arguments)
     Agrees n pc (If at e then_block else_block) =
         let branch : Join = (pc ++ raise_label scope e) ++ value_label scope e in
         (m n ≡ branch) × AgreesIn (suc n) branch then_block × AgreesIn (suc n + made_by_block then_block) branch else_block

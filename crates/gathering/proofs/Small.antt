@@ -1,6 +1,6 @@
 -- What is gathered is no larger than the program, up to a factor, and the exceptions that callees declare.
 use Rattle.std.proofs.Common.{◌≡◌, refl, ap, subst, ℕ, zero, suc, ◌+◌, ◌*◌, ◌≤◌, length, length-append, Bool, true, false, ◌&&◌, List, [], ◌∷◌, ◌++◌, arith}
-use Rattle.std.specs.Prelude.{Option, Some, None, if◌then◌else◌, ◌==◌, map, sum_by, slice_get}
+use Rattle.std.specs.Prelude.{Option, Some, None, if◌then◌else◌, ◌==◌, map, sum_by, slice_get, flat_map}
 use Rattle.std.specs.List.{list_any}
 use Rattle.std.proofs.lemmas.List.{length-map}
 use Rattle.std.proofs.lemmas.List.Recursion.{is_sum_by}
@@ -14,7 +14,7 @@ use Rattle.resolved.specs.declared.target.Target.TheVariants.{ToVariable, ToChan
 use Rattle.resolved.specs.Tree.{Expression, Integer, Logical, Read, Element, Unary, Binary, Short, Statement, Assign, Clear, Store, Receive, Send, Call, If, While, Leave, ReturnWith, Try, Nested, Block, Empty, Then, Handlers, NoMore, Catch}
 use Rattle.resolved.specs.Program.{Program, ProcedureEntry, ThrownEntry, procedure_at}
 use Rattle.common.specs.declared.exceptions.TheConstants.{ARITH, BOUNDS, END}
-use Rattle.resolved.specs.Exits.{has_exit, one_exit, index_can_raise, divisor_can_raise, is_division, index_raises, raises, raises_all, thrown_exits, declared_by, statement_exits, block_exits}
+use Rattle.resolved.specs.Exits.{has_exit, one_exit, index_can_raise, divisor_can_raise, is_division, index_raises, raises, thrown_exits, declared_by, statement_exits, block_exits}
 use Rattle.resolved.specs.Labelled.{Scope, here, Join, one, label_of, value_label, label_if, any_of}
 use Rattle.resolved.specs.WellFormed.{expression_nodes, statement_nodes, block_nodes, handlers_nodes, procedure_nodes, program_nodes}
 use Rattle.resolved.proofs.WellFormedParts.{procedure_at_is}
@@ -213,10 +213,10 @@ module _ (scope : Scope) where
       let f : length (x ++ v) ≡ length x + 1 = length-append x v in
       let g : length x ≤ 1 = call_atoms-length callee Normal in
       let h : size_of fourth ≤ 3 * length ends = call_flows-size callee n exit_unknowns ends in
-      let raised : List ℕ = raised_once (raises_all arguments) in
+      let raised : List ℕ = raised_once (flat_map raises arguments) in
       let i : length (raised ++ declared_by throws) ≡ length raised + length (declared_by throws) = length-append raised (declared_by throws) in
       let j : length (declared_by throws) ≡ length throws = length-map throws (λ (entry : ThrownEntry). entry.exception) in
-      let k : length raised ≤ 2 = once-length (raises_all arguments) in
+      let k : length raised ≤ 2 = once-length (flat_map raises arguments) in
       let l : length ends ≡ suc (length (thrown_exits (raised ++ declared_by throws))) = refl in
       let m : length (thrown_exits (raised ++ declared_by throws)) ≡ length (raised ++ declared_by throws) = length-map (raised ++ declared_by throws) (λ exception. Throw exception) in
       let s : size_of (second ++ (third ++ fourth)) ≡ size_of second + size_of (third ++ fourth) = size-append second (third ++ fourth) in

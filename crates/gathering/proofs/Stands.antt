@@ -1,6 +1,6 @@
 -- What is gathered stands for the demands, one by one and in order.
 use Rattle.std.proofs.Common.{◌≡◌, refl, sym, ap, ◌∙◌, subst, ℕ, suc, ◌+◌, Bool, true, false, List, [], ◌∷◌, ◌++◌, ⊎_elim}
-use Rattle.std.specs.Prelude.{IsTrue, IsFalse, Contains, Option, Some, None, if◌then◌else◌, ◌==◌}
+use Rattle.std.specs.Prelude.{IsTrue, IsFalse, Contains, Option, Some, None, if◌then◌else◌, ◌==◌, flat_map}
 use Rattle.std.proofs.lemmas.Bool.{or_left, or_right, eq-eqb}
 use Rattle.std.proofs.lemmas.List.Elements.{Contains-append_cases}
 use Rattle.common.proofs.Elements.{Contains-first}
@@ -15,7 +15,7 @@ use Rattle.resolved.specs.Tree.{Expression, Statement, Assign, Clear, Store, Rec
 use Rattle.resolved.specs.Program.{Program}
 use Rattle.common.specs.declared.exceptions.TheConstants.{END}
 use Rattle.resolved.specs.Exits.{has_exit, one_exit, index_raises, raises, thrown_exits, handles, statement_exits, block_exits}
-use Rattle.resolved.specs.Labelled.{Scope, Join, LabelAtom, one, label_of, value_label, raise_label, raise_labels, call_exit_labels, ExitLabels, statement_rule, block_rule, statement_exit_labels, block_exit_labels, argument_demands, Demand, demand, target_demand, statement_demands, block_demands, handlers_demands}
+use Rattle.resolved.specs.Labelled.{Scope, Join, LabelAtom, one, label_of, value_label, raise_label, call_exit_labels, ExitLabels, statement_rule, block_rule, statement_exit_labels, block_exit_labels, argument_demands, Demand, demand, target_demand, statement_demands, block_demands, handlers_demands}
 use Rattle.gathering.specs.Names.{Real, Inner, is_inner_name, NamedAtom, NamedConstraint, named_atoms}
 use Rattle.gathering.specs.Walk.{inner_atom, rule_constraint, target_constraint, inner_constraint, ExitUnknowns, with_normal, in_loop, handler_count, handler_number, in_try, flow, flows, raised_once, raised_flows, single, within_single, onward_pc, raise_atoms, raise_atoms_all, store_atoms, call_atoms, made_by_statement, made_by_block, argument_constraints, call_flows, call_exits, call_constraints, statement_constraints, block_constraints, handlers_constraints}
 use Rattle.gathering.proofs.Exits.{in_try-taken}
@@ -137,10 +137,10 @@ module _ (cs : List NamedConstraint) where
         (one-end scope at rule p pc x j target below fed alike) rest
 
     pub one-call : (scope : Scope) (at callee : ℕ) (arguments : List Expression) (target : Option Variable) (p : NamedAtom) (pc : Join) (exit_unknowns : ExitUnknowns) (n : ℕ) →
-        m n ≡ (pc ++ raise_labels scope arguments) → Fed cs (inner_atom n ∷ []) (pc ++ raise_labels scope arguments) →
+        m n ≡ (pc ++ flat_map (raise_label scope) arguments) → Fed cs (inner_atom n ∷ []) (pc ++ flat_map (raise_label scope) arguments) →
         One (statement_demands scope pc (Call at callee arguments target)) (call_constraints scope p exit_unknowns n at callee arguments target)
     one-call scope at callee arguments target p pc exit_unknowns n is own_fed =
-        let j : Join = pc ++ raise_labels scope arguments in
+        let j : Join = pc ++ flat_map (raise_label scope) arguments in
         let own : NamedAtom = inner_atom n in
         let own_below : Below m (own ∷ []) j = below-inner m n j is in
         let x : Join = call_atoms scope.program callee Normal in

@@ -3,7 +3,7 @@
 -- that matters has an exit unknown, an inner unknown that was made where the exit is caught, and what an exit is reached at flows to its
 -- exit unknown. Inner unknowns have numbers from n on, in the order in which the walk comes to what makes them.
 -- Source: our own.
-use Rattle.std.specs.Prelude.{ℕ, suc, ◌+◌, ◌<◌, List, [], ◌∷◌, ◌++◌, Bool, true, false, map, filter, length, ◌==◌, ◌&&◌, ◌||◌, if◌then◌else◌, Option, Some, None, Contains}
+use Rattle.std.specs.Prelude.{ℕ, suc, ◌+◌, ◌<◌, List, [], ◌∷◌, ◌++◌, Bool, true, false, map, filter, length, ◌==◌, ◌&&◌, ◌||◌, if◌then◌else◌, Option, Some, None, Contains, flat_map}
 use Rattle.std.specs.List.{list_any}
 use Rattle.labels.specs.Label.{Label}
 use Rattle.lattices.specs.Constraints.{Atom, Written, Unknown, renamed}
@@ -16,7 +16,7 @@ use Rattle.resolved.specs.declared.target.Target.TheVariants.{ToVariable, ToChan
 use Rattle.resolved.specs.Tree.{Expression, Integer, Logical, Read, Element, Unary, Binary, Short, Statement, Assign, Clear, Store, Receive, Send, Call, If, While, Leave, ReturnWith, Try, Nested, Block, Empty, Then, Handlers, NoMore, Catch}
 use Rattle.resolved.specs.Program.{Program, ProcedureEntry, ThrownEntry, procedure_at}
 use Rattle.common.specs.declared.exceptions.TheConstants.{ARITH, BOUNDS, END}
-use Rattle.resolved.specs.Exits.{has_exit, one_exit, index_can_raise, divisor_can_raise, is_division, index_raises, raises, raises_all, thrown_exits, declared_by, handles, statement_exits, block_exits}
+use Rattle.resolved.specs.Exits.{has_exit, one_exit, index_can_raise, divisor_can_raise, is_division, index_raises, raises, thrown_exits, declared_by, handles, statement_exits, block_exits}
 use Rattle.resolved.specs.Labelled.{Labelling, Scope, here, Join, one, label_of, value_label, label_if, any_of, as_one_exit}
 use Rattle.resolved.specs.Flow.{Gathered}
 use Rattle.gathering.specs.Gathered.{FitsConstraints}
@@ -201,7 +201,7 @@ call_flows program callee own exit_unknowns (exit ∷ rest) =
 -- the exceptions of the arguments, each once, then those that the callee declares
 abbrev pub call_exits : Program → (callee : ℕ) → List Expression → List Exit
 call_exits program callee arguments =
-    Normal ∷ thrown_exits (raised_once (raises_all arguments) ++ declared_by (procedure_at program callee).throws)
+    Normal ∷ thrown_exits (raised_once (flat_map raises arguments) ++ declared_by (procedure_at program callee).throws)
 
 abbrev pub call_constraints : Scope → (pc : NamedAtom) → ExitUnknowns → ℕ → (at callee : ℕ) → List Expression → Option Variable → List NamedConstraint
 call_constraints scope pc exit_unknowns n at callee arguments target =

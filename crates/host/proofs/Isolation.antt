@@ -2,7 +2,7 @@
 use Rattle.labels.specs.Sent.{OneIsPrefix}
 use Rattle.std.proofs.Common.{◌≡◌, ℕ, List, sym, subst}
 use Rattle.modules.specs.Contents.{ModuleContents}
-use Rattle.modules.specs.Form.{Spells}
+use Rattle.modules.specs.ByteFormat.{Spells}
 use Rattle.modules.specs.Format.{module_file}
 use Rattle.modules.specs.Machine.{sent_after}
 use Rattle.channels.specs.World.{numbers_of_channel}

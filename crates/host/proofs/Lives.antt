@@ -5,7 +5,7 @@ use Rattle.std.proofs.lemmas.Option.{none-some, same_Some}
 use Rattle.principals.specs.ActsFor.{PrincipalHierarchy}
 use Rattle.common.specs.declared.sent.Pair.{Pair}
 use Rattle.modules.specs.Contents.{ModuleContents}
-use Rattle.modules.specs.Form.{Spells}
+use Rattle.modules.specs.ByteFormat.{Spells}
 use Rattle.modules.specs.Format.{module_file}
 use Rattle.modules.specs.Machine.{Machine, Ending, exec, machine_code, sent_of}
 use Rattle.channels.specs.World.{InputNumbers}

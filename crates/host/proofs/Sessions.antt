@@ -46,7 +46,7 @@ not_there id xs e =
     found id xs
     ∙ ap (option_map contents_of) (find_at (has_id id) xs ∙ slice_get_past xs (position_or_len (has_id id) xs) (missing_place (has_id id) xs e))
 
--- at the first place with an id stands its session
+-- at the first index with an id stands its session
 at_first : (id : ℕ) (xs : List SessionRun) (index : ℕ) (d : SessionRun) → index < length xs → has_id id (get_or xs index d) ≡ true
     → ((k : ℕ) → k < index → has_id id (get_or xs k d) ≡ false)
     → session_of id (map contents_of xs) ≡ Some (contents_of (get_or xs index d))

@@ -7,7 +7,7 @@ use Rattle.labels.specs.Sent.{OneIsPrefix}
 use Rattle.std.specs.Prelude.{◌≡◌, ℕ, ◌+◌, ◌<◌, ◌==◌, if◌then◌else◌, List, [], ◌∷◌, ◌++◌, slice_get, take, drop, Option, Some, None}
 use Rattle.common.specs.declared.sent.Pair.{Pair}
 use Rattle.modules.specs.Contents.{ModuleContents}
-use Rattle.modules.specs.Form.{Spells}
+use Rattle.modules.specs.ByteFormat.{Spells}
 use Rattle.modules.specs.Format.{module_file}
 use Rattle.modules.specs.Machine.{Ending, Finished, Threw, Deep, after_steps, exec, machine_code, sent_after}
 use Rattle.channels.specs.World.{InputNumbers, numbers_of_channel}

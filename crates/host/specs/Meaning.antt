@@ -5,7 +5,7 @@ use Rattle.std.specs.Prelude.{◌≡◌, ◌≢◌, ℕ, ◌+◌, ◌<◌, ◌�
 use Rattle.principals.specs.ActsFor.{PrincipalHierarchy, ContainsHierarchy}
 use Rattle.common.specs.declared.sent.Pair.{Pair}
 use Rattle.modules.specs.Contents.{ModuleContents}
-use Rattle.modules.specs.Form.{Spells}
+use Rattle.modules.specs.ByteFormat.{Spells}
 use Rattle.modules.specs.Format.{module_file}
 use Rattle.modules.specs.Machine.{Machine, after_steps, exec, machine_code, sent_of}
 use Rattle.channels.specs.World.{InputNumbers, input_names, numbers_of_channel}

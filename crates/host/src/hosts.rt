@@ -198,8 +198,8 @@ impl Host {
         Ok(answers)
     }
 
-    // Answers one event.
-    fn answer(&mut self, event: Event) -> Answer
+    /// Answers one event.
+    pub fn answer(&mut self, event: Event) -> Answer
         ensures { MayAnswer MAX_SESSIONS (host_of self.old) (event_of event) (answer_of result)
             (host_of self.new) }
     {

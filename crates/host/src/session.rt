@@ -169,7 +169,7 @@ fn first_run(alloc: Global, bytes: &[u8], world: World) -> Result<Machine, HostF
     Machine::new(alloc, verified, world).map_err(OrNoMemory::cast)
 }
 
-/// The place of the first session with an id.
+/// The index of the first session with an id.
 pub fn find(sessions: &[Session], id: Id) -> Option<usize>
     ensures { result ≡ position (λ session. session.id == id) sessions.now }
 {

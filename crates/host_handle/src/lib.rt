@@ -13,7 +13,7 @@ use std::alloc::Global;
 use std::marker::Model;
 use std::ptr::null_mut;
 
-/// The place of a host: empty, or a pointer to one, which it owns.
+/// The slot of a host: empty, or a pointer to one, which it owns.
 ///
 /// Where a slot with a host is dropped, the host stays on the heap: [`Handle::take`] takes it out.
 #[repr(C)]
@@ -74,7 +74,7 @@ unsafe impl Send for HostSlot {}
 #[repr(C)]
 #[derive(Drop)]
 pub struct Handle {
-    /// The place of the host.
+    /// The slot of the host.
     pub slot: HostSlot,
     /// Whether it holds one.
     pub full: bool,

@@ -1,6 +1,6 @@
 -- Each exit that the meaning gives is among the possible exits, and each exception of an expression among those that it can raise.
 use Rattle.std.proofs.Common.{arith, ◌≡◌, refl, sym, ap, ◌∙◌, ℕ, zero, suc, Bool, true, false, not, ◌||◌, List, [], ◌∷◌, ◌++◌, append_assoc, ℤ, pos, negsuc, neg_ℤ, ◌+ℤ◌}
-use Rattle.std.specs.Prelude.{Option, Some, None, if◌then◌else◌, ◌==◌, filter}
+use Rattle.std.specs.Prelude.{Option, Some, None, if◌then◌else◌, ◌==◌, filter, flat_map}
 use Rattle.std.specs.List.{list_any, list_all}
 use Rattle.std.proofs.lemmas.List.Folds.{list_any-append}
 use Rattle.std.proofs.lemmas.List.{append-nil}
@@ -15,6 +15,11 @@ use Rattle.resolved.specs.declared.expression.Value.TheVariants.{Number, Truth}
 use Rattle.resolved.specs.declared.expression.Prefix.TheVariants.{Negate}
 use Rattle.resolved.specs.declared.expression.Operator.{Operator}
 use Rattle.resolved.specs.declared.expression.Operator.TheVariants.{Compute, Divide, Bits, Compare, Match}
+use Rattle.resolved.specs.declared.expression.Computation.TheVariants.{Add, Subtract, Multiply}
+use Rattle.resolved.specs.declared.expression.Division.TheVariants.{Quotient, Remainder}
+use Rattle.resolved.specs.declared.expression.BitOperator.TheVariants.{BitAnd, BitOr, BitXor, ShiftLeft, ShiftRight, ShiftRightUnsigned}
+use Rattle.resolved.specs.declared.expression.Relation.TheVariants.{LessThan, AtMost, GreaterThan, AtLeast, Equal, Unequal}
+use Rattle.resolved.specs.declared.expression.Sameness.TheVariants.{Same, Different}
 use Rattle.resolved.specs.declared.statement.Exit.{Exit}
 use Rattle.resolved.specs.declared.statement.Exit.TheVariants.{Normal, Return, Break, Continue, Throw}
 use Rattle.resolved.specs.Tree.{Expression, Integer, Logical, Read, Element, Unary, Binary, Short, Statement, Assign, Clear, Store, Receive, Send, Call, If, While, Leave, ReturnWith, Try, Nested, Block, Empty, Then, Handlers, NoMore, Catch}
@@ -22,7 +27,7 @@ use Rattle.resolved.specs.Program.{Program, procedure_at}
 use Rattle.resolved.specs.Value.{Evaluated, Yields, Raises, then_with, truth_in, number_in, wrapped, literal_number, unless_zero, operator_value, decides, in_range, position_of, checked_index}
 use Rattle.resolved.specs.SourceState.{SourceState, value_of, values_of, cells, cell_at, assigned, stored, cleared}
 use Rattle.resolved.specs.Meaning.{OutOfFuel, Outcome, Ended, Stopped, normally, after, evaluated, looped, fuel, caught, leaving, returned_to, received, sending, Calls, statement_meaning, block_meaning, handlers_meaning, frame_of, calls_with}
-use Rattle.resolved.specs.Exits.{same_exit, has_exit, index_can_raise, divisor_can_raise, index_raises, operator_raises, raises, raises_all, thrown_exits, declared_by, leaves_loop, handles, passes, then_exits, statement_exits, block_exits, handlers_exits}
+use Rattle.resolved.specs.Exits.{same_exit, has_exit, index_can_raise, divisor_can_raise, index_raises, operator_raises, raises, thrown_exits, declared_by, leaves_loop, handles, passes, then_exits, statement_exits, block_exits, handlers_exits}
 use Rattle.resolved.specs.ExitFaults.{may_exit}
 use Rattle.isolation.specs.Runs.{ExitsAmong}
 use Rattle.resolved.proofs.Exits.{same_exit-itself, thrown-append, end-filter, all-has, then-other}
@@ -120,11 +125,25 @@ raises-division s e w result f = go (divisor_can_raise e) refl (is_zero (number_
 
 raises-operator : (s : SourceState) (operator : Operator) (e : Expression) (v w : Value) → value_of s e ≡ Yields w →
     RaisesAmong (operator_raises operator e) (operator_value operator v w)
-raises-operator s (Compute computation) e v w f = raises-none [] _
-raises-operator s (Divide division) e v w f = raises-division s e w _ f
-raises-operator s (Bits operator) e v w f = raises-none [] _
-raises-operator s (Compare relation) e v w f = raises-none [] _
-raises-operator s (Match sameness) e v w f = raises-none [] _
+raises-operator s (Compute Add) e v w f = raises-none [] _
+raises-operator s (Compute Subtract) e v w f = raises-none [] _
+raises-operator s (Compute Multiply) e v w f = raises-none [] _
+raises-operator s (Divide Quotient) e v w f = raises-division s e w _ f
+raises-operator s (Divide Remainder) e v w f = raises-division s e w _ f
+raises-operator s (Bits BitAnd) e v w f = raises-none [] _
+raises-operator s (Bits BitOr) e v w f = raises-none [] _
+raises-operator s (Bits BitXor) e v w f = raises-none [] _
+raises-operator s (Bits ShiftLeft) e v w f = raises-none [] _
+raises-operator s (Bits ShiftRight) e v w f = raises-none [] _
+raises-operator s (Bits ShiftRightUnsigned) e v w f = raises-none [] _
+raises-operator s (Compare LessThan) e v w f = raises-none [] _
+raises-operator s (Compare AtMost) e v w f = raises-none [] _
+raises-operator s (Compare GreaterThan) e v w f = raises-none [] _
+raises-operator s (Compare AtLeast) e v w f = raises-none [] _
+raises-operator s (Compare Equal) e v w f = raises-none [] _
+raises-operator s (Compare Unequal) e v w f = raises-none [] _
+raises-operator s (Match Same) e v w f = raises-none [] _
+raises-operator s (Match Different) e v w f = raises-none [] _
 
 raises-if : {A : Type 0} (xs : List ℕ) (b : Bool) (o p : Evaluated A) → RaisesAmong xs o → RaisesAmong xs p →
     RaisesAmong xs (if b then o else p)
@@ -153,11 +172,11 @@ expression-raises s (Short connective d e) =
     raises-then (raises d) (raises e) (value_of s d) (λ v. if decides connective v then Yields v else value_of s e) (expression-raises s d) (λ v f.
     raises-if (raises e) (decides connective v) (Yields v) (value_of s e) (raises-none (raises e) v) (expression-raises s e))
 
-pub expressions-raise : (s : SourceState) (es : List Expression) → RaisesAmong (raises_all es) (values_of s es)
+pub expressions-raise : (s : SourceState) (es : List Expression) → RaisesAmong (flat_map raises es) (values_of s es)
 expressions-raise s [] = raises-none [] []
 expressions-raise s (e ∷ rest) =
-    raises-then (raises e) (raises_all rest) (value_of s e) (λ v. then_with (values_of s rest) (λ vs. Yields (v ∷ vs))) (expression-raises s e) (λ v f.
-    rw (← append-nil (raises_all rest)) (raises-then (raises_all rest) [] (values_of s rest) (λ vs. Yields (v ∷ vs))
+    raises-then (raises e) (flat_map raises rest) (value_of s e) (λ v. then_with (values_of s rest) (λ vs. Yields (v ∷ vs))) (expression-raises s e) (λ v f.
+    rw (← append-nil (flat_map raises rest)) (raises-then (flat_map raises rest) [] (values_of s rest) (λ vs. Yields (v ∷ vs))
     (expressions-raise s rest) (λ vs g. raises-none [] (v ∷ vs))))
 
 -- the exit of an outcome is in a list
@@ -336,13 +355,13 @@ mutual
       among-first Normal (thrown_exits (raises e)) None (sending channel v s))
   statement-among (Call at procedure arguments target) program calls k h s =
       let declared : List ℕ = declared_by (procedure_at program procedure).throws in
-      let xs : List ℕ = raises_all arguments ++ declared in
-      among-evaluated (raises_all arguments) (Normal ∷ thrown_exits xs) (values_of s arguments) s
+      let xs : List ℕ = flat_map raises arguments ++ declared in
+      among-evaluated (flat_map raises arguments) (Normal ∷ thrown_exits xs) (values_of s arguments) s
       (λ vs. returned_to target (calls procedure vs s)) (expressions-raise s arguments)
-      (λ exit f. in_rest Normal (thrown_exits xs) exit (thrown-left (raises_all arguments) declared exit f)) (λ vs f.
+      (λ exit f. in_rest Normal (thrown_exits xs) exit (thrown-left (flat_map raises arguments) declared exit f)) (λ vs f.
       among-returned_to (thrown_exits xs) target (calls procedure vs s)
       (among-more (Normal ∷ thrown_exits declared) (Normal ∷ thrown_exits xs) (calls procedure vs s)
-      (λ exit g. call-more declared xs exit (thrown-right (raises_all arguments) declared) g) (h procedure vs s)))
+      (λ exit g. call-more declared xs exit (thrown-right (flat_map raises arguments) declared) g) (h procedure vs s)))
   statement-among (If at e then_block else_block) program calls k h s =
       let yes_exits : List Exit = block_exits program then_block in
       let no_exits : List Exit = block_exits program else_block in

@@ -1,7 +1,7 @@
 -- Confinement: where an observer does not read the label at which a labelled statement has evaluated its own expressions, nothing
 -- of its run is seen, and it ends at labels that the observer does not read.
 use Rattle.std.proofs.Common.{arith, ◌≡◌, refl, sym, ap, ◌∙◌, ℕ, Bool, true, false, not, List, [], ◌∷◌, ◌++◌, ℤ}
-use Rattle.std.specs.Prelude.{Option, Some, None, if◌then◌else◌, ◌==◌, IsTrue}
+use Rattle.std.specs.Prelude.{Option, Some, None, if◌then◌else◌, ◌==◌, IsTrue, flat_map}
 use Rattle.std.specs.List.{list_all}
 use Rattle.std.proofs.lemmas.Bool.{and_parts}
 use Rattle.std.proofs.lemmas.List.Folds.{list_all-append}
@@ -17,11 +17,11 @@ use Rattle.resolved.specs.Tree.{Expression, Statement, Assign, Clear, Store, Rec
 use Rattle.resolved.specs.Program.{Program, ProcedureEntry, procedure_at}
 use Rattle.resolved.specs.Value.{Raises, truth_in, checked_index}
 use Rattle.resolved.specs.SourceState.{SourceState, assigned, stored, cleared, value_of, values_of}
-use Rattle.resolved.specs.Meaning.{Stop, Outcome, Ended, Stopped, normally, after, caught, kept_in, received, sending, returned_to, Calls, statement_meaning, block_meaning, handlers_meaning, state_after}
+use Rattle.resolved.specs.Meaning.{Stop, Outcome, Ended, Stopped, normally, after, caught, given_to, received, sending, returned_to, Calls, statement_meaning, block_meaning, handlers_meaning, state_after}
 use Rattle.resolved.specs.Exits.{same_exit, has_exit, raises, thrown_exits, leaves_loop, handles, passes, statement_exits, block_exits, index_can_raise}
 use Rattle.resolved.specs.declared.target.Target.{Target}
 use Rattle.resolved.specs.declared.target.Target.TheVariants.{ToEnd, ToThrown, ToValue, ToVariable, ToChannel, ToBegin, ToValue, ToLoop}
-use Rattle.resolved.specs.Labelled.{Scope, ExitLabels, Demand, demand, join_under, label_under, FitsDemands, variable_label, channel_label, result_label, value_label, raise_label, raise_labels, label_if, at_exits, raised_exit_labels, call_exit_labels, any_of, loop_exit_labels, statement_rule, block_rule, handlers_rule, block_exit_labels, target_demand, argument_demands, statement_demands, block_demands, handlers_demands, Labelling, Join, one, label_of, here, LabelAtom}
+use Rattle.resolved.specs.Labelled.{Scope, ExitLabels, Demand, demand, join_under, label_under, FitsDemands, variable_label, channel_label, result_label, value_label, raise_label, label_if, at_exits, raised_exit_labels, call_exit_labels, any_of, loop_exit_labels, statement_rule, block_rule, handlers_rule, block_exit_labels, target_demand, argument_demands, statement_demands, block_demands, handlers_demands, Labelling, Join, one, label_of, here, LabelAtom}
 use Rattle.isolation.proofs.OwnLabel.{own_label}
 use Rattle.lattices.specs.Constraints.{holds}
 use Rattle.labels.specs.LabelLattice.{label_lattice}
@@ -113,10 +113,10 @@ unread-target reader scope at rule left None fits unread x e = absurd (cc)
 unread-target reader scope at rule left (Some y) fits unread x e =
     let same : y ≡ x = cc in rw (← same) (unread-demand reader scope.program at rule left (ToVariable scope.number y) fits unread)
 
-unseen-kept_in : (view : View) (target : Option Variable) (v : Value) (s : SourceState) →
-    ((x : Variable) → target ≡ Some x → view.variable x ≡ false) → AgreeFor view s (kept_in target v s)
-unseen-kept_in view None v s unread = agree-itself view s
-unseen-kept_in view (Some x) v s unread = agree-unread view s x (v ∷ []) (unread x refl)
+unseen-given_to : (view : View) (target : Option Variable) (v : Value) (s : SourceState) →
+    ((x : Variable) → target ≡ Some x → view.variable x ≡ false) → AgreeFor view s (given_to target (Some v) s)
+unseen-given_to view None v s unread = agree-itself view s
+unseen-given_to view (Some x) v s unread = agree-unread view s x (v ∷ []) (unread x refl)
 
 unseen-received : (view : View) (value : Bool) (exits : Exit →
     Bool) (channel : ℕ) (target : Option Variable) (s : SourceState) (numbers : List ℤ) → ((exit : Exit) → exits exit ≡ false) →
@@ -126,10 +126,10 @@ unseen-received view value exits channel target s [] unread unread_channel unrea
     (unread (Throw END))
 unseen-received view value exits channel target s (z ∷ rest) unread unread_channel unread_target =
     record {
-      agree = agree-through view s (with_input s channel rest) (kept_in target (Number z) (with_input s channel rest))
+      agree = agree-through view s (with_input s channel rest) (given_to target (Some (Number z)) (with_input s channel rest))
           (agree-unread_input view s channel rest unread_channel)
-          (unseen-kept_in view target (Number z) (with_input s channel rest) unread_target);
-      hidden = hidden_exit Normal (kept_in target (Number z) (with_input s channel rest)) (unread Normal);
+          (unseen-given_to view target (Number z) (with_input s channel rest) unread_target);
+      hidden = hidden_exit Normal (given_to target (Some (Number z)) (with_input s channel rest)) (unread Normal);
     }
 
 -- a label that is above one which, joined with it, is not read
@@ -154,7 +154,7 @@ own-unread reader scope pc (Store at array len index e) fits unread =
     (unread-left reader (pc ++ raise_label scope index) (raise_label scope e) (unread-left reader pc (raise_label scope index) unread))
 own-unread reader scope pc (Receive at channel target) fits unread = unread-left reader pc (one (label_of scope.program (ToChannel channel))) unread
 own-unread reader scope pc (Send at channel e) fits unread = unread-left reader pc (raise_label scope e) unread
-own-unread reader scope pc (Call at f arguments target) fits unread = unread-left reader pc (raise_labels scope arguments) unread
+own-unread reader scope pc (Call at f arguments target) fits unread = unread-left reader pc (flat_map (raise_label scope) arguments) unread
 own-unread reader scope pc (If at e then_block else_block) fits unread = unread-left reader pc (raise_label scope e) unread
 own-unread {h} {labelling} reader scope pc (While at loop e body) fits unread =
     let l : Join = one (label_of scope.program (ToLoop scope.number loop)) in

@@ -14,7 +14,7 @@ use Rattle.resolved.specs.Tree.{Statement, Assign, Clear, Store, Receive, Send, 
 use Rattle.resolved.specs.Program.{Program, procedure_at}
 use Rattle.resolved.specs.Value.{Evaluated, Yields, Raises, number_in, truth_in, checked_index}
 use Rattle.resolved.specs.SourceState.{SourceState, with_cells, assigned, stored, cleared, value_of, values_of}
-use Rattle.resolved.specs.Meaning.{Deep, OutOfFuel, Outcome, Ended, Stopped, normally, thrown, after, evaluated, looped, fuel, caught, kept_in, received, sending, leaving, returned_to, Calls, statement_meaning, block_meaning, handlers_meaning, frame_of, calls_with, state_after}
+use Rattle.resolved.specs.Meaning.{Deep, OutOfFuel, Outcome, Ended, Stopped, normally, thrown, after, evaluated, looped, fuel, caught, given_to, received, sending, leaving, returned_to, Calls, statement_meaning, block_meaning, handlers_meaning, frame_of, calls_with, state_after}
 
 -- from a state on, an outcome has only sent more
 pub record Grows (s : SourceState) (o : Outcome) : Type 0 where
@@ -78,16 +78,16 @@ sent-with_cells : (s : SourceState) (x : Variable) (values : List Value) → s.s
 sent-with_cells s (Global n) values = refl
 sent-with_cells s (Local n) values = refl
 
-sent-kept_in : (target : Option Variable) (v : Value) (s : SourceState) → s.sent ≡ (kept_in target v s).sent
-sent-kept_in None v s = refl
-sent-kept_in (Some x) v s = sent-with_cells s x (v ∷ [])
+sent-given_to : (target : Option Variable) (v : Value) (s : SourceState) → s.sent ≡ (given_to target (Some v) s).sent
+sent-given_to None v s = refl
+sent-given_to (Some x) v s = sent-with_cells s x (v ∷ [])
 
 pub grows-received : (numbers : List ℤ) (channel : ℕ) (target : Option Variable) (s : SourceState) →
     Grows s (received numbers channel target s)
 grows-received [] channel target s = grows-itself s s refl (received [] channel target s) refl
 grows-received (z ∷ rest) channel target s =
     grows-itself s (record s { inputs = updated s.inputs channel rest }) refl (received (z ∷ rest) channel target s)
-    (sent-kept_in target (Number z) (record s { inputs = updated s.inputs channel rest }))
+    (sent-given_to target (Number z) (record s { inputs = updated s.inputs channel rest }))
 
 pub grows-leaving : (s : SourceState) (back : SourceState → SourceState) (o : Outcome) → ((t : SourceState) → t.sent ≡ (back t).sent) → Grows s o →
     Grows s (leaving back o)

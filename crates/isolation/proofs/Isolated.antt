@@ -1,6 +1,6 @@
 -- Isolation, by recursion on the frames: what the calls of a labelled program do, and what an observer sees of two of its runs.
 use Rattle.std.proofs.Common.{arith, ◌≡◌, refl, ap, ℕ, zero, suc, ◌+◌, ◌<◌, ◌≤◌, Bool, true, false, List, [], ◌∷◌, ◌⊎◌, inl, inr, length, ℤ}
-use Rattle.std.specs.Prelude.{Option, Some, None, slice_get, slice_index_or, nat_lt}
+use Rattle.std.specs.Prelude.{Option, Some, None, slice_get, slice_index_or, nat_lt, unwrap_or}
 use Rattle.principals.specs.ActsFor.{PrincipalHierarchy}
 use Rattle.labels.specs.Label.{Label}
 use Rattle.labels.specs.Sent.{IsPrefix}
@@ -16,7 +16,7 @@ use Rattle.resolved.specs.SourceState.{SourceState, World, cells}
 use Rattle.resolved.specs.Meaning.{Deep, Outcome, leaving, Stopped, entering, first_cells_of_slots, block_meaning, calls_with, first_state, channel_numbers, numbers_by, run_within, state_after}
 use Rattle.resolved.specs.Exits.{block_exits}
 use Rattle.resolved.specs.declared.target.Target.TheVariants.{ToBegin}
-use Rattle.resolved.specs.Labelled.{parameter_label, Scope, OfLocal, Join, one, written_or, label_of, join_under, Labelling, FitsDemands, channel_label, block_rule, block_exit_labels, block_demands, exit_demands, procedure_demands, demands_from, program_demands}
+use Rattle.resolved.specs.Labelled.{Scope, OfLocal, Join, one, written_or, label_of, join_under, Labelling, FitsDemands, channel_label, block_rule, block_exit_labels, block_demands, exit_demands, procedure_demands, demands_from, program_demands}
 use Rattle.lattices.specs.Constraints.{Written}
 use Rattle.isolation.proofs.Grows.{calls-grow}
 use Rattle.isolation.proofs.Among.{EndsAsDeclared, calls-among, block-among}
@@ -81,7 +81,7 @@ agree-entering reader program caller callee labels inner vs ws s t agree same = 
 }
   where
     parameter : (written : Option Label) (n : ℕ) → reader.reads (join_under inner (one (written_or written (OfLocal callee n)))) ≡ true →
-        reader.reads (join_under labels (one (Written (parameter_label written)))) ≡ true
+        reader.reads (join_under labels (one (Written (unwrap_or written [])))) ≡ true
     parameter (Some label) n e = e
     parameter None n e = reader.nothing
 

@@ -1,6 +1,6 @@
 -- Two runs of a labelled statement from states that are the same for an observer are related, at whatever label they begin.
 use Rattle.std.proofs.Common.{arith, ◌≡◌, refl, sym, ap, ◌∙◌, ℕ, zero, suc, ◌+◌, Bool, true, false, not, List, [], ◌∷◌, ◌++◌, ℤ}
-use Rattle.std.specs.Prelude.{Option, Some, None, if◌then◌else◌, ◌==◌, slice_get, slice_set, map}
+use Rattle.std.specs.Prelude.{Option, Some, None, if◌then◌else◌, ◌==◌, slice_get, slice_set, map, flat_map}
 use Rattle.principals.specs.ActsFor.{PrincipalHierarchy}
 use Rattle.resolved.specs.declared.expression.Variable.{Variable}
 use Rattle.resolved.specs.declared.expression.Variable.TheVariants.{Local}
@@ -12,11 +12,11 @@ use Rattle.resolved.specs.Tree.{Expression, Statement, Assign, Clear, Store, Rec
 use Rattle.resolved.specs.Program.{Program, procedure_at}
 use Rattle.resolved.specs.Value.{truth_in, checked_index, zero_value, base_of}
 use Rattle.resolved.specs.SourceState.{SourceState, assigned, stored, cleared, cells, value_of, values_of}
-use Rattle.resolved.specs.Meaning.{Ended, normally, kept_in, received, sending, returned_to, Calls, statement_meaning, block_meaning, handlers_meaning}
+use Rattle.resolved.specs.Meaning.{Ended, normally, given_to, received, sending, returned_to, Calls, statement_meaning, block_meaning, handlers_meaning}
 use Rattle.resolved.specs.Exits.{same_exit, passes, statement_exits, block_exits, index_can_raise}
 use Rattle.resolved.specs.declared.target.Target.{Target}
 use Rattle.resolved.specs.declared.target.Target.TheVariants.{ToParameter, ToValue, ToVariable, ToChannel, ToBegin, ToValue, ToLoop}
-use Rattle.resolved.specs.Labelled.{Scope, ExitLabels, demand, FitsDemands, variable_label, value_label, raise_label, raise_labels, label_if, at_exits, raised_exit_labels, call_exit_labels, statement_rule, block_rule, handlers_rule, target_demand, argument_demands, statement_demands, block_demands, handlers_demands, Labelling, Join, one, label_of, here}
+use Rattle.resolved.specs.Labelled.{Scope, ExitLabels, demand, FitsDemands, variable_label, value_label, raise_label, label_if, at_exits, raised_exit_labels, call_exit_labels, statement_rule, block_rule, handlers_rule, target_demand, argument_demands, statement_demands, block_demands, handlers_demands, Labelling, Join, one, label_of, here}
 use Rattle.isolation.proofs.OwnLabel.{own_label}
 use Rattle.isolation.proofs.Grows.{CallsGrow, block-grows, handlers-grow}
 use Rattle.isolation.proofs.Among.{statement-among, block-among}
@@ -83,18 +83,18 @@ target-read reader scope at rule left None fits x e reads = absurd (cc)
 target-read reader scope at rule left (Some y) fits x e reads =
     let same : y ≡ x = cc in read-demand reader scope.program at rule left (ToVariable scope.number y) fits (rw same reads)
 
-agree-kept_in : (view : View) (target : Option Variable) (v : Value) (s t : SourceState) → AgreeFor view s t →
-    AgreeFor view (kept_in target v s) (kept_in target v t)
-agree-kept_in view None v s t agree = agree
-agree-kept_in view (Some x) v s t agree = agree-with_cells view s t x (v ∷ []) (v ∷ []) agree (λ e. refl)
+agree-given_to : (view : View) (target : Option Variable) (v : Value) (s t : SourceState) → AgreeFor view s t →
+    AgreeFor view (given_to target (Some v) s) (given_to target (Some v) t)
+agree-given_to view None v s t agree = agree
+agree-given_to view (Some x) v s t agree = agree-with_cells view s t x (v ∷ []) (v ∷ []) agree (λ e. refl)
 
 related-received : (view : View) (value : Bool) (exits : Exit →
     Bool) (channel : ℕ) (target : Option Variable) (s t : SourceState) (numbers others : List ℤ) → numbers ≡ others → AgreeFor view s t →
     Related view value exits (received numbers channel target s) (received others channel target t)
 related-received view value exits channel target s t numbers [] e agree = rw e (agreed_exit (Throw END) s t agree)
 related-received view value exits channel target s t numbers (z ∷ rest) e agree =
-    rw e (agreed_exit Normal (kept_in target (Number z) (with_input s channel rest)) (kept_in target (Number z) (with_input t channel rest))
-    (agree-kept_in view target (Number z) (with_input s channel rest) (with_input t channel rest) (agree-with_input view s t channel rest agree)))
+    rw e (agreed_exit Normal (given_to target (Some (Number z)) (with_input s channel rest)) (given_to target (Some (Number z)) (with_input t channel rest))
+    (agree-given_to view target (Number z) (with_input s channel rest) (with_input t channel rest) (agree-with_input view s t channel rest agree)))
 
 module _ (h : PrincipalHierarchy) (labelling : Labelling) (reader : Reader h labelling) (scope : Scope) (calls further : Calls) (k m : ℕ)
     (secures : Secures reader scope calls further) where
@@ -188,7 +188,7 @@ module _ (h : PrincipalHierarchy) (labelling : Labelling) (reader : Reader h lab
         by-reading (reader.reads q) (both-hidden (Call at f arguments target) pc fits s t agree) (λ read.
         related-evaluated (ArgumentsAlike reader scope arguments) view value exits s t (values_of s arguments) (values_of t arguments)
         (λ vs. returned_to target (calls f vs s)) (λ vs. returned_to target (further f vs t)) agree
-        (arguments-alike reader scope s t agree arguments (read-right reader pc (raise_labels scope arguments) read)) (λ vs ws g g' same.
+        (arguments-alike reader scope s t agree arguments (read-right reader pc (flat_map (raise_label scope) arguments) read)) (λ vs ws g g' same.
         related-returned_to view (reads_result reader callee) value (read_exits reader (declared_label scope.program f)) exits target (calls f vs s)
         (further f ws t)
         (secures.related f vs ws s t agree (λ n reads. parameters-from reader scope at q f 0 arguments vs ws

@@ -1,18 +1,23 @@
 -- Expressions in two states that are the same for an observer: who reads the raise label finds the same exception in both or none
 -- in both, and who reads the value label too finds the same value.
 use Rattle.std.proofs.Common.{◌≡◌, refl, sym, ap, ◌∙◌, ℕ, Bool, true, false, ◌&&◌, List, [], ◌∷◌, ◌++◌, ℤ}
-use Rattle.std.specs.Prelude.{if◌then◌else◌}
+use Rattle.std.specs.Prelude.{if◌then◌else◌, flat_map}
 use Rattle.principals.specs.ActsFor.{PrincipalHierarchy}
 use Rattle.resolved.specs.declared.expression.Value.{Value}
 use Rattle.resolved.specs.declared.expression.Value.TheVariants.{Number, Truth}
 use Rattle.resolved.specs.declared.expression.Operator.{Operator}
 use Rattle.resolved.specs.declared.expression.Operator.TheVariants.{Compute, Divide, Bits, Compare, Match}
+use Rattle.resolved.specs.declared.expression.Computation.TheVariants.{Add, Subtract, Multiply}
+use Rattle.resolved.specs.declared.expression.Division.TheVariants.{Quotient, Remainder}
+use Rattle.resolved.specs.declared.expression.BitOperator.TheVariants.{BitAnd, BitOr, BitXor, ShiftLeft, ShiftRight, ShiftRightUnsigned}
+use Rattle.resolved.specs.declared.expression.Relation.TheVariants.{LessThan, AtMost, GreaterThan, AtLeast, Equal, Unequal}
+use Rattle.resolved.specs.declared.expression.Sameness.TheVariants.{Same, Different}
 use Rattle.resolved.specs.declared.expression.Connective.{Connective}
 use Rattle.resolved.specs.Tree.{Expression, Integer, Logical, Read, Element, Unary, Binary, Short}
 use Rattle.resolved.specs.Value.{Evaluated, Yields, Raises, then_with, number_in, literal_number, unless_zero, prefix_value, operator_value, decides, in_range, position_of, checked_index}
 use Rattle.resolved.specs.SourceState.{SourceState, cells, cell_at, value_of, values_of}
 use Rattle.resolved.specs.Exits.{index_can_raise, divisor_can_raise, is_division, raises}
-use Rattle.resolved.specs.Labelled.{Scope, variable_label, value_label, raise_label, raise_labels, label_if, any_of, Labelling, Join}
+use Rattle.resolved.specs.Labelled.{Scope, variable_label, value_label, raise_label, label_if, any_of, Labelling, Join}
 use Rattle.isolation.proofs.Among.{RaisesAmong, expression-raises, index-in_range, divisor-not_zero}
 use Rattle.isolation.proofs.Observer.{Reader, view_of, AgreeFor, read-left, read-right}
 use Rattle.common.specs.Integers.{is_zero}
@@ -72,12 +77,27 @@ division-alike b d e m n no_zero same = go (is_zero e) refl
 operator-alike : (b : Bool) (operator : Operator) (v w v' w' : Value) →
     (is_division operator ≡ true → is_zero (number_in w) ≡ is_zero (number_in w')) → SameIf b v v' → SameIf b w w' →
     Alike (SameIf b) (operator_value operator v w) (operator_value operator v' w')
-operator-alike b (Compute computation) v w v' w' no_zero left right = both_give _ _ (λ i. rw (left i, right i) refl)
-operator-alike b (Divide division) v w v' w' no_zero left right = division-alike b (number_in w) (number_in w') _ _ (no_zero refl)
+operator-alike b (Compute Add) v w v' w' no_zero left right = both_give _ _ (λ i. rw (left i, right i) refl)
+operator-alike b (Compute Subtract) v w v' w' no_zero left right = both_give _ _ (λ i. rw (left i, right i) refl)
+operator-alike b (Compute Multiply) v w v' w' no_zero left right = both_give _ _ (λ i. rw (left i, right i) refl)
+operator-alike b (Divide Quotient) v w v' w' no_zero left right = division-alike b (number_in w) (number_in w') _ _ (no_zero refl)
     (λ i. rw (left i, right i) refl)
-operator-alike b (Bits operator) v w v' w' no_zero left right = both_give _ _ (λ i. rw (left i, right i) refl)
-operator-alike b (Compare relation) v w v' w' no_zero left right = both_give _ _ (λ i. rw (left i, right i) refl)
-operator-alike b (Match sameness) v w v' w' no_zero left right = both_give _ _ (λ i. rw (left i, right i) refl)
+operator-alike b (Divide Remainder) v w v' w' no_zero left right = division-alike b (number_in w) (number_in w') _ _ (no_zero refl)
+    (λ i. rw (left i, right i) refl)
+operator-alike b (Bits BitAnd) v w v' w' no_zero left right = both_give _ _ (λ i. rw (left i, right i) refl)
+operator-alike b (Bits BitOr) v w v' w' no_zero left right = both_give _ _ (λ i. rw (left i, right i) refl)
+operator-alike b (Bits BitXor) v w v' w' no_zero left right = both_give _ _ (λ i. rw (left i, right i) refl)
+operator-alike b (Bits ShiftLeft) v w v' w' no_zero left right = both_give _ _ (λ i. rw (left i, right i) refl)
+operator-alike b (Bits ShiftRight) v w v' w' no_zero left right = both_give _ _ (λ i. rw (left i, right i) refl)
+operator-alike b (Bits ShiftRightUnsigned) v w v' w' no_zero left right = both_give _ _ (λ i. rw (left i, right i) refl)
+operator-alike b (Compare LessThan) v w v' w' no_zero left right = both_give _ _ (λ i. rw (left i, right i) refl)
+operator-alike b (Compare AtMost) v w v' w' no_zero left right = both_give _ _ (λ i. rw (left i, right i) refl)
+operator-alike b (Compare GreaterThan) v w v' w' no_zero left right = both_give _ _ (λ i. rw (left i, right i) refl)
+operator-alike b (Compare AtLeast) v w v' w' no_zero left right = both_give _ _ (λ i. rw (left i, right i) refl)
+operator-alike b (Compare Equal) v w v' w' no_zero left right = both_give _ _ (λ i. rw (left i, right i) refl)
+operator-alike b (Compare Unequal) v w v' w' no_zero left right = both_give _ _ (λ i. rw (left i, right i) refl)
+operator-alike b (Match Same) v w v' w' no_zero left right = both_give _ _ (λ i. rw (left i, right i) refl)
+operator-alike b (Match Different) v w v' w' no_zero left right = both_give _ _ (λ i. rw (left i, right i) refl)
 
 -- whether a divisor is 0 is the same in both, if it can be
 divisor-alike : (s t : SourceState) (e : Expression) (b : Bool) (w w' : Value) → (divisor_can_raise e ≡ true → b ≡ true) →
@@ -190,14 +210,14 @@ pub data ArgumentsAlike {h : PrincipalHierarchy} {labelling : Labelling} (reader
       ArgumentsAlike reader scope (e ∷ rest) (v ∷ vs) (w ∷ ws)
 
 pub arguments-alike : {h : PrincipalHierarchy} {labelling : Labelling} (reader : Reader h labelling) (scope : Scope) (s t : SourceState) →
-    AgreeFor (view_of reader scope) s t → (es : List Expression) → reader.reads (raise_labels scope es) ≡ true →
+    AgreeFor (view_of reader scope) s t → (es : List Expression) → reader.reads (flat_map (raise_label scope) es) ≡ true →
     Alike (ArgumentsAlike reader scope es) (values_of s es) (values_of t es)
 arguments-alike reader scope s t agree [] reads = both_give [] [] no_arguments
 arguments-alike reader scope s t agree (e ∷ rest) reads =
     alike-then (SameIf (reader.reads (value_label scope e))) (ArgumentsAlike reader scope (e ∷ rest)) (value_of s e) (value_of t e)
     (λ v. then_with (values_of s rest) (λ vs. Yields (v ∷ vs))) (λ v. then_with (values_of t rest) (λ vs. Yields (v ∷ vs)))
-    (expression-alike reader scope s t agree e (read-left reader (raise_label scope e) (raise_labels scope rest) reads)) (λ v w f g same.
+    (expression-alike reader scope s t agree e (read-left reader (raise_label scope e) (flat_map (raise_label scope) rest) reads)) (λ v w f g same.
     alike-then (ArgumentsAlike reader scope rest) (ArgumentsAlike reader scope (e ∷ rest)) (values_of s rest) (values_of t rest)
     (λ vs. Yields (v ∷ vs)) (λ vs. Yields (w ∷ vs))
-    (arguments-alike reader scope s t agree rest (read-right reader (raise_label scope e) (raise_labels scope rest) reads)) (λ vs ws i j more.
+    (arguments-alike reader scope s t agree rest (read-right reader (raise_label scope e) (flat_map (raise_label scope) rest) reads)) (λ vs ws i j more.
     both_give (v ∷ vs) (w ∷ ws) (one_more e rest v w vs ws same more)))

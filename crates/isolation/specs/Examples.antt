@@ -6,7 +6,7 @@ use Rattle.principals.specs.ActsFor.{PrincipalHierarchy}
 use Rattle.common.specs.declared.sent.Pair.{Pair}
 use Rattle.labels.specs.Label.{Label}
 use Rattle.labels.specs.Sent.{pairs_for}
-use Rattle.resolved.specs.declared.expression.Base.TheVariants.{Int}
+use Rattle.common.specs.declared.base_type.BaseType.TheVariants.{Int}
 use Rattle.resolved.specs.declared.expression.Variable.TheVariants.{Local}
 use Rattle.resolved.specs.declared.expression.Operator.TheVariants.{Compare}
 use Rattle.resolved.specs.declared.expression.Relation.TheVariants.{GreaterThan}

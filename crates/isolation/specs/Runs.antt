@@ -2,7 +2,7 @@
 -- Source: our own.
 use Rattle.std.specs.Prelude.{◌≡◌, ℕ, ◌≤◌, List, [], ◌∷◌, Some, None, IsTrue, slice_get}
 use Rattle.labels.specs.Sent.{IsPrefix}
-use Rattle.resolved.specs.declared.expression.Base.{Base}
+use Rattle.common.specs.declared.base_type.BaseType.{BaseType}
 use Rattle.resolved.specs.declared.expression.Value.{Value}
 use Rattle.resolved.specs.declared.statement.Exit.{Exit}
 use Rattle.resolved.specs.declared.statement.Exit.TheVariants.{Normal, Return, Break, Continue, Throw}
@@ -39,7 +39,7 @@ CallsEndAsDeclared program =
     → ExitsAmong (Normal ∷ thrown_exits (declared_by (procedure_at program f).throws)) (calls_with program k frames f arguments s)
 
 -- a call that ended normally gave a value of this base type
-abbrev pub GivesValue : Base → Outcome → Type 0
+abbrev pub GivesValue : BaseType → Outcome → Type 0
 GivesValue base (Ended Normal (Some v) s) = base_of v ≡ base
 GivesValue base (Ended Normal None s) = ⊥
 GivesValue base (Ended Return returned s) = Unit {0}

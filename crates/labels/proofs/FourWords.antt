@@ -4,7 +4,7 @@ use Rattle.std.specs.Prelude.{bit_or}
 use Rattle.std.proofs.lemmas.Bool.{eqb-true, eqb-false, eq-eqb}
 use Rattle.std.proofs.lemmas.Simd.{length-chunk, length-zip2, get_or-chunk, get_or-zip2, mask_l-mod, length-put_chunk, get_or-put_chunk_below, get_or-put_chunk_at, get_or-put_chunk_above}
 use lib.Lanes.{zip2, mask_l, chunk, put_chunk}
-use Rattle.labels.specs.Words.{AreJoined, GrowBetween, IsKept, word}
+use Rattle.labels.specs.Words.{AreJoined, GrowBetween, WordStays, word}
 
 -- a number without a bit, and one with some bit
 none-set : (ms : List Bool) (i : ℕ) → mask_l ms ≡ 0 → get_or ms i false ≡ false
@@ -70,7 +70,7 @@ module _ (words others : List ℕ) (at : ℕ) (room : at + 4 ≤ length words) (
       let k = j - at in
       let is : at + k ≡ j = omega (arith, from) in
       let inside : k < 4 = omega (arith, from, to) in
-      subst (IsKept words others) is (kept-from _ _ (sym (difference-at k inside) ∙ none-set differences k (eqb-true (mask_l differences) 0 e)))
+      subst (WordStays words others) is (kept-from _ _ (sym (difference-at k inside) ∙ none-set differences k (eqb-true (mask_l differences) 0 e)))
   compared false e =
       let some = some-set differences (eqb-false (mask_l differences) 0 e) in
       let inside : some.i < 4 = omega (arith, some.inside, length-differences) in

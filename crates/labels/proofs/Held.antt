@@ -9,7 +9,7 @@ use Rattle.std.proofs.lemmas.List.Elements.{All-append, All-contains, All-nil, C
 use Rattle.common.proofs.Elements.{none_in_nil, Contains-cons_cases, Contains-later, Contains-first}
 use Rattle.principals.specs.ActsFor.{PrincipalHierarchy}
 use Rattle.labels.specs.Canonical.{IsCanonicalPolicy, written_label}
-use Rattle.labels.specs.Entries.{AreEntries, AreGathered, IsHeldAs, IsOnlyName, IsTable, labels_in, made_of, own_at, own_of, policies_in, row_at, row_of, some_made_of, whole}
+use Rattle.labels.specs.Entries.{AreEntries, ArePoliciesGathered, IsHeldAs, IsOnlyName, IsTable, labels_in, made_of, own_at, own_of, policies_in, row_at, row_of, some_made_of, whole}
 use Rattle.labels.specs.Label.{Covers, FlowsTo, Label, covers, PolicyFlowsTo, ReaderPolicy}
 use Rattle.labels.specs.LabelTable.{Extends, IsLabelTable, label_at, labels_of}
 use Rattle.labels.specs.PolicyOrder.{label_eq, policy_cmp-total}
@@ -462,7 +462,7 @@ name-is es own kept named n none least one same =
 
 -- ---- policies that are gathered
 
-pub gathered-none : (es : List Entry) (row : List Bool) → AreGathered es row 0 []
+pub gathered-none : (es : List Entry) (row : List Bool) → ArePoliciesGathered es row 0 []
 gathered-none es row = record {
   canonical = All-nil IsCanonicalPolicy;
   has_all = λ part policy lt. absurd (omega (arith, lt));
@@ -470,7 +470,7 @@ gathered-none es row = record {
 }
 
 pub gathered-more : (es : List Entry) (row : List Bool) (from part : ℕ) (policies : List ReaderPolicy) → AreEntries es → IsFirstBeyond row [] from part →
-    AreGathered es row from policies → AreGathered es row (part + 1) (policies ++ own_at es part)
+    ArePoliciesGathered es row from policies → ArePoliciesGathered es row (part + 1) (policies ++ own_at es part)
 gathered-more es row from part policies are first gathered = record {
   canonical = All-append IsCanonicalPolicy policies (own_at es part) gathered.canonical (are.canonical part);
   has_all = λ p policy lt holds there.
@@ -492,7 +492,7 @@ gathered-more es row from part policies are first gathered = record {
 }
 
 pub gathered-all : (es : List Entry) (row : List Bool) (from : ℕ) (policies : List ReaderPolicy) → FirstBeyond row [] from None →
-    AreGathered es row from policies → AreGathered es row (length row) policies
+    ArePoliciesGathered es row from policies → ArePoliciesGathered es row (length row) policies
 gathered-all es row from policies none gathered = record {
   canonical = gathered.canonical;
   has_all = λ p policy lt holds there.
@@ -505,7 +505,7 @@ gathered-all es row from policies none gathered = record {
 
 -- the join of the labels with some numbers
 pub joined-is : (es : List Entry) (row : List Bool) (ns : List ℕ) (policies : List ReaderPolicy) → length row ≡ length es →
-    ((part : ℕ) → part < length es → has row part ≡ some_made_of es ns part) → AreGathered es row (length row) policies →
+    ((part : ℕ) → part < length es → has row part ≡ some_made_of es ns part) → ArePoliciesGathered es row (length row) policies →
     written_label policies ≡ written_label (labels_of (labels_in es) ns)
 joined-is es row ns policies bound parts gathered = written-same policies (labels_of (labels_in es) ns) (λ x. (to x, from x))
   where

@@ -6,7 +6,7 @@ use Rattle.std.proofs.lemmas.Bool.{cases_lt}
 use Rattle.std.proofs.lemmas.List.{ext_get_or, get_or-drop, get_or-take, get_or_append_left, get_or_at, get_or_past, length-drop, length-take, take_all}
 use Rattle.labels.specs.Pieces.{has_piece_bit, piece_at, piece_bits}
 use Rattle.labels.specs.Row.{FirstBeyond, has}
-use Rattle.labels.specs.Words.{AreJoinedAt, FirstNew, IsCut, has_bit, word}
+use Rattle.labels.specs.Words.{AreJoinedAt, FirstNew, IsWordPiece, has_bit, word}
 use Rattle.labels.proofs.WordBits.{bit-beyond, word-beyond, word-joined-bit}
 
 -- ---- the values of pieces
@@ -34,7 +34,7 @@ pieces-all pieces n clear k = ⊎_elim
     (λ (ge : n ≤ k). pieces-beyond pieces 0 n k ge ∙ sym (clear k ge))
     (cases_lt k n)
 
--- a number by its piece and its place there
+-- a number by its piece and its index there
 pub in-piece : (pieces : List (List ℕ)) (p i : ℕ) → i < 2048 → has_piece_bit pieces (2048 * p + i) ≡ has_bit (piece_at pieces p) i
 in-piece pieces p i h =
     let number : (2048 * p + i) / 2048 ≡ p = omega (arith, h) in
@@ -45,14 +45,14 @@ in-piece pieces p i h =
 word-cut : (words : List ℕ) (first n j : ℕ) → j < n → word (take n (drop first words)) j ≡ word words (first + j)
 word-cut words first n j h = get_or-take n (drop first words) j 0 h ∙ get_or-drop first words j 0
 
-pub cut-none : (words : List ℕ) (number : ℕ) → length words / 32 < number → IsCut words number []
+pub cut-none : (words : List ℕ) (number : ℕ) → length words / 32 < number → IsWordPiece words number []
 cut-none words number past = record {
   each = λ j h. sym (word-beyond words (32 * number + j) (omega (arith, past)));
   short = omega arith;
   fits = λ most. omega (arith, most);
 }
 
-pub cut-some : (words rest piece : List ℕ) (number n : ℕ) → number ≤ length words / 32 → rest ≡ take (length words - number * 32) (drop (number * 32) words) → n ≡ min (length rest) 32 → piece ≡ take n rest → IsCut words number piece
+pub cut-some : (words rest piece : List ℕ) (number n : ℕ) → number ≤ length words / 32 → rest ≡ take (length words - number * 32) (drop (number * 32) words) → n ≡ min (length rest) 32 → piece ≡ take n rest → IsWordPiece words number piece
 cut-some words rest piece number n inside whole n_is piece_is =
     let rest_is : rest ≡ drop (number * 32) words = whole ∙ take_all (length words - number * 32) (drop (number * 32) words) (omega (arith, length-drop (number * 32) words)) in
     let first : number * 32 ≡ 32 * number = omega arith in
@@ -69,13 +69,13 @@ cut-some words rest piece number n inside whole n_is piece_is =
     }
 
 -- the bits of a piece
-pub cut-bits : (words piece : List ℕ) (number : ℕ) → IsCut words number piece → (i : ℕ) → i < 2048 → has_bit piece i ≡ has_bit words (2048 * number + i)
+pub cut-bits : (words piece : List ℕ) (number : ℕ) → IsWordPiece words number piece → (i : ℕ) → i < 2048 → has_bit piece i ≡ has_bit words (2048 * number + i)
 cut-bits words piece number cut i h =
     let at : (2048 * number + i) / 64 ≡ 32 * number + i / 64 = omega (arith, h) in
     let place : (2048 * number + i) % 64 ≡ i % 64 = omega (arith, h) in
     ap (λ w. bit_at w (i % 64) == 1) (cut.each (i / 64) (omega (arith, h)) ∙ ap (word words) (sym at)) ∙ ap (λ k. bit_at (word words ((2048 * number + i) / 64)) k == 1) (sym place)
 
--- ---- words that are joined from a place on
+-- ---- words that are joined from an index on
 module _ (old others new : List ℕ) (at : ℕ) (joined : AreJoinedAt old others new at (length others)) where
   pub at-before : (i : ℕ) → i < 64 * at → has_bit new i ≡ has_bit old i
   at-before i h = ap (λ w. bit_at w (i % 64) == 1) (joined.before (i / 64) (omega (arith, h)))

@@ -8,7 +8,7 @@ use Rattle.std.proofs.lemmas.Grind.{get_or-set_at}
 use Rattle.std.proofs.lemmas.Simd.{length-zip2}
 use Rattle.std.proofs.Math.Bool.{and-true, and-false}
 use Rattle.labels.specs.Row.{FirstBeyond, Includes, has, union}
-use Rattle.labels.specs.Words.{AreJoined, AreMet, FirstNew, GrowBetween, SomeGrow, bits_of, has_bit, word}
+use Rattle.labels.specs.Words.{AreJoined, AreWords, AreWordsMet, FirstNew, GrowBetween, SomeGrow, bits_of, has_bit, word}
 use Rattle.labels.proofs.WordBits.{bit-beyond, includes-kept, joined-bit, kept-has, met-bit}
 
 pub length-bits : (words : List ℕ) (i n : ℕ) → length (bits_of words i n) ≡ n
@@ -149,7 +149,7 @@ included-bits old others new grew joined k = ⊎_elim
     (cases_lt (k / 64) (length others))
 
 -- what words that keep the bits of others mean
-pub met-bits : (old others new : List ℕ) → length others ≡ length old → AreMet old others new (length old) → (k : ℕ) → has_bit new k ≡ (has_bit old k && has_bit others k)
+pub met-bits : (old others new : List ℕ) → length others ≡ length old → AreWordsMet old others new (length old) → (k : ℕ) → has_bit new k ≡ (has_bit old k && has_bit others k)
 met-bits old others new count met k = ⊎_elim
     (λ (lt : k / 64 < length old). met-bit old others new k (met.met (k / 64) lt))
     (λ (ge : length old ≤ k / 64). rw (bit-beyond new k (omega (arith, ge, met.count)), bit-beyond old k ge) refl)
@@ -231,3 +231,31 @@ includes-both row other same more less = ext_get_or false row other same (λ k l
 
 pub below-bound : (a : List ℕ) (n i : ℕ) (xs : List Bool) → bits_of a 0 n ≡ xs → i < length xs → i < n
 below-bound a n i xs e h = subst (λ k. i < k) (ap length (sym e) ∙ length-bits a 0 n) h
+
+-- the word of a number below the bound is there
+pub word-there : (words : List ℕ) (n i : ℕ) (xs : List Bool) → bits_of words 0 n ≡ xs → i < length xs → length words ≡ n / 64 + 1 → i / 64 < length words
+word-there words n i xs e h enough = let below = below-bound words n i xs e h in omega (arith, below, enough)
+
+-- the words of a row were joined into those of another one with the same bound
+pub record AreRowsJoined (n : ℕ) (words others new : List ℕ) (ys : List Bool) (grew : Bool) : Type 0 where
+  pub count : length others ≡ length words
+  pub small : AreWords others
+  pub clear : (k : ℕ) → n ≤ k → has_bit others k ≡ false
+  pub joined : AreJoined words others new 0 (length words) grew
+  pub view : bits_of others 0 n ≡ ys
+
+pub rows-joined : (words others target source new : List ℕ) (grew : Bool) (n m : ℕ) (xs ys : List Bool) → bits_of words 0 n ≡ xs → bits_of others 0 m ≡ ys → length xs ≡ length ys
+    → length words ≡ n / 64 + 1 → length others ≡ m / 64 + 1 → ((k : ℕ) → m ≤ k → has_bit others k ≡ false)
+    → target ≡ words → source ≡ others → AreWords source → AreJoined target source new 0 (length source) grew → AreRowsJoined n words others new ys grew
+rows-joined words others target source new grew n m xs ys e e' long enough enough' clear target_is source_is small joined =
+    let same = bounds-same words others n m xs ys e e' long in
+    let count : length others ≡ length words = enough' ∙ (ap (λ k. k / 64 + 1) same ∙ sym enough) in
+    record {
+      count = count;
+      small = subst AreWords source_is small;
+      clear = λ k ge. clear k (subst (λ b. b ≤ k) (sym same) ge);
+      joined = subst (λ k. AreJoined words others new 0 k grew) count
+          (subst (λ one. AreJoined one others new 0 (length others) grew) target_is
+          (subst (λ one. AreJoined target one new 0 (length one) grew) source_is joined));
+      view = ap (bits_of others 0) (sym same) ∙ e';
+    }

@@ -7,7 +7,7 @@ use Rattle.std.proofs.Math.Bool.{and-true, and-false}
 use Rattle.std.proofs.lemmas.Bool.{eqb-true, eqb-false, eq-eqb, cases_lt}
 use Rattle.std.proofs.lemmas.Nat.Bits.{bit_at_and, bit_at_or, bit_at_set_same, bit_at_set_other, bit_at_clear_same, bit_at_clear_other, bit_at-lt, bit_at-zero, bit_at_above, same_from_bits}
 use Rattle.labels.specs.Row.{has}
-use Rattle.labels.specs.Words.{GrowBetween, IsKept, NoneNew, has_bit, word}
+use Rattle.labels.specs.Words.{GrowBetween, WordStays, NoneNew, has_bit, word}
 
 neq-eqb : (a b : ℕ) → a ≢ b → nat_eq a b ≡ false
 neq-eqb a b ne = go (nat_eq a b) refl
@@ -124,7 +124,7 @@ kept-bit a b i e one =
     let both : bit_at a i ≡ max (bit_at a i) (bit_at b i) = ap (λ x. bit_at x i) (sym e) ∙ bit_at_or a b i in
     omega (arith, both, one, bit_at-lt a i)
 
-pub kept-has : (words others : List ℕ) (n : ℕ) → IsKept words others (n / 64) → IsTrue (has_bit others n) → IsTrue (has_bit words n)
+pub kept-has : (words others : List ℕ) (n : ℕ) → WordStays words others (n / 64) → IsTrue (has_bit others n) → IsTrue (has_bit words n)
 kept-has words others n kept has =
     let one : bit_at (get_or others (n / 64) 0) (n % 64) ≡ 1 = eqb-true (bit_at (get_or others (n / 64) 0) (n % 64)) 1 has in
     eq-eqb (bit_at (get_or words (n / 64) 0) (n % 64)) 1 (kept-bit (get_or words (n / 64) 0) (get_or others (n / 64) 0) (n % 64) kept one)
@@ -142,7 +142,7 @@ bits-kept a b i each = bit_at_or a b i ∙ go (bit_at a i) (bit_at b i) (bit_at-
     go (suc zero) (suc (suc y)) h k f = absurd (omega (arith, k))
     go (suc (suc x)) y h k f = absurd (omega (arith, h))
 
-pub includes-kept : (words others : List ℕ) (j : ℕ) → word others j < 2 ^ 64 → ((n : ℕ) → IsTrue (has_bit others n) → IsTrue (has_bit words n)) → IsKept words others j
+pub includes-kept : (words others : List ℕ) (j : ℕ) → word others j < 2 ^ 64 → ((n : ℕ) → IsTrue (has_bit others n) → IsTrue (has_bit words n)) → WordStays words others j
 includes-kept words others j small includes =
     same_from_bits (bit_or (word words j) (word others j)) (word words j) (λ i.
     bits-kept (word words j) (word others j) i (λ one.
@@ -182,5 +182,5 @@ none-step words others from i more false none grow e first short = λ n ge lt ha
     ⊎_elim (λ (before : n < i). none n ge before has)
     (λ (at : i ≤ n).
     let same : i / 64 ≡ n / 64 = omega (arith, at, lt, first, short) in
-    kept-has others words n (subst (IsKept others words) same (grow (i / 64) (omega arith) (omega arith))) has)
+    kept-has others words n (subst (WordStays others words) same (grow (i / 64) (omega arith) (omega arith))) has)
     (cases_lt n i)

@@ -1,1 +1,1 @@
--- Words that are joined with others: the words between two places and then those after them, four words, and one.
+-- Words that are joined with others: the words between two indices and then those after them, four words, and one.

@@ -19,7 +19,7 @@ carried_label carry label = map (carried_policy carry) label
 abbrev pub number_by_name : (smaller larger : PrincipalHierarchy) → ℕ → ℕ
 number_by_name smaller larger a = unwrap_or (option_and_then (λ name. number_of larger name) (slice_get smaller.names a)) 0
 
--- a list of numbers as a renumbering: each number becomes the one in its place, 0 where there is none
+-- a list of numbers as a renumbering: each number becomes the one at its index, 0 where there is none
 abbrev pub numbered : List ℕ → ℕ → ℕ
 numbered numbers a = slice_index_or numbers a 0
 

@@ -90,7 +90,7 @@ abbrev pub AllFlow : PrincipalHierarchy → List Entry → List Bool → (to : �
 AllFlow h entries row to = (label : ℕ) → IsTrue (has row label) → FlowsTo h (label_at (labels_in entries) label) (label_at (labels_in entries) to)
 
 -- what is kept of comparisons
-pub record IsKept (h : PrincipalHierarchy) (entries : List Entry) (kept : Memo) : Type 0 where
+pub record IsMemo (h : PrincipalHierarchy) (entries : List Entry) (kept : Memo) : Type 0 where
   pub bits_are : AreBits h entries kept.bits
   pub left_is : IsLeftSide entries kept.left
   pub other_is : IsLeftSide entries kept.other
@@ -98,7 +98,7 @@ pub record IsKept (h : PrincipalHierarchy) (entries : List Entry) (kept : Memo) 
 
 abbrev pub MayBeKept : PrincipalHierarchy → List Entry → Option Memo → Type 0
 MayBeKept h entries None = Unit {0}
-MayBeKept h entries (Some kept) = IsKept h entries kept
+MayBeKept h entries (Some kept) = IsMemo h entries kept
 
 pub record AreComparisons (h : PrincipalHierarchy) (entries : List Entry) (kept : Option Memo) : Type 0 where
   pub table : IsTable entries

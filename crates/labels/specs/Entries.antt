@@ -63,7 +63,7 @@ pub record IsTable (entries : List Entry) : Type 0 where
   pub labels : IsLabelTable (labels_in entries)
 
 -- policies that are gathered from the entries below a number that are in a row
-pub record AreGathered (entries : List Entry) (row : List Bool) (below : ℕ) (policies : List ReaderPolicy) : Type 0 where
+pub record ArePoliciesGathered (entries : List Entry) (row : List Bool) (below : ℕ) (policies : List ReaderPolicy) : Type 0 where
   pub canonical : All IsCanonicalPolicy policies
   pub has_all : (part : ℕ) (policy : ReaderPolicy) → part < below → IsTrue (has row part) → Contains (own_at entries part) policy → Contains policies policy
   pub only : (policy : ReaderPolicy) → Contains policies policy → (part : ℕ) × IsTrue (has row part) × Contains (own_at entries part) policy

@@ -13,7 +13,7 @@ abbrev pub AreWords : List ℕ → Type 0
 AreWords words = (j : ℕ) → word words j < 2 ^ 64
 
 -- a piece: the words, 32 at most, that stand there
-pub record IsCut (words : List ℕ) (number : ℕ) (piece : List ℕ) : Type 0 where
+pub record IsWordPiece (words : List ℕ) (number : ℕ) (piece : List ℕ) : Type 0 where
   pub each : (j : ℕ) → j < 32 → word piece j ≡ word words (32 * number + j)
   pub short : length piece ≤ 32
   pub fits : 32 * number ≤ length words → 32 * number + length piece ≤ length words
@@ -33,8 +33,8 @@ pub record IsStoredRow (inside : Inside) : Type 0 where
   pub clear : (i : ℕ) → inside.n ≤ i → has_bit inside.words.items i ≡ false
 
 -- joined with another word, a word stays as it is
-abbrev pub IsKept : (words others : List ℕ) → ℕ → Type 0
-IsKept words others j = bit_or (word words j) (word others j) ≡ word words j
+abbrev pub WordStays : (words others : List ℕ) → ℕ → Type 0
+WordStays words others j = bit_or (word words j) (word others j) ≡ word words j
 
 -- some of these words do not stay as they are
 pub record SomeGrow (words others : List ℕ) (first last : ℕ) : Type 0 where
@@ -46,9 +46,9 @@ pub record SomeGrow (words others : List ℕ) (first last : ℕ) : Type 0 where
 -- whether some of these words do not stay as they are
 abbrev pub GrowBetween : (words others : List ℕ) → (first last : ℕ) → Bool → Type 0
 GrowBetween words others first last true = SomeGrow words others first last
-GrowBetween words others first last false = (j : ℕ) → first ≤ j → j < last → IsKept words others j
+GrowBetween words others first last false = (j : ℕ) → first ≤ j → j < last → WordStays words others j
 
--- the words between two places are joined with others, and the other words stay
+-- the words between two indices are joined with others, and the other words stay
 pub record AreJoined (old others new : List ℕ) (first last : ℕ) (grew : Bool) : Type 0 where
   pub count : length new ≡ length old
   pub joined : (j : ℕ) → first ≤ j → j < last → word new j ≡ bit_or (word old j) (word others j)
@@ -56,15 +56,15 @@ pub record AreJoined (old others new : List ℕ) (first last : ℕ) (grew : Bool
   pub after : (j : ℕ) → last ≤ j → word new j ≡ word old j
   pub grow : GrowBetween old others first last grew
 
--- this many words, from a place on, are joined with others, and the other words stay
+-- this many words, from an index on, are joined with others, and the other words stay
 pub record AreJoinedAt (old others new : List ℕ) (at count : ℕ) : Type 0 where
   pub same : length new ≡ length old
   pub joined : (j : ℕ) → j < count → word new (at + j) ≡ bit_or (word old (at + j)) (word others j)
   pub before : (j : ℕ) → j < at → word new j ≡ word old j
   pub after : (j : ℕ) → at + count ≤ j → word new j ≡ word old j
 
--- the words below a place keep the bits that others have too, and the other words stay
-pub record AreMet (old others new : List ℕ) (last : ℕ) : Type 0 where
+-- the words below an index keep the bits that others have too, and the other words stay
+pub record AreWordsMet (old others new : List ℕ) (last : ℕ) : Type 0 where
   pub count : length new ≡ length old
   pub met : (j : ℕ) → j < last → word new j ≡ bit_and (word old j) (word others j)
   pub after : (j : ℕ) → last ≤ j → word new j ≡ word old j

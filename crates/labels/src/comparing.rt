@@ -1,6 +1,6 @@
 //! Comparisons of labels by their numbers, by rows of bits: a bit for each own policy of each label. What a policy on a right side
 //! covers is below its owner and all of its readers, and a left side flows there where all of its policies are covered.
-ghost use Rattle.labels.specs.Comparing.{AllFlow, IsKept, MayBeKept};
+ghost use Rattle.labels.specs.Comparing.{AllFlow, IsMemo, MayBeKept};
 ghost use Rattle.labels.specs.Under.{FirstAbove};
 ghost use Rattle.labels.specs.Entries.{IsTable, labels_in};
 ghost use Rattle.labels.specs.Label.{flows};
@@ -55,9 +55,9 @@ impl<'a> Model for Comparisons<'a> {
 impl Under<'_> {
     // Takes the other left side where it has more of these labels, and no others, or where the last one has others.
     fn choose_left(&self, kept: &mut Memo, labels: &Row)
-        requires kept { IsKept self.now.hierarchy.now self.now.entries.now kept.old }
+        requires kept { IsMemo self.now.hierarchy.now self.now.entries.now kept.old }
         requires count { length labels.now ≡ length self.now.entries.now }
-        ensures { IsKept self.now.hierarchy.now self.now.entries.now kept.new }
+        ensures { IsMemo self.now.hierarchy.now self.now.entries.now kept.new }
     {
         if labels.covers(&kept.left.labels) && !is_between(&kept.left, &kept.other, labels) {
             return;
@@ -67,11 +67,11 @@ impl Under<'_> {
 
     // Whether all labels are found to flow to a label.
     fn all_flow(&self, kept: &mut Memo, labels: &Row, to: usize) -> Result<bool, AllocError>
-        requires kept { IsKept self.now.hierarchy.now self.now.entries.now kept.old }
+        requires kept { IsMemo self.now.hierarchy.now self.now.entries.now kept.old }
         requires table { IsTable self.now.entries.now }
         requires count { length labels.now ≡ length self.now.entries.now }
         requires to { to < length self.now.entries.now }
-        ensures kept { IsKept self.now.hierarchy.now self.now.entries.now kept.new }
+        ensures kept { IsMemo self.now.hierarchy.now self.now.entries.now kept.new }
         ensures flow { IfOk result (λ all. IsTrue all → AllFlow self.now.hierarchy.now
             self.now.entries.now labels.now to) }
     {

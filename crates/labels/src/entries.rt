@@ -1,5 +1,5 @@
 //! Labels as their texts say: each with its own policies and the numbers of earlier labels that it names.
-ghost use Rattle.labels.specs.Entries.{AreEntries, AreGathered, IsTable, labels_in, made_of, numbers_in, own_at, row_at, some_made_of};
+ghost use Rattle.labels.specs.Entries.{AreEntries, ArePoliciesGathered, IsTable, labels_in, made_of, numbers_in, own_at, row_at, some_made_of};
 ghost use Rattle.labels.specs.Label.{Covers, FlowsTo, covers};
 ghost use Rattle.labels.specs.LabelTable.{label_at};
 ghost use Rattle.labels.specs.Row.{FirstBeyond, has};
@@ -159,7 +159,7 @@ pub(crate) fn policies_of(
 ) -> Result<Vec<Policy>, AllocError>
     requires entries { AreEntries entries.now }
     requires inside { length row.now ≤ length entries.now }
-    ensures { IfOk result (λ policies. AreGathered entries.now row.now (length row.now)
+    ensures { IfOk result (λ policies. ArePoliciesGathered entries.now row.now (length row.now)
         policies.items) }
 {
     let mut policies = Vec::new(alloc);

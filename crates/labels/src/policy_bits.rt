@@ -70,7 +70,7 @@ pub(crate) fn take(kept: &mut Vec<Option<Row>>, number: usize) -> Option<Row>
     kept[number].take()
 }
 
-// Keeps the row of a number, if there is a place for it.
+// Keeps the row of a number, if there is an entry for it.
 pub(crate) fn keep(kept: &mut Vec<Option<Row>>, number: usize, row: Row)
     ensures { IsOneMore kept.old.items number row kept.new.items }
 {

@@ -1,5 +1,5 @@
 //! Words of bits: joined and compared four at a time.
-ghost use Rattle.labels.specs.Words.{AreJoined, AreJoinedAt, AreMet, AreWords, FirstNew, GrowBetween, IsCut, has_bit, word};
+ghost use Rattle.labels.specs.Words.{AreJoined, AreJoinedAt, AreWordsMet, AreWords, FirstNew, GrowBetween, IsWordPiece, has_bit, word};
 ghost use Rattle.std.specs.Prelude.{[], length, not, ◌*◌, ◌+◌, ◌/◌, ◌<◌, ◌≡◌, ◌≤◌};
 
 use std::simd::prelude::*;
@@ -9,7 +9,7 @@ pub(crate) const PIECE: usize = 32;
 
 /// The words of a piece, none where there is no such piece.
 pub(crate) fn cut(words: &[u64], number: usize) -> &[u64]
-    ensures { IsCut words.now number result.now }
+    ensures { IsWordPiece words.now number result.now }
 {
     if number > words.len() / PIECE {
         return &[];
@@ -69,7 +69,7 @@ fn join_one(words: &mut [u64], others: &[u64], at: usize) -> bool
     joined != before
 }
 
-/// Joins words into these ones, from a place on.
+/// Joins words into these ones, from an index on.
 pub(crate) fn join_words_at(words: &mut [u64], at: usize, others: &[u64])
     requires { at + length others.now ≤ length words.old }
     ensures { AreJoinedAt words.old others.now words.new at (length others.now) }
@@ -82,7 +82,7 @@ pub(crate) fn join_words_at(words: &mut [u64], at: usize, others: &[u64])
 /// Keeps the bits that as many other words have too.
 pub(crate) fn meet_words(words: &mut [u64], others: &[u64])
     requires { length words.old ≡ length others.now }
-    ensures { AreMet words.old others.now words.new (length words.old) }
+    ensures { AreWordsMet words.old others.now words.new (length words.old) }
 {
     for at in 0..others.len() {
         words[at] &= others[at];
@@ -111,7 +111,7 @@ pub(crate) fn covers_words(words: &[u64], others: &[u64]) -> bool
     true
 }
 
-// Whether one of four words, from one on, lacks a bit of the other one in its place.
+// Whether one of four words, from one on, lacks a bit of the other one at its index.
 fn four_grow(words: &[u64], others: &[u64], at: usize) -> bool
     requires words { at + 4 ≤ length words.now }
     requires others { at + 4 ≤ length others.now }
@@ -122,7 +122,7 @@ fn four_grow(words: &[u64], others: &[u64], at: usize) -> bool
     joined.simd_ne(before).to_bitmask() != 0
 }
 
-// Whether one word lacks a bit of the other one in its place.
+// Whether one word lacks a bit of the other one at its index.
 fn one_grows(words: &[u64], others: &[u64], at: usize) -> bool
     requires words { at < length words.now }
     requires others { at < length others.now }
@@ -138,7 +138,7 @@ fn word(words: &[u64], j: usize) -> u64
     if j < words.len() { words[j] } else { 0 }
 }
 
-// Whether a word has a bit that the other one in its place lacks.
+// Whether a word has a bit that the other one at its index lacks.
 fn has_more(words: &[u64], others: &[u64], at: usize) -> bool
     ensures { GrowBetween others.now words.now at (at + 1) result }
 {

@@ -12,7 +12,7 @@ use Rattle.modules.specs.declared.version.Version.{Version}
 use Rattle.modules.specs.declared.declaration.Handler.{Handler}
 use Rattle.modules.specs.Code.{code_length}
 use Rattle.modules.specs.Contents.{ProcedureContents, ModuleContents}
-use Rattle.modules.specs.Form.{Fits, FitEach, IsCoded, Code}
+use Rattle.modules.specs.ByteFormat.{Fits, FitEach, IsCoded, Code}
 use Rattle.modules.specs.Opcodes.{instructions}
 use Rattle.modules.specs.Format.{handler, handlers, procedure, procedures, may_start, main, program, contents, module_file}
 use Rattle.modules.proofs.Spelling.{is_spelled, spelled-length}

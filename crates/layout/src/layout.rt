@@ -1,6 +1,6 @@
 //! From graphs to modules.
 ghost use Rattle.modules.specs.Code.{code_length};
-ghost use Rattle.modules.specs.Form.{Fits};
+ghost use Rattle.modules.specs.ByteFormat.{Fits};
 ghost use Rattle.modules.specs.Format.{module_file};
 ghost use Rattle.layout.specs.Graph.{HasPositions};
 ghost use Rattle.layout.specs.SameRuns.{SameInterface, SameRuns};

@@ -3,13 +3,12 @@ use Rattle.std.proofs.Common.{◌≡◌, ℕ, ◌+◌, List, [], ◌∷◌, ◌+
 use Rattle.std.specs.Str.{chars}
 use Rattle.lexer.specs.Terminal.{Terminal}
 use Rattle.lexer.specs.Lexeme.{Lexeme, Word, Gap, LargeLiteral, OpenComment}
-use Rattle.lexer.specs.Cut.{Cuts, Nothing, Token, Between, IsNextLexeme, IsRefusedFor, IsStuck, terminal_at, size}
-use Rattle.lexer.specs.Laws.{HasOneCut, IsNotCutAndRefused, HasOneRefusal}
+use Rattle.lexer.specs.Cut.{Cuts, Nothing, Token, Between, IsNextLexeme, IsRefusedFor, terminal_at, size}
+use Rattle.lexer.specs.Laws.{HasOneCut, IsNotCutAndRefused, TextsHaveOneRefusal}
 use Rattle.lexer.specs.declared.token.Kind.{Kind}
 use Rattle.lexer.specs.declared.token.Kind.TheVariants.{End}
 use Rattle.lexer.specs.declared.fault.LexRefusalKind.{LexRefusalKind}
 use Rattle.lexer.specs.declared.fault.LexRefusalKind.TheVariants.{NoToken, LiteralTooLarge, UnclosedComment}
-use Rattle.lexer.specs.declared.fault.LexRefusal.{LexRefusal}
 use Rattle.lexer.proofs.Fronts.{nonempty}
 use Rattle.lexer.proofs.Nexts.{one_next}
 
@@ -126,13 +125,6 @@ one_kind text UnclosedComment LiteralTooLarge (front, rest, next) (back, left, o
     absurd cc
 one_kind text UnclosedComment UnclosedComment h k = refl
 
-one_stuck : (place : ℕ) (text : List ℕ) (refusal other : LexRefusal) → IsStuck place text refusal
-    → IsStuck place text other → refusal ≡ other
-one_stuck place text refusal other (here, h) (there, k) =
-    let kinds = one_kind text refusal.kind other.kind h k in
-    let places : refusal.at ≡ other.at = here ∙ sym there in
-    λ i. record { kind = kinds i; at = places i }
-
 -- the laws
 pub has_one_cut : HasOneCut
 has_one_cut text tokens others h k =
@@ -141,14 +133,14 @@ has_one_cut text tokens others h k =
 
 pub not_cut_and_refused : IsNotCutAndRefused
 not_cut_and_refused text tokens refusal h k =
-    let halts = halts_stuck k.rest refusal.kind k.stuck.1 in
-    let same = one_way 0 (chars text) h.words (length text) [] k.words k.place k.rest h.cuts halts_nil k.cuts halts in
-    some_stuck k.rest refusal.kind k.stuck.1 (sym same.rest_same)
+    let halts = halts_stuck k.rest refusal.kind k.stuck in
+    let same = one_way 0 (chars text) h.words (length text) [] k.words refusal.at k.rest h.cuts halts_nil k.cuts halts in
+    some_stuck k.rest refusal.kind k.stuck (sym same.rest_same)
 
-pub has_one_refusal : HasOneRefusal
+pub has_one_refusal : TextsHaveOneRefusal
 has_one_refusal text refusal other h k =
-    let halts = halts_stuck h.rest refusal.kind h.stuck.1 in
-    let other_halts = halts_stuck k.rest other.kind k.stuck.1 in
-    let same = one_way 0 (chars text) h.words h.place h.rest k.words k.place k.rest h.cuts halts k.cuts other_halts in
-    one_stuck k.place k.rest refusal other
-    (subst (λ p. IsStuck p k.rest refusal) same.end_same (subst (λ r. IsStuck h.place r refusal) same.rest_same h.stuck)) k.stuck
+    let halts = halts_stuck h.rest refusal.kind h.stuck in
+    let other_halts = halts_stuck k.rest other.kind k.stuck in
+    let same = one_way 0 (chars text) h.words refusal.at h.rest k.words other.at k.rest h.cuts halts k.cuts other_halts in
+    let kinds = one_kind k.rest refusal.kind other.kind (subst (λ r. IsRefusedFor r refusal.kind) same.rest_same h.stuck) k.stuck in
+    λ i. record { kind = kinds i; at = same.end_same i }

@@ -4,8 +4,8 @@ use Rattle.std.proofs.lemmas.Str.{encodes-chars, chars-nil}
 use Rattle.std.specs.Str.{chars, IsUtf8, encode_utf8_all}
 use Rattle.lexer.specs.Terminal.{Terminal}
 use Rattle.lexer.specs.Lexeme.{Lexeme, Word, Gap}
-use Rattle.lexer.specs.Cut.{Cuts, Nothing, Token, Between, IsNextLexeme, IsCut, IsTextRefused, IsStuck, terminal_at, size}
-use Rattle.lexer.specs.Scan.{Reads, after_run, lexeme_of}
+use Rattle.lexer.specs.Cut.{Cuts, Nothing, Token, Between, IsNextLexeme, IsCut, IsTextRefused, terminal_at, size}
+use Rattle.lexer.specs.Scan.{Reads, after_run, lexeme_of, IsStuck}
 use Rattle.lexer.specs.Words.{is_white_space}
 use Rattle.lexer.specs.declared.token.Kind.{Kind}
 use Rattle.lexer.specs.declared.token.Kind.TheVariants.{End}
@@ -156,10 +156,9 @@ pub refused : (text rest : List ℕ) (tokens : List Terminal) (fault : LexRefusa
     → IsStuck (length text - length rest) (chars rest) fault → IsTextRefused text fault
 refused text rest tokens fault so_far stuck = record {
   words = tokens;
-  place = length text - length rest;
   rest = chars rest;
-  cuts = so_far.cuts;
-  stuck = stuck;
+  cuts = subst (λ p. Cuts 0 (chars text) tokens p (chars rest)) (sym stuck.0) so_far.cuts;
+  stuck = stuck.1;
 }
 
 -- a text that is cut to its end

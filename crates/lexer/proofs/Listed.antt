@@ -239,8 +239,7 @@ at_start text ok = record {
 -- a refusal stands where a character begins
 pub refused_at : (text : List ℕ) (fault : LexRefusal) → IsUtf8 text → IsTextRefused text fault → IsRefusedAtCharacter text fault
 refused_at text fault ok h =
-    let here = boundary text h.place h.rest (cut_parts text 0 (chars text) h.words h.place h.rest h.cuts (at_start text ok)) in
-    subst (IsCharBoundary text) (sym h.stuck.0) here
+    boundary text fault.at h.rest (cut_parts text 0 (chars text) h.words fault.at h.rest h.cuts (at_start text ok))
 
 -- all that holds of the tokens of a text
 pub record Listed (text : List ℕ) (tokens : List Terminal) : Type 0 where

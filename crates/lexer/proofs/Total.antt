@@ -7,9 +7,9 @@ use Rattle.std.specs.Str.{chars, IsUtf8}
 use Rattle.lexer.specs.Terminal.{Terminal}
 use Rattle.lexer.specs.Words.{is_white_space, may_begin, may_continue}
 use Rattle.lexer.specs.Lexeme.{Lexeme, Word, Gap, LargeLiteral, OpenComment, sign_of}
-use Rattle.lexer.specs.Cut.{Cuts, Nothing, Token, Between, IsNextLexeme, IsCut, IsRefusedFor, IsStuck, HasNoLexeme, terminal_at, size}
+use Rattle.lexer.specs.Cut.{Cuts, Nothing, Token, Between, IsNextLexeme, IsCut, IsRefusedFor, HasNoLexeme, terminal_at, size}
 use Rattle.lexer.specs.Laws.{IsCutOrRefused}
-use Rattle.lexer.specs.Scan.{after_close, after_run, IsNoDouble, IsNoTriple}
+use Rattle.lexer.specs.Scan.{after_close, after_run, IsNoDouble, IsNoTriple, IsStuck}
 use Rattle.lexer.specs.declared.token.Kind.{Kind}
 use Rattle.lexer.specs.declared.token.Kind.TheVariants.{End}
 use Rattle.lexer.specs.declared.fault.LexRefusal.{LexRefusal}
@@ -179,5 +179,5 @@ is_cut_or_refused text utf8 =
     let c = cutting (length (chars text)) 0 (chars text) (omega arith) in
     elim c.stops [
       | inl e ↦ inl (cut_to_end text utf8 c e)
-      | inr refusal ↦ inr (refusal.0, record { words = c.words; place = c.end; rest = c.rest; cuts = c.cuts; stuck = refusal.1 })
+      | inr refusal ↦ inr (refusal.0, record { words = c.words; rest = c.rest; cuts = subst (λ p. Cuts 0 (chars text) c.words p c.rest) (sym refusal.1.0) c.cuts; stuck = refusal.1.1 })
     ]

@@ -54,14 +54,9 @@ IsRefusedFor text NoToken = HasNoLexeme text
 IsRefusedFor text LiteralTooLarge = (front : List ℕ) × (rest : List ℕ) × IsNextLexeme text LargeLiteral front rest
 IsRefusedFor text UnclosedComment = (front : List ℕ) × (rest : List ℕ) × IsNextLexeme text OpenComment front rest
 
--- the refusal is how the text goes on at the byte `start`
-abbrev pub IsStuck : ℕ → List ℕ → LexRefusal → Type 0
-IsStuck start text refusal = (refusal.at ≡ start) × IsRefusedFor text refusal.kind
-
 -- what stands before the refusal is cut into tokens, and the refusal is what comes then
 pub record IsTextRefused (text : List ℕ) (refusal : LexRefusal) : Type 0 where
   pub words : List Terminal
-  pub place : ℕ
   pub rest : List ℕ
-  pub cuts : Cuts 0 (chars text) words place rest
-  pub stuck : IsStuck place rest refusal
+  pub cuts : Cuts 0 (chars text) words refusal.at rest
+  pub stuck : IsRefusedFor rest refusal.kind

@@ -15,8 +15,8 @@ abbrev pub IsNotCutAndRefused : Type 0
 IsNotCutAndRefused = (text : List ℕ) (tokens : List Terminal) (refusal : LexRefusal) → IsCut text tokens → IsTextRefused text refusal → ⊥
 
 -- a text is refused for one reason at most
-abbrev pub HasOneRefusal : Type 0
-HasOneRefusal = (text : List ℕ) (refusal other : LexRefusal) → IsTextRefused text refusal → IsTextRefused text other → refusal ≡ other
+abbrev pub TextsHaveOneRefusal : Type 0
+TextsHaveOneRefusal = (text : List ℕ) (refusal other : LexRefusal) → IsTextRefused text refusal → IsTextRefused text other → refusal ≡ other
 
 -- a text is cut, or it is refused
 abbrev pub IsCutOrRefused : Type 0

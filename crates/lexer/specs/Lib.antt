@@ -1,4 +1,5 @@
 pub mod Cut
+pub mod FirstFault
 pub mod RefusalKinds
 pub mod Laws
 pub mod Lexeme

@@ -6,12 +6,13 @@ use Rattle.std.specs.Map.{lookup_entry}
 use Rattle.std.specs.Char.{is_ascii_digit}
 use Rattle.lexer.specs.Words.{is_white_space, keywords, may_begin, may_continue}
 use Rattle.lexer.specs.Lexeme.{Lexeme, Word, Gap, sign_of, signs}
-use Rattle.lexer.specs.Cut.{IsNextLexeme}
+use Rattle.lexer.specs.Cut.{IsNextLexeme, IsRefusedFor}
+use Rattle.lexer.specs.declared.fault.LexRefusal.{LexRefusal}
 use Rattle.lexer.specs.declared.token.Kind.{Kind}
 use Rattle.lexer.specs.declared.pieces.Class.{Class}
 use Rattle.lexer.specs.declared.pieces.Class.TheVariants.{Blank, Digit, NamePart, InLine}
 
--- whether a word has so many bytes and begins with the byte; the keyword of which that holds
+-- whether a word has `count` bytes and begins with the byte; the keyword of which that holds
 abbrev pub has_shape : ℕ → ℕ → List ℕ → Bool
 has_shape count first word = nat_eq count (length word) && nat_eq first (get_or word 0 0)
 
@@ -34,7 +35,7 @@ IsStopped class (byte ∷ bytes) = (nat_lt byte 128 && holds class byte) ≡ fal
 abbrev pub begins_sign : ℕ → Bool
 begins_sign c = not (is_white_space c || is_ascii_digit c || may_begin c || c == 47)
 
--- whether a word has so many characters and begins with the character
+-- whether a word has `count` characters and begins with the character
 abbrev pub has_front : ℕ → ℕ → List ℕ → Bool
 has_front count c word = nat_eq (length word) count && nat_eq (get_or word 0 0) c
 
@@ -82,3 +83,7 @@ IsNoTriple c (d ∷ (e ∷ cs)) = sign_of (c ∷ d ∷ e ∷ []) ≡ None
 
 abbrev pub IsTriple : ℕ → List ℕ → Kind → List ℕ → Type 0
 IsTriple c cs kind rest = (d : ℕ) × (e : ℕ) × (cs ≡ d ∷ e ∷ rest) × (sign_of (c ∷ d ∷ e ∷ []) ≡ Some kind)
+
+-- the refusal is how the text goes on at the byte `start`
+abbrev pub IsStuck : ℕ → List ℕ → LexRefusal → Type 0
+IsStuck start text refusal = (refusal.at ≡ start) × IsRefusedFor text refusal.kind

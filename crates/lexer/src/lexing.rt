@@ -1,6 +1,6 @@
 ghost use Rattle.common.specs.Answers.{Answers, IfRefused};
 ghost use Rattle.lexer.specs.Cut.{IsCut, IsTextRefused};
-ghost use Rattle.lexer.specs.Laws.{IsCutOrRefused, HasOneCut, IsNotCutAndRefused, HasOneRefusal};
+ghost use Rattle.lexer.specs.Laws.{IsCutOrRefused, HasOneCut, IsNotCutAndRefused, TextsHaveOneRefusal};
 ghost use Rattle.lexer.specs.Listing.{IsAtCharacter, IsRefusedAtCharacter, IsInOrder, IsSliceOf, IsSpelled};
 ghost use Rattle.lexer.specs.Terminal.{Terminal, terminals_of, IsTerminated};
 ghost use Rattle.std.specs.Prelude.{◌≡◌, ◌≤◌, ◌+◌, List, IfOk, IfErr, length};
@@ -62,5 +62,5 @@ pub fn one_reading()
     ensures cut_or_refused { IsCutOrRefused }
     ensures one_cut { HasOneCut }
     ensures not_both { IsNotCutAndRefused }
-    ensures one_refusal { HasOneRefusal }
+    ensures one_refusal { TextsHaveOneRefusal }
 {}

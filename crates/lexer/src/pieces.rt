@@ -1,7 +1,7 @@
 //! The next lexeme of a text. A private part of the lexer.
-ghost use Rattle.lexer.specs.Cut.{IsStuck, HasNoLexeme};
+ghost use Rattle.lexer.specs.Cut.{HasNoLexeme};
 ghost use Rattle.lexer.specs.Lexeme.{sign_of};
-ghost use Rattle.lexer.specs.Scan.{holds, after_run, after_close, begins_sign, begins_sign_of, IsStopped, IsDouble, IsNoDouble, IsTriple, IsNoTriple, IsTail, Reads};
+ghost use Rattle.lexer.specs.Scan.{holds, after_run, after_close, begins_sign, begins_sign_of, IsStopped, IsDouble, IsNoDouble, IsTriple, IsNoTriple, IsTail, Reads, IsStuck};
 ghost use Rattle.lexer.specs.Words.{is_white_space, may_begin};
 ghost use Rattle.std.specs.Prelude.{◌≡◌, ◌&&◌, ◌++◌, ◌∷◌, [], IfSome, MatchResult, MatchOption, IsTrue, Some, None, false, nat_lt};
 ghost use Rattle.std.specs.Char.{is_ascii_digit};
@@ -76,7 +76,7 @@ pub(crate) fn cut_piece<'a>(
 fn is_white_space(character: char) -> bool
     ensures { result ≡ is_white_space character }
 {
-    matches!(character, ' ' | '\t' | '\r' | '\n')
+    character <= ' ' && matches!(character, ' ' | '\t' | '\r' | '\n')
 }
 
 /// A run of digits.

@@ -6,15 +6,15 @@ use Rattle.std.specs.Prelude.{Bool}
 use Rattle.resolved.specs.Program.{Program}
 use Rattle.resolved.specs.Tree.{Statement, Block, Then}
 use Rattle.lowering.specs.Code.{Loop, statement_size, statement_code, statement_table, block_size, block_code, block_table, jump_code, jump_size}
-use Rattle.lowering.specs.Added.{IsAdded, IsStatementAdded, IsBlockAdded}
+use Rattle.lowering.specs.Added.{IsCodeAdded, IsStatementAdded, IsBlockAdded}
 use Rattle.lowering.proofs.Sizes.{statement-sized, block-sized, jump-sized}
 use Rattle.lowering.proofs.Appending.{both, longer}
 
 -- two pieces, the second for the position after the first
 pub added-both : (first second : ℕ → List Instruction) (front back : ℕ → List Handler) (n : ℕ) (before middle after : List Instruction) (table_before table_middle table_after : List Handler)
     → length (first (length before)) ≡ n
-    → IsAdded first front before middle table_before table_middle → IsAdded second back middle after table_middle table_after
-    → IsAdded (λ position. first position ++ second (position + n)) (λ position. front position ++ back (position + n)) before after table_before table_after
+    → IsCodeAdded first front before middle table_before table_middle → IsCodeAdded second back middle after table_middle table_after
+    → IsCodeAdded (λ position. first position ++ second (position + n)) (λ position. front position ++ back (position + n)) before after table_before table_after
 added-both first second front back n before middle after table_before table_middle table_after size a b = record {
   code = both before middle after first second n a.code size b.code;
   handlers = b.handlers
@@ -24,7 +24,7 @@ added-both first second front back n before middle after table_before table_midd
 
 -- a piece without handlers
 pub added-code : (piece : ℕ → List Instruction) (before after : List Instruction) (table : List Handler)
-    → after ≡ before ++ piece (length before) → IsAdded piece (λ position. []) before after table table
+    → after ≡ before ++ piece (length before) → IsCodeAdded piece (λ position. []) before after table table
 added-code piece before after table is = record { code = is; handlers = sym (append-nil table) }
 
 -- what was added so far, and what is left to be added, is the whole
@@ -36,7 +36,7 @@ pub record AreLeft (whole : ℕ → List Instruction) (entries : ℕ → List Ha
 pub left-next : (whole first left : ℕ → List Instruction) (entries front left_entries : ℕ → List Handler) (n : ℕ) (before now after : List Instruction) (table_before table table_after : List Handler)
     → length (first (length now)) ≡ n
     → AreLeft whole entries (λ position. first position ++ left (position + n)) (λ position. front position ++ left_entries (position + n)) before now table_before table
-    → IsAdded first front now after table table_after
+    → IsCodeAdded first front now after table table_after
     → AreLeft whole entries left left_entries before after table_before table_after
 left-next whole first left entries front left_entries n before now after table_before table table_after size so_far a =
     let next = added-both first left front left_entries n now after (after ++ left (length after)) table table_after (table_after ++ left_entries (length after)) size a (record { code = refl; handlers = refl }) in

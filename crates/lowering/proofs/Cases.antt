@@ -3,16 +3,12 @@ use Rattle.std.proofs.Common.{◌≡◌, refl, List, [], ◌∷◌, None}
 use Rattle.resolved.specs.declared.expression.Variable.TheVariants.{Local}
 use Rattle.resolved.specs.declared.expression.Operator.TheVariants as operator
 use Rattle.resolved.specs.declared.expression.Division.TheVariants.{Quotient}
-use Rattle.resolved.specs.declared.expression.Relation.TheVariants.{LessThan, AtMost}
-use Rattle.resolved.specs.declared.expression.Connective.TheVariants.{And}
-use Rattle.resolved.specs.declared.statement.Exit.TheVariants as exit
 use Rattle.resolved.specs.Tree as tree
 use Rattle.resolved.specs.Program.{Program}
-use Rattle.resolved.specs.Value.{literal_number}
-use Rattle.modules.specs.declared.instruction.Arithmetic.TheVariants.{Divide}
-use Rattle.modules.specs.declared.instruction.Comparison.TheVariants.{Less, Greater}
 use Rattle.modules.specs.declared.instruction.Instruction.{Instruction}
-use Rattle.modules.specs.declared.instruction.Instruction.TheVariants.{Push, Load, Compute, Compare, Not, Jump, JumpIfFalse, Return, Send}
+use Rattle.modules.specs.declared.instruction.MachineOperator.TheVariants.{Not}
+use Rattle.modules.specs.declared.instruction.Storage.TheVariants as storage
+use Rattle.modules.specs.declared.instruction.Instruction.TheVariants.{Load, Operate, Jump, JumpIfFalse, Return}
 use Rattle.modules.specs.declared.declaration.Handler.{Handler}
 use Rattle.lowering.specs.Code.{block_table}
 use Rattle.lowering.specs.Graphs.{body_code}
@@ -27,7 +23,7 @@ y = tree.Read (Local 1)
 -- `while (x) { while (y) { } }`: from the test of the outer loop control goes on at that of the inner one
 nested : (p : Program) → ◌≡◌ {A = List Instruction}
     (threaded (body_code p (tree.Then (tree.While 0 0 x (tree.Then (tree.While 0 0 y tree.Empty) tree.Empty)) tree.Empty)))
-    (Jump 5 ∷ Jump 2 ∷ Load 1 ∷ Not ∷ JumpIfFalse 2 ∷ Load 0 ∷ Not ∷ JumpIfFalse 2 ∷ Return ∷ [])
+    (Jump 5 ∷ Jump 2 ∷ Load storage.Local 1 ∷ Operate Not ∷ JumpIfFalse 2 ∷ Load storage.Local 0 ∷ Operate Not ∷ JumpIfFalse 2 ∷ Return ∷ [])
 nested p = refl
 
 caught : (p : Program) → ◌≡◌ {A = List Handler}

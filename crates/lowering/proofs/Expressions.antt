@@ -7,8 +7,8 @@ use Rattle.std.proofs.lemmas.Bool.Decides.{same_from_decides, Decides-int_eq, na
 use Rattle.std.proofs.lemmas.Bool.{and_parts}
 use Rattle.resolved.specs.declared.expression.Value.{Value}
 use Rattle.resolved.specs.declared.expression.Value.TheVariants.{Number, Truth}
-use Rattle.resolved.specs.declared.expression.Base.{Base}
-use Rattle.resolved.specs.declared.expression.Base.TheVariants as base
+use Rattle.common.specs.declared.base_type.BaseType.{BaseType}
+use Rattle.common.specs.declared.base_type.BaseType.TheVariants as base
 use Rattle.resolved.specs.declared.expression.Prefix.{Prefix}
 use Rattle.resolved.specs.declared.expression.Prefix.TheVariants as prefix
 use Rattle.resolved.specs.declared.expression.Operator.{Operator}
@@ -31,7 +31,9 @@ use Rattle.modules.specs.declared.value.Cell.{Cell}
 use Rattle.modules.specs.declared.value.Cell.TheVariants as cell
 use Rattle.modules.specs.declared.instruction.Instruction.{Instruction}
 use Rattle.modules.specs.declared.instruction.Instruction.TheVariants as instruction
-use Rattle.modules.specs.Machine.{act, goes_on, pushes_number}
+use Rattle.modules.specs.Machine.{Machine, act, goes_on, operates}
+use Rattle.modules.specs.Operators as operators
+use Rattle.std.specs.Option.{option_map}
 use Rattle.lowering.specs.Expressions.{load_element_of, prefix_instruction, operator_instruction, value_size, value_code, rest_of_short}
 use Rattle.lowering.proofs.CodePieces.{Stands, stands-front, stands-back}
 use Rattle.lowering.proofs.Sizes.{value-sized}
@@ -63,21 +65,25 @@ same_equal a b =
     (λ h. le_both a b (and_parts (int_le a b) (int_le b a) h).0 (and_parts (int_le a b) (int_le b a) h).1, λ e. subst (λ c. (int_le a c && int_le c a) ≡ true) e (rw (le_itself a) refl))
     (Decides-int_eq a b)
 
+-- a number that was made of operands is pushed
+abbrev pushes_made : Setting → ℕ → (operands before : List Cell) → source.SourceState → Option ℤ → Machine
+pushes_made g at operands before s made = operates g.p (state_at g at before s) (Some (option_map (operators.cell_of base.Int) made, operands))
+
 module _ (g : Setting) (h : ℕ → Option ℕ) (s : source.SourceState) where
   division-runs : (i : Instruction) (a z result : ℤ) (test : Bool) (at : ℕ) (operands : List Cell) (more : List Instruction)
       → is_zero z ≡ test → Stands g.code (i ∷ more) at → ((exception : ℕ) → g.p.find g.number at exception ≡ h exception)
       → act g.p i (state_at g at (cell.Int z ∷ cell.Int a ∷ operands) s)
-      ≡ pushes_number g.p (state_at g at (cell.Int z ∷ cell.Int a ∷ operands) s) operands (if is_zero z then None else Some result)
+      ≡ pushes_made g at operands (cell.Int z ∷ cell.Int a ∷ operands) s (if is_zero z then None else Some result)
       → ValueRuns g h operands (position g at (cell.Int z ∷ cell.Int a ∷ operands) s) (at + 1) s (if test then Raises 0 else Yields (Number result))
   division-runs i a z result true at operands more e stands finds acts =
       let before = cell.Int z ∷ cell.Int a ∷ operands in
       does g more i at before s _ stands
-      (acts ∙ ap (λ (b : Bool). pushes_number g.p (state_at g at before s) operands (if b then None else Some result)) e
+      (acts ∙ ap (λ (b : Bool). pushes_made g at operands before s (if b then None else Some result)) e
       ∙ raised-is g at before s 0 ∙ ap (λ (o : Option ℕ). thrown_to g o 0 s) (finds 0))
   division-runs i a z result false at operands more e stands finds acts =
       let before = cell.Int z ∷ cell.Int a ∷ operands in
       does g more i at before s _ stands
-      (acts ∙ ap (λ (b : Bool). pushes_number g.p (state_at g at before s) operands (if b then None else Some result)) e
+      (acts ∙ ap (λ (b : Bool). pushes_made g at operands before s (if b then None else Some result)) e
       ∙ onward g at before (cell.Int result ∷ operands) s)
 
   -- an instruction that pushes one value in place of some
@@ -203,7 +209,7 @@ module _ (g : Setting) (h : ℕ → Option ℕ) (s : source.SourceState) where
       (each (at + 1 + 1 + 1) (omega arith) (omega arith) last))
 
 module _ (g : Setting) (h : ℕ → Option ℕ) (s : source.SourceState) (fit : StateFits g.program g.procedure s) where
-  pub value-runs : (e : Expression) (b : Base) (at : ℕ) (operands : List Cell) → has_base g.program g.procedure b e ≡ true
+  pub value-runs : (e : Expression) (b : BaseType) (at : ℕ) (operands : List Cell) → has_base g.program g.procedure b e ≡ true
       → Stands g.code (value_code at e) at → Finds g at (value_size e) h
       → ValueRuns g h operands (position g at operands s) (at + value_size e) s (value_of s e)
   value-runs (Integer n) b at operands typed stands finds = gives-runs g h s (instruction.Push (literal_number n)) at operands operands (Number (literal_number n)) [] stands refl

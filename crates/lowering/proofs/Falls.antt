@@ -2,7 +2,7 @@
 use Rattle.std.proofs.Common.{◌≡◌, ℕ, ◌⊎◌, inl, inr, Bool, true, false, ◌&&◌}
 use Rattle.std.proofs.lemmas.Bool.{or_parts, and_cases, and_parts}
 use Rattle.std.specs.Prelude.{Some, None, if◌then◌else◌, ◌==◌}
-use Rattle.resolved.specs.declared.expression.Base.TheVariants.{Boolean}
+use Rattle.common.specs.declared.base_type.BaseType.TheVariants.{Boolean}
 use Rattle.resolved.specs.declared.statement.Exit.{Exit}
 use Rattle.resolved.specs.declared.statement.Exit.TheVariants.{Normal, Return, Break, Continue, Throw}
 use Rattle.resolved.specs.Tree.{Statement, If, Leave, ReturnWith, Try, Nested, Block, Empty, Then, Handlers, NoMore, Catch}

@@ -1,5 +1,5 @@
 -- The exceptions and channels of a graph are within the limits of the module file.
-use Rattle.std.proofs.Common.{◌≡◌, ◌≢◌, ℕ, ◌+◌, ◌^◌, ◌<◌, ◌≤◌, Bool, true, false, ◌||◌, List, [], ◌∷◌, ◌++◌, length, map, get_or, refl, sym, ap, ◌∙◌, subst, arith}
+use Rattle.std.proofs.Common.{◌≡◌, ◌≢◌, ℕ, ◌^◌, ◌<◌, ◌≤◌, Bool, true, false, ◌||◌, List, [], ◌∷◌, ◌++◌, length, map, get_or, refl, sym, ap, ◌∙◌, subst, arith}
 use Rattle.std.specs.Prelude.{All, Contains, nat_le}
 use Rattle.std.specs.List.{list_all}
 use Rattle.std.proofs.lemmas.List.{map-append, length-map, get_or-map}
@@ -15,7 +15,7 @@ use Rattle.common.specs.declared.direction.Direction.{Direction}
 use Rattle.common.specs.declared.direction.Direction.TheVariants.{Input, Output}
 use Rattle.common.proofs.Cases.{all_front, pairs_front}
 use Rattle.modules.specs.Contents.{ChannelContents}
-use Rattle.modules.specs.Form.{Fits}
+use Rattle.modules.specs.ByteFormat.{Fits}
 use Rattle.modules.specs.Format.{is_among, is_built_in, direction, label, channel_after, channels, channel_names, declared}
 use Rattle.lowering.specs.Interface.{channel_contents}
 use Rattle.lowering.proofs.Fronts.{FitEach-from_fronts, All-at_seam, not_among_front}

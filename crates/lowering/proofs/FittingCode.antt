@@ -6,8 +6,8 @@ use Rattle.std.specs.List.{AllByRecursion, list_any}
 use Rattle.std.proofs.lemmas.Bool.{ltb-true, and_parts}
 use Rattle.std.proofs.lemmas.Int.{SFits-int_wrap}
 use Rattle.std.proofs.lemmas.Option.{slice_get_within}
-use Rattle.resolved.specs.declared.expression.Base.{Base}
-use Rattle.resolved.specs.declared.expression.Base.TheVariants.{Int, Boolean}
+use Rattle.common.specs.declared.base_type.BaseType.{BaseType}
+use Rattle.common.specs.declared.base_type.BaseType.TheVariants.{Int, Boolean}
 use Rattle.resolved.specs.declared.expression.Variable.{Variable}
 use Rattle.resolved.specs.declared.expression.Variable.TheVariants.{Global, Local}
 use Rattle.resolved.specs.declared.expression.Prefix.{Prefix}
@@ -17,6 +17,7 @@ use Rattle.resolved.specs.declared.expression.Operator.TheVariants as operator
 use Rattle.resolved.specs.declared.expression.BitOperator.TheVariants as bits
 use Rattle.resolved.specs.declared.expression.Computation.TheVariants as computation
 use Rattle.resolved.specs.declared.expression.Division.TheVariants as division
+use Rattle.resolved.specs.declared.expression.Relation.TheVariants as relation
 use Rattle.resolved.specs.declared.expression.Sameness.TheVariants as sameness
 use Rattle.resolved.specs.declared.expression.Connective.{Connective}
 use Rattle.resolved.specs.declared.expression.Connective.TheVariants.{And, Or}
@@ -32,6 +33,7 @@ use Rattle.resolved.specs.WellFormed.{VariableType, same_base, slot_type, global
 use Rattle.resolved.proofs.WellFormedParts.{result_some}
 use Rattle.modules.specs.declared.instruction.Instruction.{Instruction}
 use Rattle.modules.specs.declared.instruction.Instruction.TheVariants as instruction
+use Rattle.modules.specs.declared.instruction.MachineOperator.TheVariants as machine
 use Rattle.modules.specs.declared.declaration.Handler.{Handler}
 use Rattle.modules.specs.declared.version.Version.{Version}
 use Rattle.modules.specs.declared.version.Version.TheVariants.{Two}
@@ -46,7 +48,7 @@ use Rattle.lowering.specs.Graphs.{end_code}
 abbrev pub IsNumbered : Version → Instruction → Type 0
 IsNumbered version (instruction.Jump target) = Unit {0}
 IsNumbered version (instruction.JumpIfFalse target) = Unit {0}
-IsNumbered version (instruction.Compute operator) = IsTrue (has_instruction version (instruction.Compute operator))
+IsNumbered version (instruction.Operate operator) = IsTrue (has_instruction version (instruction.Operate operator))
 IsNumbered version x = OperandFits (opcode_entry x).operand
 
 pub record AreNumbered (version : Version) (code : List Instruction) : Type 0 where
@@ -84,24 +86,17 @@ literal-numbered : (version : Version) (n : ℕ) → IsNumbered version (instruc
 literal-numbered version n = SFits-int_wrap w32 (pos n)
 
 prefix-numbered : (version : Version) (sign : Prefix) → IsNumbered version (prefix_instruction sign)
-prefix-numbered version prefix.Negate = tt
-prefix-numbered version prefix.Not = tt
+prefix-numbered version prefix.Negate = refl
+prefix-numbered version prefix.Not = refl
 
 operator-numbered : (version : Version) (o : Operator) → Allows version (is_bit_operator o) → IsNumbered version (operator_instruction o)
 operator-numbered version (operator.Compute computation.Add) k = refl
-operator-numbered version (operator.Compute computation.Subtract) k = refl
-operator-numbered version (operator.Compute computation.Multiply) k = refl
 operator-numbered version (operator.Divide division.Quotient) k = refl
-operator-numbered version (operator.Divide division.Remainder) k = refl
 operator-numbered version (operator.Bits bits.BitAnd) k = rw (k refl) refl
-operator-numbered version (operator.Bits bits.BitOr) k = rw (k refl) refl
-operator-numbered version (operator.Bits bits.BitXor) k = rw (k refl) refl
-operator-numbered version (operator.Bits bits.ShiftLeft) k = rw (k refl) refl
-operator-numbered version (operator.Bits bits.ShiftRight) k = rw (k refl) refl
-operator-numbered version (operator.Bits bits.ShiftRightUnsigned) k = rw (k refl) refl
-operator-numbered version (operator.Compare compared) k = tt
-operator-numbered version (operator.Match sameness.Same) k = tt
-operator-numbered version (operator.Match sameness.Different) k = tt
+operator-numbered version (operator.Bits made) k = rw (k refl) refl
+operator-numbered version (operator.Compare relation.LessThan) k = refl
+operator-numbered version (operator.Match sameness.Same) k = refl
+operator-numbered version o k = refl
 
 negated-allows : (version : Version) (o : Operator) → Allows version (is_bit_operator o) → Allows version (is_bit_operator (negated_operator o))
 negated-allows version (operator.Compute computed) k = k
@@ -149,11 +144,11 @@ store_element-numbered : (version : Version) (x : Variable) → IsSmall x → Is
 store_element-numbered version (Global n) h = h
 store_element-numbered version (Local n) h = h
 
-scalar-is : (o : Option VariableType) (test : Base → Bool) → scalar_by o test ≡ true → (type : VariableType) × (o ≡ Some type) × (test type.base ≡ true)
+scalar-is : (o : Option VariableType) (test : BaseType → Bool) → scalar_by o test ≡ true → (type : VariableType) × (o ≡ Some type) × (test type.base ≡ true)
 scalar-is None test h = absurd (cc)
 scalar-is (Some type) test h = (type, refl, (and_parts (is_none type.size) (test type.base) h).1)
 
-array-is : (o : Option VariableType) (count : ℕ) (test : Base → Bool) → array_by o count test ≡ true → (type : VariableType) × (o ≡ Some type) × (test type.base ≡ true)
+array-is : (o : Option VariableType) (count : ℕ) (test : BaseType → Bool) → array_by o count test ≡ true → (type : VariableType) × (o ≡ Some type) × (test type.base ≡ true)
 array-is None count test h = absurd (cc)
 array-is (Some type) count test h = (type, refl, (and_parts (has_length type.size count) (test type.base) h).1)
 
@@ -209,12 +204,12 @@ module _ (version : Version) (program : Program) (procedure : ProcedureEntry) (s
   variable-small (Global n) type h = global-small n type (slice_get program.globals n) refl h
   variable-small (Local n) type h = slot-small n type (slice_get procedure.slots n) refl h
 
-  scalar-small : (x : Variable) (test : Base → Bool) → scalar_by (variable_type program procedure x) test ≡ true → IsSmall x
+  scalar-small : (x : Variable) (test : BaseType → Bool) → scalar_by (variable_type program procedure x) test ≡ true → IsSmall x
   scalar-small x test h =
       let there = scalar-is (variable_type program procedure x) test h in
       variable-small x there.0 there.1
 
-  array-small : (x : Variable) (count : ℕ) (test : Base → Bool) → array_by (variable_type program procedure x) count test ≡ true → IsSmall x
+  array-small : (x : Variable) (count : ℕ) (test : BaseType → Bool) → array_by (variable_type program procedure x) count test ≡ true → IsSmall x
   array-small x count test h =
       let there = array-is (variable_type program procedure x) count test h in
       variable-small x there.0 there.1
@@ -227,7 +222,7 @@ module _ (version : Version) (program : Program) (procedure : ProcedureEntry) (s
   exception-small n h = omega (arith, ltb-true n (3 + length program.exceptions) h, short.exceptions)
 
   -- ---- values
-  value-numbered : (e : Expression) (base : Base) (at : ℕ) → has_base program procedure base e ≡ true → Allows version (expression_uses_bits e)
+  value-numbered : (e : Expression) (base : BaseType) (at : ℕ) → has_base program procedure base e ≡ true → Allows version (expression_uses_bits e)
       → AreNumbered version (value_code at e)
   value-numbered (Integer n) base at h k = numbered-one _ (literal-numbered version n)
   value-numbered (Logical b) base at h k = numbered-one _ tt
@@ -253,7 +248,7 @@ module _ (version : Version) (program : Program) (procedure : ProcedureEntry) (s
   -- a condition that is negated as a whole
   not-numbered : (e : Expression) (at : ℕ) → has_base program procedure Boolean e ≡ true → Allows version (expression_uses_bits e)
       → AreNumbered version (value_code at (Unary prefix.Not e))
-  not-numbered e at h k = numbered-both (value_code at e) _ (value-numbered e Boolean at h k) (numbered-one instruction.Not tt)
+  not-numbered e at h k = numbered-both (value_code at e) _ (value-numbered e Boolean at h k) (numbered-one (instruction.Operate machine.Not) refl)
 
   negated-numbered : (e : Expression) (at : ℕ) → has_base program procedure Boolean e ≡ true → Allows version (expression_uses_bits e)
       → AreNumbered version (value_code at (negated e))
@@ -301,11 +296,11 @@ module _ (version : Version) (program : Program) (procedure : ProcedureEntry) (s
       numbered-both (value_code at e) _ (value-numbered e parameter.base at parts.0 (allows-first version (expression_uses_bits e) _ k))
       (arguments-numbered rest parameters (at + value_size e) parts.1 (allows-second version (expression_uses_bits e) (list_any expression_uses_bits rest) k))
 
-  kept-numbered : (target : Option Variable) (test : Base → Bool) → target_by program procedure target test ≡ true → IsNumbered version (kept_code target)
+  kept-numbered : (target : Option Variable) (test : BaseType → Bool) → target_by program procedure target test ≡ true → IsNumbered version (kept_code target)
   kept-numbered None test h = tt
   kept-numbered (Some x) test h = store-numbered version x (scalar-small x test h)
 
-  result-numbered : (result : Option ResultEntry) (target : Option Variable) (test : Base → Bool) → target_by program procedure target test ≡ true → AreNumbered version (result_code result target)
+  result-numbered : (result : Option ResultEntry) (target : Option Variable) (test : BaseType → Bool) → target_by program procedure target test ≡ true → AreNumbered version (result_code result target)
   result-numbered None target test h = numbered-none
   result-numbered (Some entry) target test h = numbered-one _ (kept-numbered target test h)
 
@@ -342,7 +337,7 @@ module _ (version : Version) (program : Program) (procedure : ProcedureEntry) (s
       → Allows version (list_any expression_uses_bits arguments) → AreNumbered version (arguments_code at arguments ++ instruction.Call f ∷ result_code result target)
   call-numbered f arguments target at result None e h k = absurd (cc)
   call-numbered f arguments target at result (Some callee) e h k =
-      let test : Base → Bool = λ base. has_result callee.result (same_base base) in
+      let test : BaseType → Bool = λ base. has_result callee.result (same_base base) in
       let parts = and_parts (arguments_match program procedure (parameters_of callee) arguments) (target_by program procedure target test) h in
       let small : f < 2 ^ 32 = omega (arith, slice_get_within program.procedures f callee e, short.procedures) in
       numbered-both (arguments_code at arguments) _ (arguments-numbered arguments (parameters_of callee) at parts.0 k)

@@ -1,6 +1,6 @@
 -- The graph of a program is within the limits of the module file.
-use Rattle.std.proofs.Common.{◌≡◌, ℕ, ◌+◌, ◌*◌, ◌^◌, ◌<◌, ◌≤◌, Bool, true, false, ◌&&◌, List, [], ◌∷◌, ◌++◌, All, length, map, get_or, Option, Some, None, refl, ap, ◌∙◌, subst, arith, sum_by}
-use Rattle.std.specs.Prelude.{◌==◌, slice_get, is_none, if◌then◌else◌}
+use Rattle.std.proofs.Common.{◌≡◌, ℕ, ◌+◌, ◌^◌, ◌<◌, ◌≤◌, Bool, true, false, ◌&&◌, List, [], ◌∷◌, ◌++◌, All, length, map, get_or, Option, Some, None, refl, ap, ◌∙◌, subst, arith, sum_by}
+use Rattle.std.specs.Prelude.{IsTrue, ◌==◌, slice_get, is_none, if◌then◌else◌}
 use Rattle.std.specs.List.{AllByRecursion, list_all}
 use Rattle.std.specs.Option.{option_map}
 use Rattle.std.proofs.lemmas.Bool.{and_parts, leb-true}
@@ -17,14 +17,14 @@ use Rattle.resolved.proofs.WellFormedParts.{ProcedureParts, procedure_parts, pro
 use Rattle.modules.specs.declared.instruction.Instruction.{Instruction}
 use Rattle.modules.specs.declared.instruction.Instruction.TheVariants as instruction
 use Rattle.modules.specs.declared.declaration.Handler.{Handler}
-use Rattle.modules.specs.declared.value.ValueKind.{ValueKind}
-use Rattle.modules.specs.declared.value.ValueKind.TheVariants as kind
-use Rattle.modules.specs.Form.{Fits, FitEach, IsCoded, Code}
+use Rattle.common.specs.declared.base_type.BaseType.{BaseType}
+use Rattle.common.specs.declared.base_type.BaseType.TheVariants as kind
+use Rattle.modules.specs.ByteFormat.{Fits, FitEach, IsCoded, Code}
 use Rattle.modules.specs.Format.{returned, handler, handlers, procedure, procedures, may_start, main, program as program_field, version as version_field, contents, module_file}
 use Rattle.modules.specs.declared.version.Version.{Version}
 use Rattle.modules.specs.declared.version.Version.TheVariants.{One, Two}
 use Rattle.modules.specs.Targets.{renamed_instruction}
-use Rattle.modules.specs.Opcodes.{instructions}
+use Rattle.modules.specs.Opcodes.{OperandFits, entry_of, has_instruction, instructions}
 use Rattle.modules.proofs.Spelling.{is_spelled, spelled-length}
 use Rattle.layout.specs.Graph.{IsHandlerIn, HasTargetIn, HasPositions}
 use Rattle.lowering.specs.Interface.{module_version, returned_kind}
@@ -47,34 +47,19 @@ use Rattle.common.specs.declared.limits.TheConstants.{MAX_CELLS}
 
 -- ---- code
 
+numbered-there : (version : Version) (x : Instruction) → IsNumbered version x → IsTrue (has_instruction version x)
+numbered-there version (instruction.Operate operator) h = h
+numbered-there version x h = refl
+
+numbered-fits : (version : Version) (n : ℕ) (x : Instruction) → n < 2 ^ 32 → IsNumbered version x → Below n x → OperandFits (entry_of x).operand
+numbered-fits version n (instruction.Jump target) room h there = omega (arith, there, room)
+numbered-fits version n (instruction.JumpIfFalse target) room h there = omega (arith, there, room)
+numbered-fits version n (instruction.Operate operator) room h there = tt
+numbered-fits version n x room h there = h
+
 -- with its target below the length of short code, an instruction has its spelling
 numbered-coded : (version : Version) (n : ℕ) (x : Instruction) → n < 2 ^ 32 → IsNumbered version x → Below n x → IsCoded (instructions version) x
-numbered-coded version n (instruction.Jump target) room h there = is_spelled version (instruction.Jump target) refl (omega (arith, there, room))
-numbered-coded version n (instruction.JumpIfFalse target) room h there = is_spelled version (instruction.JumpIfFalse target) refl (omega (arith, there, room))
-numbered-coded version n (instruction.Push z) room h there = is_spelled version (instruction.Push z) refl h
-numbered-coded version n (instruction.PushBoolean b) room h there = is_spelled version (instruction.PushBoolean b) refl h
-numbered-coded version n instruction.Pop room h there = is_spelled version instruction.Pop refl h
-numbered-coded version n (instruction.Load k) room h there = is_spelled version (instruction.Load k) refl h
-numbered-coded version n (instruction.Store k) room h there = is_spelled version (instruction.Store k) refl h
-numbered-coded version n (instruction.LoadGlobal k) room h there = is_spelled version (instruction.LoadGlobal k) refl h
-numbered-coded version n (instruction.StoreGlobal k) room h there = is_spelled version (instruction.StoreGlobal k) refl h
-numbered-coded version n (instruction.LoadElement k) room h there = is_spelled version (instruction.LoadElement k) refl h
-numbered-coded version n (instruction.StoreElement k) room h there = is_spelled version (instruction.StoreElement k) refl h
-numbered-coded version n (instruction.LoadGlobalElement k) room h there = is_spelled version (instruction.LoadGlobalElement k) refl h
-numbered-coded version n (instruction.StoreGlobalElement k) room h there = is_spelled version (instruction.StoreGlobalElement k) refl h
-numbered-coded version n (instruction.Clear k) room h there = is_spelled version (instruction.Clear k) refl h
-numbered-coded version n (instruction.Compute operator) room h there = is_spelled version (instruction.Compute operator) h tt
-numbered-coded version n instruction.Negate room h there = is_spelled version instruction.Negate refl h
-numbered-coded version n instruction.Not room h there = is_spelled version instruction.Not refl h
-numbered-coded version n (instruction.Compare comparison) room h there = is_spelled version (instruction.Compare comparison) refl h
-numbered-coded version n instruction.SameBoolean room h there = is_spelled version instruction.SameBoolean refl h
-numbered-coded version n instruction.OtherBoolean room h there = is_spelled version instruction.OtherBoolean refl h
-numbered-coded version n (instruction.Call f) room h there = is_spelled version (instruction.Call f) refl h
-numbered-coded version n instruction.Return room h there = is_spelled version instruction.Return refl h
-numbered-coded version n instruction.ReturnValue room h there = is_spelled version instruction.ReturnValue refl h
-numbered-coded version n (instruction.Receive k) room h there = is_spelled version (instruction.Receive k) refl h
-numbered-coded version n (instruction.Send k) room h there = is_spelled version (instruction.Send k) refl h
-numbered-coded version n (instruction.Throw k) room h there = is_spelled version (instruction.Throw k) refl h
+numbered-coded version n x room h there = is_spelled version x (numbered-there version x h) (numbered-fits version n x room h there)
 
 code-coded : (version : Version) (n : ℕ) (code : List Instruction) → n < 2 ^ 32 → AllByRecursion (IsNumbered version) code → All (Below n) code → AllByRecursion (IsCoded (instructions version)) code
 code-coded version n [] room each there = tt
@@ -117,7 +102,7 @@ renamed-each : (version : Version) (f : ℕ → ℕ) (code : List Instruction) �
 renamed-each version f [] h = tt
 renamed-each version f (x ∷ code) h = (renamed-numbered version f x h.0, renamed-each version f code h.1)
 
-returned-fits : (result : Option ValueKind) → Fits returned result
+returned-fits : (result : Option BaseType) → Fits returned result
 unfolding returned
 returned-fits None = ((omega arith, refl), refl)
 returned-fits (Some kind.Int) = ((omega arith, refl), refl)

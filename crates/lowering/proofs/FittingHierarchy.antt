@@ -11,7 +11,7 @@ use Rattle.principals.specs.ActsFor.{PrincipalHierarchy, IsHierarchy, AllBelow}
 use Rattle.principals.specs.Named.{IsKeptName}
 use Rattle.labels.specs.Sets.{ascending_set}
 use Rattle.labels.proofs.Ascending.{ascending_set-sorted}
-use Rattle.modules.specs.Form.{Fits}
+use Rattle.modules.specs.ByteFormat.{Fits}
 use Rattle.modules.specs.Format.{is_above, pair_cmp, pair_after, hierarchy}
 use Rattle.lowering.specs.Interface.{hierarchy_contents}
 use Rattle.lowering.proofs.Fronts.{FitEach-from_fronts, All-at_seam, above_from_sorted}

@@ -11,7 +11,7 @@ use Rattle.principals.specs.ActsFor.{PrincipalHierarchy}
 use Rattle.labels.specs.Label.{ReaderPolicy, Label}
 use Rattle.labels.specs.Canonical.{policy_cmp, IsCanonicalPolicy, IsCanonicalLabel}
 use Rattle.resolved.specs.WellFormed.{policy_fits, label_fits, label_nodes}
-use Rattle.modules.specs.Form.{Fits}
+use Rattle.modules.specs.ByteFormat.{Fits}
 use Rattle.modules.specs.Format.{is_above, reader_after, policy_after, label}
 use Rattle.lowering.proofs.Fronts.{FitEach-from_fronts, All-at_seam, above_from_sorted}
 use Rattle.lowering.proofs.FittingNames.{number_fits}

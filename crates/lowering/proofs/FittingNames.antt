@@ -10,7 +10,7 @@ use Rattle.std.proofs.lemmas.Str.{is_utf8-from_IsUtf8}
 use Rattle.principals.specs.ActsFor.{AllDifferent}
 use Rattle.principals.specs.Named.{IsKeptName}
 use Rattle.resolved.specs.Names.{IsShortName}
-use Rattle.modules.specs.Form.{Fits}
+use Rattle.modules.specs.ByteFormat.{Fits}
 use Rattle.modules.specs.Format.{is_among, name_after, number_below, principals, exceptions, is_built_in}
 use Rattle.lowering.proofs.Fronts.{FitEach-from_fronts, All-at_seam, not_among_front}
 use Rattle.common.specs.Exceptions.{built_in_names}

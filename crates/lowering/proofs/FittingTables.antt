@@ -15,21 +15,21 @@ use Rattle.resolved.specs.declared.expression.Value.TheVariants.{Number, Truth}
 use Rattle.resolved.specs.Program.{GlobalEntry, SlotEntry}
 use Rattle.resolved.specs.WellFormed.{size_fits, cell_count, label_fits, first_fits, written_fits, parameter_fits}
 use Rattle.modules.specs.declared.fault.FormatRefusalKind.TheVariants.{BadValue}
-use Rattle.modules.specs.declared.value.ValueKind.{ValueKind}
-use Rattle.modules.specs.declared.value.ValueKind.TheVariants as kind
+use Rattle.common.specs.declared.base_type.BaseType.{BaseType}
+use Rattle.common.specs.declared.base_type.BaseType.TheVariants as kind
 use Rattle.modules.specs.declared.declaration.Slot.{Slot}
 use Rattle.modules.specs.declared.declaration.Slot.TheVariants as slot
 use Rattle.modules.specs.declared.declaration.Global.{Global}
 use Rattle.modules.specs.declared.declaration.Global.TheVariants as global
-use Rattle.modules.specs.Form.{Fits, Number as NumberField, Checked}
+use Rattle.modules.specs.ByteFormat.{Fits, Number as NumberField, Checked}
 use Rattle.modules.specs.Format.{cells_of_size, is_size, variable_kind, of_scalar, first_value, global_of, global_fields, global_cells, global_after, globals, slot_of, slot_fields, slot_cells, slot_after, slots}
-use Rattle.lowering.specs.Interface.{kind_of_base, declared_slot, slot_contents, scalar_global, declared_global, global_contents}
+use Rattle.lowering.specs.Interface.{declared_slot, slot_contents, scalar_global, declared_global, global_contents}
 use Rattle.lowering.specs.Fitting.{IsShortValue}
 use Rattle.lowering.proofs.Fronts.{FitEach-made, All-at_seam, passes_at_seam, passes_among_first, sum_at_seam}
 
 -- ---- sizes
 
-pub kind-fits : (k : ValueKind) → Fits variable_kind k
+pub kind-fits : (k : BaseType) → Fits variable_kind k
 unfolding variable_kind
 kind-fits kind.Int = ((omega arith, refl), refl)
 kind-fits kind.Boolean = ((omega arith, refl), refl)
@@ -76,18 +76,18 @@ boolean_global-fits before false room =
     ((kind-fits kind.Boolean, ((omega arith, size-tested (global_cells before) 0 (omega arith) room), (omega arith, refl))), refl)
 
 -- what an array has in place of a first value
-first-none : (k : ValueKind) (size : ℕ) → 0 < size → Fits (first_value k size) 0
+first-none : (k : BaseType) (size : ℕ) → 0 < size → Fits (first_value k size) 0
 first-none kind.Int size some = subst (λ b. Fits (of_scalar b NumberField) 0) (sym (not_none size some)) refl
 first-none kind.Boolean size some =
     subst (λ b. Fits (of_scalar b (Checked BadValue (λ n. nat_lt n 2) NumberField)) 0) (sym (not_none size some)) refl
 
-array-again : (k : ValueKind) (size : ℕ) → 0 < size → global_of (k, (size, 0)) ≡ global.Array k size
+array-again : (k : BaseType) (size : ℕ) → 0 < size → global_of (k, (size, 0)) ≡ global.Array k size
 array-again kind.Int size some =
     ap (λ b. if b then global.Int (cast_signed w32 0) else global.Array kind.Int size) (not_none size some)
 array-again kind.Boolean size some =
     ap (λ b. if b then global.Boolean (eqb 0 1) else global.Array kind.Boolean size) (not_none size some)
 
-array_global-fits : (before : List Global) (k : ValueKind) (size : ℕ) → IsLength size → global_cells before + cells_of_size size ≤ 1048576 → Fits (global_after before) (global.Array k size)
+array_global-fits : (before : List Global) (k : BaseType) (size : ℕ) → IsLength size → global_cells before + cells_of_size size ≤ 1048576 → Fits (global_after before) (global.Array k size)
 unfolding global_after
 array_global-fits before k size long room =
     ((kind-fits k, ((omega (arith, long.few), size-tested (global_cells before) size long.few room), first-none k size long.some)), array-again k size long.some)
@@ -113,7 +113,7 @@ global-fits before entry None h short room = by entry.first short
     by (Truth b) small = boolean_global-fits before b room
 global-fits before entry (Some size) h short room =
     let long = length-from size h in
-    array_global-fits before (kind_of_base entry.base) size long (omega (arith, room, cells-are size long.some))
+    array_global-fits before entry.base size long (omega (arith, room, cells-are size long.some))
 
 -- a global as a well-formed program has it
 abbrev pub is_fit_global : PrincipalHierarchy → GlobalEntry → Bool
@@ -151,19 +151,19 @@ globals-fit h entries few fits room short = (
 
 -- ---- slots
 
-scalar_slot-fits : (parameters : ℕ) (before : List Slot) (k : ValueKind) → slot_cells before + 1 ≤ 1048576 → Fits (slot_after parameters before) (slot.Scalar k)
+scalar_slot-fits : (parameters : ℕ) (before : List Slot) (k : BaseType) → slot_cells before + 1 ≤ 1048576 → Fits (slot_after parameters before) (slot.Scalar k)
 unfolding slot_after
 scalar_slot-fits parameters before k room =
     let any : (leb parameters (length before) || true) ≡ true = or-true (leb parameters (length before)) in
     ((kind-fits k, (omega arith, and_from _ _ (size-tested (slot_cells before) 0 (omega arith) room) any)), scalar-again k)
   where
-    scalar-again : (k : ValueKind) → slot_of (k, 0) ≡ slot.Scalar k
+    scalar-again : (k : BaseType) → slot_of (k, 0) ≡ slot.Scalar k
     scalar-again k = refl
 
-array_slot-again : (k : ValueKind) (size : ℕ) → 0 < size → slot_of (k, size) ≡ slot.Array k size
+array_slot-again : (k : BaseType) (size : ℕ) → 0 < size → slot_of (k, size) ≡ slot.Array k size
 array_slot-again k size some = ap (λ b. if b then slot.Scalar k else slot.Array k size) (not_none size some)
 
-array_slot-fits : (parameters : ℕ) (before : List Slot) (k : ValueKind) (size : ℕ) → IsLength size → parameters ≤ length before → slot_cells before + cells_of_size size ≤ 1048576 → Fits (slot_after parameters before) (slot.Array k size)
+array_slot-fits : (parameters : ℕ) (before : List Slot) (k : BaseType) (size : ℕ) → IsLength size → parameters ≤ length before → slot_cells before + cells_of_size size ≤ 1048576 → Fits (slot_after parameters before) (slot.Array k size)
 unfolding slot_after
 array_slot-fits parameters before k size long beyond room =
     let past : (leb parameters (length before) || eqb size 0) ≡ true = ap (λ b. b || eqb size 0) (le-leb parameters (length before) beyond) in
@@ -178,10 +178,10 @@ slot_cells-are entry (Some size) h = cells-are size (length-from size h).some
 
 slot-fits : (parameters : ℕ) (before : List Slot) (entry : SlotEntry) (size : Option ℕ) → size_fits size ≡ true → (length before < parameters → size ≡ None)
     → slot_cells before + cell_count size ≤ 1048576 → Fits (slot_after parameters before) (declared_slot entry.base size)
-slot-fits parameters before entry None h scalar room = scalar_slot-fits parameters before (kind_of_base entry.base) room
+slot-fits parameters before entry None h scalar room = scalar_slot-fits parameters before entry.base room
 slot-fits parameters before entry (Some size) h scalar room =
     let long = length-from size h in
-    array_slot-fits parameters before (kind_of_base entry.base) size long (beyond (leb parameters (length before)) refl) (omega (arith, room, cells-are size long.some))
+    array_slot-fits parameters before entry.base size long (beyond (leb parameters (length before)) refl) (omega (arith, room, cells-are size long.some))
   where
     beyond : (b : Bool) → leb parameters (length before) ≡ b → parameters ≤ length before
     beyond true e = leb-true parameters (length before) e

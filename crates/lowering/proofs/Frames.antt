@@ -9,8 +9,8 @@ use Rattle.std.proofs.lemmas.Option.{slice_get-map}
 use Rattle.std.proofs.lemmas.Bool.{and_parts}
 use Rattle.resolved.specs.declared.expression.Value.{Value}
 use Rattle.resolved.specs.declared.expression.Value.TheVariants.{Number, Truth}
-use Rattle.resolved.specs.declared.expression.Base.{Base}
-use Rattle.resolved.specs.declared.expression.Base.TheVariants as base
+use Rattle.common.specs.declared.base_type.BaseType.{BaseType}
+use Rattle.common.specs.declared.base_type.BaseType.TheVariants as base
 use Rattle.resolved.specs.Program.{Program, ProcedureEntry, SlotEntry, GlobalEntry, ChannelEntry}
 use Rattle.resolved.specs.SourceState as source
 use Rattle.resolved.specs.Value.{base_of, zero_value}
@@ -20,14 +20,13 @@ use Rattle.resolved.specs.Kinds.{ArgumentsFit}
 use Rattle.resolved.proofs.WellFormedParts.{program_parts, passes_at}
 use Rattle.resolved.proofs.Sound.Values.{same_base_is}
 use Rattle.modules.specs.declared.value.Cell.{Cell}
-use Rattle.modules.specs.declared.value.ValueKind.{ValueKind}
 use Rattle.modules.specs.declared.declaration.Slot.{Slot}
 use Rattle.modules.specs.declared.declaration.Slot.TheVariants as slot
 use Rattle.modules.specs.Values.{has_kind, zero_of}
 use Rattle.modules.specs.Contents.{ProcedureContents, ModuleContents}
 use Rattle.modules.specs.Machine.{Caller, Header, header_of, code_of, handlers_of, handler_for, slots_of, slot_of, popped, kinds_of, first_slot, first_cells, first_slots}
 use Rattle.layout.specs.Runs.{graph_program}
-use Rattle.lowering.specs.Interface.{kind_of_base, declared_slot, slot_contents, global_contents, scalar_global, channel_contents}
+use Rattle.lowering.specs.Interface.{declared_slot, slot_contents, global_contents, scalar_global, channel_contents}
 use Rattle.lowering.specs.Code.{block_table}
 use Rattle.lowering.specs.Graphs.{body_code}
 use Rattle.lowering.proofs.Unthreaded.{unthreaded_procedure, unthreaded_graph}
@@ -40,7 +39,7 @@ pub slot_same : (o : Option SlotEntry) → option_map slot_contents o ≡ slot_o
 slot_same None = refl
 slot_same (Some entry) = refl
 
-scalar_same : (v : Value) (b : Base) → base_of v ≡ b → slot_of (scalar_global v) ≡ slot.Scalar (kind_of_base b)
+scalar_same : (v : Value) (b : BaseType) → base_of v ≡ b → slot_of (scalar_global v) ≡ slot.Scalar b
 scalar_same (Number z) base.Int e = refl
 scalar_same (Truth t) base.Boolean e = refl
 scalar_same (Number z) base.Boolean e = cc
@@ -113,19 +112,19 @@ pub reverse_more : {A : Type 0} (x : A) (xs more : List A) → reverse (x ∷ xs
 reverse_more x xs more = ap (λ l. l ++ more) (reverse-append (x ∷ []) xs) ∙ append_assoc (reverse xs) (x ∷ []) more
 
 -- values of these kinds, as many
-abbrev pub KindsAre : List ValueKind → List Value → Type 0
+abbrev pub KindsAre : List BaseType → List Value → Type 0
 KindsAre [] [] = Unit {0}
 KindsAre [] (v ∷ vs) = ⊥
 KindsAre (kind ∷ kinds) [] = ⊥
 KindsAre (kind ∷ kinds) (v ∷ vs) = (has_kind kind (cell_of v) ≡ true) × KindsAre kinds vs
 
-popped_more : (kinds more : List ValueKind) (vs : List Value) (arguments operands : List Cell) → KindsAre kinds vs
+popped_more : (kinds more : List BaseType) (vs : List Value) (arguments operands : List Cell) → KindsAre kinds vs
     → popped (reverse kinds ++ more) arguments (pushed vs operands) ≡ popped more (cells_of vs ++ arguments) operands
 popped_more [] more [] arguments operands h = refl
 popped_more [] more (v ∷ vs) arguments operands h = absurd h
 popped_more (kind ∷ kinds) more [] arguments operands h = absurd h
 popped_more (kind ∷ kinds) more (v ∷ vs) arguments operands h =
-    ap (λ (l : List ValueKind). popped l arguments (pushed vs (cell_of v ∷ operands))) (reverse_more kind kinds more)
+    ap (λ (l : List BaseType). popped l arguments (pushed vs (cell_of v ∷ operands))) (reverse_more kind kinds more)
     ∙ popped_more kinds (kind ∷ more) vs arguments (cell_of v ∷ operands) h.1
     ∙ last h.0
   where
@@ -148,13 +147,13 @@ pub popped-all : (entry : ProcedureEntry) (vs : List Value) → ArgumentsFit (pa
     → popped (reverse (kinds_of (take entry.parameters (map slot_contents entry.slots)))) [] (pushed vs []) ≡ Some (cells_of vs, [])
 popped-all entry vs h =
     let kinds = kinds_of (take entry.parameters (map slot_contents entry.slots)) in
-    ap (λ (l : List ValueKind). popped l [] (pushed vs [])) (sym (append-nil (reverse kinds)))
+    ap (λ (l : List BaseType). popped l [] (pushed vs [])) (sym (append-nil (reverse kinds)))
     ∙ popped_more kinds [] vs [] [] (kinds_are entry.parameters entry.slots vs h)
     ∙ ap (λ (l : List Cell). Some (l, [])) (append-nil (cells_of vs))
 
 -- ---- new frames
 
-zero_cell : (b : Base) → cell_of (zero_value b) ≡ zero_of (kind_of_base b)
+zero_cell : (b : BaseType) → cell_of (zero_value b) ≡ zero_of b
 zero_cell base.Int = refl
 zero_cell base.Boolean = refl
 
@@ -162,7 +161,7 @@ pub cells_replicated : (n : ℕ) (v : Value) → cells_of (replicate n v) ≡ re
 cells_replicated zero v = refl
 cells_replicated (suc n) v = ap (λ (l : List Cell). cell_of v ∷ l) (cells_replicated n v)
 
-first_same : (b : Base) (size : Option ℕ) → first_cells (declared_slot b size) ≡ cells_of (first_cells_of size (zero_value b))
+first_same : (b : BaseType) (size : Option ℕ) → first_cells (declared_slot b size) ≡ cells_of (first_cells_of size (zero_value b))
 first_same b None = ap (λ (c : Cell). c ∷ []) (sym (zero_cell b))
 first_same b (Some count) = ap (replicate count) (sym (zero_cell b)) ∙ sym (cells_replicated count (zero_value b))
 

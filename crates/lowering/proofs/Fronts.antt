@@ -13,7 +13,7 @@ use Rattle.std.proofs.lemmas.Map.Keys.{Less-from_sorted}
 use Rattle.std.proofs.lemmas.Option.{slice_get-get_or}
 use Rattle.std.proofs.lemmas.Slice.Eq.{bytes_eq-Decides}
 use Rattle.principals.specs.ActsFor.{AllDifferent}
-use Rattle.modules.specs.Form.{FitEach}
+use Rattle.modules.specs.ByteFormat.{FitEach}
 use Rattle.modules.specs.Format.{is_less, is_above_last, is_above, is_among}
 
 each_from : {A : Type 0} (P : List A → A → Type 0) (before xs : List A) → ((front : List A) (x : A) (rest : List A) → before ++ xs ≡ front ++ x ∷ rest → P front x) → FitEach P before xs

@@ -1,5 +1,5 @@
 -- A graph shows what its program does.
-use Rattle.std.proofs.Common.{ℕ, refl}
+use Rattle.std.proofs.Common.{refl}
 use Rattle.principals.proofs.Closure.{ActsFor-monotone}
 use Rattle.labels.specs.Sets.{SameSet, ascending_set}
 use Rattle.labels.proofs.Ascending.{ascending_set-SameSet}

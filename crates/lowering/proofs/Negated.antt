@@ -1,8 +1,8 @@
 -- Conditions that are negated keep their base type.
 use Rattle.std.proofs.Common.{◌≡◌, refl, Bool, true, false, ◌&&◌}
 use Rattle.std.proofs.lemmas.Bool.{and_parts}
-use Rattle.resolved.specs.declared.expression.Base.{Base}
-use Rattle.resolved.specs.declared.expression.Base.TheVariants as base
+use Rattle.common.specs.declared.base_type.BaseType.{BaseType}
+use Rattle.common.specs.declared.base_type.BaseType.TheVariants as base
 use Rattle.resolved.specs.declared.expression.Operator.{Operator}
 use Rattle.resolved.specs.declared.expression.Operator.TheVariants as operator
 use Rattle.resolved.specs.Tree.{Expression, Integer, Logical, Read, Element, Unary, Binary, Short}
@@ -19,12 +19,12 @@ negated_bases (operator.Divide divided) e = cc
 negated_bases (operator.Bits made) e = cc
 
 -- the operands of an operator whose value has a base type
-pub record OperandsFit (program : Program) (procedure : ProcedureEntry) (wanted : Base) (op : Operator) (d e : Expression) : Type 0 where
+pub record OperandsFit (program : Program) (procedure : ProcedureEntry) (wanted : BaseType) (op : Operator) (d e : Expression) : Type 0 where
   pub result : result_base op ≡ wanted
   pub left : has_base program procedure (operand_base op) d ≡ true
   pub right : has_base program procedure (operand_base op) e ≡ true
 
-pub operands-fit : (program : Program) (procedure : ProcedureEntry) (wanted : Base) (op : Operator) (d e : Expression)
+pub operands-fit : (program : Program) (procedure : ProcedureEntry) (wanted : BaseType) (op : Operator) (d e : Expression)
     → has_base program procedure wanted (Binary op d e) ≡ true → OperandsFit program procedure wanted op d e
 operands-fit program procedure wanted op d e typed =
     let outer = and_parts (same_base (result_base op) wanted && has_base program procedure (operand_base op) d) (has_base program procedure (operand_base op) e) typed in

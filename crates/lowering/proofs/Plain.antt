@@ -5,7 +5,7 @@ use Rattle.std.specs.Prelude.{Option, Some, None, if◌then◌else◌, is_none, 
 use Rattle.std.proofs.lemmas.List.{map-set, length-map}
 use Rattle.resolved.specs.declared.expression.Value.{Value}
 use Rattle.resolved.specs.declared.expression.Value.TheVariants.{Number, Truth}
-use Rattle.resolved.specs.declared.expression.Base.TheVariants as base
+use Rattle.common.specs.declared.base_type.BaseType.TheVariants as base
 use Rattle.resolved.specs.declared.expression.Variable.{Variable}
 use Rattle.resolved.specs.declared.expression.Variable.TheVariants.{Local}
 use Rattle.resolved.specs.declared.statement.Exit.TheVariants as exit
@@ -16,13 +16,13 @@ use Rattle.resolved.specs.Program as resolved
 use Rattle.resolved.specs.SourceState as source
 use Rattle.resolved.specs.SourceState.{value_of, cells, cell_at, assigned, stored, cleared, with_cells}
 use Rattle.resolved.specs.Value.{Yields, Raises, base_of, checked_index, zero_value}
-use Rattle.resolved.specs.Meaning.{Ended, normally, evaluated, received, kept_in, sending}
+use Rattle.resolved.specs.Meaning.{Ended, normally, evaluated, received, given_to, sending}
 use Rattle.resolved.specs.WellFormed.{VariableType, variable_type, has_base, same_base, scalar_by, array_by, target_by, channel_is, is_array, may_leave_by, is_exception, has_result, cell_count}
 use Rattle.resolved.specs.Kinds.{StateFits, CellsFit}
 use Rattle.resolved.proofs.Sound.Values.{value_fits}
 use Rattle.resolved.proofs.Sound.Meanings.{base_given}
 use Rattle.modules.specs.declared.value.Cell.{Cell}
-use Rattle.modules.specs.declared.value.ValueKind.{ValueKind}
+use Rattle.common.specs.declared.base_type.BaseType.{BaseType}
 use Rattle.modules.specs.declared.value.Cell.TheVariants as cell
 use Rattle.modules.specs.declared.declaration.Slot.{Slot}
 use Rattle.modules.specs.declared.declaration.Slot.TheVariants as slot
@@ -31,7 +31,6 @@ use Rattle.modules.specs.declared.instruction.Instruction.TheVariants as instruc
 use Rattle.modules.specs.Machine as machine
 use Rattle.modules.specs.Machine.{Machine, State, Header, clears, with_slot, with_element, goes_on, takes, receives, sends, throws, returns_nothing, leaves_without, returns_value, gives_back, leaves_value, raised, stuck, leaves}
 use Rattle.common.specs.declared.exceptions.TheConstants.{BOUNDS, END}
-use Rattle.lowering.specs.Interface.{kind_of_base}
 use Rattle.lowering.specs.Expressions.{store_of, store_element_of, value_size, value_code}
 use Rattle.lowering.specs.Code.{Loop, kept_code}
 use Rattle.lowering.proofs.CodePieces.{Stands, stands-front, stands-back}
@@ -134,7 +133,7 @@ module _ (g : Setting) (loop : Loop) (h : ℕ → Option ℕ) (k : ℕ) (s : sou
           (acts ∙ ap (λ (q : State). goes_on g.p q (cell.Int z ∷ [])) (taken_state g loop h k s channel rest at [] is_input) ∙ onward g at [] (cell.Int z ∷ []) t) in
           let back = stands-back g.code (instruction.Receive channel ∷ []) (kept_code target ∷ []) at 1 refl stands in
           let end : at + 1 + 1 ≡ at + 2 = omega arith in
-          subst (λ (q : ℕ). Leads g.p (position g at [] s) (position g q [] (kept_in target (Number z) t))) end
+          subst (λ (q : ℕ). Leads g.p (position g at [] s) (position g q [] (given_to target (Some (Number z)) t))) end
           (leads-through g.p _ _ _ got (kept-runs g loop h k t target z (at + 1) [] typed back))
 
   pub clear-runs : (slot at : ℕ) (more : List Instruction) → is_array (variable_type g.program g.procedure (Local slot)) ≡ true → Stands g.code (instruction.Clear slot ∷ more) at
@@ -147,7 +146,7 @@ module _ (g : Setting) (loop : Loop) (h : ℕ → Option ℕ) (k : ℕ) (s : sou
       sized type is (Some count) e some =
           let S = state_at g at [] s in
           let fits : CellsFit type (s.locals slot) = fit.fits (Local slot) type is in
-          let slot_is : slot_for g (Local slot) ≡ Some (Rattle.modules.specs.declared.declaration.Slot.TheVariants.Array (kind_of_base type.base) count) = rw (is, e) refl in
+          let slot_is : slot_for g (Local slot) ≡ Some (Rattle.modules.specs.declared.declaration.Slot.TheVariants.Array type.base count) = rw (is, e) refl in
           does g more (instruction.Clear slot) at [] s _ stands
           (ap (clears g.p S slot) (g.locals_there slot ∙ slot_is)
           ∙ ap (λ (cells : List Cell). goes_on g.p (with_slot S slot cells) []) (cleared_cells type.base (s.locals slot) count (fits.count ∙ ap cell_count e) (λ v f. f) fits.kinds)
@@ -164,10 +163,10 @@ module _ (g : Setting) (loop : Loop) (h : ℕ → Option ℕ) (k : ℕ) (s : sou
   element-stored x count (Truth b) w at more type is size is_int same stands finds = absurd (let no : base.Boolean ≡ base.Int = is_int in cc)
   element-stored x count (Number z) w at more type is size is_int same stands finds = go z
     where
-      kind : ValueKind
-      kind = kind_of_base type.base
+      kind : BaseType
+      kind = type.base
 
-      slot_is : slot_for g x ≡ Some (Rattle.modules.specs.declared.declaration.Slot.TheVariants.Array (kind_of_base type.base) count)
+      slot_is : slot_for g x ≡ Some (Rattle.modules.specs.declared.declaration.Slot.TheVariants.Array type.base count)
       slot_is = rw (is, size) refl
 
       fits : CellsFit type (cells s x)

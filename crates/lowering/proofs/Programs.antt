@@ -8,8 +8,8 @@ use Rattle.std.proofs.lemmas.Option.{slice_get-map}
 use Rattle.std.proofs.lemmas.Bool.{and_parts, false≢true}
 use Rattle.resolved.specs.declared.expression.Value.{Value}
 use Rattle.resolved.specs.declared.expression.Value.TheVariants.{Number, Truth}
-use Rattle.resolved.specs.declared.expression.Base.{Base}
-use Rattle.resolved.specs.declared.expression.Base.TheVariants as base
+use Rattle.common.specs.declared.base_type.BaseType.{BaseType}
+use Rattle.common.specs.declared.base_type.BaseType.TheVariants as base
 use Rattle.resolved.specs.declared.statement.Exit.TheVariants.{Normal, Return, Break, Continue, Throw}
 use Rattle.common.specs.declared.direction.Direction.{Direction}
 use Rattle.common.specs.declared.direction.Direction.TheVariants.{Input, Output}
@@ -37,7 +37,7 @@ use Rattle.modules.specs.Values.{zero_of}
 use Rattle.modules.specs.Machine as machine
 use Rattle.modules.specs.Machine.{Machine, Running}
 use Rattle.layout.specs.Runs.{graph_program}
-use Rattle.lowering.specs.Interface.{global_contents, scalar_global, kind_of_base}
+use Rattle.lowering.specs.Interface.{global_contents, scalar_global}
 use Rattle.lowering.specs.Code.{block_size}
 use Rattle.lowering.specs.Graphs.{no_loop}
 use Rattle.lowering.proofs.Unthreaded.{unthreaded_graph}
@@ -51,7 +51,7 @@ use Rattle.resolved.proofs.Exits.{thrown-break, thrown-continue}
 
 -- ---- the first state
 
-zero_value_cell : (v : Value) (b : Base) → base_of v ≡ b → is_zero_value v ≡ true → cell_of v ≡ zero_of (kind_of_base b)
+zero_value_cell : (v : Value) (b : BaseType) → base_of v ≡ b → is_zero_value v ≡ true → cell_of v ≡ zero_of b
 zero_value_cell (Number (pos n)) base.Int e h = let none : n ≡ 0 = eqb-true n 0 h in rw none refl
 zero_value_cell (Number (negsuc n)) base.Int e h = absurd (let no : false ≡ true = h in cc)
 zero_value_cell (Truth false) base.Boolean e h = refl

@@ -3,8 +3,8 @@ use Rattle.common.specs.Functions.{same_truth}
 use Rattle.std.proofs.Common.{◌≡◌, refl, sym, ◌∙◌, subst, ℕ, ◌+◌, Bool, true, false, ◌&&◌, List, [], ◌∷◌, ◌++◌, length, map, reverse}
 use Rattle.std.proofs.lemmas.Bool.{and_parts}
 use Rattle.std.specs.Prelude.{not, if◌then◌else◌}
-use Rattle.resolved.specs.declared.expression.Base.{Base}
-use Rattle.resolved.specs.declared.expression.Base.TheVariants as base
+use Rattle.common.specs.declared.base_type.BaseType.{BaseType}
+use Rattle.common.specs.declared.base_type.BaseType.TheVariants as base
 use Rattle.resolved.specs.declared.expression.Prefix.TheVariants as prefix
 use Rattle.resolved.specs.declared.expression.Connective.{Connective}
 use Rattle.resolved.specs.declared.expression.Connective.TheVariants.{And, Or}
@@ -16,9 +16,7 @@ use Rattle.resolved.proofs.Sound.Values.{same_base_is}
 use Rattle.modules.specs.Contents.{ProcedureContents, ModuleContents}
 use Rattle.modules.specs.declared.instruction.Instruction.{Instruction}
 use Rattle.modules.specs.declared.instruction.Instruction.TheVariants as instruction
-use Rattle.modules.specs.declared.value.ValueKind.{ValueKind}
-use Rattle.modules.specs.declared.value.ValueKind.TheVariants.{Boolean}
-use Rattle.lowering.specs.Interface.{kind_of_base}
+use Rattle.common.specs.declared.base_type.BaseType.TheVariants.{Boolean}
 use Rattle.lowering.specs.Expressions.{tested, deciding, value_size, value_code, rest_of_short, arguments_code, branch_size, branch_code, test_code}
 use Rattle.lowering.proofs.Sizes.{value-sized, branch-sized}
 use Rattle.lowering.proofs.Flowing.{Flows, kinds_at, here-back, here-end, flows-none, flows-both, flows-given, flows-free, flows-one, flows-jump, flows-test}
@@ -29,7 +27,7 @@ use Rattle.lowering.proofs.Kinded.{scalar-type, array-type, Stated, load-does, l
 -- ---- values
 module _ (m : ModuleContents) (p : ProcedureContents) (whole : List Instruction) where
   -- after the left operand of a connective
-  short-flows : (connective : Connective) (at n : ℕ) (right : ℕ → List Instruction) (kinds : List ValueKind) → ((position : ℕ) → length (right position) ≡ n)
+  short-flows : (connective : Connective) (at n : ℕ) (right : ℕ → List Instruction) (kinds : List BaseType) → ((position : ℕ) → length (right position) ≡ n)
       → ((position : ℕ) → Flows m p whole position (right position) (Unit {0}) kinds (Boolean ∷ kinds))
       → Flows m p whole at (rest_of_short connective at n right) (Unit {0}) (Boolean ∷ kinds) (Boolean ∷ kinds)
   short-flows And at n right kinds size flows =
@@ -60,12 +58,12 @@ module _ (m : ModuleContents) (p : ProcedureContents) (whole : List Instruction)
 
 module _ (program : Program) (procedure : ProcedureEntry) (m : ModuleContents) (p : ProcedureContents) (whole : List Instruction) (stated : Stated program procedure m p) where
   -- code whose value has another name for its base type
-  as-base : {at : ℕ} {code : List Instruction} {kinds : List ValueKind} (a b : Base) → a ≡ b → Flows m p whole at code (Unit {0}) kinds (kind_of_base a ∷ kinds)
-      → Flows m p whole at code (Unit {0}) kinds (kind_of_base b ∷ kinds)
-  as-base {at = at} {code = code} {kinds = kinds} a b same f = subst (λ c. Flows m p whole at code (Unit {0}) kinds (kind_of_base c ∷ kinds)) same f
+  as-base : {at : ℕ} {code : List Instruction} {kinds : List BaseType} (a b : BaseType) → a ≡ b → Flows m p whole at code (Unit {0}) kinds (a ∷ kinds)
+      → Flows m p whole at code (Unit {0}) kinds (b ∷ kinds)
+  as-base {at = at} {code = code} {kinds = kinds} a b same f = subst (λ c. Flows m p whole at code (Unit {0}) kinds (c ∷ kinds)) same f
 
-  pub value-flows : (e : Expression) (wanted : Base) (at : ℕ) (kinds : List ValueKind) → has_base program procedure wanted e ≡ true
-      → Flows m p whole at (value_code at e) (Unit {0}) kinds (kind_of_base wanted ∷ kinds)
+  pub value-flows : (e : Expression) (wanted : BaseType) (at : ℕ) (kinds : List BaseType) → has_base program procedure wanted e ≡ true
+      → Flows m p whole at (value_code at e) (Unit {0}) kinds (wanted ∷ kinds)
   value-flows (Integer n) wanted at kinds typed =
       as-base base.Int wanted (same_base_is base.Int wanted (and_parts (same_base base.Int wanted) _ typed).0) (flows-one m p whole (push-does m p (literal_number n) kinds))
   value-flows (Logical b) wanted at kinds typed =
@@ -73,13 +71,13 @@ module _ (program : Program) (procedure : ProcedureEntry) (m : ModuleContents) (
   value-flows (Read x) wanted at kinds typed =
       let found = scalar-type (variable_type program procedure x) (same_base wanted) typed in
       as-base found.base wanted (sym (same_base_is wanted found.base found.passes))
-      (flows-one m p whole (load-does m p x (kind_of_base found.base) kinds (stated.variables_there x ∙ found.is)))
+      (flows-one m p whole (load-does m p x found.base kinds (stated.variables_there x ∙ found.is)))
   value-flows (Element array size index) wanted at kinds typed =
       let parts = and_parts (array_by (variable_type program procedure array) size (same_base wanted)) (has_base program procedure base.Int index) typed in
       let found = array-type (variable_type program procedure array) size (same_base wanted) parts.0 in
       as-base found.base wanted (sym (same_base_is wanted found.base found.passes))
       (flows-both m p whole (value_size index) (value-sized index at) (value-flows index base.Int at kinds parts.1)
-      (flows-one m p whole (load_element-does m p array (kind_of_base found.base) found.count kinds (stated.variables_there array ∙ found.is))))
+      (flows-one m p whole (load_element-does m p array found.base found.count kinds (stated.variables_there array ∙ found.is))))
   value-flows (Unary sign e) wanted at kinds typed =
       let parts = and_parts (same_base (prefix_base sign) wanted) (has_base program procedure (prefix_base sign) e) typed in
       as-base (prefix_base sign) wanted (same_base_is (prefix_base sign) wanted parts.0)
@@ -89,7 +87,7 @@ module _ (program : Program) (procedure : ProcedureEntry) (m : ModuleContents) (
       let side = operand_base op in
       as-base (result_base op) wanted parts.result
       (flows-both m p whole (value_size d) (value-sized d at) (value-flows d side at kinds parts.left)
-      (flows-both m p whole (value_size e) (value-sized e (at + value_size d)) (value-flows e side (at + value_size d) (kind_of_base side ∷ kinds) parts.right)
+      (flows-both m p whole (value_size e) (value-sized e (at + value_size d)) (value-flows e side (at + value_size d) (side ∷ kinds) parts.right)
       (flows-one m p whole (operator-does m p op kinds))))
   value-flows (Short connective d e) wanted at kinds typed =
       let outer = and_parts (same_base base.Boolean wanted && has_base program procedure base.Boolean d) (has_base program procedure base.Boolean e) typed in
@@ -100,33 +98,33 @@ module _ (program : Program) (procedure : ProcedureEntry) (m : ModuleContents) (
       (λ position. value-sized e position) (λ position. value-flows e base.Boolean position kinds outer.1)))
 
   -- arguments, from the left: the last one is on the top
-  pub arguments-flow : (parameters : List SlotEntry) (es : List Expression) (at : ℕ) (kinds : List ValueKind) → arguments_match program procedure parameters es ≡ true
-      → Flows m p whole at (arguments_code at es) (Unit {0}) kinds (reverse (map (λ (s : SlotEntry). kind_of_base s.base) parameters) ++ kinds)
+  pub arguments-flow : (parameters : List SlotEntry) (es : List Expression) (at : ℕ) (kinds : List BaseType) → arguments_match program procedure parameters es ≡ true
+      → Flows m p whole at (arguments_code at es) (Unit {0}) kinds (reverse (map (λ (s : SlotEntry). s.base) parameters) ++ kinds)
   arguments-flow [] [] at kinds typed = flows-none m p whole
   arguments-flow [] (e ∷ rest) at kinds typed = absurd (let no : false ≡ true = typed in cc)
   arguments-flow (parameter ∷ parameters) [] at kinds typed = absurd (let no : false ≡ true = typed in cc)
   arguments-flow (parameter ∷ parameters) (e ∷ rest) at kinds typed =
       let parts = and_parts (has_base program procedure parameter.base e) (arguments_match program procedure parameters rest) typed in
-      let kind = kind_of_base parameter.base in
-      let others = map (λ (s : SlotEntry). kind_of_base s.base) parameters in
+      let kind = parameter.base in
+      let others = map (λ (s : SlotEntry). s.base) parameters in
       subst (Flows m p whole at (arguments_code at (e ∷ rest)) (Unit {0}) kinds) (sym (reverse_more kind others kinds))
       (flows-both m p whole (value_size e) (value-sized e at) (value-flows e parameter.base at kinds parts.0)
       (arguments-flow parameters rest (at + value_size e) (kind ∷ kinds) parts.1))
 
   -- ---- conditions
-  test-flows : (e : Expression) (wanted : Bool) (at target : ℕ) (kinds : List ValueKind) → has_base program procedure base.Boolean e ≡ true
+  test-flows : (e : Expression) (wanted : Bool) (at target : ℕ) (kinds : List BaseType) → has_base program procedure base.Boolean e ≡ true
       → Flows m p whole at (test_code wanted at target e) (kinds_at m p whole target ≡ kinds) kinds kinds
   test-flows e wanted at target kinds typed =
       flows-both m p whole (value_size (tested wanted e)) (value-sized (tested wanted e) at)
       (flows-free m p whole (value-flows (tested wanted e) base.Boolean at kinds (tested-fits program procedure wanted e typed)))
       (flows-test m p whole target (λ aims. aims))
 
-  either-at : (b : Bool) (first second : ℕ) (kinds : List ValueKind) → kinds_at m p whole first ≡ kinds → kinds_at m p whole second ≡ kinds
+  either-at : (b : Bool) (first second : ℕ) (kinds : List BaseType) → kinds_at m p whole first ≡ kinds → kinds_at m p whole second ≡ kinds
       → kinds_at m p whole (if b then first else second) ≡ kinds
   either-at true first second kinds h k = h
   either-at false first second kinds h k = k
 
-  pub branch-flows : (e : Expression) (wanted : Bool) (at target : ℕ) (kinds : List ValueKind) → has_base program procedure base.Boolean e ≡ true
+  pub branch-flows : (e : Expression) (wanted : Bool) (at target : ℕ) (kinds : List BaseType) → has_base program procedure base.Boolean e ≡ true
       → Flows m p whole at (branch_code wanted at target e) (kinds_at m p whole target ≡ kinds) kinds kinds
   branch-flows (Integer n) wanted at target kinds typed = test-flows (Integer n) wanted at target kinds typed
   branch-flows (Logical b) wanted at target kinds typed = test-flows (Logical b) wanted at target kinds typed

@@ -3,8 +3,8 @@ use Rattle.std.proofs.Common.{◌≡◌, refl, sym, ap, ◌∙◌, subst, ℕ, �
 use Rattle.std.specs.Prelude.{filter, nat_lt, is_none, if◌then◌else◌}
 use Rattle.std.proofs.lemmas.List.Elements.{All-nil, All-cons, All-append}
 use Rattle.std.proofs.lemmas.Bool.{and_parts}
-use Rattle.resolved.specs.declared.expression.Base.{Base}
-use Rattle.resolved.specs.declared.expression.Base.TheVariants as base
+use Rattle.common.specs.declared.base_type.BaseType.{BaseType}
+use Rattle.common.specs.declared.base_type.BaseType.TheVariants as base
 use Rattle.resolved.specs.declared.expression.Variable.{Variable}
 use Rattle.resolved.specs.declared.expression.Variable.TheVariants.{Local}
 use Rattle.resolved.specs.declared.statement.Exit.{Exit}
@@ -25,11 +25,10 @@ use Rattle.modules.specs.declared.declaration.Handler.{Handler}
 use Rattle.modules.specs.declared.declaration.Slot.TheVariants as slot
 use Rattle.modules.specs.declared.instruction.Instruction.{Instruction}
 use Rattle.modules.specs.declared.instruction.Instruction.TheVariants as instruction
-use Rattle.modules.specs.declared.value.ValueKind.{ValueKind}
-use Rattle.modules.specs.declared.value.ValueKind.TheVariants.{Int}
+use Rattle.common.specs.declared.base_type.BaseType.TheVariants.{Int}
 use Rattle.verifier.specs.Signatures.{is_input, is_output}
 use Rattle.verifier.specs.Flow.{pushed}
-use Rattle.lowering.specs.Interface.{kind_of_base, declared_slot, returned_kind}
+use Rattle.lowering.specs.Interface.{declared_slot, returned_kind}
 use Rattle.lowering.specs.Expressions.{store_of, store_element_of, value_size, value_code, arguments_size, arguments_code, branch_size, branch_code}
 use Rattle.lowering.specs.Code.{Loop, jump_size, jump_code, jumps_over, jumps_after, kept_code, result_code, leave_code, return_code, entry_of, statement_size, block_size, handlers_size, statement_code, block_code, handlers_code, statement_table, block_table, handlers_table}
 use Rattle.lowering.proofs.States.{slot_of_type}
@@ -42,7 +41,7 @@ use Rattle.resolved.proofs.Exits.{no_fault-test}
 
 -- an array that may be cleared
 record Cleared (o : Option VariableType) : Type 0 where
-  kind : ValueKind
+  kind : BaseType
   count : ℕ
   is : slot_of_type o ≡ Some (slot.Array kind count)
 
@@ -53,7 +52,7 @@ array-is (Some type) h = by type.size refl h
     by : (size : Option ℕ) → type.size ≡ size → not (is_none size) ≡ true → Cleared (Some type)
     by None e h = absurd (let no : false ≡ true = h in cc)
     by (Some count) e h =
-        record { kind = kind_of_base type.base; count = count; is = ap (λ (size : Option ℕ). Some (declared_slot type.base size)) e }
+        record { kind = type.base; count = count; is = ap (λ (size : Option ℕ). Some (declared_slot type.base size)) e }
 
 module _ (m : ModuleContents) (p : ProcedureContents) (whole : List Instruction) where
   -- a handler to which control goes without operands, and whose exception is there
@@ -183,13 +182,13 @@ module _ (program : Program) (procedure : ProcedureEntry) (m : ModuleContents) (
   exception-there exception h = ap (nat_lt exception) stated.exceptions_there ∙ h
 
   -- ---- forms without blocks
-  kept-does : (target : Option Variable) (wanted : Base) (test : Base → Bool) → ((b : Base) → test b ≡ true → b ≡ wanted) → target_by program procedure target test ≡ true
-      → Does m p (kept_code target) (kind_of_base wanted ∷ []) []
-  kept-does None wanted test only h = pop-does m p (kind_of_base wanted) []
+  kept-does : (target : Option Variable) (wanted : BaseType) (test : BaseType → Bool) → ((b : BaseType) → test b ≡ true → b ≡ wanted) → target_by program procedure target test ≡ true
+      → Does m p (kept_code target) (wanted ∷ []) []
+  kept-does None wanted test only h = pop-does m p wanted []
   kept-does (Some x) wanted test only h =
       let found = scalar-type (variable_type program procedure x) test h in
-      subst (λ (b : Base). Does m p (store_of x) (kind_of_base b ∷ []) []) (only found.base found.passes)
-      (store-does m p x (kind_of_base found.base) [] (stated.variables_there x ∙ found.is))
+      subst (λ (b : BaseType). Does m p (store_of x) (b ∷ []) []) (only found.base found.passes)
+      (store-does m p x found.base [] (stated.variables_there x ∙ found.is))
 
   result-flows : (at : ℕ) (result : Option ResultEntry) (target : Option Variable) → target_by program procedure target (λ b. has_result result (same_base b)) ≡ true
       → Flows m p whole at (result_code result target) (Unit {0}) (pushed (returned_kind result) []) []
@@ -203,12 +202,12 @@ module _ (program : Program) (procedure : ProcedureEntry) (m : ModuleContents) (
   called-flows at f callee arguments target there fits =
       let parts = and_parts (arguments_match program procedure (parameters_of callee) arguments) _ fits in
       let q = stated.called_there f callee there in
-      let kinds = map (λ (s : SlotEntry). kind_of_base s.base) (parameters_of callee) in
+      let kinds = map (λ (s : SlotEntry). s.base) (parameters_of callee) in
       let same : (header_of q.0).parameters ≡ kinds = ap (λ (h : Header). h.parameters) q.2 ∙ parameters-are callee.parameters callee.slots in
       let gives : q.0.returned ≡ returned_kind callee.result = ap (λ (h : Header). h.returned) q.2 in
       let calls : Does m p (instruction.Call f) (reverse kinds ++ []) (pushed (returned_kind callee.result) []) =
-      subst (λ (r : Option ValueKind). Does m p (instruction.Call f) (reverse kinds ++ []) (pushed r [])) gives
-      (subst (λ (l : List ValueKind). Does m p (instruction.Call f) (reverse l ++ []) (pushed q.0.returned [])) same (call-does m p f q.0 [] q.1)) in
+      subst (λ (r : Option BaseType). Does m p (instruction.Call f) (reverse kinds ++ []) (pushed r [])) gives
+      (subst (λ (l : List BaseType). Does m p (instruction.Call f) (reverse l ++ []) (pushed q.0.returned [])) same (call-does m p f q.0 [] q.1)) in
       flows-both m p whole (arguments_size arguments) (arguments-sized arguments at)
       (arguments-flow program procedure m p whole stated (parameters_of callee) arguments at [] parts.0)
       (flows-both m p whole 1 refl (flows-one m p whole calls) (result-flows (at + arguments_size arguments + 1) callee.result target parts.1))
@@ -234,7 +233,7 @@ module _ (program : Program) (procedure : ProcedureEntry) (m : ModuleContents) (
   value-returned at None e is fits = absurd (let no : false ≡ true = fits in cc)
   value-returned at (Some entry) e is fits =
       flows-both m p whole (value_size e) (value-sized e at) (value-flows program procedure m p whole stated e entry.base at [] fits)
-      (flows-one m p whole (return_value-does m p (kind_of_base entry.base) (stated.returned_is ∙ ap returned_kind is)))
+      (flows-one m p whole (return_value-does m p entry.base (stated.returned_is ∙ ap returned_kind is)))
 
   return-flows : (at : ℕ) (e : Option Expression) (mark : ℕ) → statement_fits program procedure (ReturnWith mark e) ≡ true
       → Flows m p whole at (return_code at e) (Unit {0}) [] []
@@ -246,18 +245,18 @@ module _ (program : Program) (procedure : ProcedureEntry) (m : ModuleContents) (
   assign-flows at x e fits =
       let found = scalar-type (variable_type program procedure x) (λ b. has_base program procedure b e) fits in
       flows-both m p whole (value_size e) (value-sized e at) (value-flows program procedure m p whole stated e found.base at [] found.passes)
-      (flows-one m p whole (store-does m p x (kind_of_base found.base) [] (stated.variables_there x ∙ found.is)))
+      (flows-one m p whole (store-does m p x found.base [] (stated.variables_there x ∙ found.is)))
 
   store-flows : (at : ℕ) (array : Variable) (size : ℕ) (index e : Expression) (mark : ℕ) → statement_fits program procedure (Store mark array size index e) ≡ true
       → Flows m p whole at (value_code at index ++ (value_code (at + value_size index) e ++ store_element_of array ∷ [])) (Unit {0}) [] []
   store-flows at array size index e mark fits =
-      let test : Base → Bool = λ b. has_base program procedure b e in
+      let test : BaseType → Bool = λ b. has_base program procedure b e in
       let parts = and_parts (array_by (variable_type program procedure array) size test) (has_base program procedure base.Int index) fits in
       let found = array-type (variable_type program procedure array) size test parts.0 in
       flows-both m p whole (value_size index) (value-sized index at) (value-flows program procedure m p whole stated index base.Int at [] parts.1)
       (flows-both m p whole (value_size e) (value-sized e (at + value_size index))
       (value-flows program procedure m p whole stated e found.base (at + value_size index) (Int ∷ []) found.passes)
-      (flows-one m p whole (store_element-does m p array (kind_of_base found.base) found.count [] (stated.variables_there array ∙ found.is))))
+      (flows-one m p whole (store_element-does m p array found.base found.count [] (stated.variables_there array ∙ found.is))))
 
   receive-flows : (at channel : ℕ) (target : Option Variable) (mark : ℕ) → statement_fits program procedure (Receive mark channel target) ≡ true
       → Flows m p whole at (instruction.Receive channel ∷ kept_code target ∷ []) (Unit {0}) [] []

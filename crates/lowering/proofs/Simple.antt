@@ -5,8 +5,8 @@ use Rattle.std.specs.Prelude.{Option, Some, None, if◌then◌else◌, is_none, 
 use Rattle.std.proofs.Math.Path.{fun_ext}
 use Rattle.resolved.specs.declared.expression.Value.{Value}
 use Rattle.resolved.specs.declared.expression.Value.TheVariants.{Number}
-use Rattle.resolved.specs.declared.expression.Base.{Base}
-use Rattle.resolved.specs.declared.expression.Base.TheVariants as base
+use Rattle.common.specs.declared.base_type.BaseType.{BaseType}
+use Rattle.common.specs.declared.base_type.BaseType.TheVariants as base
 use Rattle.resolved.specs.declared.expression.Variable.{Variable}
 use Rattle.resolved.specs.declared.statement.Exit.{Exit}
 use Rattle.resolved.specs.declared.statement.Exit.TheVariants as exit
@@ -17,18 +17,17 @@ use Rattle.resolved.specs.Program as resolved
 use Rattle.resolved.specs.SourceState as source
 use Rattle.resolved.specs.SourceState.{value_of, cells, cell_at, assigned, stored, cleared, with_cells}
 use Rattle.resolved.specs.Value.{base_of, zero_value}
-use Rattle.resolved.specs.Meaning.{Ended, kept_in}
+use Rattle.resolved.specs.Meaning.{Ended, given_to}
 use Rattle.resolved.specs.WellFormed.{VariableType, variable_type, has_base, same_base, scalar_by, array_by, target_by, channel_is, is_array, may_leave_by, is_exception, has_result, cell_count}
 use Rattle.resolved.proofs.Sound.Values.{same_base_is}
 use Rattle.modules.specs.declared.value.Cell.{Cell}
-use Rattle.modules.specs.declared.value.ValueKind.{ValueKind}
 use Rattle.modules.specs.declared.value.Cell.TheVariants as cell
 use Rattle.modules.specs.declared.declaration.Slot.TheVariants as slot
 use Rattle.modules.specs.declared.instruction.Instruction.{Instruction}
 use Rattle.modules.specs.declared.instruction.Instruction.TheVariants as instruction
 use Rattle.modules.specs.Values.{zero_of, has_kind}
 use Rattle.modules.specs.Machine.{State, returns_nothing, leaves_without, returns_value, gives_back, leaves_value, raised, stuck}
-use Rattle.lowering.specs.Interface.{kind_of_base, returned_kind}
+use Rattle.lowering.specs.Interface.{returned_kind}
 use Rattle.lowering.specs.Expressions.{store_of}
 use Rattle.lowering.specs.Code.{Loop, kept_code, leave_code}
 use Rattle.lowering.proofs.CodePieces.{Stands}
@@ -41,35 +40,35 @@ use Rattle.lowering.proofs.Outcomes.{Runs}
 
 -- ---- cells
 
-pub cleared_cells : (b : Base) (values : List Value) (count : ℕ) → length values ≡ count → ((v : Value) → base_of v ≡ b → base_of v ≡ b) → All (λ v. base_of v ≡ b) values
-    → replicate count (zero_of (kind_of_base b)) ≡ cells_of (map (λ v. zero_value (base_of v)) values)
-cleared_cells b values count size same kinds = subst (λ n. replicate n (zero_of (kind_of_base b)) ≡ cells_of (map (λ v. zero_value (base_of v)) values)) size (go values kinds)
+pub cleared_cells : (b : BaseType) (values : List Value) (count : ℕ) → length values ≡ count → ((v : Value) → base_of v ≡ b → base_of v ≡ b) → All (λ v. base_of v ≡ b) values
+    → replicate count (zero_of b) ≡ cells_of (map (λ v. zero_value (base_of v)) values)
+cleared_cells b values count size same kinds = subst (λ n. replicate n (zero_of b) ≡ cells_of (map (λ v. zero_value (base_of v)) values)) size (go values kinds)
   where
-    zero : (b : Base) → cell_of (zero_value b) ≡ zero_of (kind_of_base b)
+    zero : (b : BaseType) → cell_of (zero_value b) ≡ zero_of b
     zero base.Int = refl
     zero base.Boolean = refl
 
-    one : (b c : Base) → c ≡ b → zero_of (kind_of_base b) ≡ cell_of (zero_value c)
+    one : (b c : BaseType) → c ≡ b → zero_of b ≡ cell_of (zero_value c)
     one b c e = sym (zero b) ∙ ap (λ x. cell_of (zero_value x)) (sym e)
 
-    go : (values : List Value) → All (λ v. base_of v ≡ b) values → replicate (length values) (zero_of (kind_of_base b)) ≡ cells_of (map (λ v. zero_value (base_of v)) values)
+    go : (values : List Value) → All (λ v. base_of v ≡ b) values → replicate (length values) (zero_of b) ≡ cells_of (map (λ v. zero_value (base_of v)) values)
     go [] all = refl
     go (v ∷ rest) all =
-        ap (λ (c : Cell). c ∷ replicate (length rest) (zero_of (kind_of_base b))) (one b (base_of v) (all 0 v (omega arith)))
+        ap (λ (c : Cell). c ∷ replicate (length rest) (zero_of b)) (one b (base_of v) (all 0 v (omega arith)))
         ∙ ap (λ (l : List Cell). cell_of (zero_value (base_of v)) ∷ l) (go rest (λ i d below. all (suc i) d (omega (arith, below))))
 
 module _ (g : Setting) (loop : Loop) (h : ℕ → Option ℕ) (k : ℕ) (s : source.SourceState) where
   -- a value goes into a scalar of its base type
-  pub stores-scalar : (x : Variable) (v : Value) (at : ℕ) (operands : List Cell) (more : List Instruction) (test : Base → Bool)
-      → scalar_by (variable_type g.program g.procedure x) test ≡ true → ((b : Base) → test b ≡ true → base_of v ≡ b)
+  pub stores-scalar : (x : Variable) (v : Value) (at : ℕ) (operands : List Cell) (more : List Instruction) (test : BaseType → Bool)
+      → scalar_by (variable_type g.program g.procedure x) test ≡ true → ((b : BaseType) → test b ≡ true → base_of v ≡ b)
       → Stands g.code (store_of x ∷ more) at → Leads g.p (position g at (cell_of v ∷ operands) s) (position g (at + 1) operands (assigned s x v))
   stores-scalar x v at operands more test typed same stands =
       let there = scalar-there (variable_type g.program g.procedure x) test typed in
       let type : VariableType = there.0 in
       does g more (store_of x) at (cell_of v ∷ operands) s _ stands
-      (stores-is g x (kind_of_base type.base) v at operands s (slot_is type there.1 there.2) (kind-same v type.base (same type.base there.3)))
+      (stores-is g x type.base v at operands s (slot_is type there.1 there.2) (kind-same v type.base (same type.base there.3)))
     where
-      slot_is : (type : VariableType) → variable_type g.program g.procedure x ≡ Some type → type.size ≡ None → slot_for g x ≡ Some (slot.Scalar (kind_of_base type.base))
+      slot_is : (type : VariableType) → variable_type g.program g.procedure x ≡ Some type → type.size ≡ None → slot_for g x ≡ Some (slot.Scalar type.base)
       slot_is type e f = rw (e, f) refl
 
   -- ---- leaving
@@ -92,7 +91,7 @@ module _ (g : Setting) (loop : Loop) (h : ℕ → Option ℕ) (k : ℕ) (s : sou
       (ap (returns_nothing (state_at g at [] s)) g.header_is ∙ ap (leaves_without (state_at g at [] s)) (g.returned_is ∙ ap returned_kind (none_there g.procedure.result none))
       ∙ leaves-is g at [] s)
 
-  gives_kind : (at : ℕ) (v : Value) (kind : ValueKind) → has_kind kind (cell_of v) ≡ true
+  gives_kind : (at : ℕ) (v : Value) (kind : BaseType) → has_kind kind (cell_of v) ≡ true
       → gives_back (state_at g at (cell_of v ∷ []) s) (Some kind) (cell_of v ∷ []) ≡ leaves_value (state_at g at (cell_of v ∷ []) s) (cell_of v) g.callers
   gives_kind at v kind e = rw e refl
 
@@ -101,8 +100,8 @@ module _ (g : Setting) (loop : Loop) (h : ℕ → Option ℕ) (k : ℕ) (s : sou
   returns-value at more v entry result same stands =
       let S = state_at g at (cell_of v ∷ []) s in
       does g more instruction.ReturnValue at (cell_of v ∷ []) s _ stands
-      (ap (returns_value S) g.header_is ∙ ap (λ (o : Option ValueKind). gives_back S o (cell_of v ∷ [])) (g.returned_is ∙ ap returned_kind result)
-      ∙ gives_kind at v (kind_of_base entry.base) (kind-same v entry.base same) ∙ leaves_value-is g at (cell_of v ∷ []) v s)
+      (ap (returns_value S) g.header_is ∙ ap (λ (o : Option BaseType). gives_back S o (cell_of v ∷ [])) (g.returned_is ∙ ap returned_kind result)
+      ∙ gives_kind at v entry.base (kind-same v entry.base same) ∙ leaves_value-is g at (cell_of v ∷ []) v s)
 
   -- ---- channels
   pub taken_state : (channel : ℕ) (numbers : List ℤ) (at : ℕ) (operands : List Cell) → channel_is (slice_get g.program.channels channel) Input ≡ true
@@ -143,6 +142,6 @@ module _ (g : Setting) (loop : Loop) (h : ℕ → Option ℕ) (k : ℕ) (s : sou
       go (Some entry) e = by entry.direction e
 
   pub kept-runs : (target : Option Variable) (z : ℤ) (at : ℕ) (more : List Instruction) → target_by g.program g.procedure target (same_base base.Int) ≡ true
-      → Stands g.code (kept_code target ∷ more) at → Leads g.p (position g at (cell.Int z ∷ []) s) (position g (at + 1) [] (kept_in target (Number z) s))
+      → Stands g.code (kept_code target ∷ more) at → Leads g.p (position g at (cell.Int z ∷ []) s) (position g (at + 1) [] (given_to target (Some (Number z)) s))
   kept-runs None z at more typed stands = does g more instruction.Pop at (cell.Int z ∷ []) s _ stands (onward g at (cell.Int z ∷ []) [] s)
   kept-runs (Some x) z at more typed stands = stores-scalar x (Number z) at [] more (same_base base.Int) typed (λ b e. same_base_is base.Int b e) stands

@@ -7,7 +7,7 @@ use Rattle.resolved.specs.declared.expression.Variable.TheVariants.{Global, Loca
 use Rattle.resolved.specs.SourceState as source
 use Rattle.resolved.specs.WellFormed.{variable_type}
 use Rattle.modules.specs.declared.value.Cell.{Cell}
-use Rattle.modules.specs.declared.value.ValueKind.{ValueKind}
+use Rattle.common.specs.declared.base_type.BaseType.{BaseType}
 use Rattle.modules.specs.declared.value.Cell.TheVariants as cell
 use Rattle.modules.specs.declared.declaration.Slot.{Slot}
 use Rattle.modules.specs.declared.declaration.Slot.TheVariants as slot
@@ -27,7 +27,7 @@ pub stepped : (g : Setting) (more : List Instruction) (i : Instruction) (at : �
 stepped g more i at operands s h =
     ap (acts g.p (state_at g at operands s)) (g.fetched at ∙ stands-here g.code more i at h)
 
--- the machine at the next place
+-- the machine at the next position
 pub onward : (g : Setting) (at : ℕ) (before operands : List Cell) (s : source.SourceState)
     → goes_on g.p (state_at g at before s) operands ≡ position g (at + 1) operands s
 onward g at before operands s = ap (λ (next : ℕ). position g next operands s) (g.goes_next at)
@@ -61,11 +61,11 @@ loads_element-is g (Global n) at operands s = ap (λ (o : Option Slot). loads_el
 loads_element-is g (Local n) at operands s = ap (λ (o : Option Slot). loads_element g.p (state_at g at operands s) o (cells_of (s.locals n)) operands) (g.locals_there n)
 
 -- a value of the kind goes into a scalar
-stores_scalar : (g : Setting) (S : State) (kind : ValueKind) (put : List Cell → State) (x : Cell) (operands : List Cell) → has_kind kind x ≡ true
+stores_scalar : (g : Setting) (S : State) (kind : BaseType) (put : List Cell → State) (x : Cell) (operands : List Cell) → has_kind kind x ≡ true
     → stores g.p S (Some (slot.Scalar kind)) put (x ∷ operands) ≡ goes_on g.p (put (x ∷ [])) operands
 stores_scalar g S kind put x operands h = rw h refl
 
-pub stores-is : (g : Setting) (x : Variable) (kind : ValueKind) (v : Value) (at : ℕ) (operands : List Cell) (s : source.SourceState)
+pub stores-is : (g : Setting) (x : Variable) (kind : BaseType) (v : Value) (at : ℕ) (operands : List Cell) (s : source.SourceState)
     → slot_for g x ≡ Some (slot.Scalar kind) → has_kind kind (cell_of v) ≡ true
     → act g.p (store_of x) (state_at g at (cell_of v ∷ operands) s) ≡ position g (at + 1) operands (source.assigned s x v)
 stores-is g (Global n) kind v at operands s e h =
@@ -82,11 +82,11 @@ stores-is g (Local n) kind v at operands s e h =
     ∙ onward g at (cell_of v ∷ operands) operands (source.assigned s (Local n) v)
 
 -- a value of the kind goes into an element
-stores_in_array : (g : Setting) (S : State) (kind : ValueKind) (count : ℕ) (put : List Cell → State) (cells : List Cell) (x : Cell) (z : ℤ) (operands : List Cell) → has_kind kind x ≡ true
+stores_in_array : (g : Setting) (S : State) (kind : BaseType) (count : ℕ) (put : List Cell → State) (cells : List Cell) (x : Cell) (z : ℤ) (operands : List Cell) → has_kind kind x ≡ true
     → stores_element g.p S (Some (slot.Array kind count)) put cells (x ∷ cell.Int z ∷ operands) ≡ changes g.p S put operands (with_element cells z x)
 stores_in_array g S kind count put cells x z operands h = rw h refl
 
-pub stores_element-is : (g : Setting) (x : Variable) (kind : ValueKind) (count : ℕ) (v : Value) (z : ℤ) (values : List Value) (at : ℕ) (operands : List Cell) (s : source.SourceState)
+pub stores_element-is : (g : Setting) (x : Variable) (kind : BaseType) (count : ℕ) (v : Value) (z : ℤ) (values : List Value) (at : ℕ) (operands : List Cell) (s : source.SourceState)
     → slot_for g x ≡ Some (slot.Array kind count) → has_kind kind (cell_of v) ≡ true
     → with_element (cells_of (source.cells s x)) z (cell_of v) ≡ Some (cells_of values)
     → act g.p (store_element_of x) (state_at g at (cell_of v ∷ cell.Int z ∷ operands) s) ≡ position g (at + 1) operands (source.with_cells s x values)
@@ -106,7 +106,7 @@ stores_element-is g (Local n) kind count v z values at operands s e h c =
     ∙ onward g at (cell_of v ∷ cell.Int z ∷ operands) operands (source.with_cells s (Local n) values)
 
 -- an element that is not there
-pub stores_nowhere : (g : Setting) (x : Variable) (kind : ValueKind) (count : ℕ) (v : Value) (z : ℤ) (at : ℕ) (operands : List Cell) (s : source.SourceState)
+pub stores_nowhere : (g : Setting) (x : Variable) (kind : BaseType) (count : ℕ) (v : Value) (z : ℤ) (at : ℕ) (operands : List Cell) (s : source.SourceState)
     → slot_for g x ≡ Some (slot.Array kind count) → has_kind kind (cell_of v) ≡ true
     → with_element (cells_of (source.cells s x)) z (cell_of v) ≡ None
     → act g.p (store_element_of x) (state_at g at (cell_of v ∷ cell.Int z ∷ operands) s) ≡ thrown_to g (g.p.find g.number at BOUNDS) BOUNDS s

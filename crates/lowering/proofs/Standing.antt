@@ -13,7 +13,7 @@ use Rattle.modules.specs.Machine.{machine_code}
 use Rattle.modules.specs.declared.declaration.Handler.{Handler}
 use Rattle.modules.specs.declared.instruction.Instruction.{Instruction}
 use Rattle.modules.specs.declared.instruction.Instruction.TheVariants.{Jump, JumpIfFalse, Return}
-use Rattle.modules.specs.declared.value.ValueKind.{ValueKind}
+use Rattle.common.specs.declared.base_type.BaseType.{BaseType}
 use Rattle.layout.specs.Graph.{IsHandlerIn, HasPositions}
 use Rattle.layout.specs.Offsets.{offset, laid_out_procedure}
 use Rattle.modules.specs.Targets.{goes_on, target_of, renamed_instruction, renamed_handler}
@@ -40,7 +40,7 @@ pub record Sound (m : ModuleContents) (g : ProcedureContents) : Type 0 where
   pub stays : (k : ℕ) (i : Instruction) → slice_get g.code k ≡ Some i → goes_on i ≡ true → k + 1 < length g.code
 
 -- ---- lists by position, at the offsets of the positions
-abbrev listed : List Instruction → (ℕ → List ValueKind) → ℕ → Option (List ValueKind)
+abbrev listed : List Instruction → (ℕ → List BaseType) → ℕ → Option (List BaseType)
 listed [] kinds at = None
 listed (i ∷ code) kinds at =
     cond (eqb at 0) (Some (kinds 0)) (cond (ltb at (width_of i)) None (listed code (λ k. kinds (suc k)) (at - width_of i)))
@@ -51,24 +51,24 @@ skip n w first inside other some most =
     let not_inside : ltb n w ≡ false = le-ltb n w most in
     rw (not_first, not_inside) refl
 
-listed-past : (i : Instruction) (code : List Instruction) (kinds : ℕ → List ValueKind) (n : ℕ) → listed (i ∷ code) kinds (width_of i + n) ≡ listed code (λ k. kinds (suc k)) n
+listed-past : (i : Instruction) (code : List Instruction) (kinds : ℕ → List BaseType) (n : ℕ) → listed (i ∷ code) kinds (width_of i + n) ≡ listed code (λ k. kinds (suc k)) n
 listed-past i code kinds n =
     let back : width_of i + n - width_of i ≡ n = omega arith in
     skip (width_of i + n) (width_of i) (Some (kinds 0)) None (listed code (λ k. kinds (suc k)) (width_of i + n - width_of i)) (omega (arith, width_of-pos i)) (omega arith)
     ∙ ap (listed code (λ k. kinds (suc k))) back
 
-listed-at : (code : List Instruction) (kinds : ℕ → List ValueKind) (k : ℕ) → k < length code → listed code kinds (offset code k) ≡ Some (kinds k)
+listed-at : (code : List Instruction) (kinds : ℕ → List BaseType) (k : ℕ) → k < length code → listed code kinds (offset code k) ≡ Some (kinds k)
 listed-at [] kinds k below = absurd (omega (arith, below))
 listed-at (i ∷ code) kinds zero below = refl
 listed-at (i ∷ code) kinds (suc k) below =
     listed-past i code kinds (offset code k) ∙ listed-at code (λ n. kinds (suc n)) k (omega (arith, below))
 
-listed-end : (code : List Instruction) (kinds : ℕ → List ValueKind) → listed code kinds (code_length code) ≡ None
+listed-end : (code : List Instruction) (kinds : ℕ → List BaseType) → listed code kinds (code_length code) ≡ None
 listed-end [] kinds = refl
 listed-end (i ∷ code) kinds = listed-past i code kinds (code_length code) ∙ listed-end code (λ k. kinds (suc k))
 
 -- the position of an offset that has a list
-record Found (code : List Instruction) (kinds : ℕ → List ValueKind) (at : ℕ) (list : List ValueKind) : Type 0 where
+record Found (code : List Instruction) (kinds : ℕ → List BaseType) (at : ℕ) (list : List BaseType) : Type 0 where
   position : ℕ
   below : position < length code
   is : at ≡ offset code position
@@ -77,12 +77,12 @@ record Found (code : List Instruction) (kinds : ℕ → List ValueKind) (at : �
 zero-is : (n : ℕ) → eqb n 0 ≡ true → n ≡ 0
 zero-is n e = grind (arith, nat_tests)
 
-listed-found : (code : List Instruction) (kinds : ℕ → List ValueKind) (at : ℕ) (list : List ValueKind) → listed code kinds at ≡ Some list → Found code kinds at list
+listed-found : (code : List Instruction) (kinds : ℕ → List BaseType) (at : ℕ) (list : List BaseType) → listed code kinds at ≡ Some list → Found code kinds at list
 listed-found [] kinds at list h = absurd (let no : None ≡ Some list = h in cc)
 listed-found (i ∷ code) kinds at list h =
     by (eqb at 0) (ltb at (width_of i)) refl refl h (λ e. listed-found code (λ k. kinds (suc k)) (at - width_of i) list e)
   where
-    rest : Option (List ValueKind)
+    rest : Option (List BaseType)
     rest = listed code (λ k. kinds (suc k)) (at - width_of i)
 
     by : (first inside : Bool) → eqb at 0 ≡ first → ltb at (width_of i) ≡ inside → cond first (Some (kinds 0)) (cond inside None rest) ≡ Some list
@@ -94,7 +94,7 @@ listed-found (i ∷ code) kinds at list h =
         record { position = suc r.position; below = omega (arith, r.below); is = omega (arith, r.is, ltb-false at (width_of i) f); same = r.same }
 
 -- ---- instructions that are renamed
-pub same-effect : (m : ModuleContents) (p : ProcedureContents) (f : ℕ → ℕ) (x : Instruction) (kinds : List ValueKind) → effect m p (renamed_instruction f x) kinds ≡ effect m p x kinds
+pub same-effect : (m : ModuleContents) (p : ProcedureContents) (f : ℕ → ℕ) (x : Instruction) (kinds : List BaseType) → effect m p (renamed_instruction f x) kinds ≡ effect m p x kinds
 same-effect m p f (Jump target) kinds = refl
 same-effect m p f (JumpIfFalse target) kinds = refl
 same-effect m p f x kinds = refl
@@ -112,7 +112,7 @@ pub renamed-from : (f : ℕ → ℕ) (o : Option ℕ) (to : ℕ) → option_map 
 renamed-from f None to h = absurd (let no : None ≡ Some to = h in cc)
 renamed-from f (Some t) to h = (t, refl, let same : Some (f t) ≡ Some to = h in cc)
 
-along-next : (m : ModuleContents) (p : ProcedureContents) (code : List Instruction) (kinds : List ValueKind) (k : ℕ) (x : Instruction) → slice_get code k ≡ Some x
+along-next : (m : ModuleContents) (p : ProcedureContents) (code : List Instruction) (kinds : List BaseType) (k : ℕ) (x : Instruction) → slice_get code k ≡ Some x
     → along m p (take (suc k) code) kinds ≡ onward m p x (along m p (take k code) kinds)
 along-next m p [] kinds k x e = absurd (let no : None ≡ Some x = e in cc)
 along-next m p (y ∷ code) kinds zero x e = let same : y ≡ x = cc in ap (λ z. onward m p z kinds) same
@@ -120,14 +120,14 @@ along-next m p (y ∷ code) kinds (suc k) x e = along-next m p code (onward m p 
 
 -- ---- the flow
 module _ (m : ModuleContents) (g : ProcedureContents) (s : Sound m g) where
-  kinds : ℕ → List ValueKind
+  kinds : ℕ → List BaseType
   kinds k = kinds_at m (laid_out_procedure g) g.code k
 
-  done : ℕ → Option (List ValueKind)
+  done : ℕ → Option (List BaseType)
   done at = listed g.code kinds at
 
   -- an offset that has a list is that of an instruction of the graph
-  record AtInstruction (at : ℕ) (list : List ValueKind) : Type 0 where
+  record AtInstruction (at : ℕ) (list : List BaseType) : Type 0 where
     position : ℕ
     is : at ≡ offset g.code position
     instruction : Instruction
@@ -137,7 +137,7 @@ module _ (m : ModuleContents) (g : ProcedureContents) (s : Sound m g) where
     fine : IsSound m (laid_out_procedure g) g.code instruction list
     inside : (t : ℕ) → target_of instruction ≡ Some t → t < length g.code
 
-  at-instruction : (at : ℕ) (list : List ValueKind) → done at ≡ Some list → AtInstruction at list
+  at-instruction : (at : ℕ) (list : List BaseType) → done at ≡ Some list → AtInstruction at list
   unfolding done kinds
   at-instruction at list has =
       let found = listed-found g.code kinds at list has in
@@ -154,26 +154,26 @@ module _ (m : ModuleContents) (g : ProcedureContents) (s : Sound m g) where
         inside = target-inside (length g.code) x (s.positions.targets found.position Return found.below);
       }
 
-  renamed-there : (at : ℕ) (list : List ValueKind) (h : AtInstruction at list) (i : Instruction) → instruction_at (laid_out_procedure g).code at ≡ Some i
+  renamed-there : (at : ℕ) (list : List BaseType) (h : AtInstruction at list) (i : Instruction) → instruction_at (laid_out_procedure g).code at ≡ Some i
       → renamed_instruction (offset g.code) h.instruction ≡ i
   renamed-there at list h i e =
       same_Some (renamed_instruction (offset g.code) h.instruction) i
       (sym (fetched (offset g.code) g.code h.position ∙ ap (option_map (renamed_instruction (offset g.code))) h.there)
       ∙ (ap (instruction_at (laid_out_procedure g).code) (sym h.is) ∙ e))
 
-  effect-there : (at : ℕ) (list : List ValueKind) (h : AtInstruction at list) (i : Instruction) → instruction_at (laid_out_procedure g).code at ≡ Some i
+  effect-there : (at : ℕ) (list : List BaseType) (h : AtInstruction at list) (i : Instruction) → instruction_at (laid_out_procedure g).code at ≡ Some i
       → effect m (laid_out_procedure g) i list ≡ Leaves h.fine.after
   effect-there at list h i e =
       ap (λ (x : Instruction). effect m (laid_out_procedure g) x list) (sym (renamed-there at list h i e))
       ∙ (same-effect m (laid_out_procedure g) (offset g.code) h.instruction list ∙ h.fine.leaves)
 
-  left-there : (at : ℕ) (list : List ValueKind) (h : AtInstruction at list) (i : Instruction) (after : List ValueKind) → instruction_at (laid_out_procedure g).code at ≡ Some i
+  left-there : (at : ℕ) (list : List BaseType) (h : AtInstruction at list) (i : Instruction) (after : List BaseType) → instruction_at (laid_out_procedure g).code at ≡ Some i
       → effect m (laid_out_procedure g) i list ≡ Leaves after → h.fine.after ≡ after
   left-there at list h i after e leaves =
       let both : Leaves h.fine.after ≡ Leaves after = sym (effect-there at list h i e) ∙ leaves in
       cc
 
-  goes-next : (at : ℕ) (list : List ValueKind) (h : AtInstruction at list) (i : Instruction) → instruction_at (laid_out_procedure g).code at ≡ Some i → goes_on i ≡ true
+  goes-next : (at : ℕ) (list : List BaseType) (h : AtInstruction at list) (i : Instruction) → instruction_at (laid_out_procedure g).code at ≡ Some i → goes_on i ≡ true
       → done (at + width_of i) ≡ Some h.fine.after
   unfolding done kinds
   goes-next at list h i e goes =
@@ -188,7 +188,7 @@ module _ (m : ModuleContents) (g : ProcedureContents) (s : Sound m g) where
       along-next m p g.code [] h.position x h.there ∙ (ap (onward m p x) h.same ∙ (ap (λ (b : Bool). following b (effect m p x list)) x_goes ∙ ap (following true) h.fine.leaves)) in
       ap (listed g.code kinds) position ∙ (listed-at g.code kinds (suc h.position) room ∙ ap (λ l. Some l) beyond)
 
-  goes-there : (at : ℕ) (list : List ValueKind) (h : AtInstruction at list) (i : Instruction) (to : ℕ) → instruction_at (laid_out_procedure g).code at ≡ Some i → target_of i ≡ Some to
+  goes-there : (at : ℕ) (list : List BaseType) (h : AtInstruction at list) (i : Instruction) (to : ℕ) → instruction_at (laid_out_procedure g).code at ≡ Some i → target_of i ≡ Some to
       → done to ≡ Some h.fine.after
   unfolding done kinds
   goes-there at list h i to e target =
@@ -203,7 +203,7 @@ module _ (m : ModuleContents) (g : ProcedureContents) (s : Sound m g) where
       All-map (λ (handler : Handler). done handler.target ≡ Some []) (renamed_handler (offset g.code)) g.handlers
       (λ k d below. listed-at g.code kinds (get_or g.handlers k d).target (s.positions.handlers k d below).target ∙ ap (λ l. Some l) (s.catches k d below).empty)
 
-  keeps : (at : ℕ) (list : List ValueKind) (to : ℕ) (after : List ValueKind) → done at ≡ Some list → Edge m (laid_out_procedure g) at list to after → done to ≡ Some after
+  keeps : (at : ℕ) (list : List BaseType) (to : ℕ) (after : List BaseType) → done at ≡ Some list → Edge m (laid_out_procedure g) at list to after → done to ≡ Some after
   keeps at list to after has (next i _ _ e leaves goes there) =
       let h = at-instruction at list has in
       ap done there ∙ (goes-next at list h i e goes ∙ ap (λ l. Some l) (left-there at list h i after e leaves))
@@ -235,7 +235,7 @@ module _ (m : ModuleContents) (g : ProcedureContents) (s : Sound m g) where
   jump-right : (t : ℕ) → t < length g.code → unless (is_start (laid_out_procedure g) (offset g.code t)) kind.Jump ≡ None
   jump-right t below = ap (λ (b : Bool). unless b kind.Jump) (start-at g.code t below)
 
-  instruction-right : (x : Instruction) (list : List ValueKind) → IsSound m (laid_out_procedure g) g.code x list → IfSome (target_of x) (λ target. target < length g.code)
+  instruction-right : (x : Instruction) (list : List BaseType) → IsSound m (laid_out_procedure g) g.code x list → IfSome (target_of x) (λ target. target < length g.code)
       → instruction_refusal m (laid_out_procedure g) (renamed_instruction (offset g.code) x) ≡ None
   instruction-right (Jump target) list f below = jump-right target below
   instruction-right (JumpIfFalse target) list f below = jump-right target below

@@ -4,8 +4,8 @@ use Rattle.std.specs.Prelude.{Option, Some, None}
 use Rattle.std.proofs.Math.Path.{fun_ext}
 use Rattle.resolved.specs.declared.expression.Value.{Value}
 use Rattle.resolved.specs.declared.expression.Value.TheVariants as value
-use Rattle.resolved.specs.declared.expression.Base.{Base}
-use Rattle.resolved.specs.declared.expression.Base.TheVariants as base
+use Rattle.common.specs.declared.base_type.BaseType.{BaseType}
+use Rattle.common.specs.declared.base_type.BaseType.TheVariants as base
 use Rattle.resolved.specs.declared.expression.Variable.TheVariants.{Global, Local}
 use Rattle.common.specs.declared.direction.Direction.{Direction}
 use Rattle.common.specs.declared.direction.Direction.TheVariants.{Input, Output}
@@ -19,7 +19,7 @@ use Rattle.modules.specs.declared.declaration.Slot.{Slot}
 use Rattle.modules.specs.declared.instruction.Instruction.{Instruction}
 use Rattle.modules.specs.Values.{has_kind}
 use Rattle.modules.specs.Machine.{Machine, Running, State, Frame, Caller, MachineCode, Header, slots_of, with_slot, with_global, handled, raised, unwound, leaves, leaves_value}
-use Rattle.lowering.specs.Interface.{kind_of_base, declared_slot, returned_kind}
+use Rattle.lowering.specs.Interface.{declared_slot, returned_kind}
 
 abbrev pub cell_of : Value → Cell
 cell_of (value.Number z) = cell.Int z
@@ -129,7 +129,7 @@ leaves_value-is g at operands v s = go g.callers
 
 -- ---- kinds
 
-pub kind-same : (v : Value) (b : Base) → base_of v ≡ b → has_kind (kind_of_base b) (cell_of v) ≡ true
+pub kind-same : (v : Value) (b : BaseType) → base_of v ≡ b → has_kind b (cell_of v) ≡ true
 kind-same (value.Number z) base.Int h = refl
 kind-same (value.Truth b) base.Boolean h = refl
 kind-same (value.Number z) base.Boolean h = cc

@@ -2,7 +2,7 @@
 use Rattle.common.specs.Functions.{same_truth}
 use Rattle.std.proofs.Common.{ℕ, ◌+◌, ◌<◌, ◌≤◌, List, [], ◌∷◌, ◌++◌, All, Bool, true, false, arith}
 use Rattle.common.proofs.Cases.{by_test}
-use Rattle.std.specs.Prelude.{IfSome, Option, Some, None, not, if◌then◌else◌}
+use Rattle.std.specs.Prelude.{IfSome, Option, Some, None, not}
 use Rattle.std.proofs.lemmas.List.Elements.{All-nil, All-cons, All-append}
 use Rattle.resolved.specs.declared.expression.Variable.{Variable}
 use Rattle.resolved.specs.declared.expression.Variable.TheVariants.{Global, Local}

@@ -8,7 +8,7 @@ use Rattle.modules.specs.Contents.{ProcedureContents, ModuleContents}
 use Rattle.modules.specs.declared.declaration.Handler.{Handler}
 use Rattle.modules.specs.declared.instruction.Instruction.{Instruction}
 use Rattle.modules.specs.declared.instruction.Instruction.TheVariants.{Jump, JumpIfFalse}
-use Rattle.modules.specs.declared.value.ValueKind.{ValueKind}
+use Rattle.common.specs.declared.base_type.BaseType.{BaseType}
 use Rattle.modules.specs.Targets.{goes_on, target_of, renamed_instruction}
 use Rattle.layout.specs.Graph.{HasPositions}
 use Rattle.layout.specs.Offsets.{laid_out_procedure}
@@ -33,11 +33,11 @@ module _ (m : ModuleContents) (p : ProcedureContents) (code : List Instruction) 
   abbrev f : ℕ → ℕ
   f position = final_position code position
 
-  onward-renamed : (i : Instruction) (kinds : List ValueKind) → onward m p (renamed_instruction f i) kinds ≡ onward m p i kinds
+  onward-renamed : (i : Instruction) (kinds : List BaseType) → onward m p (renamed_instruction f i) kinds ≡ onward m p i kinds
   onward-renamed i kinds =
       ap (λ (b : Bool). following b (effect m p (renamed_instruction f i) kinds)) (same-goes f i) ∙ ap (following (goes_on i)) (same-effect m p f i kinds)
 
-  along-renamed : (xs : List Instruction) (kinds : List ValueKind) → along m p (map (renamed_instruction f) xs) kinds ≡ along m p xs kinds
+  along-renamed : (xs : List Instruction) (kinds : List BaseType) → along m p (map (renamed_instruction f) xs) kinds ≡ along m p xs kinds
   along-renamed [] kinds = refl
   along-renamed (i ∷ xs) kinds = ap (along m p (map (renamed_instruction f) xs)) (onward-renamed i kinds) ∙ along-renamed xs (onward m p i kinds)
 
@@ -66,7 +66,7 @@ module _ (m : ModuleContents) (p : ProcedureContents) (code : List Instruction) 
   kinds-followed fine (suc jumps) position =
       kinds-onward position (followed jumps code) (jump_of (slice_get code position)) (kinds-followed fine jumps) (λ target e. kinds-jumped fine position target e)
 
-  sound-renamed : EachSound m p code code [] → (i : Instruction) (kinds : List ValueKind) → IsSound m p code i kinds → IsSound m p (threaded code) (renamed_instruction f i) kinds
+  sound-renamed : EachSound m p code code [] → (i : Instruction) (kinds : List BaseType) → IsSound m p code i kinds → IsSound m p (threaded code) (renamed_instruction f i) kinds
   sound-renamed fine i kinds h = record {
     after = h.after;
     leaves = same-effect m p f i kinds ∙ h.leaves;
@@ -78,7 +78,7 @@ module _ (m : ModuleContents) (p : ProcedureContents) (code : List Instruction) 
         ap (instruction_refusal m p) same ∙ h.fixed (ap target_of (sym same) ∙ none);
   }
 
-  each-renamed : EachSound m p code code [] → (xs : List Instruction) (kinds : List ValueKind) → EachSound m p code xs kinds
+  each-renamed : EachSound m p code code [] → (xs : List Instruction) (kinds : List BaseType) → EachSound m p code xs kinds
       → EachSound m p (threaded code) (map (renamed_instruction f) xs) kinds
   each-renamed fine [] kinds h = tt
   each-renamed fine (i ∷ xs) kinds h =

@@ -8,8 +8,8 @@ use Rattle.std.proofs.lemmas.Option.{slice_get-get_or, slice_get_past, slice_get
 use Rattle.common.proofs.Cases.{none_there}
 use Rattle.resolved.specs.declared.expression.Value.{Value}
 use Rattle.resolved.specs.declared.expression.Value.TheVariants.{Number, Truth}
-use Rattle.resolved.specs.declared.expression.Base.{Base}
-use Rattle.resolved.specs.declared.expression.Base.TheVariants as base
+use Rattle.common.specs.declared.base_type.BaseType.{BaseType}
+use Rattle.common.specs.declared.base_type.BaseType.TheVariants as base
 use Rattle.resolved.specs.declared.expression.Variable.{Variable}
 use Rattle.resolved.specs.SourceState as source
 use Rattle.resolved.specs.SourceState.{value_of, cells, cell_at}
@@ -17,14 +17,12 @@ use Rattle.resolved.specs.Value.{Evaluated, Yields, Raises, then_with, base_of, 
 use Rattle.resolved.specs.WellFormed.{VariableType, variable_type, same_base, scalar_by, array_by, has_length, cell_count}
 use Rattle.resolved.specs.Kinds.{StateFits, CellsFit}
 use Rattle.modules.specs.declared.value.Cell.{Cell}
-use Rattle.modules.specs.declared.value.ValueKind.{ValueKind}
 use Rattle.modules.specs.declared.value.Cell.TheVariants as cell
 use Rattle.modules.specs.declared.declaration.Slot.{Slot}
 use Rattle.modules.specs.declared.declaration.Slot.TheVariants as slot
 use Rattle.modules.specs.declared.instruction.Instruction.{Instruction}
 use Rattle.modules.specs.Machine.{Machine, act, loads, scalar_cell, element_at, loads_element, found, goes_on}
 use Rattle.common.specs.declared.exceptions.TheConstants.{BOUNDS}
-use Rattle.lowering.specs.Interface.{kind_of_base}
 use Rattle.lowering.specs.Expressions.{load_of, load_element_of}
 use Rattle.lowering.proofs.CodePieces.{Stands}
 use Rattle.lowering.proofs.Steps.{Leads, leads-through}
@@ -70,14 +68,14 @@ then-runs g h before beyond from mid end s (Raises exception) next run each = ru
 
 -- ---- variables
 
-pub scalar-there : (o : Option VariableType) (test : Base → Bool) → scalar_by o test ≡ true
+pub scalar-there : (o : Option VariableType) (test : BaseType → Bool) → scalar_by o test ≡ true
     → (type : VariableType) × (o ≡ Some type) × (type.size ≡ None) × (test type.base ≡ true)
 scalar-there None test h = cc
 scalar-there (Some type) test h =
     let parts : (is_none type.size ≡ true) × (test type.base ≡ true) = and_parts (is_none type.size) (test type.base) h in
     (type, refl, none_there type.size parts.0, parts.1)
 
-pub array-there : (o : Option VariableType) (count : ℕ) (test : Base → Bool) → array_by o count test ≡ true
+pub array-there : (o : Option VariableType) (count : ℕ) (test : BaseType → Bool) → array_by o count test ≡ true
     → (type : VariableType) × (o ≡ Some type) × (type.size ≡ Some count) × (test type.base ≡ true)
 array-there None count test h = cc
 array-there (Some type) count test h =
@@ -88,7 +86,7 @@ array-there (Some type) count test h =
     this_size None h = cc
     this_size (Some n) h = ap (λ (m : ℕ). Some m) (eqb-true n count h)
 
-first_cell : (kind : ValueKind) (values : List Value) → length values ≡ 1 → scalar_cell kind (cells_of values) ≡ cell_of (cell_at values 0)
+first_cell : (kind : BaseType) (values : List Value) → length values ≡ 1 → scalar_cell kind (cells_of values) ≡ cell_of (cell_at values 0)
 first_cell kind [] e = absurd (let no : 0 ≡ 1 = e in omega (arith, no))
 first_cell kind (v ∷ rest) e = refl
 
@@ -100,7 +98,7 @@ pub element-missing : (values : List Value) (i : ℕ) → length values ≤ i �
 element-missing values i most = slice_get_past (cells_of values) i (omega (arith, length-map values cell_of, most))
 
 module _ (g : Setting) (h : ℕ → Option ℕ) (s : source.SourceState) (fit : StateFits g.program g.procedure s) where
-  pub read-runs : (x : Variable) (b : Base) (at : ℕ) (operands : List Cell) (more : List Instruction)
+  pub read-runs : (x : Variable) (b : BaseType) (at : ℕ) (operands : List Cell) (more : List Instruction)
       → scalar_by (variable_type g.program g.procedure x) (same_base b) ≡ true → Stands g.code (load_of x ∷ more) at
       → Leads g.p (position g at operands s) (position g (at + 1) (cell_of (cell_at (cells s x) 0) ∷ operands) s)
   read-runs x b at operands more typed stands =
@@ -109,7 +107,7 @@ module _ (g : Setting) (h : ℕ → Option ℕ) (s : source.SourceState) (fit : 
       let is_type : variable_type g.program g.procedure x ≡ Some type = there.1 in
       let no_size : type.size ≡ None = there.2 in
       let fits : CellsFit type (cells s x) = fit.fits x type is_type in
-      let kind : ValueKind = kind_of_base type.base in
+      let kind : BaseType = type.base in
       let one : length (cells s x) ≡ 1 = fits.count ∙ ap cell_count no_size in
       let S = state_at g at operands s in
       does g more (load_of x) at operands s _ stands
@@ -118,10 +116,10 @@ module _ (g : Setting) (h : ℕ → Option ℕ) (s : source.SourceState) (fit : 
       ∙ ap (λ (c : Cell). goes_on g.p S (c ∷ operands)) (first_cell kind (cells s x) one)
       ∙ onward g at operands (cell_of (cell_at (cells s x) 0) ∷ operands) s)
     where
-      slot_is : (type : VariableType) → variable_type g.program g.procedure x ≡ Some type → type.size ≡ None → slot_for g x ≡ Some (slot.Scalar (kind_of_base type.base))
+      slot_is : (type : VariableType) → variable_type g.program g.procedure x ≡ Some type → type.size ≡ None → slot_for g x ≡ Some (slot.Scalar type.base)
       slot_is type e f = rw (e, f) refl
 
-  pub element-runs : (x : Variable) (count : ℕ) (b : Base) (v : Value) (at : ℕ) (operands : List Cell) (more : List Instruction)
+  pub element-runs : (x : Variable) (count : ℕ) (b : BaseType) (v : Value) (at : ℕ) (operands : List Cell) (more : List Instruction)
       → array_by (variable_type g.program g.procedure x) count (same_base b) ≡ true → base_of v ≡ base.Int → Stands g.code (load_element_of x ∷ more) at
       → ((exception : ℕ) → g.p.find g.number at exception ≡ h exception)
       → ValueRuns g h operands (position g at (cell_of v ∷ operands) s) (at + 1) s (then_with (checked_index v count) (λ i. Yields (cell_at (cells s x) i)))
@@ -136,7 +134,7 @@ module _ (g : Setting) (h : ℕ → Option ℕ) (s : source.SourceState) (fit : 
       go z many (loads_element-is g x at (cell.Int z ∷ operands) s
       ∙ ap (λ (o : Option Slot). loads_element g.p (state_at g at (cell.Int z ∷ operands) s) o (cells_of (cells s x)) (cell.Int z ∷ operands)) (slot_is type is_type size_is))
     where
-      slot_is : (type : VariableType) → variable_type g.program g.procedure x ≡ Some type → type.size ≡ Some count → slot_for g x ≡ Some (slot.Array (kind_of_base type.base) count)
+      slot_is : (type : VariableType) → variable_type g.program g.procedure x ≡ Some type → type.size ≡ Some count → slot_for g x ≡ Some (slot.Array type.base count)
       slot_is type e f = rw (e, f) refl
 
       missing : (z : ℤ) → element_at (cells_of (cells s x)) z ≡ None → act g.p (load_element_of x) (state_at g at (cell.Int z ∷ operands) s) ≡ found g.p (state_at g at (cell.Int z ∷ operands) s) operands (element_at (cells_of (cells s x)) z)

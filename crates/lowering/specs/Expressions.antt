@@ -29,28 +29,31 @@ use Rattle.modules.specs.declared.instruction.Arithmetic.TheVariants.{Add, Subtr
 use Rattle.modules.specs.declared.instruction.Comparison.{Comparison}
 use Rattle.modules.specs.declared.instruction.Comparison.TheVariants.{Less, AtMost, Greater, AtLeast, Equal, NotEqual}
 use Rattle.modules.specs.declared.instruction.Instruction.{Instruction}
-use Rattle.modules.specs.declared.instruction.Instruction.TheVariants.{Push, PushBoolean, Load, Store, LoadGlobal, StoreGlobal, LoadElement, StoreElement, LoadGlobalElement, StoreGlobalElement, Compute, Negate, Not, Compare, SameBoolean, OtherBoolean, Jump, JumpIfFalse}
+use Rattle.modules.specs.declared.instruction.MachineOperator.{MachineOperator}
+use Rattle.modules.specs.declared.instruction.MachineOperator.TheVariants.{Compute, Negate, Not, Compare, SameBoolean, OtherBoolean}
+use Rattle.modules.specs.declared.instruction.Storage.TheVariants as storage
+use Rattle.modules.specs.declared.instruction.Instruction.TheVariants.{Push, PushBoolean, Load, Store, LoadElement, StoreElement, Operate, Jump, JumpIfFalse}
 
 -- ---- single instructions
 abbrev pub load_of : Variable → Instruction
-load_of (variable.Global n) = LoadGlobal n
-load_of (variable.Local n) = Load n
+load_of (variable.Global n) = Load storage.Global n
+load_of (variable.Local n) = Load storage.Local n
 
 abbrev pub store_of : Variable → Instruction
-store_of (variable.Global n) = StoreGlobal n
-store_of (variable.Local n) = Store n
+store_of (variable.Global n) = Store storage.Global n
+store_of (variable.Local n) = Store storage.Local n
 
 abbrev pub load_element_of : Variable → Instruction
-load_element_of (variable.Global n) = LoadGlobalElement n
-load_element_of (variable.Local n) = LoadElement n
+load_element_of (variable.Global n) = LoadElement storage.Global n
+load_element_of (variable.Local n) = LoadElement storage.Local n
 
 abbrev pub store_element_of : Variable → Instruction
-store_element_of (variable.Global n) = StoreGlobalElement n
-store_element_of (variable.Local n) = StoreElement n
+store_element_of (variable.Global n) = StoreElement storage.Global n
+store_element_of (variable.Local n) = StoreElement storage.Local n
 
 abbrev pub prefix_instruction : Prefix → Instruction
-prefix_instruction prefix.Negate = Negate
-prefix_instruction prefix.Not = Not
+prefix_instruction prefix.Negate = Operate Negate
+prefix_instruction prefix.Not = Operate Not
 
 abbrev pub computation_arithmetic : Computation → Arithmetic
 computation_arithmetic computation.Add = Add
@@ -77,16 +80,19 @@ comparison_of relation.AtLeast = AtLeast
 comparison_of relation.Equal = Equal
 comparison_of relation.Unequal = NotEqual
 
-abbrev pub sameness_instruction : Sameness → Instruction
-sameness_instruction sameness.Same = SameBoolean
-sameness_instruction sameness.Different = OtherBoolean
+abbrev pub sameness_operator : Sameness → MachineOperator
+sameness_operator sameness.Same = SameBoolean
+sameness_operator sameness.Different = OtherBoolean
+
+abbrev pub machine_operator : Operator → MachineOperator
+machine_operator (operator.Compute computed) = Compute (computation_arithmetic computed)
+machine_operator (operator.Divide divided) = Compute (division_arithmetic divided)
+machine_operator (operator.Bits made) = Compute (bit_arithmetic made)
+machine_operator (operator.Compare compared) = Compare (comparison_of compared)
+machine_operator (operator.Match matched) = sameness_operator matched
 
 abbrev pub operator_instruction : Operator → Instruction
-operator_instruction (operator.Compute computed) = Compute (computation_arithmetic computed)
-operator_instruction (operator.Divide divided) = Compute (division_arithmetic divided)
-operator_instruction (operator.Bits made) = Compute (bit_arithmetic made)
-operator_instruction (operator.Compare compared) = Compare (comparison_of compared)
-operator_instruction (operator.Match matched) = sameness_instruction matched
+operator_instruction operator = Operate (machine_operator operator)
 
 -- ---- values
 -- how many instructions the code of an expression's value has

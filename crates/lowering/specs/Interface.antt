@@ -4,8 +4,7 @@
 use Rattle.std.specs.Prelude.{◌≡◌, ◌↔◌, ℕ, map, Option, Some, None, if◌then◌else◌}
 use Rattle.principals.specs.ActsFor.{ActsFor, PrincipalHierarchy}
 use Rattle.labels.specs.Sets.{ascending_set}
-use Rattle.resolved.specs.declared.expression.Base.{Base}
-use Rattle.resolved.specs.declared.expression.Base.TheVariants as base
+use Rattle.common.specs.declared.base_type.BaseType.{BaseType}
 use Rattle.resolved.specs.declared.expression.Value.{Value}
 use Rattle.resolved.specs.declared.expression.Value.TheVariants.{Number, Truth}
 use Rattle.resolved.specs.BitUse.{uses_bits}
@@ -16,8 +15,6 @@ use Rattle.modules.specs.declared.declaration.Global.{Global}
 use Rattle.modules.specs.declared.declaration.Global.TheVariants as global
 use Rattle.modules.specs.declared.version.Version.{Version}
 use Rattle.modules.specs.declared.version.Version.TheVariants.{One, Two}
-use Rattle.modules.specs.declared.value.ValueKind.{ValueKind}
-use Rattle.modules.specs.declared.value.ValueKind.TheVariants as kind
 use Rattle.modules.specs.Contents.{ChannelContents, ModuleContents}
 use Rattle.modules.specs.Format.{pair_cmp}
 
@@ -33,15 +30,10 @@ hierarchy_contents h = record { names = h.names; pairs = ascending_set pair_cmp 
 abbrev pub channel_contents : ChannelEntry → ChannelContents
 channel_contents entry = record { direction = entry.direction; name = entry.name; label = entry.label }
 
--- the kind of the values of a base type
-abbrev pub kind_of_base : Base → ValueKind
-kind_of_base base.Int = kind.Int
-kind_of_base base.Boolean = kind.Boolean
-
 -- a slot for values of a base type: one, or as many as an array has elements
-abbrev pub declared_slot : Base → (size : Option ℕ) → Slot
-declared_slot type None = slot.Scalar (kind_of_base type)
-declared_slot type (Some count) = slot.Array (kind_of_base type) count
+abbrev pub declared_slot : BaseType → (size : Option ℕ) → Slot
+declared_slot type None = slot.Scalar type
+declared_slot type (Some count) = slot.Array type count
 
 abbrev pub slot_contents : SlotEntry → Slot
 slot_contents entry = declared_slot entry.base entry.size
@@ -51,17 +43,17 @@ abbrev pub scalar_global : Value → Global
 scalar_global (Number z) = global.Int z
 scalar_global (Truth b) = global.Boolean b
 
-abbrev pub declared_global : Base → (size : Option ℕ) → (first : Value) → Global
+abbrev pub declared_global : BaseType → (size : Option ℕ) → (first : Value) → Global
 declared_global type None first = scalar_global first
-declared_global type (Some count) first = global.Array (kind_of_base type) count
+declared_global type (Some count) first = global.Array type count
 
 abbrev pub global_contents : GlobalEntry → Global
 global_contents entry = declared_global entry.base entry.size entry.first
 
 -- the kind of value that a procedure gives, if it gives one
-abbrev pub returned_kind : Option ResultEntry → Option ValueKind
+abbrev pub returned_kind : Option ResultEntry → Option BaseType
 returned_kind None = None
-returned_kind (Some entry) = Some (kind_of_base entry.base)
+returned_kind (Some entry) = Some entry.base
 
 -- a graph or a module has the version of a program, the second exactly where the program uses an operator on bits; its principals with
 -- the same numbers, of whom the same act for each other; its channels with the same numbers, and the names of its declared exceptions

@@ -4,7 +4,7 @@ use Rattle.std.specs.Prelude.{◌≡◌, [], All, IsTrue}
 use Rattle.layout.specs.Graph.{HasPositions}
 use Rattle.layout.specs.Offsets.{laid_out}
 use Rattle.layout.specs.Runs.{graph_after_steps}
-use Rattle.modules.specs.Form.{Fits}
+use Rattle.modules.specs.ByteFormat.{Fits}
 use Rattle.modules.specs.Format.{module_file}
 use Rattle.resolved.specs.ExitFaults.{exit_faults}
 use Rattle.resolved.specs.Names.{HasNames}

@@ -7,7 +7,7 @@ ghost use Rattle.std.specs.Prelude.{OnOk, if◌then◌else◌, length, ◌++◌,
 use crate::emitter::push;
 use crate::instructions::operator_instruction;
 use crate::operands::{push_value, value_size};
-use modules::Instruction;
+use modules::{Instruction, MachineOperator};
 use resolved::expression::{Connective, Expression, Operator, Prefix, Relation, Sameness};
 use std::alloc::AllocError;
 
@@ -69,8 +69,8 @@ fn tested_size(wanted: bool, condition: &Expression) -> u32
         Expression::Read(_) => value_size(condition) + 1,
         Expression::Element(_, _, _) => value_size(condition) + 1,
         Expression::Unary(_, _) => value_size(condition) + 1,
-        Expression::Binary(_, _, _) => value_size(condition),
-        Expression::Short(_, _, _) => value_size(condition) + 1,
+        Expression::Binary(_, _) => value_size(condition),
+        Expression::Short(_, _) => value_size(condition) + 1,
     }
 }
 
@@ -86,9 +86,9 @@ pub(crate) fn branch_size(wanted: bool, condition: &Expression) -> u32
         Expression::Element(_, _, _) => tested_size(wanted, condition) + 1,
         Expression::Unary(Prefix::Negate, _) => tested_size(wanted, condition) + 1,
         Expression::Unary(Prefix::Not, operand) => branch_size(!wanted, operand),
-        Expression::Binary(_, _, _) => tested_size(wanted, condition) + 1,
-        Expression::Short(connective, left, right) => {
-            branch_size(decides_at(*connective), left) + branch_size(wanted, right)
+        Expression::Binary(_, _) => tested_size(wanted, condition) + 1,
+        Expression::Short(connective, operands) => {
+            branch_size(decides_at(*connective), &operands.0) + branch_size(wanted, &operands.1)
         }
     }
 }
@@ -103,19 +103,19 @@ fn push_negated(code: &mut Vec<Instruction>, condition: &Expression) -> Result<(
 {
     match condition {
         Expression::Logical(truth) => return push(code, Instruction::PushBoolean(!*truth)),
-        Expression::Binary(operator, left, right) => {
-            push_value(code, left)?;
-            push_value(code, right)?;
+        Expression::Binary(operator, operands) => {
+            push_value(code, &operands.0)?;
+            push_value(code, &operands.1)?;
             return push(code, operator_instruction(negated_operator(*operator)));
         }
         Expression::Integer(_) => {}
         Expression::Read(_) => {}
         Expression::Element(_, _, _) => {}
         Expression::Unary(_, _) => {}
-        Expression::Short(_, _, _) => {}
+        Expression::Short(_, _) => {}
     }
     push_value(code, condition)?;
-    push(code, Instruction::Not)
+    push(code, Instruction::Operate(MachineOperator::Not))
 }
 
 /// Adds code that goes to the target where what is tested is false.
@@ -173,13 +173,13 @@ pub(crate) fn push_branch(
         Expression::Unary(Prefix::Not, operand) => {
             push_branch(code, !wanted, target, beyond, operand)
         }
-        Expression::Binary(_, _, _) => push_test(code, wanted, target, condition),
-        Expression::Short(connective, left, right) => {
+        Expression::Binary(_, _) => push_test(code, wanted, target, condition),
+        Expression::Short(connective, operands) => {
             let decides = decides_at(*connective);
-            let between = beyond - branch_size(wanted, right);
+            let between = beyond - branch_size(wanted, &operands.1);
             let inner = inner_target(wanted, decides, target, beyond);
-            push_branch(code, decides, inner, between, left)?;
-            push_branch(code, wanted, target, beyond, right)
+            push_branch(code, decides, inner, between, &operands.0)?;
+            push_branch(code, wanted, target, beyond, &operands.1)
         }
     }
 }

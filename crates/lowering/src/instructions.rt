@@ -1,8 +1,8 @@
 //! Single instructions: those of operators, and those that move values between variables and operands.
-ghost use Rattle.lowering.specs.Expressions.{bit_arithmetic, comparison_of, computation_arithmetic, division_arithmetic, load_element_of, load_of, operator_instruction, prefix_instruction, sameness_instruction, store_element_of, store_of};
+ghost use Rattle.lowering.specs.Expressions.{bit_arithmetic, comparison_of, computation_arithmetic, division_arithmetic, load_element_of, load_of, machine_operator, operator_instruction, prefix_instruction, sameness_operator, store_element_of, store_of};
 ghost use Rattle.std.specs.Prelude.{◌≡◌};
 
-use modules::{Arithmetic, Comparison, Instruction};
+use modules::{Arithmetic, Comparison, Instruction, MachineOperator, Storage};
 use resolved::expression::{
     BitOperator, Computation, Division, Operator, Prefix, Relation, Sameness, Variable,
 };
@@ -12,8 +12,8 @@ pub(crate) fn prefix_instruction(prefix: Prefix) -> Instruction
     ensures { result ≡ prefix_instruction prefix }
 {
     match prefix {
-        Prefix::Negate => Instruction::Negate,
-        Prefix::Not => Instruction::Not,
+        Prefix::Negate => Instruction::Operate(MachineOperator::Negate),
+        Prefix::Not => Instruction::Operate(MachineOperator::Not),
     }
 }
 
@@ -21,12 +21,20 @@ pub(crate) fn prefix_instruction(prefix: Prefix) -> Instruction
 pub(crate) fn operator_instruction(operator: Operator) -> Instruction
     ensures { result ≡ operator_instruction operator }
 {
+    Instruction::Operate(machine_operator(operator))
+}
+
+fn machine_operator(operator: Operator) -> MachineOperator
+    ensures { result ≡ machine_operator operator }
+{
     match operator {
-        Operator::Compute(computation) => Instruction::Compute(computation_arithmetic(computation)),
-        Operator::Divide(division) => Instruction::Compute(division_arithmetic(division)),
-        Operator::Bits(operator) => Instruction::Compute(bit_arithmetic(operator)),
-        Operator::Compare(relation) => Instruction::Compare(comparison_of(relation)),
-        Operator::Match(sameness) => sameness_instruction(sameness),
+        Operator::Compute(computation) => {
+            MachineOperator::Compute(computation_arithmetic(computation))
+        }
+        Operator::Divide(division) => MachineOperator::Compute(division_arithmetic(division)),
+        Operator::Bits(operator) => MachineOperator::Compute(bit_arithmetic(operator)),
+        Operator::Compare(relation) => MachineOperator::Compare(comparison_of(relation)),
+        Operator::Match(sameness) => sameness_operator(sameness),
     }
 }
 
@@ -75,12 +83,12 @@ fn comparison_of(relation: Relation) -> Comparison
     }
 }
 
-fn sameness_instruction(sameness: Sameness) -> Instruction
-    ensures { result ≡ sameness_instruction sameness }
+fn sameness_operator(sameness: Sameness) -> MachineOperator
+    ensures { result ≡ sameness_operator sameness }
 {
     match sameness {
-        Sameness::Same => Instruction::SameBoolean,
-        Sameness::Different => Instruction::OtherBoolean,
+        Sameness::Same => MachineOperator::SameBoolean,
+        Sameness::Different => MachineOperator::OtherBoolean,
     }
 }
 
@@ -89,8 +97,8 @@ pub(crate) fn load_of(variable: Variable) -> Instruction
     ensures { result ≡ load_of variable }
 {
     match variable {
-        Variable::Global(number) => Instruction::LoadGlobal(number),
-        Variable::Local(slot) => Instruction::Load(slot),
+        Variable::Global(number) => Instruction::Load(Storage::Global, number),
+        Variable::Local(slot) => Instruction::Load(Storage::Local, slot),
     }
 }
 
@@ -99,8 +107,8 @@ pub(crate) fn store_of(variable: Variable) -> Instruction
     ensures { result ≡ store_of variable }
 {
     match variable {
-        Variable::Global(number) => Instruction::StoreGlobal(number),
-        Variable::Local(slot) => Instruction::Store(slot),
+        Variable::Global(number) => Instruction::Store(Storage::Global, number),
+        Variable::Local(slot) => Instruction::Store(Storage::Local, slot),
     }
 }
 
@@ -109,8 +117,8 @@ pub(crate) fn load_element_of(variable: Variable) -> Instruction
     ensures { result ≡ load_element_of variable }
 {
     match variable {
-        Variable::Global(number) => Instruction::LoadGlobalElement(number),
-        Variable::Local(slot) => Instruction::LoadElement(slot),
+        Variable::Global(number) => Instruction::LoadElement(Storage::Global, number),
+        Variable::Local(slot) => Instruction::LoadElement(Storage::Local, slot),
     }
 }
 
@@ -119,7 +127,7 @@ pub(crate) fn store_element_of(variable: Variable) -> Instruction
     ensures { result ≡ store_element_of variable }
 {
     match variable {
-        Variable::Global(number) => Instruction::StoreGlobalElement(number),
-        Variable::Local(slot) => Instruction::StoreElement(slot),
+        Variable::Global(number) => Instruction::StoreElement(Storage::Global, number),
+        Variable::Local(slot) => Instruction::StoreElement(Storage::Local, slot),
     }
 }

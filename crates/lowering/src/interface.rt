@@ -1,14 +1,15 @@
 //! What a graph shows before any run: the hierarchy, the exceptions, the channels and the globals.
 ghost use Rattle.labels.specs.Label.{Label};
 ghost use Rattle.resolved.specs.ProgramOf.{channel_entry, global_entry};
-ghost use Rattle.lowering.specs.Interface.{channel_contents, declared_global, global_contents, hierarchy_contents, kind_of_base, scalar_global};
+ghost use Rattle.lowering.specs.Interface.{channel_contents, declared_global, global_contents, hierarchy_contents, scalar_global};
 ghost use Rattle.lowering.specs.Fitting.{IsShortValue};
 ghost use Rattle.std.specs.Prelude.{All, IfOk, List, map, ◌≡◌};
 
+use common::BaseType;
 use labels::LabelTable;
-use modules::{Channel, ValueKind};
+use modules::Channel;
 use principals::Hierarchy;
-use resolved::expression::{Base, Value};
+use resolved::expression::Value;
 use resolved::tables;
 use std::alloc::{AllocError, Global};
 
@@ -48,16 +49,6 @@ pub(crate) fn channels_of(
     Ok(made)
 }
 
-/// The kind of the values of a base type.
-pub(crate) fn kind_of_base(base: Base) -> ValueKind
-    ensures { result ≡ kind_of_base base }
-{
-    match base {
-        Base::Int => ValueKind::Int,
-        Base::Boolean => ValueKind::Boolean,
-    }
-}
-
 /// The global that holds a value at first.
 fn scalar_global(value: Value) -> modules::Global
     ensures exact { result ≡ scalar_global value }
@@ -70,13 +61,13 @@ fn scalar_global(value: Value) -> modules::Global
 }
 
 /// A scalar global that holds a value at first, or an array with its number of elements.
-fn declared_global(base: Base, size: Option<u32>, first: Value) -> modules::Global
+fn declared_global(base: BaseType, size: Option<u32>, first: Value) -> modules::Global
     ensures exact { result ≡ declared_global base size first }
     ensures short { IsShortValue first }
 {
     match size {
         None => scalar_global(first),
-        Some(count) => modules::Global::Array(kind_of_base(base), count),
+        Some(count) => modules::Global::Array(base, count),
     }
 }
 

@@ -21,8 +21,10 @@ pub(crate) fn value_size(expression: &Expression) -> u32
         Expression::Read(_) => 1,
         Expression::Element(_, _, index) => value_size(index) + 1,
         Expression::Unary(_, operand) => value_size(operand) + 1,
-        Expression::Binary(_, left, right) => value_size(left) + (value_size(right) + 1),
-        Expression::Short(_, left, right) => value_size(left) + (1 + (value_size(right) + 2)),
+        Expression::Binary(_, operands) => value_size(&operands.0) + (value_size(&operands.1) + 1),
+        Expression::Short(_, operands) => {
+            value_size(&operands.0) + (1 + (value_size(&operands.1) + 2))
+        }
     }
 }
 
@@ -49,16 +51,16 @@ pub(crate) fn push_value(
             push_value(code, operand)?;
             push(code, prefix_instruction(*prefix))
         }
-        Expression::Binary(operator, left, right) => {
-            push_value(code, left)?;
-            push_value(code, right)?;
+        Expression::Binary(operator, operands) => {
+            push_value(code, &operands.0)?;
+            push_value(code, &operands.1)?;
             push(code, operator_instruction(*operator))
         }
-        Expression::Short(connective, left, right) => {
-            push_value(code, left)?;
+        Expression::Short(connective, operands) => {
+            push_value(code, &operands.0)?;
             match connective {
-                Connective::And => push_rest_of_and(code, right),
-                Connective::Or => push_rest_of_or(code, right),
+                Connective::And => push_rest_of_and(code, &operands.1),
+                Connective::Or => push_rest_of_or(code, &operands.1),
             }
         }
     }

@@ -11,21 +11,20 @@ ghost use Rattle.std.specs.Prelude.{IfOk, List, OnOk, map, ◌++◌, ◌+◌, �
 use crate::emission::{LoopPositions, push_block};
 use crate::emitter::push;
 use crate::endings::block_falls;
-use crate::interface::kind_of_base;
 use crate::threading::thread;
-use modules::{Instruction, Procedure, Slot, ValueKind};
-use resolved::expression::Base;
+use common::BaseType;
+use modules::{Instruction, Procedure, Slot};
 use resolved::program::Core;
 use resolved::tables;
 use std::alloc::{AllocError, Global};
 
 /// A slot for values of a base type: one, or as many as an array has elements.
-fn declared_slot(base: Base, size: Option<u32>) -> Slot
+fn declared_slot(base: BaseType, size: Option<u32>) -> Slot
     ensures { result ≡ declared_slot base size }
 {
     match size {
-        None => Slot::Scalar(kind_of_base(base)),
-        Some(count) => Slot::Array(kind_of_base(base), count),
+        None => Slot::Scalar(base),
+        Some(count) => Slot::Array(base, count),
     }
 }
 
@@ -42,10 +41,10 @@ fn slots_of(alloc: Global, slots: &[tables::Slot]) -> Result<Vec<Slot>, AllocErr
 }
 
 /// The kind of value that a procedure gives, if it gives one.
-fn returned_kind(given: &Option<tables::ResultType>) -> Option<ValueKind>
+fn returned_kind(given: &Option<tables::ResultType>) -> Option<BaseType>
     ensures { (labels : List Label) → result ≡ returned_kind (result_entry labels given.now) }
 {
-    given.as_ref().map(|given| kind_of_base(given.base))
+    given.as_ref().map(|given| given.base)
 }
 
 /// Adds a return, where a body may end normally.

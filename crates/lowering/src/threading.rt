@@ -46,7 +46,7 @@ fn find_final_positions(alloc: Global, code: &[Instruction]) -> Result<Vec<u32>,
     Ok(finals)
 }
 
-/// The instruction with the final place of its target.
+/// The instruction with the final position of its target.
 fn thread_instruction(finals: &[u32], instruction: Instruction) -> Instruction
     ensures { result ≡
         renamed_instruction (λ target. get_or finals.now target target) instruction }
@@ -58,7 +58,7 @@ fn thread_instruction(finals: &[u32], instruction: Instruction) -> Instruction
     }
 }
 
-/// The code with the final place of each target.
+/// The code with the final position of each target.
 pub(crate) fn thread(alloc: Global, code: &[Instruction]) -> Result<Vec<Instruction>, AllocError>
     requires { length code.now < 2 ^ 32 }
     ensures { IfOk result (λ made. made.items ≡ threaded code.now) }

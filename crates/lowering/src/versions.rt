@@ -41,12 +41,12 @@ fn expression_uses_bits(expression: &Expression) -> bool
         Expression::Integer(_) | Expression::Logical(_) | Expression::Read(_) => false,
         Expression::Element(_, _, index) => expression_uses_bits(index),
         Expression::Unary(_, operand) => expression_uses_bits(operand),
-        Expression::Binary(Operator::Bits(_), _, _) => true,
-        Expression::Binary(_, left, right) => {
-            expression_uses_bits(left) || expression_uses_bits(right)
+        Expression::Binary(Operator::Bits(_), _) => true,
+        Expression::Binary(_, operands) => {
+            expression_uses_bits(&operands.0) || expression_uses_bits(&operands.1)
         }
-        Expression::Short(_, left, right) => {
-            expression_uses_bits(left) || expression_uses_bits(right)
+        Expression::Short(_, operands) => {
+            expression_uses_bits(&operands.0) || expression_uses_bits(&operands.1)
         }
     }
 }

@@ -2,7 +2,7 @@
 use Rattle.std.proofs.Common.{◌≡◌, ℕ, Bool, true, false, cond, List, [], ◌∷◌, ◌++◌, ◌<◌, ◌^◌, length, Option, Some, None, refl, ap, ◌∙◌, arith, lit<}
 use Rattle.std.specs.List.{AllByRecursion}
 use Rattle.modules.specs.Contents.{ProcedureContents, ModuleContents}
-use Rattle.modules.specs.Form.{Fits, FitEach, IsCoded, spelled_code}
+use Rattle.modules.specs.ByteFormat.{Fits, FitEach, IsCoded, spelled_code}
 use Rattle.modules.specs.Format.{procedure, procedures, program, contents, version, module_file}
 use Rattle.modules.specs.Opcodes.{examples, has_instruction, instructions, opcode_of, operand_width, entry_of, width_in, with_opcode}
 use Rattle.modules.specs.declared.instruction.Instruction.{Instruction}

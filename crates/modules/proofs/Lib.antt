@@ -4,3 +4,4 @@ pub mod Operands
 pub mod Widths
 pub mod Executing
 pub mod Own
+pub mod Alike

@@ -14,7 +14,7 @@ use Rattle.labels.specs.Sent.{pairs_for}
 use Rattle.common.specs.declared.sent.Pair.{Pair}
 use Rattle.labels.proofs.Carried.{own-label}
 use Rattle.modules.specs.Contents.{ChannelContents, ModuleContents}
-use Rattle.modules.specs.Form.{Fits, FitEach}
+use Rattle.modules.specs.ByteFormat.{Fits, FitEach}
 use Rattle.modules.specs.Format.{module_file, contents, declared, channels, channel_after, hierarchy, principals, pair_after, number_below, name_after, label, policy_after, reader_after, is_among}
 use Rattle.modules.specs.Isolated.{IsIsolated, StaysIsolated, channel_label, channel_label_under, label_in, module_view}
 

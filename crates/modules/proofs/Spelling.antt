@@ -1,5 +1,5 @@
 -- Each instruction that a version has and whose operand fits has a spelling there, which is as long as the instruction is wide.
-use Rattle.std.proofs.Common.{◌≡◌, ℕ, ◌^◌, ◌<◌, ℤ, true, false, List, [], ◌∷◌, length, Option, None, Some, refl, ap, ◌∙◌, arith, length-append, lit<}
+use Rattle.std.proofs.Common.{◌≡◌, ℕ, ◌^◌, ◌<◌, ℤ, Bool, true, false, cond, List, [], ◌∷◌, length, None, Some, refl, sym, ap, ◌∙◌, arith, length-append, lit<}
 use Rattle.std.specs.Prelude.{FitsSigned, IsTrue}
 use Rattle.std.specs.Int.{w32, cast_signed, cast_unsigned, to_be_bytes, from_be_bytes}
 use Rattle.std.specs.List.{AllByRecursion}
@@ -7,13 +7,15 @@ use Rattle.std.proofs.lemmas.List.Elements.{All-nil, All-cons}
 use Rattle.std.proofs.lemmas.Int.{to_z-of_z}
 use Rattle.std.proofs.lemmas.Nat.{from_be_bytes-to_be_bytes_4}
 use Rattle.std.proofs.Math.Facts.{Fits-of_z, Fits-lt-pow}
-use Rattle.modules.specs.declared.instruction.Arithmetic.TheVariants.{Add, BitAnd, BitOr, BitXor, ShiftLeft, ShiftRight, ShiftRightUnsigned}
+use Rattle.modules.specs.declared.instruction.Arithmetic.TheVariants.{Add}
 use Rattle.modules.specs.declared.instruction.Comparison.TheVariants.{Less}
+use Rattle.modules.specs.declared.instruction.MachineOperator.TheVariants.{Compute, Compare}
+use Rattle.modules.specs.declared.instruction.Storage.TheVariants.{Local}
 use Rattle.modules.specs.declared.instruction.Instruction.{Instruction}
-use Rattle.modules.specs.declared.instruction.Instruction.TheVariants.{Push, PushBoolean, Load, Store, LoadGlobal, StoreGlobal, LoadElement, StoreElement, LoadGlobalElement, StoreGlobalElement, Clear, Compute, Compare, Jump, JumpIfFalse, Call, Receive, Send, Throw}
+use Rattle.modules.specs.declared.instruction.Instruction.TheVariants.{Push, PushBoolean, Load, Store, LoadElement, StoreElement, Operate}
 use Rattle.modules.specs.Code.{width_of, code_length}
-use Rattle.modules.specs.Form.{IsCoded, spelled_instruction, spelled_code}
-use Rattle.modules.specs.Opcodes.{HasCodeOf, OperandFits, exists_in, has_instruction, instructions, operand_bytes, operand_width, entry_of}
+use Rattle.modules.specs.ByteFormat.{IsCoded, spelled_instruction, spelled_code}
+use Rattle.modules.specs.Opcodes.{HasCodeOf, OperandFits, exists_in, has_instruction, instruction_of, instructions, numbered, opcode_of, operand_bytes, operand_width, plain, entry_of, width_after, width_in, with_opcode}
 use Rattle.modules.specs.declared.opcode.Operand.{Operand}
 use Rattle.modules.specs.declared.opcode.Operand.TheVariants.{Absent, Boolean, Int, Number}
 use Rattle.modules.specs.declared.version.Version.{Version}
@@ -47,56 +49,78 @@ int-back n fits =
     let small : cast_unsigned w32 n < 2 ^ 32 = Fits-lt-pow (Fits-of_z fits) in
     ap (cast_signed w32) (number-back (cast_unsigned w32 n) small) ∙ to_z-of_z w32 n fits
 
+-- what is spelled by the opcode of an instruction, and by the bytes of an operand or by the number that stands there, is that one
+abbrev SpellsIt : Instruction → Operand → Type 0
+SpellsIt x Absent = with_opcode (opcode_of x) plain ≡ Some x
+SpellsIt x (Int n) = (number : ℕ) → cast_signed w32 number ≡ n → with_opcode (opcode_of x) (numbered number) ≡ Some x
+SpellsIt x (Boolean b) = instruction_of (opcode_of x) (operand_bytes (Boolean b)) ≡ Some x
+SpellsIt x (Number n) = with_opcode (opcode_of x) (numbered n) ≡ Some x
+
+spells_it : (x : Instruction) → SpellsIt x (entry_of x).operand
+spells_it (Push n) = λ number same. ap (λ i. Some (Push i)) same
+spells_it (PushBoolean true) = refl
+spells_it (PushBoolean false) = refl
+spells_it (Load Local slot) = refl
+spells_it (Store Local slot) = refl
+spells_it (LoadElement Local slot) = refl
+spells_it (StoreElement Local slot) = refl
+spells_it (Operate (Compute Add)) = refl
+spells_it (Operate (Compare Less)) = refl
+spells_it x = refl
+
+itself : (x : Instruction) (operand : Operand) → SpellsIt x operand → OperandFits operand → instruction_of (opcode_of x) (operand_bytes operand) ≡ Some x
+itself x Absent spells fits = spells
+itself x (Int n) spells fits = spells (from_be_bytes w32 (to_be_bytes w32 (cast_unsigned w32 n))) (int-back n fits)
+itself x (Boolean b) spells fits = spells
+itself x (Number n) spells fits = ap (λ k. with_opcode (opcode_of x) (numbered k)) (number-back n fits) ∙ spells
+
+-- ---- widths in a version
+
+small : (x : Instruction) → opcode_of x < 256
+small (Load Local slot) = lit< tt
+small (Store Local slot) = lit< tt
+small (LoadElement Local slot) = lit< tt
+small (StoreElement Local slot) = lit< tt
+small (Operate (Compute Add)) = lit< tt
+small (Operate (Compare Less)) = lit< tt
+small x = lit< tt
+
+-- a version knows the opcodes of the instructions that it has
+known : (version : Version) (x : Instruction) → width_after version (opcode_of x) ≡ width_in version (Some x)
+known version (PushBoolean b) = refl
+known version (Load Local slot) = refl
+known version (Store Local slot) = refl
+known version (LoadElement Local slot) = refl
+known version (StoreElement Local slot) = refl
+known version (Operate (Compute Add)) = refl
+known version (Operate (Compare Less)) = refl
+known version x = refl
+
 pub is_spelled : (version : Version) (x : Instruction) → IsTrue (has_instruction version x) → OperandFits (entry_of x).operand → IsCoded (instructions version) x
 unfolding instructions
-is_spelled version (Push n) has fits = record { byte = lit< tt; width = refl; itself = ap (λ k. Some (Push k)) (int-back n fits) }
-is_spelled version (PushBoolean false) has fits = record { byte = lit< tt; width = refl; itself = refl }
-is_spelled version (PushBoolean true) has fits = record { byte = lit< tt; width = refl; itself = refl }
-is_spelled version (Load slot) has fits = record { byte = lit< tt; width = refl; itself = ap (λ k. Some (Load k)) (number-back slot fits) }
-is_spelled version (Store slot) has fits = record { byte = lit< tt; width = refl; itself = ap (λ k. Some (Store k)) (number-back slot fits) }
-is_spelled version (LoadGlobal slot) has fits = record { byte = lit< tt; width = refl; itself = ap (λ k. Some (LoadGlobal k)) (number-back slot fits) }
-is_spelled version (StoreGlobal slot) has fits = record { byte = lit< tt; width = refl; itself = ap (λ k. Some (StoreGlobal k)) (number-back slot fits) }
-is_spelled version (LoadElement slot) has fits = record { byte = lit< tt; width = refl; itself = ap (λ k. Some (LoadElement k)) (number-back slot fits) }
-is_spelled version (StoreElement slot) has fits = record { byte = lit< tt; width = refl; itself = ap (λ k. Some (StoreElement k)) (number-back slot fits) }
-is_spelled version (LoadGlobalElement slot) has fits = record { byte = lit< tt; width = refl; itself = ap (λ k. Some (LoadGlobalElement k)) (number-back slot fits) }
-is_spelled version (StoreGlobalElement slot) has fits = record { byte = lit< tt; width = refl; itself = ap (λ k. Some (StoreGlobalElement k)) (number-back slot fits) }
-is_spelled version (Clear slot) has fits = record { byte = lit< tt; width = refl; itself = ap (λ k. Some (Clear k)) (number-back slot fits) }
-is_spelled version (Jump target) has fits = record { byte = lit< tt; width = refl; itself = ap (λ k. Some (Jump k)) (number-back target fits) }
-is_spelled version (JumpIfFalse target) has fits = record { byte = lit< tt; width = refl; itself = ap (λ k. Some (JumpIfFalse k)) (number-back target fits) }
-is_spelled version (Call procedure) has fits = record { byte = lit< tt; width = refl; itself = ap (λ k. Some (Call k)) (number-back procedure fits) }
-is_spelled version (Receive channel) has fits = record { byte = lit< tt; width = refl; itself = ap (λ k. Some (Receive k)) (number-back channel fits) }
-is_spelled version (Send channel) has fits = record { byte = lit< tt; width = refl; itself = ap (λ k. Some (Send k)) (number-back channel fits) }
-is_spelled version (Throw exception) has fits = record { byte = lit< tt; width = refl; itself = ap (λ k. Some (Throw k)) (number-back exception fits) }
-is_spelled version (Compute Add) has fits = record { byte = lit< tt; width = refl; itself = refl }
-is_spelled One (Compute BitAnd) has fits = absurd cc
-is_spelled One (Compute BitOr) has fits = absurd cc
-is_spelled One (Compute BitXor) has fits = absurd cc
-is_spelled One (Compute ShiftLeft) has fits = absurd cc
-is_spelled One (Compute ShiftRight) has fits = absurd cc
-is_spelled One (Compute ShiftRightUnsigned) has fits = absurd cc
-is_spelled version (Compare Less) has fits = record { byte = lit< tt; width = refl; itself = refl }
-is_spelled version x has fits = record { byte = lit< tt; width = refl; itself = refl }
+is_spelled version x has fits = record {
+  byte = small x;
+  width =
+      known version x ∙ ap (λ (b : Bool). cond b (Some (operand_width (entry_of x).operand)) None) has
+      ∙ ap Some (sym (operand-width (entry_of x).operand));
+  itself = itself x (entry_of x).operand (spells_it x) fits;
+}
 
 -- ---- versions
-
-no_width : (found : Option ℕ) (n : ℕ) → found ≡ None → found ≡ Some n → ⊥
-no_width found n none some = cc (none, some)
 
 pub in_latest : (since : Version) → IsTrue (exists_in since Two)
 in_latest One = refl
 in_latest Two = refl
 
+some_if : (has : Bool) (width found : ℕ) → cond has (Some width) None ≡ Some found → IsTrue has
+some_if true width found e = refl
+some_if false width found e = absurd cc
+
 -- an instruction that has a spelling in a version is one that the version has
 pub has_spelled : (version : Version) (x : Instruction) → IsCoded (instructions version) x → IsTrue (has_instruction version x)
 unfolding instructions
-has_spelled One (Compute BitAnd) coded = absurd (no_width _ 0 refl coded.width)
-has_spelled One (Compute BitOr) coded = absurd (no_width _ 0 refl coded.width)
-has_spelled One (Compute BitXor) coded = absurd (no_width _ 0 refl coded.width)
-has_spelled One (Compute ShiftLeft) coded = absurd (no_width _ 0 refl coded.width)
-has_spelled One (Compute ShiftRight) coded = absurd (no_width _ 0 refl coded.width)
-has_spelled One (Compute ShiftRightUnsigned) coded = absurd (no_width _ 0 refl coded.width)
-has_spelled One _ coded = refl
-has_spelled Two x coded = in_latest (entry_of x).since
+has_spelled version x coded =
+    some_if (has_instruction version x) (operand_width (entry_of x).operand) _ (sym (known version x) ∙ coded.width)
 
 pub all_have : (version : Version) (code : List Instruction) → AllByRecursion (IsCoded (instructions version)) code → HasCodeOf version code
 all_have version [] coded = All-nil _

@@ -4,7 +4,7 @@ use Rattle.std.specs.Prelude.{ℕ, List, Option}
 use Rattle.principals.specs.ActsFor.{PrincipalHierarchy}
 use Rattle.labels.specs.Label.{Label}
 use Rattle.modules.specs.declared.instruction.Instruction.{Instruction}
-use Rattle.modules.specs.declared.value.ValueKind.{ValueKind}
+use Rattle.common.specs.declared.base_type.BaseType.{BaseType}
 use Rattle.modules.specs.declared.version.Version.{Version}
 use Rattle.modules.specs.declared.declaration.Slot.{Slot}
 use Rattle.modules.specs.declared.declaration.Global.{Global}
@@ -20,7 +20,7 @@ pub record ChannelContents : Type 0 where
 -- a procedure: the kind of value that it returns, if any; how many of its first slots are parameters; the slots of a frame;
 -- the code; and the handlers, the first that fits being the one that is taken
 pub record ProcedureContents : Type 0 where
-  pub returned : Option ValueKind
+  pub returned : Option BaseType
   pub parameters : ℕ
   pub slots : List Slot
   pub code : List Instruction

@@ -17,8 +17,8 @@ use Rattle.modules.specs.declared.fault.FormatRefusalKind.TheVariants.{Magic, Ba
 use Rattle.modules.specs.declared.fault.FormatRefusalKind.TheVariants as refused
 use Rattle.modules.specs.declared.version.Version.{Version}
 use Rattle.modules.specs.declared.version.Version.TheVariants.{One, Two}
-use Rattle.modules.specs.declared.value.ValueKind.{ValueKind}
-use Rattle.modules.specs.declared.value.ValueKind.TheVariants as kind
+use Rattle.common.specs.declared.base_type.BaseType.{BaseType}
+use Rattle.common.specs.declared.base_type.BaseType.TheVariants as kind
 use Rattle.modules.specs.declared.declaration.Slot.{Slot}
 use Rattle.modules.specs.declared.declaration.Slot.TheVariants as slot
 use Rattle.modules.specs.declared.declaration.Global.{Global}
@@ -27,7 +27,7 @@ use Rattle.modules.specs.declared.declaration.Handler.{Handler}
 use Rattle.common.specs.declared.direction.Direction.{Direction}
 use Rattle.common.specs.declared.direction.Direction.TheVariants.{Input, Output}
 use Rattle.modules.specs.Contents.{ChannelContents, ProcedureContents, ModuleContents}
-use Rattle.modules.specs.Form.{Form, Byte, Number, Text, Nothing, Marked, Checked, Then, Counted, Code, Named}
+use Rattle.modules.specs.ByteFormat.{ByteFormat, Byte, Number, Text, Nothing, Marked, Checked, Then, Counted, Code, Named}
 use Rattle.modules.specs.Opcodes.{instructions}
 
 -- ---- limits and tests
@@ -66,27 +66,27 @@ is_size cells size = nat_le size MAX_ELEMENTS && nat_le (cells + cells_of_size s
 
 -- ---- names and numbers
 
-unfoldable pub name_after : (List ℕ → Bool) → List (List ℕ) → Form (List ℕ)
+unfoldable pub name_after : (List ℕ → Bool) → List (List ℕ) → ByteFormat (List ℕ)
 name_after taken before = Checked BadValue (is_new_name taken before) Text
 
 -- the number of one of this many things
-unfoldable pub number_below : ℕ → Form ℕ
+unfoldable pub number_below : ℕ → ByteFormat ℕ
 number_below count = Checked BadValue (λ n. nat_lt n count) Number
 
 -- ---- the hierarchy
 
-unfoldable pub principals : Form (List (List ℕ))
+unfoldable pub principals : ByteFormat (List (List ℕ))
 principals = Counted (λ count. nat_le count MAX_PRINCIPALS) (name_after (λ _. false))
 
 -- pairs ascend by their first number, then by their second
 abbrev pub pair_cmp : ℕ × ℕ → ℕ × ℕ → Ordering
 pair_cmp = then_cmp (on (λ pair. pair.0) nat_cmp) (on (λ pair. pair.1) nat_cmp)
 
-unfoldable pub pair_after : ℕ → List (ℕ × ℕ) → Form (ℕ × ℕ)
+unfoldable pub pair_after : ℕ → List (ℕ × ℕ) → ByteFormat (ℕ × ℕ)
 pair_after count before =
     Checked NotCanonical (is_above pair_cmp before) (Then (number_below count) (λ _. number_below count))
 
-unfoldable pub hierarchy : Form PrincipalHierarchy
+unfoldable pub hierarchy : ByteFormat PrincipalHierarchy
 hierarchy =
     Named (λ fields. record { names = fields.0; pairs = fields.1 }) (λ h. (h.names, h.pairs))
     (Then principals (λ names. Counted any (pair_after (length names))))
@@ -96,7 +96,7 @@ hierarchy =
 abbrev pub is_built_in : List ℕ → Bool
 is_built_in name = is_among built_in_names name
 
-unfoldable pub exceptions : Form (List (List ℕ))
+unfoldable pub exceptions : ByteFormat (List (List ℕ))
 exceptions = Counted any (name_after is_built_in)
 
 abbrev pub direction_of : ℕ → Direction
@@ -106,71 +106,71 @@ abbrev pub direction_byte : Direction → ℕ
 direction_byte Input = 0
 direction_byte Output = 1
 
-unfoldable pub direction : Form Direction
+unfoldable pub direction : ByteFormat Direction
 direction = Named direction_of direction_byte (Checked BadValue (λ byte. nat_lt byte 2) Byte)
 
 -- readers ascend, and the owner is none of them
-unfoldable pub reader_after : ℕ → ℕ → List ℕ → Form ℕ
+unfoldable pub reader_after : ℕ → ℕ → List ℕ → ByteFormat ℕ
 reader_after count owner before =
     Checked NotCanonical (λ reader. not (reader == owner) && is_above nat_cmp before reader) (number_below count)
 
 -- policies ascend by owner, then by the list of readers, where a list that is a prefix of another one is the
 -- smaller
-unfoldable pub policy_after : ℕ → List ReaderPolicy → Form ReaderPolicy
+unfoldable pub policy_after : ℕ → List ReaderPolicy → ByteFormat ReaderPolicy
 policy_after count before =
     Checked NotCanonical (is_above policy_cmp before)
     (Named (λ fields. record { owner = fields.0; readers = fields.1 }) (λ policy. (policy.owner, policy.readers))
     (Then (number_below count) (λ owner. Counted any (reader_after count owner))))
 
-unfoldable pub label : ℕ → Form Label
+unfoldable pub label : ℕ → ByteFormat Label
 label count = Counted any (policy_after count)
 
 abbrev pub channel_names : List ChannelContents → List (List ℕ)
 channel_names channels = map (λ channel. channel.name) channels
 
-unfoldable pub channel_after : ℕ → (List ℕ → Bool) → List ChannelContents → Form ChannelContents
+unfoldable pub channel_after : ℕ → (List ℕ → Bool) → List ChannelContents → ByteFormat ChannelContents
 channel_after count taken before =
     Named (λ fields. record { direction = fields.0; name = fields.1.0; label = fields.1.1 })
     (λ channel. (channel.direction, (channel.name, channel.label)))
     (Then direction (λ _. Then (name_after taken (channel_names before)) (λ _. label count)))
 
-unfoldable pub channels : ℕ → List (List ℕ) → Form (List ChannelContents)
+unfoldable pub channels : ℕ → List (List ℕ) → ByteFormat (List ChannelContents)
 channels count declared = Counted any (channel_after count (λ name. is_built_in name || is_among declared name))
 
 -- the names of the declared exceptions, and the channels
-unfoldable pub declared : ℕ → Form (List (List ℕ) × List ChannelContents)
+unfoldable pub declared : ℕ → ByteFormat (List (List ℕ) × List ChannelContents)
 declared count = Then exceptions (channels count)
 
 -- ---- globals and slots
 
-abbrev pub kind_of : ℕ → ValueKind
+abbrev pub kind_of : ℕ → BaseType
 kind_of byte = if byte == 0 then kind.Int else kind.Boolean
 
-abbrev pub kind_byte : ValueKind → ℕ
+abbrev pub kind_byte : BaseType → ℕ
 kind_byte kind.Int = 0
 kind_byte kind.Boolean = 1
 
-unfoldable pub variable_kind : Form ValueKind
+unfoldable pub variable_kind : ByteFormat BaseType
 variable_kind = Named kind_of kind_byte (Checked BadValue (λ byte. nat_lt byte 2) Byte)
 
 -- what a scalar has and an array lacks, where 0 stands for it
-abbrev pub of_scalar : Bool → Form ℕ → Form ℕ
+abbrev pub of_scalar : Bool → ByteFormat ℕ → ByteFormat ℕ
 of_scalar true form = form
 of_scalar false form = Nothing 0
 
 -- a scalar's first value: an int, or 0 or 1 for a boolean
-abbrev pub first_value : ValueKind → ℕ → Form ℕ
+abbrev pub first_value : BaseType → ℕ → ByteFormat ℕ
 first_value kind.Int size = of_scalar (size == 0) Number
 first_value kind.Boolean size = of_scalar (size == 0) (Checked BadValue (λ n. nat_lt n 2) Number)
 
 -- a kind, a size and a first value as a global, and back
-abbrev pub global_of : ValueKind × (ℕ × ℕ) → Global
+abbrev pub global_of : BaseType × (ℕ × ℕ) → Global
 global_of (kind.Int, (size, first)) =
     if size == 0 then global.Int (cast_signed w32 first) else global.Array kind.Int size
 global_of (kind.Boolean, (size, first)) =
     if size == 0 then global.Boolean (first == 1) else global.Array kind.Boolean size
 
-abbrev pub global_fields : Global → ValueKind × (ℕ × ℕ)
+abbrev pub global_fields : Global → BaseType × (ℕ × ℕ)
 global_fields (global.Int n) = (kind.Int, (0, cast_unsigned w32 n))
 global_fields (global.Boolean b) = (kind.Boolean, (0, if b then 1 else 0))
 global_fields (global.Array kind size) = (kind, (size, 0))
@@ -179,20 +179,20 @@ global_fields (global.Array kind size) = (kind, (size, 0))
 abbrev pub global_cells : List Global → ℕ
 global_cells globals = sum_by (λ global. cells_of_size (global_fields global).1.0) globals
 
-unfoldable pub global_after : List Global → Form Global
+unfoldable pub global_after : List Global → ByteFormat Global
 global_after before =
     Named global_of global_fields
     (Then variable_kind (λ kind. Then (Checked BadValue (is_size (global_cells before)) Number) (λ size. first_value kind size)))
 
-unfoldable pub globals : Form (List Global)
+unfoldable pub globals : ByteFormat (List Global)
 globals = Counted any global_after
 
 -- ---- slots
 
-abbrev pub slot_of : ValueKind × ℕ → Slot
+abbrev pub slot_of : BaseType × ℕ → Slot
 slot_of (kind, size) = if size == 0 then slot.Scalar kind else slot.Array kind size
 
-abbrev pub slot_fields : Slot → ValueKind × ℕ
+abbrev pub slot_fields : Slot → BaseType × ℕ
 slot_fields (slot.Scalar kind) = (kind, 0)
 slot_fields (slot.Array kind size) = (kind, size)
 
@@ -205,44 +205,44 @@ abbrev pub is_slot_size : ℕ → List Slot → ℕ → Bool
 is_slot_size parameters before size =
     is_size (slot_cells before) size && (nat_le parameters (length before) || size == 0)
 
-unfoldable pub slot_after : ℕ → List Slot → Form Slot
+unfoldable pub slot_after : ℕ → List Slot → ByteFormat Slot
 slot_after parameters before =
     Named slot_of slot_fields (Then variable_kind (λ kind. Checked BadValue (is_slot_size parameters before) Number))
 
-unfoldable pub slots : ℕ → Form (List Slot)
+unfoldable pub slots : ℕ → ByteFormat (List Slot)
 slots parameters = Counted (λ count. nat_le parameters count) (slot_after parameters)
 
 -- ---- procedures
 
-abbrev pub returned_of : ℕ → Option ValueKind
+abbrev pub returned_of : ℕ → Option BaseType
 returned_of byte = if byte == 0 then None else if byte == 1 then Some kind.Int else Some kind.Boolean
 
-abbrev pub returned_byte : Option ValueKind → ℕ
+abbrev pub returned_byte : Option BaseType → ℕ
 returned_byte None = 0
 returned_byte (Some kind.Int) = 1
 returned_byte (Some kind.Boolean) = 2
 
 -- the kind of value that a procedure returns, if any
-unfoldable pub returned : Form (Option ValueKind)
+unfoldable pub returned : ByteFormat (Option BaseType)
 returned = Named returned_of returned_byte (Checked BadValue (λ byte. nat_lt byte 3) Byte)
 
-unfoldable pub handler : Form Handler
+unfoldable pub handler : ByteFormat Handler
 handler =
     Named (λ fields. record { start = fields.0; end = fields.1.0; exception = fields.1.1.0; target = fields.1.1.1 })
     (λ handler. (handler.start, (handler.end, (handler.exception, handler.target))))
     (Then Number (λ _. Then Number (λ _. Then Number (λ _. Number))))
 
-unfoldable pub handlers : Form (List Handler)
+unfoldable pub handlers : ByteFormat (List Handler)
 handlers = Counted any (λ before. handler)
 
-unfoldable pub procedure : Version → Form ProcedureContents
+unfoldable pub procedure : Version → ByteFormat ProcedureContents
 procedure version =
     Named
     (λ fields. record { returned = fields.0; parameters = fields.1.0; slots = fields.1.1.0; code = fields.1.1.1.0; handlers = fields.1.1.1.1 })
     (λ p. (p.returned, (p.parameters, (p.slots, (p.code, p.handlers)))))
     (Then returned (λ _. Then Number (λ parameters. Then (slots parameters) (λ _. Then (Code (instructions version)) (λ _. handlers)))))
 
-unfoldable pub procedures : Version → Form (List ProcedureContents)
+unfoldable pub procedures : Version → ByteFormat (List ProcedureContents)
 procedures version = Counted any (λ before. procedure version)
 
 -- ---- modules
@@ -252,7 +252,7 @@ abbrev pub may_start : Option ProcedureContents → Bool
 may_start None = false
 may_start (Some procedure) = procedure.parameters == 0 && is_none procedure.returned
 
-unfoldable pub main : List ProcedureContents → Form ℕ
+unfoldable pub main : List ProcedureContents → ByteFormat ℕ
 main procedures = Checked BadValue (λ number. may_start (slice_get procedures number)) Number
 
 -- the four bytes `FLOB`
@@ -267,21 +267,21 @@ abbrev pub version_number : Version → ℕ
 version_number One = 1
 version_number Two = 2
 
-unfoldable pub version : Form Version
+unfoldable pub version : ByteFormat Version
 version = Named version_of version_number (Checked refused.Version (λ number. number == 1 || number == 2) Number)
 
 -- the globals, the procedures, and the number of the one where a run starts
-unfoldable pub program : Version → Form (List Global × (List ProcedureContents × ℕ))
+unfoldable pub program : Version → ByteFormat (List Global × (List ProcedureContents × ℕ))
 program version = Then globals (λ _. Then (procedures version) main)
 
 -- what stands after the version: the hierarchy, the names of the declared exceptions and the channels, and the program
 abbrev pub FieldsOfVersion : Type 0
 FieldsOfVersion = PrincipalHierarchy × ((List (List ℕ) × List ChannelContents) × (List Global × (List ProcedureContents × ℕ)))
 
-unfoldable pub contents : Version → Form FieldsOfVersion
+unfoldable pub contents : Version → ByteFormat FieldsOfVersion
 contents version = Then hierarchy (λ h. Then (declared (length h.names)) (λ _. program version))
 
-unfoldable pub module_file : Form ModuleContents
+unfoldable pub module_file : ByteFormat ModuleContents
 module_file =
     Marked Magic magic
     (Named

@@ -5,8 +5,9 @@ pub use Rattle.lexer.specs.Words
 pub mod Contents
 pub mod ContentsOf
 pub mod RefusalKinds
-pub mod Form
+pub mod ByteFormat
 pub mod Values
+pub mod Operators
 pub mod Opcodes
 pub mod Code
 pub mod Format

@@ -1,18 +1,18 @@
 ghost use Rattle.modules.specs.Values.{kind_of_slot};
 ghost use Rattle.std.specs.Prelude.{◌≡◌};
 
-use crate::value::ValueKind;
+use common::BaseType;
 
 /// A slot of a frame: a value, or an array of the given number of elements, at least one.
 #[derive(Clone, Copy, Debug, PartialEq, Eq)]
 pub enum Slot {
-    Scalar(ValueKind),
-    Array(ValueKind, u32),
+    Scalar(BaseType),
+    Array(BaseType, u32),
 }
 
 impl Slot {
     /// The kind of the slot's values.
-    pub fn kind(self) -> ValueKind
+    pub fn kind(self) -> BaseType
         ensures { result ≡ kind_of_slot self }
     {
         match self {
@@ -27,7 +27,7 @@ impl Slot {
 pub enum Global {
     Int(i32),
     Boolean(bool),
-    Array(ValueKind, u32),
+    Array(BaseType, u32),
 }
 
 /// An entry of a procedure's handler table: an exception that an instruction raises at an offset from `start` on and before

@@ -3,7 +3,7 @@
 ghost use Rattle.labels.specs.Sent.{pairs_for};
 ghost use Rattle.common.specs.declared.sent.Pair.{Pair};
 ghost use Rattle.modules.specs.Contents.{ModuleContents};
-ghost use Rattle.modules.specs.Form.{Fits, IsCoded};
+ghost use Rattle.modules.specs.ByteFormat.{Fits, IsCoded};
 ghost use Rattle.modules.specs.Format.{module_file};
 ghost use Rattle.modules.specs.Isolated.{IsIsolated, StaysIsolated, channel_label, channel_label_under, module_view};
 ghost use Rattle.modules.specs.Machine.{after_steps};

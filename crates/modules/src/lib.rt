@@ -20,8 +20,10 @@ pub use code::code_length;
 pub use contents::Contents;
 pub use declaration::{Global, Handler, Slot};
 pub use fault::FormatRefusalKind;
-pub use instruction::{Arithmetic, Comparison, Instruction};
+pub use instruction::{
+    Arithmetic, Comparison, Instruction, MachineOperator, OperatorKinds, Storage,
+};
 pub use module::Module;
 pub use procedure::Procedure;
-pub use value::{Cell, ValueKind};
+pub use value::Cell;
 pub use version::Version;

@@ -1,5 +1,5 @@
 ghost use Rattle.modules.specs.ContentsOf.{contents_of};
-ghost use Rattle.modules.specs.Form.{Fits};
+ghost use Rattle.modules.specs.ByteFormat.{Fits};
 ghost use Rattle.modules.specs.Format.{module_file};
 ghost use Rattle.std.specs.Prelude.{map, ◌≡◌};
 ghost use Rattle.std.specs.String.{string_bytes};
@@ -21,7 +21,7 @@ pub struct Module {
 impl Model for Module {
     ghost use Rattle.modules.specs.Contents.{ModuleContents};
     ghost use Rattle.modules.specs.ContentsOf.{contents_of};
-    ghost use Rattle.modules.specs.Form.{Fits};
+    ghost use Rattle.modules.specs.ByteFormat.{Fits};
     ghost use Rattle.modules.specs.Format.{module_file};
 
     ghost Value = { ModuleContents };

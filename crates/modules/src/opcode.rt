@@ -1,7 +1,7 @@
-ghost use Rattle.modules.specs.Opcodes.{arithmetic_opcode, comparison_opcode, examples, flagged, instruction_of, numbered, operand_width, plain, entry_of, width_after, with_opcode};
-ghost use Rattle.std.specs.Prelude.{IfSome, length, ◌<◌, ◌≡◌, ◌≤◌};
+ghost use Rattle.modules.specs.Opcodes.{examples, flagged, instruction_of, numbered, operand_width, operator_opcode, plain, entry_of, width_after, with_opcode};
+ghost use Rattle.std.specs.Prelude.{IfSome, Some, length, ◌<◌, ◌≡◌, ◌≤◌};
 
-use crate::instruction::{Arithmetic, Comparison, Instruction};
+use crate::instruction::{Arithmetic, Comparison, Instruction, MachineOperator, Storage};
 use crate::version::Version;
 use byteorder::{BigEndian, ByteOrder};
 
@@ -90,21 +90,16 @@ pub fn entry_of(instruction: Instruction) -> OpcodeEntry
             operand: Operand::Boolean(flag),
         },
         Instruction::Pop => plain_entry(Version::One, 0x03, "POP"),
-        Instruction::Load(slot) => numbered_entry(0x04, "LOAD", slot),
-        Instruction::Store(slot) => numbered_entry(0x05, "STORE", slot),
-        Instruction::LoadGlobal(slot) => numbered_entry(0x06, "GLOAD", slot),
-        Instruction::StoreGlobal(slot) => numbered_entry(0x07, "GSTORE", slot),
-        Instruction::LoadElement(slot) => numbered_entry(0x08, "ALOAD", slot),
-        Instruction::StoreElement(slot) => numbered_entry(0x09, "ASTORE", slot),
-        Instruction::LoadGlobalElement(slot) => numbered_entry(0x0a, "GALOAD", slot),
-        Instruction::StoreGlobalElement(slot) => numbered_entry(0x0b, "GASTORE", slot),
+        Instruction::Load(Storage::Local, slot) => numbered_entry(0x04, "LOAD", slot),
+        Instruction::Store(Storage::Local, slot) => numbered_entry(0x05, "STORE", slot),
+        Instruction::Load(Storage::Global, slot) => numbered_entry(0x06, "GLOAD", slot),
+        Instruction::Store(Storage::Global, slot) => numbered_entry(0x07, "GSTORE", slot),
+        Instruction::LoadElement(Storage::Local, slot) => numbered_entry(0x08, "ALOAD", slot),
+        Instruction::StoreElement(Storage::Local, slot) => numbered_entry(0x09, "ASTORE", slot),
+        Instruction::LoadElement(Storage::Global, slot) => numbered_entry(0x0a, "GALOAD", slot),
+        Instruction::StoreElement(Storage::Global, slot) => numbered_entry(0x0b, "GASTORE", slot),
         Instruction::Clear(slot) => numbered_entry(0x0c, "CLEAR", slot),
-        Instruction::Compute(operator) => arithmetic_entry(operator),
-        Instruction::Negate => plain_entry(Version::One, 0x15, "NEG"),
-        Instruction::Not => plain_entry(Version::One, 0x16, "NOT"),
-        Instruction::Compare(comparison) => comparison_entry(comparison),
-        Instruction::SameBoolean => plain_entry(Version::One, 0x1d, "BEQ"),
-        Instruction::OtherBoolean => plain_entry(Version::One, 0x1e, "BNE"),
+        Instruction::Operate(operator) => operator_entry(operator),
         Instruction::Jump(target) => numbered_entry(0x20, "JUMP", target),
         Instruction::JumpIfFalse(target) => numbered_entry(0x21, "JFALSE", target),
         Instruction::Call(procedure) => numbered_entry(0x22, "CALL", procedure),
@@ -116,40 +111,36 @@ pub fn entry_of(instruction: Instruction) -> OpcodeEntry
     }
 }
 
-fn arithmetic_entry(operator: Arithmetic) -> OpcodeEntry
-    ensures since { result.since ≡ (arithmetic_opcode operator).0 }
-    ensures byte { result.byte ≡ (arithmetic_opcode operator).1 }
-    ensures name { result.name.now ≡ (arithmetic_opcode operator).2 }
+fn operator_entry(operator: MachineOperator) -> OpcodeEntry
+    ensures since { result.since ≡ (operator_opcode operator).0 }
+    ensures byte { result.byte ≡ (operator_opcode operator).1 }
+    ensures name { result.name.now ≡ (operator_opcode operator).2 }
     ensures operand { result.operand ≡ Operand.Absent }
 {
     match operator {
-        Arithmetic::Add => plain_entry(Version::One, 0x10, "ADD"),
-        Arithmetic::Subtract => plain_entry(Version::One, 0x11, "SUB"),
-        Arithmetic::Multiply => plain_entry(Version::One, 0x12, "MUL"),
-        Arithmetic::Divide => plain_entry(Version::One, 0x13, "DIV"),
-        Arithmetic::Remainder => plain_entry(Version::One, 0x14, "REM"),
-        Arithmetic::BitAnd => plain_entry(Version::Two, 0x28, "AND"),
-        Arithmetic::BitOr => plain_entry(Version::Two, 0x29, "OR"),
-        Arithmetic::BitXor => plain_entry(Version::Two, 0x2a, "XOR"),
-        Arithmetic::ShiftLeft => plain_entry(Version::Two, 0x2b, "SHL"),
-        Arithmetic::ShiftRight => plain_entry(Version::Two, 0x2c, "SHR"),
-        Arithmetic::ShiftRightUnsigned => plain_entry(Version::Two, 0x2d, "USHR"),
-    }
-}
-
-fn comparison_entry(comparison: Comparison) -> OpcodeEntry
-    ensures since { result.since ≡ Version.One }
-    ensures byte { result.byte ≡ (comparison_opcode comparison).0 }
-    ensures name { result.name.now ≡ (comparison_opcode comparison).1 }
-    ensures operand { result.operand ≡ Operand.Absent }
-{
-    match comparison {
-        Comparison::Less => plain_entry(Version::One, 0x17, "LT"),
-        Comparison::AtMost => plain_entry(Version::One, 0x18, "LE"),
-        Comparison::Greater => plain_entry(Version::One, 0x19, "GT"),
-        Comparison::AtLeast => plain_entry(Version::One, 0x1a, "GE"),
-        Comparison::Equal => plain_entry(Version::One, 0x1b, "EQ"),
-        Comparison::NotEqual => plain_entry(Version::One, 0x1c, "NE"),
+        MachineOperator::Compute(Arithmetic::Add) => plain_entry(Version::One, 0x10, "ADD"),
+        MachineOperator::Compute(Arithmetic::Subtract) => plain_entry(Version::One, 0x11, "SUB"),
+        MachineOperator::Compute(Arithmetic::Multiply) => plain_entry(Version::One, 0x12, "MUL"),
+        MachineOperator::Compute(Arithmetic::Divide) => plain_entry(Version::One, 0x13, "DIV"),
+        MachineOperator::Compute(Arithmetic::Remainder) => plain_entry(Version::One, 0x14, "REM"),
+        MachineOperator::Negate => plain_entry(Version::One, 0x15, "NEG"),
+        MachineOperator::Not => plain_entry(Version::One, 0x16, "NOT"),
+        MachineOperator::Compare(Comparison::Less) => plain_entry(Version::One, 0x17, "LT"),
+        MachineOperator::Compare(Comparison::AtMost) => plain_entry(Version::One, 0x18, "LE"),
+        MachineOperator::Compare(Comparison::Greater) => plain_entry(Version::One, 0x19, "GT"),
+        MachineOperator::Compare(Comparison::AtLeast) => plain_entry(Version::One, 0x1a, "GE"),
+        MachineOperator::Compare(Comparison::Equal) => plain_entry(Version::One, 0x1b, "EQ"),
+        MachineOperator::Compare(Comparison::NotEqual) => plain_entry(Version::One, 0x1c, "NE"),
+        MachineOperator::SameBoolean => plain_entry(Version::One, 0x1d, "BEQ"),
+        MachineOperator::OtherBoolean => plain_entry(Version::One, 0x1e, "BNE"),
+        MachineOperator::Compute(Arithmetic::BitAnd) => plain_entry(Version::Two, 0x28, "AND"),
+        MachineOperator::Compute(Arithmetic::BitOr) => plain_entry(Version::Two, 0x29, "OR"),
+        MachineOperator::Compute(Arithmetic::BitXor) => plain_entry(Version::Two, 0x2a, "XOR"),
+        MachineOperator::Compute(Arithmetic::ShiftLeft) => plain_entry(Version::Two, 0x2b, "SHL"),
+        MachineOperator::Compute(Arithmetic::ShiftRight) => plain_entry(Version::Two, 0x2c, "SHR"),
+        MachineOperator::Compute(Arithmetic::ShiftRightUnsigned) => {
+            plain_entry(Version::Two, 0x2d, "USHR")
+        }
     }
 }
 
@@ -159,14 +150,14 @@ pub fn numbered_instruction(opcode: u8, number: u32) -> Option<Instruction>
 {
     match opcode {
         0x01 => Some(Instruction::Push(number.cast_signed())),
-        0x04 => Some(Instruction::Load(number)),
-        0x05 => Some(Instruction::Store(number)),
-        0x06 => Some(Instruction::LoadGlobal(number)),
-        0x07 => Some(Instruction::StoreGlobal(number)),
-        0x08 => Some(Instruction::LoadElement(number)),
-        0x09 => Some(Instruction::StoreElement(number)),
-        0x0a => Some(Instruction::LoadGlobalElement(number)),
-        0x0b => Some(Instruction::StoreGlobalElement(number)),
+        0x04 => Some(Instruction::Load(Storage::Local, number)),
+        0x05 => Some(Instruction::Store(Storage::Local, number)),
+        0x06 => Some(Instruction::Load(Storage::Global, number)),
+        0x07 => Some(Instruction::Store(Storage::Global, number)),
+        0x08 => Some(Instruction::LoadElement(Storage::Local, number)),
+        0x09 => Some(Instruction::StoreElement(Storage::Local, number)),
+        0x0a => Some(Instruction::LoadElement(Storage::Global, number)),
+        0x0b => Some(Instruction::StoreElement(Storage::Global, number)),
         0x0c => Some(Instruction::Clear(number)),
         0x20 => Some(Instruction::Jump(number)),
         0x21 => Some(Instruction::JumpIfFalse(number)),
@@ -178,35 +169,53 @@ pub fn numbered_instruction(opcode: u8, number: u32) -> Option<Instruction>
     }
 }
 
+fn operate(operator: MachineOperator) -> Option<Instruction>
+    ensures { result ≡ Some (Instruction.Operate operator) }
+{
+    Some(Instruction::Operate(operator))
+}
+
+fn compute(operator: Arithmetic) -> Option<Instruction>
+    ensures { result ≡ Some (Instruction.Operate (MachineOperator.Compute operator)) }
+{
+    operate(MachineOperator::Compute(operator))
+}
+
+fn compare(comparison: Comparison) -> Option<Instruction>
+    ensures { result ≡ Some (Instruction.Operate (MachineOperator.Compare comparison)) }
+{
+    operate(MachineOperator::Compare(comparison))
+}
+
 /// The instruction with an opcode that has no operand.
 fn plain_instruction(opcode: u8) -> Option<Instruction>
     ensures { result ≡ with_opcode opcode plain }
 {
     match opcode {
         0x03 => Some(Instruction::Pop),
-        0x10 => Some(Instruction::Compute(Arithmetic::Add)),
-        0x11 => Some(Instruction::Compute(Arithmetic::Subtract)),
-        0x12 => Some(Instruction::Compute(Arithmetic::Multiply)),
-        0x13 => Some(Instruction::Compute(Arithmetic::Divide)),
-        0x14 => Some(Instruction::Compute(Arithmetic::Remainder)),
-        0x15 => Some(Instruction::Negate),
-        0x16 => Some(Instruction::Not),
-        0x17 => Some(Instruction::Compare(Comparison::Less)),
-        0x18 => Some(Instruction::Compare(Comparison::AtMost)),
-        0x19 => Some(Instruction::Compare(Comparison::Greater)),
-        0x1a => Some(Instruction::Compare(Comparison::AtLeast)),
-        0x1b => Some(Instruction::Compare(Comparison::Equal)),
-        0x1c => Some(Instruction::Compare(Comparison::NotEqual)),
-        0x1d => Some(Instruction::SameBoolean),
-        0x1e => Some(Instruction::OtherBoolean),
+        0x10 => compute(Arithmetic::Add),
+        0x11 => compute(Arithmetic::Subtract),
+        0x12 => compute(Arithmetic::Multiply),
+        0x13 => compute(Arithmetic::Divide),
+        0x14 => compute(Arithmetic::Remainder),
+        0x15 => operate(MachineOperator::Negate),
+        0x16 => operate(MachineOperator::Not),
+        0x17 => compare(Comparison::Less),
+        0x18 => compare(Comparison::AtMost),
+        0x19 => compare(Comparison::Greater),
+        0x1a => compare(Comparison::AtLeast),
+        0x1b => compare(Comparison::Equal),
+        0x1c => compare(Comparison::NotEqual),
+        0x1d => operate(MachineOperator::SameBoolean),
+        0x1e => operate(MachineOperator::OtherBoolean),
         0x23 => Some(Instruction::Return),
         0x24 => Some(Instruction::ReturnValue),
-        0x28 => Some(Instruction::Compute(Arithmetic::BitAnd)),
-        0x29 => Some(Instruction::Compute(Arithmetic::BitOr)),
-        0x2a => Some(Instruction::Compute(Arithmetic::BitXor)),
-        0x2b => Some(Instruction::Compute(Arithmetic::ShiftLeft)),
-        0x2c => Some(Instruction::Compute(Arithmetic::ShiftRight)),
-        0x2d => Some(Instruction::Compute(Arithmetic::ShiftRightUnsigned)),
+        0x28 => compute(Arithmetic::BitAnd),
+        0x29 => compute(Arithmetic::BitOr),
+        0x2a => compute(Arithmetic::BitXor),
+        0x2b => compute(Arithmetic::ShiftLeft),
+        0x2c => compute(Arithmetic::ShiftRight),
+        0x2d => compute(Arithmetic::ShiftRightUnsigned),
         _ => None,
     }
 }

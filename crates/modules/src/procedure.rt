@@ -3,13 +3,13 @@ ghost use Rattle.std.specs.Prelude.{◌≡◌};
 
 use crate::declaration::{Handler, Slot};
 use crate::instruction::Instruction;
-use crate::value::ValueKind;
+use common::BaseType;
 use std::marker::Model;
 
 /// A procedure of a module.
 #[derive(Debug, Drop)]
 pub struct Procedure {
-    returned: Option<ValueKind>,
+    returned: Option<BaseType>,
     parameters: u32,
     slots: Vec<Slot>,
     code: Vec<Instruction>,
@@ -34,7 +34,7 @@ impl Procedure {
     /// The procedure of the given fields: the kind of value that it returns, how many of its first slots are parameters,
     /// the slots of a frame, the code, and the handlers in the order in which they are looked at.
     pub fn new(
-        returned: Option<ValueKind>,
+        returned: Option<BaseType>,
         parameters: u32,
         slots: Vec<Slot>,
         code: Vec<Instruction>,
@@ -58,7 +58,7 @@ impl Procedure {
     }
 
     /// The kind of value that the procedure returns, or none.
-    pub fn returned(&self) -> Option<ValueKind>
+    pub fn returned(&self) -> Option<BaseType>
         ensures { result ≡ self.now.returned }
     {
         self.returned

@@ -6,7 +6,8 @@ use Rattle.lexer.specs.declared.token.Kind.TheVariants as kinds
 use Rattle.syntax.specs.declared.tree.BinaryOperator.{BinaryOperator}
 use Rattle.syntax.specs.declared.line.Line.{Line}
 use Rattle.syntax.specs.Form.{Form, level, only}
-use Rattle.syntax.specs.Grammar.{optional, chain, chains, lines, after_line, others_of, grouped, name, index, integer, variable, parenthesised, primary, signed, unary, expression, variable_tree, operand_of, arguments, some}
+use Rattle.syntax.specs.Grammar.{optional, chains, lines, after_line, others_of, grouped, name, index, integer, primary, unary, expression, variable_tree, arguments, some}
+use Rattle.parser.specs.Parts.{chain, variable, parenthesised, signed, operand_of}
 use Rattle.syntax.specs.Nesting.{IsNestedExpression}
 use Rattle.syntax.specs.Nodes.{expression_nodes}
 use Rattle.syntax.specs.Symbol.{Expression, Arguments}
@@ -145,7 +146,7 @@ module _ (fits : ℕ → Type 0) (word : List ℕ → Type 0) (number : ℕ → 
         subst (λ t. Fitted t k) (sym e) (record { written = (one.0, one.1); few = omega (arith, one.2); nested = tt })
 
     primary_fits : (tree : ExpressionTree) (k : ℕ) → Having primary tree k → Fitted tree k
-    unfolding primary
+    unfolding primary variable parenthesised
     primary_fits tree k h = elim h [
       | inl one ↦ integer_tree_fits tree k one.0 one.1 one.2
       | inr h ↦ elim h [
@@ -157,7 +158,7 @@ module _ (fits : ℕ → Type 0) (word : List ℕ → Type 0) (number : ℕ → 
     ]
 
     unary_fits : (tree : ExpressionTree) (k : ℕ) → Having unary tree k → Fitted tree k
-    unfolding unary
+    unfolding unary signed
     unary_fits tree k h = elim h [ inl one ↦ signed_fits tree k one | inr one ↦ primary_fits tree k one ]
 
     chains_fit : (list : List Line) (tree : ExpressionTree) (k : ℕ) → Having (chains list unary) tree k → Fitted tree k

@@ -6,7 +6,8 @@ use Rattle.std.proofs.lemmas.List.Elements.{All-nil}
 use Rattle.lexer.specs.declared.token.Kind.TheVariants as kinds
 use Rattle.common.specs.declared.direction.Direction.{Direction}
 use Rattle.syntax.specs.Form.{Form, many, ◌·◌}
-use Rattle.syntax.specs.Grammar.{at, key, ◌◂◌, base, name, label, direction, channel, exception, negative_constant, constant, global_value, global, valued, written_result, parameter, thrown, some_throws, throws, procedure, item, program, optional, some, ◌▸◌, thrown_list}
+use Rattle.syntax.specs.Grammar.{at, key, ◌◂◌, base, name, label, direction, channel, exception, constant, global_value, global, written_result, parameter, thrown, throws, procedure, item, program, optional, some, ◌▸◌}
+use Rattle.parser.specs.Parts.{negative_constant, valued, some_throws, thrown_list}
 use Rattle.syntax.specs.Nesting.{IsNestedItem, IsNested}
 use Rattle.syntax.specs.Nodes.{optional_label_nodes, written_result_nodes, parameter_nodes, thrown_nodes, item_nodes, program_nodes}
 use Rattle.syntax.specs.Tree.{LabelTree, ConstantTree, GlobalValueTree, WrittenResultTree, ParameterTree, ThrownTree, ItemTree, ProgramTree}
@@ -177,7 +178,7 @@ module _ (fits : ℕ → Type 0) (word : List ℕ → Type 0) (number : ℕ → 
       subst (λ list. FitThrows list k) (sym h.2) (record { written = list.written; few = omega (arith, list.few, both.4, close.2); nested = list.nested })
 
   throws_fit : (trees : List ThrownTree) (k : ℕ) → Having throws trees k → FitThrows trees k
-  unfolding throws
+  unfolding throws some_throws thrown_list
   throws_fit trees k (inl h) = some_throws_fit trees k h
   throws_fit trees k (inr h) =
       subst (λ list. FitThrows list k) (sym h.0) (record { written = All-nil (IsWrittenThrown fits word number); few = omega arith; nested = All-nil Nothing })

@@ -6,9 +6,10 @@ use Rattle.std.proofs.lemmas.List.Sums.{sum_by-cons}
 use Rattle.std.proofs.lemmas.Option.{cond_some}
 use Rattle.lexer.specs.declared.token.Kind.{Kind}
 use Rattle.lexer.specs.declared.token.Kind.TheVariants as kinds
-use Rattle.syntax.specs.declared.tree.BaseType.{BaseType}
+use Rattle.common.specs.declared.base_type.BaseType.{BaseType}
 use Rattle.syntax.specs.Form.{Form, ◌·◌, only, shape, same_kind}
-use Rattle.syntax.specs.Grammar.{at, ◌▸◌, name, component, label, base, integer, truth, size, optional, some, readers}
+use Rattle.syntax.specs.Grammar.{at, ◌▸◌, name, component, label, base, integer, truth, size, optional, some}
+use Rattle.parser.specs.Parts.{readers}
 use Rattle.syntax.specs.Nodes.{component_nodes, label_nodes, optional_label_nodes}
 use Rattle.syntax.specs.Tree.{NameTree, ComponentTree, component_of, LabelTree, SizeTree}
 use Rattle.syntax.specs.Written.{IsWrittenName, IsWrittenComponent, IsWrittenLabel, IsWrittenOptionalLabel, IsWrittenSize}
@@ -70,7 +71,7 @@ module _ (fits : ℕ → Type 0) (word : List ℕ → Type 0) (number : ℕ → 
       })
 
   component_fits : (tree : ComponentTree) (k : ℕ) → Having component tree k → FitComponent tree k
-  unfolding component
+  unfolding component readers
   component_fits tree k h =
       let both = h.1 in
       subst (λ t. FitComponent t k) (sym h.2) (subst (FitComponent (component_of h.0.0 h.0.1)) (sym both.4) (with_readers h.0.0 h.0.1 both.0 both.1 (name_fits h.0.0 both.0 both.2) both.3))

@@ -4,11 +4,12 @@ use Rattle.std.specs.Prelude.{Option, None, Some}
 use Rattle.lexer.specs.declared.token.Kind.{Kind}
 use Rattle.lexer.specs.declared.token.Kind.TheVariants as kinds
 use Rattle.syntax.specs.Form.{Form, level, ◌·◌, only, ◌gives◌}
-use Rattle.syntax.specs.Grammar.{at, ◌▸◌, ◌◂◌, base, name, index, expression, call, right, size, declare, declare_array, assign, assign_element, call_statement, block, condition, catch, catches, receive, send, conditional, while_statement, break_statement, continue_statement, throw_statement, return_statement, attempt, statement, production, optional, label}
+use Rattle.syntax.specs.Grammar.{at, ◌▸◌, ◌◂◌, base, name, index, expression, call, right, size, block, condition, catch, statement, production, optional, label}
+use Rattle.parser.specs.Parts.{operand_of, declare, declare_array, assign, assign_element, call_statement, catches, receive, send, conditional, while_statement, break_statement, continue_statement, throw_statement, return_statement, attempt, CatchTree}
 use Rattle.syntax.specs.Nesting.{IsNestedExpression, IsNestedOptionalExpression, IsNestedCall, IsNestedRight, IsNestedStatement, IsNestedBlock, AreNestedCatches}
 use Rattle.syntax.specs.Nodes.{expression_nodes, optional_expression_nodes, call_nodes, right_nodes, statement_nodes, block_nodes, catches_nodes}
 use Rattle.syntax.specs.Symbol.{Symbol, Expression, Unary, Operands, Arguments, Statements, tree_of}
-use Rattle.syntax.specs.Tree.{NameTree, ExpressionTree, CallTree, RightTree, StatementTree, BlockTree, CatchTree, if_tree, catches_of, NestedTree}
+use Rattle.syntax.specs.Tree.{NameTree, ExpressionTree, CallTree, RightTree, StatementTree, BlockTree, if_tree, catches_of, NestedTree}
 use Rattle.syntax.specs.Written.{IsWrittenName, IsWrittenExpression, IsWrittenOptionalExpression, IsWrittenCall, IsWrittenRight, IsWrittenStatement, IsWrittenBlock, AreWrittenCatches}
 use Rattle.parser.proofs.Holds.{Each}
 use Rattle.parser.proofs.Fits.{Fit, Fits, Has, FitStatements, from_at, from_after, from_before}
@@ -287,7 +288,7 @@ module _ (fits : ℕ → Type 0) (word : List ℕ → Type 0) (number : ℕ → 
 
   abbrev FitCatch : CatchTree → ℕ → Type 0
   FitCatch tree k =
-      Fit (fits tree.at × IsWrittenName fits word number tree.exception × IsWrittenBlock fits word number tree.body) (2 + block_nodes tree.body) (IsNestedBlock room tree.body) k
+      Fit (fits tree.0 × IsWrittenName fits word number tree.1 × IsWrittenBlock fits word number tree.2) (2 + block_nodes tree.2) (IsNestedBlock room tree.2) k
 
   catch_fits : (tree : CatchTree) (k : ℕ) → Having catch tree k → FitCatch tree k
   unfolding catch
@@ -346,7 +347,7 @@ module _ (fits : ℕ → Type 0) (word : List ℕ → Type 0) (number : ℕ → 
       subst (λ t. FitStatement t k) (sym h.2) (record { written = body.written; few = body.few; nested = body.nested })
 
   statement_fits : (tree : StatementTree) (k : ℕ) → Having statement tree k → FitStatement tree k
-  unfolding statement
+  unfolding statement declare declare_array assign assign_element call_statement receive send conditional while_statement break_statement continue_statement throw_statement return_statement catches attempt
   statement_fits tree k h = elim h [
     | inl one ↦ declare_fits tree k one
     | inr h ↦ elim h [
@@ -401,7 +402,7 @@ module _ (fits : ℕ → Type 0) (word : List ℕ → Type 0) (number : ℕ → 
 
 -- what holds of each symbol's form holds of the symbol
 pub symbols_fit : (fits : ℕ → Type 0) (word : List ℕ → Type 0) (number : ℕ → Type 0) (symbol : Symbol) (room : ℕ) (tree : tree_of symbol) (k : ℕ) → Has fits word number room (production symbol) tree k → Fits fits word number symbol room tree k
-unfolding production
+unfolding production operand_of
 symbols_fit fits word number Expression room tree k h = expression_fits fits word number room tree k h
 symbols_fit fits word number Unary room tree k h = unary_symbol_fits fits word number room tree k h
 symbols_fit fits word number (Operands line) room tree k h =

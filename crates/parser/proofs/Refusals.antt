@@ -6,7 +6,7 @@ use Rattle.parser.specs.declared.fault.ParseRefusal.{ParseRefusal}
 use Rattle.parser.specs.declared.fault.ParseRefusalKind.{ParseRefusalKind}
 use Rattle.parser.specs.declared.fault.ParseRefusalKind.TheVariants.{UnexpectedToken, TooDeep}
 use Rattle.parser.specs.Reading.{read}
-use Rattle.parser.specs.Refusal.{IsPrefixWithin, IsPrefixOfProgram, IsRefusedFor, AreTokensRefused}
+use Rattle.parser.specs.Refusal.{IsPrefixWithin, IsPrefixOfProgram, AreTokensRefusedFor, AreTokensRefused}
 use Rattle.syntax.specs.Grammar.{SpellsProgram, SpellsBut, program}
 use Rattle.syntax.specs.Tree.{ProgramTree}
 use Rattle.parser.proofs.Growing.{grows}
@@ -50,7 +50,7 @@ order (first ∷ a) x b (other ∷ c) y d e =
     longer first other a x c y (same_heads first other (a ++ x ∷ b) (c ++ y ∷ d) e) (order a x b c y d (same_tails first other (a ++ x ∷ b) (c ++ y ∷ d) e))
 
 -- what is refused at its last token begins no program within the levels
-none_within : (kind : ParseRefusalKind) (tokens : List Terminal) → IsRefusedFor kind tokens → IsPrefixWithin tokens → ⊥
+none_within : (kind : ParseRefusalKind) (tokens : List Terminal) → AreTokensRefusedFor kind tokens → IsPrefixWithin tokens → ⊥
 none_within UnexpectedToken tokens refused b = refused (within_prefix tokens b)
 none_within TooDeep tokens refused b = refused.1 b
 
@@ -61,7 +61,7 @@ same_front : (a c : List Terminal) (x y : Terminal) → a ≡ c → x ≡ y → 
 same_front a c x y e f = ap (λ list. up_to list x) e ∙ ap (up_to c) f
 
 -- no token is both unexpected and too deep
-one_kind : (kind other : ParseRefusalKind) (front next : List Terminal) → front ≡ next → IsRefusedFor kind front → IsRefusedFor other next → kind ≡ other
+one_kind : (kind other : ParseRefusalKind) (front next : List Terminal) → front ≡ next → AreTokensRefusedFor kind front → AreTokensRefusedFor other next → kind ≡ other
 one_kind UnexpectedToken UnexpectedToken front next e r s = refl
 one_kind UnexpectedToken TooDeep front next e r s = absurd (r (subst IsPrefixOfProgram (sym e) s.0))
 one_kind TooDeep UnexpectedToken front next e r s = absurd (s (subst IsPrefixOfProgram e r.0))

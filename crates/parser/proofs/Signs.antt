@@ -1,35 +1,63 @@
--- The grammar leaves nothing out.
-use Rattle.std.proofs.Common.{◌≡◌, Bool, true, false, refl}
-use Rattle.std.specs.Prelude.{Some}
-use Rattle.std.specs.List.{list_any}
+-- The grammar leaves nothing out, and its tables give what the code does.
+use Rattle.std.proofs.Common.{◌≡◌, [], ◌∷◌, Bool, true, false, refl, arith}
+use Rattle.std.specs.Prelude.{Option, Some, Contains}
 use Rattle.lexer.specs.declared.token.Kind.{Kind}
 use Rattle.lexer.specs.declared.token.Kind.TheVariants as kinds
+use Rattle.lexer.specs.Terminal.{Terminal}
 use Rattle.common.specs.declared.direction.Direction.{Direction}
 use Rattle.common.specs.declared.direction.Direction.TheVariants as directions
 use Rattle.syntax.specs.declared.line.Line.{Line}
 use Rattle.syntax.specs.declared.line.Line.TheVariants as the_lines
-use Rattle.syntax.specs.declared.tree.BaseType.{BaseType}
-use Rattle.syntax.specs.declared.tree.BaseType.TheVariants as bases
+use Rattle.common.specs.declared.base_type.BaseType.{BaseType}
+use Rattle.common.specs.declared.base_type.BaseType.TheVariants as bases
 use Rattle.syntax.specs.declared.tree.BinaryOperator.{BinaryOperator}
 use Rattle.syntax.specs.declared.tree.BinaryOperator.TheVariants as operators
 use Rattle.syntax.specs.declared.tree.UnaryOperator.{UnaryOperator}
 use Rattle.syntax.specs.declared.tree.UnaryOperator.TheVariants as unary_operators
-use Rattle.syntax.specs.Grammar.{base_of, direction_of, truth_of, sign_of, operator_of, lines, same_line}
-use Rattle.syntax.specs.Laws.{EachIsThere}
+use Rattle.syntax.specs.Form.{one_of, ◌gives◌, shape, table, same_kind}
+use Rattle.syntax.specs.Grammar.{base, direction, truth, signs, operators_of, lines}
+use Rattle.syntax.specs.Laws.{EachIsThere, SpellsAlone}
+use Rattle.parser.specs.Parts.{operator_of}
+use Rattle.parser.specs.Reading.{operator_by}
 
-line_there : (line : Line) → list_any (same_line line) lines ≡ true
-line_there the_lines.Product = refl
-line_there the_lines.Sum = refl
-line_there the_lines.Shift = refl
-line_there the_lines.Relation = refl
-line_there the_lines.Equality = refl
-line_there the_lines.BitAnd = refl
-line_there the_lines.BitXor = refl
-line_there the_lines.BitOr = refl
-line_there the_lines.Conjunction = refl
-line_there the_lines.Disjunction = refl
+-- the operator of a line by its sign, as the code finds it
+pub operator_meant : (line : Line) (kind : Kind) → operator_of line kind ≡ operator_by line kind
+unfolding same_kind
+operator_meant the_lines.Product kinds.End = refl
+operator_meant the_lines.Product _ = refl
+operator_meant the_lines.Sum kinds.End = refl
+operator_meant the_lines.Sum _ = refl
+operator_meant the_lines.Shift kinds.End = refl
+operator_meant the_lines.Shift _ = refl
+operator_meant the_lines.Relation kinds.End = refl
+operator_meant the_lines.Relation _ = refl
+operator_meant the_lines.Equality kinds.End = refl
+operator_meant the_lines.Equality _ = refl
+operator_meant the_lines.BitAnd kinds.End = refl
+operator_meant the_lines.BitAnd _ = refl
+operator_meant the_lines.BitXor kinds.End = refl
+operator_meant the_lines.BitXor _ = refl
+operator_meant the_lines.BitOr kinds.End = refl
+operator_meant the_lines.BitOr _ = refl
+operator_meant the_lines.Conjunction kinds.End = refl
+operator_meant the_lines.Conjunction _ = refl
+operator_meant the_lines.Disjunction kinds.End = refl
+operator_meant the_lines.Disjunction _ = refl
 
-binary_there : (operator : BinaryOperator) → (line : Line) × (kind : Kind) × (operator_of line kind ≡ Some operator)
+line_there : (line : Line) → Contains lines line
+line_there the_lines.Product = (9, omega arith, refl)
+line_there the_lines.Sum = (8, omega arith, refl)
+line_there the_lines.Shift = (7, omega arith, refl)
+line_there the_lines.Relation = (6, omega arith, refl)
+line_there the_lines.Equality = (5, omega arith, refl)
+line_there the_lines.BitAnd = (4, omega arith, refl)
+line_there the_lines.BitXor = (3, omega arith, refl)
+line_there the_lines.BitOr = (2, omega arith, refl)
+line_there the_lines.Conjunction = (1, omega arith, refl)
+line_there the_lines.Disjunction = (0, omega arith, refl)
+
+binary_there : (operator : BinaryOperator) → (line : Line) × (kind : Kind) × (table (operators_of line) kind ≡ Some operator)
+unfolding same_kind
 binary_there operators.Multiply = (the_lines.Product, kinds.Star, refl)
 binary_there operators.Divide = (the_lines.Product, kinds.Slash, refl)
 binary_there operators.Remainder = (the_lines.Product, kinds.Percent, refl)
@@ -50,21 +78,34 @@ binary_there operators.BitOr = (the_lines.BitOr, kinds.BitOr, refl)
 binary_there operators.And = (the_lines.Conjunction, kinds.And, refl)
 binary_there operators.Or = (the_lines.Disjunction, kinds.Or, refl)
 
-unary_there : (operator : UnaryOperator) → (kind : Kind) × (sign_of kind ≡ Some operator)
+unary_there : (operator : UnaryOperator) → (kind : Kind) × (table signs kind ≡ Some operator)
+unfolding same_kind
 unary_there unary_operators.Negate = (kinds.Minus, refl)
 unary_there unary_operators.Not = (kinds.Not, refl)
 
-base_there : (base : BaseType) → (kind : Kind) × (base_of kind ≡ Some base)
-base_there bases.Int = (kinds.Int, refl)
-base_there bases.Boolean = (kinds.Boolean, refl)
+-- a token of a kind, of which nothing else counts
+abbrev token_of : Kind → Terminal
+token_of kind = record { kind = kind; text = []; start = 0; end = 0 }
 
-truth_there : (value : Bool) → (kind : Kind) × (truth_of kind ≡ Some value)
-truth_there true = (kinds.True, refl)
-truth_there false = (kinds.False, refl)
+-- it spells what its kind means
+alone : {A : Type 0} (meaning : Kind → Option A) (kind : Kind) (tree : A) → meaning (shape kind) ≡ Some tree → SpellsAlone (one_of meaning gives λ (word, tree). (word.start, tree)) (token_of kind) tree
+alone meaning kind tree means =
+    (0, record { value = (token_of kind, tree); spelled = record { stands = refl; means = means }; tree_is = refl })
 
-direction_there : (direction : Direction) → (kind : Kind) × (direction_of kind ≡ Some direction)
-direction_there directions.Input = (kinds.Input, refl)
-direction_there directions.Output = (kinds.Output, refl)
+base_there : (tree : BaseType) → (token : Terminal) × SpellsAlone base token tree
+unfolding same_kind base
+base_there bases.Int = (token_of kinds.Int, alone (table ((kinds.Int, bases.Int) ∷ (kinds.Boolean, bases.Boolean) ∷ [])) kinds.Int bases.Int refl)
+base_there bases.Boolean = (token_of kinds.Boolean, alone (table ((kinds.Int, bases.Int) ∷ (kinds.Boolean, bases.Boolean) ∷ [])) kinds.Boolean bases.Boolean refl)
+
+truth_there : (tree : Bool) → (token : Terminal) × SpellsAlone truth token tree
+unfolding same_kind truth
+truth_there true = (token_of kinds.True, alone (table ((kinds.True, true) ∷ (kinds.False, false) ∷ [])) kinds.True true refl)
+truth_there false = (token_of kinds.False, alone (table ((kinds.True, true) ∷ (kinds.False, false) ∷ [])) kinds.False false refl)
+
+direction_there : (tree : Direction) → (token : Terminal) × SpellsAlone direction token tree
+unfolding same_kind direction
+direction_there directions.Input = (token_of kinds.Input, alone (table ((kinds.Input, directions.Input) ∷ (kinds.Output, directions.Output) ∷ [])) kinds.Input directions.Input refl)
+direction_there directions.Output = (token_of kinds.Output, alone (table ((kinds.Input, directions.Input) ∷ (kinds.Output, directions.Output) ∷ [])) kinds.Output directions.Output refl)
 
 pub each_there : EachIsThere
 each_there = record {

@@ -3,9 +3,10 @@
 -- Source: left factoring.
 use Rattle.std.specs.Prelude.{ℕ, List, Option}
 use Rattle.lexer.specs.declared.token.Kind.TheVariants as kinds
-use Rattle.syntax.specs.declared.tree.BaseType.{BaseType}
+use Rattle.common.specs.declared.base_type.BaseType.{BaseType}
 use Rattle.syntax.specs.Form.{Form, ◌·◌, ◌or◌, ◌gives◌}
-use Rattle.syntax.specs.Grammar.{◌▸◌, ◌◂◌, base, label, name, size, index, expression, arguments, receive, send, conditional, while_statement, break_statement, continue_statement, throw_statement, return_statement, attempt, optional, block}
+use Rattle.syntax.specs.Grammar.{◌▸◌, ◌◂◌, base, label, name, size, index, expression, arguments, optional, block}
+use Rattle.parser.specs.Parts.{receive, send, conditional, while_statement, break_statement, continue_statement, throw_statement, return_statement, attempt}
 use Rattle.syntax.specs.Tree.{NameTree, LabelTree, ExpressionTree, RightTree, SizeTree, StatementTree, DeclareTree, DeclareArrayTree, AssignTree, AssignElementTree, CallTree', NestedTree}
 
 -- what stands after the name of a local, and after the name that a statement begins with

@@ -18,5 +18,5 @@ abbrev pub IsNotSpelledAndRefused : Type 0
 IsNotSpelledAndRefused = (tokens : List Terminal) (tree : ProgramTree) (refusal : ParseRefusal) → SpellsProgram tokens tree → AreTokensRefused tokens refusal → ⊥
 
 -- tokens are refused for one reason at most, at one token
-abbrev pub HasOneRefusal : Type 0
-HasOneRefusal = (tokens : List Terminal) (refusal other : ParseRefusal) → AreTokensRefused tokens refusal → AreTokensRefused tokens other → refusal ≡ other
+abbrev pub TokensHaveOneRefusal : Type 0
+TokensHaveOneRefusal = (tokens : List Terminal) (refusal other : ParseRefusal) → AreTokensRefused tokens refusal → AreTokensRefused tokens other → refusal ≡ other

@@ -6,5 +6,6 @@ pub use Rattle.syntax.specs.Tree
 pub mod RefusalKinds
 pub mod Laws
 pub mod Factored
+pub mod Parts
 pub mod Reading
 pub mod Refusal

@@ -2,7 +2,8 @@ ghost use Rattle.std.specs.Prelude.{◌≡◌, ℕ, map};
 ghost use Rattle.lexer.specs.Terminal.{terminals_of};
 ghost use Rattle.lexer.specs.declared.token.Kind.TheVariants.{Comma, Assign, Colon, Minus};
 ghost use Rattle.syntax.specs.Form.{many, ◌·◌, ◌gives◌};
-ghost use Rattle.syntax.specs.Grammar.{constant, negative_constant, global_value, channel, exception, global, written_result, parameter, thrown, throws, some_throws, procedure, direction, valued, item, label, separated, ◌▸◌, optional, some, thrown_list};
+ghost use Rattle.syntax.specs.Grammar.{constant, global_value, channel, exception, global, written_result, parameter, thrown, throws, procedure, direction, item, label, separated, ◌▸◌, optional, some};
+ghost use Rattle.parser.specs.Parts.{negative_constant, some_throws, valued, thrown_list};
 ghost use Rattle.syntax.specs.Tree.{label_tree, optional_label_tree, constant_tree, global_value_tree, written_result_tree, parameter_tree, thrown_tree, item_tree};
 ghost use Rattle.parser.specs.Reading.{IsRead, read, kind_at, begins_item};
 
@@ -17,7 +18,7 @@ use syntax::{
 };
 
 impl<'t, 'a> Parser<'t, 'a> {
-    #[tactic(auto, unfolding(syntax::specs::Grammar::negative_constant, crate::specs::Reading::read))]
+    #[tactic(auto, unfolding(crate::specs::Parts::negative_constant, crate::specs::Reading::read))]
     fn parse_negative_constant(&mut self) -> Result<Constant, ParseFault>
         ensures { (room : ℕ) → IsRead constant_tree result self.new.rest.now
             (read room negative_constant (terminals_of self.old.rest.now)) }
@@ -159,7 +160,7 @@ impl<'t, 'a> Parser<'t, 'a> {
         }))
     }
 
-    #[tactic(auto, unfolding(syntax::specs::Grammar::valued, crate::specs::Reading::read))]
+    #[tactic(auto, unfolding(crate::specs::Parts::valued, crate::specs::Reading::read))]
     fn parse_valued_result(&mut self) -> Result<(usize, WrittenResult<'a>), ParseFault>
         ensures { (room : ℕ) → IsRead (λ found. (found.0, written_result_tree found.1)) result
             self.new.rest.now (read room valued (terminals_of self.old.rest.now)) }
@@ -288,7 +289,7 @@ impl<'t, 'a> Parser<'t, 'a> {
         Ok(list)
     }
 
-    #[tactic(auto, unfolding(syntax::specs::Grammar::some_throws, crate::specs::Reading::read))]
+    #[tactic(auto, unfolding(crate::specs::Parts::some_throws, crate::specs::Reading::read))]
     fn parse_some_throws(&mut self) -> Result<Vec<Thrown<'a>>, ParseFault>
         ensures { (room : ℕ) → IsRead (λ list. map thrown_tree list.items) result self.new.rest.now
             (read room some_throws (terminals_of self.old.rest.now)) }
@@ -370,7 +371,8 @@ impl<'t, 'a> Parser<'t, 'a> {
         ensures { IsRead (λ list. map item_tree list.items) result self.new.rest.now
             (read MAX_LEVELS (many item) (terminals_of self.old.rest.now)) }
     {
-        let mut items = Vec::new(self.alloc);
+        // Most items have more tokens than this.
+        let mut items = Vec::with_capacity(self.alloc, self.rest.len() / 64)?;
         while self.is_at_item() {
             let item = self.parse_item()?;
             items.push(item)?;

@@ -5,7 +5,7 @@ ghost use Rattle.syntax.specs.Grammar.{SpellsProgram, program};
 ghost use Rattle.syntax.specs.Laws.{SpellsOneTree, SpelledIsTerminated, SpelledHasFewNodes, SpelledIsNested, SpelledIsWritten, EachIsThere};
 ghost use Rattle.syntax.specs.Nodes.{program_nodes};
 ghost use Rattle.syntax.specs.Tree.{ProgramTree, program_tree};
-ghost use Rattle.parser.specs.Laws.{IsSpelledOrRefused, IsNotSpelledAndRefused, HasOneRefusal};
+ghost use Rattle.parser.specs.Laws.{IsSpelledOrRefused, IsNotSpelledAndRefused, TokensHaveOneRefusal};
 ghost use Rattle.parser.specs.Reading.{IsRead, read};
 ghost use Rattle.parser.specs.Refusal.{AreTokensRefused};
 
@@ -82,5 +82,5 @@ pub fn one_reading()
     ensures spelled_or_refused { IsSpelledOrRefused }
     ensures one_tree { SpellsOneTree }
     ensures not_both { IsNotSpelledAndRefused }
-    ensures one_refusal { HasOneRefusal }
+    ensures one_refusal { TokensHaveOneRefusal }
 {}

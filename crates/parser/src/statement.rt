@@ -2,7 +2,8 @@ ghost use Rattle.std.specs.Prelude.{◌≡◌, ◌++◌, ◌∷◌, [], ℕ, OnO
 ghost use Rattle.lexer.specs.Terminal.{terminals_of};
 ghost use Rattle.lexer.specs.declared.token.Kind.TheVariants.{Comma, Else, Assign, OpenParenthesis};
 ghost use Rattle.syntax.specs.Form.{many, ◌·◌, ◌gives◌};
-ghost use Rattle.syntax.specs.Grammar.{expression, arguments, integer, condition, size, receive, send, conditional, while_statement, break_statement, continue_statement, throw_statement, return_statement, attempt, block, catch, catches, index, separated, ◌▸◌, ◌◂◌, optional, some};
+ghost use Rattle.syntax.specs.Grammar.{expression, arguments, integer, condition, size, block, catch, index, separated, ◌▸◌, ◌◂◌, optional, some};
+ghost use Rattle.parser.specs.Parts.{receive, send, conditional, while_statement, break_statement, continue_statement, throw_statement, return_statement, attempt, catches};
 ghost use Rattle.syntax.specs.Tree.{name_tree, optional_label_tree, expression_tree, optional_expression_tree, right_tree, size_tree, statement_tree, block_tree, optional_block_tree, catch_tree, NestedTree};
 ghost use Rattle.parser.specs.Factored.{AtIndexTree};
 ghost use Rattle.parser.specs.Reading.{IsRead, read, maps, right_read, right_after, is_at, first_read, first_tree, after_read, after_tree, declare_read, named_read, statement_read, begins_statement, begins_expression, kind_at};
@@ -83,7 +84,7 @@ impl<'t, 'a> Parser<'t, 'a> {
         Ok(condition)
     }
 
-    #[tactic(auto, unfolding(syntax::specs::Grammar::receive, crate::specs::Reading::read))]
+    #[tactic(auto, unfolding(crate::specs::Parts::receive, crate::specs::Reading::read))]
     fn parse_receive(&mut self) -> Result<Statement<'a>, ParseFault>
         ensures { (room : ℕ) → IsRead statement_tree result self.new.rest.now
             (read room receive (terminals_of self.old.rest.now)) }
@@ -97,7 +98,7 @@ impl<'t, 'a> Parser<'t, 'a> {
         })
     }
 
-    #[tactic(auto, unfolding(syntax::specs::Grammar::send, crate::specs::Reading::read))]
+    #[tactic(auto, unfolding(crate::specs::Parts::send, crate::specs::Reading::read))]
     fn parse_send(&mut self, room: u32) -> Result<Statement<'a>, ParseFault>
         ensures { IsRead statement_tree result self.new.rest.now
             (read room send (terminals_of self.old.rest.now)) }
@@ -114,7 +115,7 @@ impl<'t, 'a> Parser<'t, 'a> {
         })
     }
 
-    #[tactic(auto, unfolding(syntax::specs::Grammar::break_statement, crate::specs::Reading::read))]
+    #[tactic(auto, unfolding(crate::specs::Parts::break_statement, crate::specs::Reading::read))]
     fn parse_break(&mut self) -> Result<Statement<'a>, ParseFault>
         ensures { (room : ℕ) → IsRead statement_tree result self.new.rest.now
             (read room break_statement (terminals_of self.old.rest.now)) }
@@ -124,7 +125,7 @@ impl<'t, 'a> Parser<'t, 'a> {
         Ok(Statement::Break { at: token.start })
     }
 
-    #[tactic(auto, unfolding(syntax::specs::Grammar::throw_statement, crate::specs::Reading::read))]
+    #[tactic(auto, unfolding(crate::specs::Parts::throw_statement, crate::specs::Reading::read))]
     fn parse_throw(&mut self) -> Result<Statement<'a>, ParseFault>
         ensures { (room : ℕ) → IsRead statement_tree result self.new.rest.now
             (read room throw_statement (terminals_of self.old.rest.now)) }
@@ -138,7 +139,7 @@ impl<'t, 'a> Parser<'t, 'a> {
         })
     }
 
-    #[tactic(auto, unfolding(syntax::specs::Grammar::continue_statement, crate::specs::Reading::read))]
+    #[tactic(auto, unfolding(crate::specs::Parts::continue_statement, crate::specs::Reading::read))]
     fn parse_continue(&mut self) -> Result<Statement<'a>, ParseFault>
         ensures { (room : ℕ) → IsRead statement_tree result self.new.rest.now
             (read room continue_statement (terminals_of self.old.rest.now)) }
@@ -175,7 +176,7 @@ impl<'t, 'a> Parser<'t, 'a> {
         Ok(None)
     }
 
-    #[tactic(auto, unfolding(syntax::specs::Grammar::return_statement, crate::specs::Reading::read))]
+    #[tactic(auto, unfolding(crate::specs::Parts::return_statement, crate::specs::Reading::read))]
     fn parse_return(&mut self, room: u32) -> Result<Statement<'a>, ParseFault>
         ensures { IsRead statement_tree result self.new.rest.now (read room return_statement
             (terminals_of self.old.rest.now)) }
@@ -263,7 +264,7 @@ impl<'t, 'a> Parser<'t, 'a> {
     }
 
     #[cycle(statement)]
-    #[tactic(auto, unfolding(syntax::specs::Grammar::conditional, crate::specs::Reading::read))]
+    #[tactic(auto, unfolding(crate::specs::Parts::conditional, crate::specs::Reading::read))]
     fn parse_if(&mut self, room: u32) -> Result<Statement<'a>, ParseFault>
         ensures { IsRead statement_tree result self.new.rest.now (read room conditional
             (terminals_of self.old.rest.now)) }
@@ -276,7 +277,7 @@ impl<'t, 'a> Parser<'t, 'a> {
     }
 
     #[cycle(statement)]
-    #[tactic(auto, unfolding(syntax::specs::Grammar::while_statement, crate::specs::Reading::read))]
+    #[tactic(auto, unfolding(crate::specs::Parts::while_statement, crate::specs::Reading::read))]
     fn parse_while(&mut self, room: u32) -> Result<Statement<'a>, ParseFault>
         ensures { IsRead statement_tree result self.new.rest.now (read room while_statement
             (terminals_of self.old.rest.now)) }
@@ -322,7 +323,7 @@ impl<'t, 'a> Parser<'t, 'a> {
     }
 
     #[cycle(statement)]
-    #[tactic(auto, unfolding(syntax::specs::Grammar::attempt, crate::specs::Reading::read))]
+    #[tactic(auto, unfolding(crate::specs::Parts::attempt, crate::specs::Reading::read))]
     fn parse_try(&mut self, room: u32) -> Result<Statement<'a>, ParseFault>
         ensures { IsRead statement_tree result self.new.rest.now
             (read room attempt (terminals_of self.old.rest.now)) }

@@ -14,7 +14,7 @@ use Rattle.resolved.specs.declared.statement.Handler.{Handler}
 use Rattle.resolved.specs.declared.statement.Statement as S
 use Rattle.resolved.specs.declared.tables.Procedure.{Procedure}
 use Rattle.resolved.specs.declared.tables.Thrown.{Thrown}
-use Rattle.resolved.specs.declared.expression.Base.TheVariants.{Boolean}
+use Rattle.common.specs.declared.base_type.BaseType.TheVariants.{Boolean}
 use Rattle.resolved.specs.Program.{ProcedureEntry, Program, ThrownEntry}
 use Rattle.resolved.specs.ProgramOf.{procedure_entry, thrown_entry}
 use Rattle.resolved.specs.Tree.{Expression, Statement, If, While, Try, Nested, Block, Handlers}

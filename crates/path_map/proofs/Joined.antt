@@ -5,7 +5,7 @@ use Rattle.std.proofs.lemmas.List.{length-replicate, length-set}
 use Rattle.labels.specs.Row.{has, union}
 use Rattle.path_map.specs.declared.members.SetForm.{SetForm}
 use Rattle.path_map.specs.declared.members.SetForm.TheVariants.{Empty, Single, Many}
-use Rattle.path_map.specs.Kept.{IsInside}
+use Rattle.path_map.specs.Kept.{IsSetInside}
 use Rattle.path_map.proofs.Rows.{has-none, has-set, has-union, length-union}
 
 kept-row : SetForm → List Bool
@@ -13,7 +13,7 @@ kept-row Empty = []
 kept-row (Single only) = []
 kept-row (Many row) = row
 
-pub row-inside : (bound : ℕ) (row : List Bool) → length row ≡ bound → IsInside bound (Many row)
+pub row-inside : (bound : ℕ) (row : List Bool) → length row ≡ bound → IsSetInside bound (Many row)
 unfolding kept-row
 row-inside bound row same = (
   λ only is. absurd (cc),

@@ -14,7 +14,7 @@ use Rattle.path_map.specs.declared.members.ExceptionSet.{ExceptionSet}
 use Rattle.path_map.specs.declared.keeping.KeptRow.{KeptRow}
 use Rattle.path_map.specs.declared.table.ExitsEntry.{ExitsEntry}
 use Rattle.path_map.specs.Exits.{exits_of, raised_by, thrown_in}
-use Rattle.path_map.specs.Entries.{exceptions_at, end_if, entry_exits, IsKept, AreKept, RowsGrow, IsRowFor, HasExits, IsPut}
+use Rattle.path_map.specs.Entries.{exceptions_at, end_if, entry_exits, IsKept, AreKept, RowsGrow, IsRowFor, HasExits, IsEntryWritten}
 use Rattle.path_map.specs.Listed.{below, listed}
 use Rattle.path_map.specs.RowLists.{row_at}
 use Rattle.path_map.specs.Joins.{only_raised}
@@ -23,7 +23,7 @@ use Rattle.path_map.specs.ThrownExits.{is_raised}
 use Rattle.path_map.specs.Exceptions.{is_one_of}
 use Rattle.path_map.specs.declared.members.SetForm.{SetForm}
 use Rattle.path_map.specs.declared.members.SetForm.TheVariants.{Empty, Single, Many}
-use Rattle.path_map.specs.Kept.{IsInside, kept_has}
+use Rattle.path_map.specs.Kept.{IsSetInside, kept_has}
 use Rattle.path_map.specs.Sets.{members, throws, IsSummaryOf}
 use Rattle.path_map.proofs.Summary.{none-thrown, summary-is, throws-in, throws-thrown}
 
@@ -53,7 +53,7 @@ listed-at p (suc n) e near = go (e == n) refl (p n) refl (λ less. listed-at p n
         let less : e < n = let differs : e ≢ n = eqb-false e n f in omega arith in
         rw g (rest less)
 
-inside-below : (bound : ℕ) (kept : SetForm) → IsInside bound kept → (e : ℕ) → bound ≤ e → kept_has kept e ≡ false
+inside-below : (bound : ℕ) (kept : SetForm) → IsSetInside bound kept → (e : ℕ) → bound ≤ e → kept_has kept e ≡ false
 inside-below bound Empty inside e far = refl
 inside-below bound (Single only) inside e far = let below : only < bound = inside.0 only refl in ne_eqb e only (λ same. absurd (omega (arith, below, same, far)))
 inside-below bound (Many row) inside e far = let same : length row ≡ bound = inside.1 row refl in get_or_past row e false (omega (arith, same, far))
@@ -266,10 +266,10 @@ module _ (rows : List KeptRow) (exits : Exits) (set : ℕ → Bool) (row : ℕ) 
 module _ (old new : List KeptRow) (entries : List ExitsEntry) (at : ℕ) (exits given : Exits) (raises : ℕ → Bool) (row : ℕ) (raised : Raised)
     (grown : RowsGrow old new) (kept : AreKept old entries) (of : IsRowFor raises raised new row) (sum : IsSummaryOf raises raised)
     (is : given ≡ record exits { raised = raised }) where
-  pub put-is : IsPut at exits raises (map (entry_exits old) entries) (map (entry_exits new) (set entries at (record { exits = given; row = row })))
+  pub put-is : IsEntryWritten at exits raises (map (entry_exits old) entries) (map (entry_exits new) (set entries at (record { exits = given; row = row })))
   put-is =
       let entry : ExitsEntry = record { exits = record exits { raised = raised }; row = row } in
-      subst (λ (x : Exits). IsPut at exits raises (map (entry_exits old) entries) (map (entry_exits new) (set entries at (record { exits = x; row = row })))) (sym is)
+      subst (λ (x : Exits). IsEntryWritten at exits raises (map (entry_exits old) entries) (map (entry_exits new) (set entries at (record { exits = x; row = row })))) (sym is)
       (record {
         ends = entry_exits new entry;
         has = written-has new exits raises row raised of.there sum of.same;

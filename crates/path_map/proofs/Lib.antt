@@ -2,7 +2,6 @@ pub mod Summary
 pub mod Rows
 pub mod Fitting
 pub mod Joined
-pub mod Measured
 pub mod Single
 pub mod Alike
 pub mod Pieces

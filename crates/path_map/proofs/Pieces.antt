@@ -7,7 +7,7 @@ use Rattle.resolved.specs.Tree.{Statement, Assign, Clear, Store, Receive, Send, 
 use Rattle.resolved.specs.Program.{Program, ProcedureEntry}
 use Rattle.resolved.specs.Exits.{statement_exits}
 use Rattle.path_map.specs.EndsOf.{SameExits, AreEndsOf, piece_exits}
-use Rattle.path_map.specs.Paths.{AreAlike, inner_paths, rest_paths, handlers_paths, block_paths, program_paths}
+use Rattle.path_map.specs.Paths.{HaveSameExits, inner_paths, rest_paths, handlers_paths, block_paths, program_paths}
 use Rattle.path_map.specs.Pieces.{Piece, OfStatement, OfBlock, pieces_in_statement, pieces_in_block, pieces_in_handlers, program_pieces}
 
 module _ (program : Program) where
@@ -70,13 +70,13 @@ module _ (program : Program) where
   pieces-paths = in-procedures program.procedures
 
   -- from all in one list to each by its number, and back
-  as-many : (found : List (List Exit)) (pieces : List Piece) → AreAlike found (map (piece_exits program) pieces) → length found ≡ length pieces
+  as-many : (found : List (List Exit)) (pieces : List Piece) → HaveSameExits found (map (piece_exits program) pieces) → length found ≡ length pieces
   as-many [] [] alike = refl
   as-many [] (piece ∷ pieces) alike = absurd alike
   as-many (x ∷ found) [] alike = absurd alike
   as-many (x ∷ found) (piece ∷ pieces) alike = ap suc (as-many found pieces alike.1)
 
-  each-same : (found : List (List Exit)) (pieces : List Piece) → AreAlike found (map (piece_exits program) pieces)
+  each-same : (found : List (List Exit)) (pieces : List Piece) → HaveSameExits found (map (piece_exits program) pieces)
       → (number : ℕ) (piece : Piece) → slice_get pieces number ≡ Some piece → SameExits (slice_index_or found number []) (piece_exits program piece)
   each-same found [] alike number piece is = absurd (cc)
   each-same [] (other ∷ pieces) alike number piece is = absurd alike
@@ -86,22 +86,22 @@ module _ (program : Program) where
 
   all-alike : (found : List (List Exit)) (pieces : List Piece) → length found ≡ length pieces
       → ((number : ℕ) (piece : Piece) → slice_get pieces number ≡ Some piece → SameExits (slice_index_or found number []) (piece_exits program piece))
-      → AreAlike found (map (piece_exits program) pieces)
+      → HaveSameExits found (map (piece_exits program) pieces)
   all-alike [] [] many each = tt
   all-alike [] (piece ∷ pieces) many each = absurd (cc)
   all-alike (x ∷ found) [] many each = absurd (cc)
   all-alike (x ∷ found) (piece ∷ pieces) many each =
       (each 0 piece refl, all-alike found pieces (cc) (λ number other is. each (suc number) other is))
 
-  pub ends-found : (found : List (List Exit)) → AreAlike found (program_paths program) → AreEndsOf program found
+  pub ends-found : (found : List (List Exit)) → HaveSameExits found (program_paths program) → AreEndsOf program found
   ends-found found alike =
-      let pieces : AreAlike found (map (piece_exits program) (program_pieces program)) =
-      subst (λ paths. AreAlike found paths) (sym pieces-paths) alike in
+      let pieces : HaveSameExits found (map (piece_exits program) (program_pieces program)) =
+      subst (λ paths. HaveSameExits found paths) (sym pieces-paths) alike in
       record {
         as_many = as-many found (program_pieces program) pieces;
         each = each-same found (program_pieces program) pieces;
       }
 
-  pub paths-found : (found : List (List Exit)) → AreEndsOf program found → AreAlike found (program_paths program)
+  pub paths-found : (found : List (List Exit)) → AreEndsOf program found → HaveSameExits found (program_paths program)
   paths-found found ends =
-      subst (λ paths. AreAlike found paths) pieces-paths (all-alike found (program_pieces program) ends.as_many ends.each)
+      subst (λ paths. HaveSameExits found paths) pieces-paths (all-alike found (program_pieces program) ends.as_many ends.each)

@@ -30,7 +30,7 @@ use Rattle.resolved.specs.declared.fault.ExitRefusal.{ExitRefusal}
 use Rattle.path_map.specs.FirstFault.{IsFirstEndFault}
 use Rattle.path_map.specs.Exits.{exits_of, raised_by}
 use Rattle.path_map.specs.Joins.{join_raised}
-use Rattle.path_map.specs.Paths.{AreAlike, block_paths}
+use Rattle.path_map.specs.Paths.{HaveSameExits, block_paths}
 use Rattle.path_map.specs.Exceptions.{exceptions_of, is_one_of}
 use Rattle.path_map.specs.Sets.{AreDeclared, throws}
 use Rattle.path_map.specs.Walks.{IsFound}
@@ -145,7 +145,7 @@ all-may-end labels program procedure list raised exits declared lent ended are =
 
 -- along the procedures of a program
 pub record WithEnds (program : Program) (all tail : List ProcedureEntry) (now : List (List Exit)) : Type 0 where
-  pub entries : AreAlike (now ++ flat_map (λ (procedure : ProcedureEntry). block_paths program procedure.body) tail)
+  pub entries : HaveSameExits (now ++ flat_map (λ (procedure : ProcedureEntry). block_paths program procedure.body) tail)
       (flat_map (λ (procedure : ProcedureEntry). block_paths program procedure.body) all)
   pub faults : flat_map (procedure_faults program) tail ≡ flat_map (procedure_faults program) all
 
@@ -154,7 +154,7 @@ module _ (program : Program) (all : List ProcedureEntry) where
   beside-begin now none = record {
     entries =
         let paths = flat_map (λ (procedure : ProcedureEntry). block_paths program procedure.body) all in
-        subst (λ xs. AreAlike (xs ++ paths) paths) (sym none) (alike-refl paths);
+        subst (λ xs. HaveSameExits (xs ++ paths) paths) (sym none) (alike-refl paths);
     faults = refl;
   }
 
@@ -165,7 +165,7 @@ module _ (program : Program) (all : List ProcedureEntry) where
       (first-left (procedure_faults program procedure) (flat_map (procedure_faults program) tail) fault first)
 
   pub beside-step : (procedure : ProcedureEntry) (tail : List ProcedureEntry) (now next : List (List Exit)) → WithEnds program all (procedure ∷ tail) now
-      → AreAlike next (now ++ block_paths program procedure.body) → procedure_faults program procedure ≡ []
+      → HaveSameExits next (now ++ block_paths program procedure.body) → procedure_faults program procedure ≡ []
       → WithEnds program all tail next
   beside-step procedure tail now next along grown clean =
       let rest = flat_map (λ (other : ProcedureEntry). block_paths program other.body) tail in
@@ -177,7 +177,7 @@ module _ (program : Program) (all : List ProcedureEntry) where
       }
 
   pub beside-end : (now : List (List Exit)) → WithEnds program all [] now
-      → AreAlike now (flat_map (λ (procedure : ProcedureEntry). block_paths program procedure.body) all)
+      → HaveSameExits now (flat_map (λ (procedure : ProcedureEntry). block_paths program procedure.body) all)
   beside-end now along =
       alike-end now (flat_map (λ (procedure : ProcedureEntry). block_paths program procedure.body) all) along.entries
 

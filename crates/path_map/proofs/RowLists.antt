@@ -8,7 +8,7 @@ use Rattle.path_map.specs.declared.keeping.KeptRow.{KeptRow}
 use Rattle.path_map.specs.declared.keeping.KeptForm.{KeptForm}
 use Rattle.path_map.specs.declared.keeping.KeptForm.TheVariants.{Whole}
 use Rattle.path_map.specs.declared.members.ExceptionSet.{ExceptionSet}
-use Rattle.path_map.specs.Entries.{IsRowOf, RowsGrow}
+use Rattle.path_map.specs.Entries.{IsRowOfSet, RowsGrow}
 use Rattle.path_map.specs.Exceptions.{is_one_of}
 use Rattle.path_map.specs.Listed.{listed}
 use Rattle.path_map.specs.RowLists.{MayBeBoth, MayBeChanged, MayBeRow, changed, changed_has, form_list, lists_after, row_at}
@@ -114,7 +114,7 @@ grown_push rows row = record {
       ∙ get_or_append_left (lists_after [] rows) (form_list (lists_after [] rows) row.form ∷ []) [] k (omega (arith, there, lists-length [] rows));
 }
 
-pub pushed-row : (rows : List KeptRow) (steps : ℕ) (set : ExceptionSet) → IsRowOf (members set) (rows ++ (record { steps = steps; form = Whole set }) ∷ []) (length rows)
+pub pushed-row : (rows : List KeptRow) (steps : ℕ) (set : ExceptionSet) → IsRowOfSet (members set) (rows ++ (record { steps = steps; form = Whole set }) ∷ []) (length rows)
 pushed-row rows steps set =
     let row : KeptRow = record { steps = steps; form = Whole set } in
     record {

@@ -11,21 +11,30 @@ use Rattle.path_map.specs.declared.exits.Raised.TheVariants.{Nothing, One, Sever
 use Rattle.path_map.specs.Exits.{Exits}
 use Rattle.path_map.specs.Exits.{thrown_in, raised_by, exits_of, single_exit}
 
-abbrev pub single_of : (normal returns breaks continues : Bool) → Raised → Option Exit
-single_of true false false false Nothing = Some Normal
-single_of false true false false Nothing = Some Return
-single_of false false true false Nothing = Some Break
-single_of false false false true Nothing = Some Continue
-single_of false false false false (One e) = Some (Throw e)
-single_of _ _ _ _ _ = None
-
-abbrev pub single_summary : Exits → Option Exit
-single_summary summary = single_of summary.normal summary.returns summary.breaks summary.continues summary.raised
-
-is_nothing : Raised → Bool
+abbrev pub is_nothing : Raised → Bool
 is_nothing Nothing = true
 is_nothing (One e) = false
 is_nothing Several = false
+
+-- the exit of an exception, if there is one only
+abbrev pub raised_alone : Raised → Option Exit
+raised_alone Nothing = None
+raised_alone (One e) = Some (Throw e)
+raised_alone Several = None
+
+-- an exit, if there are neither three others nor an exception
+abbrev pub alone : Exit → (a b c : Bool) → Raised → Option Exit
+alone exit a b c r = if not a && (not b && (not c && is_nothing r)) then Some exit else None
+
+abbrev pub single_of : (normal returns breaks continues : Bool) → Raised → Option Exit
+single_of true b c d r = alone Normal b c d r
+single_of false true c d r = alone Return false c d r
+single_of false false true d r = alone Break false false d r
+single_of false false false true r = alone Continue false false false r
+single_of false false false false r = raised_alone r
+
+abbrev pub single_summary : Exits → Option Exit
+single_summary summary = single_of summary.normal summary.returns summary.breaks summary.continues summary.raised
 
 nothing-else : (a b c : Bool) → false ≡ (not a && (not b && (not c && false)))
 nothing-else true b c = refl
@@ -43,7 +52,6 @@ third-out false true d = refl
 third-out false false d = refl
 
 some-raised : (e : ℕ) (es : List ℕ) → false ≡ is_nothing (raised_by (e ∷ es))
-unfolding is_nothing
 some-raised e es = go (list_all (λ other. e == other) es)
   where
     go : (b : Bool) → false ≡ is_nothing (if b then One e else Several)
@@ -52,7 +60,6 @@ some-raised e es = go (list_all (λ other. e == other) es)
 
 all-normal : (ends : List Exit) → list_all (same_exit Normal) ends
     ≡ (not (has_exit ends Return) && (not (has_exit ends Break) && (not (has_exit ends Continue) && is_nothing (raised_by (thrown_in ends)))))
-unfolding is_nothing
 all-normal [] = refl
 all-normal (Normal ∷ ends) = all-normal ends
 all-normal (Return ∷ ends) = refl
@@ -62,36 +69,8 @@ all-normal (Throw e ∷ ends) =
     nothing-else (has_exit ends Return) (has_exit ends Break) (has_exit ends Continue)
     ∙ ap (λ b. not (has_exit ends Return) && (not (has_exit ends Break) && (not (has_exit ends Continue) && b))) (some-raised e (thrown_in ends))
 
-first-normal : (a b c : Bool) (r : Raised) → (if not a && (not b && (not c && is_nothing r)) then Some Normal else None) ≡ single_of true a b c r
-unfolding is_nothing
-first-normal true true true Nothing = refl
-first-normal true true true (One e) = refl
-first-normal true true true Several = refl
-first-normal true true false Nothing = refl
-first-normal true true false (One e) = refl
-first-normal true true false Several = refl
-first-normal true false true Nothing = refl
-first-normal true false true (One e) = refl
-first-normal true false true Several = refl
-first-normal true false false Nothing = refl
-first-normal true false false (One e) = refl
-first-normal true false false Several = refl
-first-normal false true true Nothing = refl
-first-normal false true true (One e) = refl
-first-normal false true true Several = refl
-first-normal false true false Nothing = refl
-first-normal false true false (One e) = refl
-first-normal false true false Several = refl
-first-normal false false true Nothing = refl
-first-normal false false true (One e) = refl
-first-normal false false true Several = refl
-first-normal false false false Nothing = refl
-first-normal false false false (One e) = refl
-first-normal false false false Several = refl
-
 all-return : (ends : List Exit) → list_all (same_exit Return) ends
     ≡ (not (has_exit ends Normal) && (not (has_exit ends Break) && (not (has_exit ends Continue) && is_nothing (raised_by (thrown_in ends)))))
-unfolding is_nothing
 all-return [] = refl
 all-return (Normal ∷ ends) = refl
 all-return (Return ∷ ends) = all-return ends
@@ -101,36 +80,8 @@ all-return (Throw e ∷ ends) =
     nothing-else (has_exit ends Normal) (has_exit ends Break) (has_exit ends Continue)
     ∙ ap (λ b. not (has_exit ends Normal) && (not (has_exit ends Break) && (not (has_exit ends Continue) && b))) (some-raised e (thrown_in ends))
 
-first-return : (a b c : Bool) (r : Raised) → (if not a && (not b && (not c && is_nothing r)) then Some Return else None) ≡ single_of a true b c r
-unfolding is_nothing
-first-return true true true Nothing = refl
-first-return true true true (One e) = refl
-first-return true true true Several = refl
-first-return true true false Nothing = refl
-first-return true true false (One e) = refl
-first-return true true false Several = refl
-first-return true false true Nothing = refl
-first-return true false true (One e) = refl
-first-return true false true Several = refl
-first-return true false false Nothing = refl
-first-return true false false (One e) = refl
-first-return true false false Several = refl
-first-return false true true Nothing = refl
-first-return false true true (One e) = refl
-first-return false true true Several = refl
-first-return false true false Nothing = refl
-first-return false true false (One e) = refl
-first-return false true false Several = refl
-first-return false false true Nothing = refl
-first-return false false true (One e) = refl
-first-return false false true Several = refl
-first-return false false false Nothing = refl
-first-return false false false (One e) = refl
-first-return false false false Several = refl
-
 all-break : (ends : List Exit) → list_all (same_exit Break) ends
     ≡ (not (has_exit ends Normal) && (not (has_exit ends Return) && (not (has_exit ends Continue) && is_nothing (raised_by (thrown_in ends)))))
-unfolding is_nothing
 all-break [] = refl
 all-break (Normal ∷ ends) = refl
 all-break (Return ∷ ends) = second-out (has_exit ends Normal) (has_exit ends Continue) (is_nothing (raised_by (thrown_in ends)))
@@ -140,36 +91,8 @@ all-break (Throw e ∷ ends) =
     nothing-else (has_exit ends Normal) (has_exit ends Return) (has_exit ends Continue)
     ∙ ap (λ b. not (has_exit ends Normal) && (not (has_exit ends Return) && (not (has_exit ends Continue) && b))) (some-raised e (thrown_in ends))
 
-first-break : (a b c : Bool) (r : Raised) → (if not a && (not b && (not c && is_nothing r)) then Some Break else None) ≡ single_of a b true c r
-unfolding is_nothing
-first-break true true true Nothing = refl
-first-break true true true (One e) = refl
-first-break true true true Several = refl
-first-break true true false Nothing = refl
-first-break true true false (One e) = refl
-first-break true true false Several = refl
-first-break true false true Nothing = refl
-first-break true false true (One e) = refl
-first-break true false true Several = refl
-first-break true false false Nothing = refl
-first-break true false false (One e) = refl
-first-break true false false Several = refl
-first-break false true true Nothing = refl
-first-break false true true (One e) = refl
-first-break false true true Several = refl
-first-break false true false Nothing = refl
-first-break false true false (One e) = refl
-first-break false true false Several = refl
-first-break false false true Nothing = refl
-first-break false false true (One e) = refl
-first-break false false true Several = refl
-first-break false false false Nothing = refl
-first-break false false false (One e) = refl
-first-break false false false Several = refl
-
 all-continue : (ends : List Exit) → list_all (same_exit Continue) ends
     ≡ (not (has_exit ends Normal) && (not (has_exit ends Return) && (not (has_exit ends Break) && is_nothing (raised_by (thrown_in ends)))))
-unfolding is_nothing
 all-continue [] = refl
 all-continue (Normal ∷ ends) = refl
 all-continue (Return ∷ ends) = second-out (has_exit ends Normal) (has_exit ends Break) (is_nothing (raised_by (thrown_in ends)))
@@ -179,32 +102,25 @@ all-continue (Throw e ∷ ends) =
     nothing-else (has_exit ends Normal) (has_exit ends Return) (has_exit ends Break)
     ∙ ap (λ b. not (has_exit ends Normal) && (not (has_exit ends Return) && (not (has_exit ends Break) && b))) (some-raised e (thrown_in ends))
 
-first-continue : (a b c : Bool) (r : Raised) → (if not a && (not b && (not c && is_nothing r)) then Some Continue else None) ≡ single_of a b c true r
-unfolding is_nothing
-first-continue true true true Nothing = refl
-first-continue true true true (One e) = refl
-first-continue true true true Several = refl
-first-continue true true false Nothing = refl
-first-continue true true false (One e) = refl
-first-continue true true false Several = refl
-first-continue true false true Nothing = refl
-first-continue true false true (One e) = refl
-first-continue true false true Several = refl
-first-continue true false false Nothing = refl
-first-continue true false false (One e) = refl
-first-continue true false false Several = refl
-first-continue false true true Nothing = refl
-first-continue false true true (One e) = refl
-first-continue false true true Several = refl
-first-continue false true false Nothing = refl
-first-continue false true false (One e) = refl
-first-continue false true false Several = refl
-first-continue false false true Nothing = refl
-first-continue false false true (One e) = refl
-first-continue false false true Several = refl
-first-continue false false false Nothing = refl
-first-continue false false false (One e) = refl
-first-continue false false false Several = refl
+-- an exit that is there is the single one where it is alone
+alone-return : (a b c : Bool) (r : Raised) → alone Return a b c r ≡ single_of a true b c r
+alone-return true b c r = refl
+alone-return false b c r = refl
+
+alone-break : (a b c : Bool) (r : Raised) → alone Break a b c r ≡ single_of a b true c r
+alone-break true true c r = refl
+alone-break true false c r = refl
+alone-break false true c r = refl
+alone-break false false c r = refl
+
+alone-continue : (a b c : Bool) (r : Raised) → alone Continue a b c r ≡ single_of a b c true r
+alone-continue true true c r = refl
+alone-continue true false true r = refl
+alone-continue true false false r = refl
+alone-continue false true true r = refl
+alone-continue false true false r = refl
+alone-continue false false true r = refl
+alone-continue false false false r = refl
 
 all-throw : (x : ℕ) (ends : List Exit) → list_all (same_exit (Throw x)) ends
     ≡ (not (has_exit ends Normal) && (not (has_exit ends Return) && (not (has_exit ends Break) && (not (has_exit ends Continue) && list_all (λ other. x == other) (thrown_in ends)))))
@@ -273,16 +189,15 @@ pub single-is : (ends : List Exit) → single_exit ends ≡ single_summary (exit
 single-is [] = refl
 single-is (Normal ∷ ends) =
     ap (λ b. if b then Some Normal else None) (all-normal ends)
-    ∙ first-normal (has_exit ends Return) (has_exit ends Break) (has_exit ends Continue) (raised_by (thrown_in ends))
 single-is (Return ∷ ends) =
     ap (λ b. if b then Some Return else None) (all-return ends)
-    ∙ first-return (has_exit ends Normal) (has_exit ends Break) (has_exit ends Continue) (raised_by (thrown_in ends))
+    ∙ alone-return (has_exit ends Normal) (has_exit ends Break) (has_exit ends Continue) (raised_by (thrown_in ends))
 single-is (Break ∷ ends) =
     ap (λ b. if b then Some Break else None) (all-break ends)
-    ∙ first-break (has_exit ends Normal) (has_exit ends Return) (has_exit ends Continue) (raised_by (thrown_in ends))
+    ∙ alone-break (has_exit ends Normal) (has_exit ends Return) (has_exit ends Continue) (raised_by (thrown_in ends))
 single-is (Continue ∷ ends) =
     ap (λ b. if b then Some Continue else None) (all-continue ends)
-    ∙ first-continue (has_exit ends Normal) (has_exit ends Return) (has_exit ends Break) (raised_by (thrown_in ends))
+    ∙ alone-continue (has_exit ends Normal) (has_exit ends Return) (has_exit ends Break) (raised_by (thrown_in ends))
 single-is (Throw x ∷ ends) =
     ap (λ b. if b then Some (Throw x) else None) (all-throw x ends)
     ∙ first-throw x (has_exit ends Normal) (has_exit ends Return) (has_exit ends Break) (has_exit ends Continue) (list_all (λ other. x == other) (thrown_in ends))

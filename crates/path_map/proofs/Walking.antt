@@ -22,13 +22,13 @@ use Rattle.common.specs.Answers.{IfRefused}
 use Rattle.path_map.specs.FirstFault.{IsFirstEndFault}
 use Rattle.path_map.specs.Exits.{exits_of, raised_by, thrown_in}
 use Rattle.path_map.specs.Joins.{join, join_raised, after, only_raised, of_loop}
-use Rattle.path_map.specs.Paths.{AreAlike, statement_paths, block_paths, rest_paths, handlers_paths}
+use Rattle.path_map.specs.Paths.{HaveSameExits, statement_paths, block_paths, rest_paths, handlers_paths}
 use Rattle.path_map.specs.Exceptions.{is_one_of}
 use Rattle.path_map.specs.Sets.{IsSum, IsSummaryOf, throws}
 use Rattle.path_map.specs.Walks.{IsFound, AreThrown, AreLeft}
 use Rattle.path_map.proofs.Summary.{exits-append, exits-assoc, exits-then, throws-then, after-assoc, after-normal, join-none, loop-summary, loop-throws, exits-pass, throws-pass, throws-in, throws-thrown, exits-thrown, raised-same, raised-append, summary-is}
 use Rattle.path_map.specs.EndsOf.{SameExits}
-use Rattle.path_map.specs.Entries.{HasExits, IsPut}
+use Rattle.path_map.specs.Entries.{HasExits, IsEntryWritten}
 use Rattle.path_map.proofs.Alike.{alike-refl, alike-set, alike-length, alike-both, alike-step, alike-end, alike-nil}
 use Rattle.path_map.proofs.Rows.{not-more}
 
@@ -65,21 +65,21 @@ one-thrown had has x sum = sum-same had has (λ other. other == x) (λ e. (e == 
 -- a piece whose exceptions were found in a set of its own, and then written into the entry for which room was made
 module _ (ends : List Exit) (paths : List (List Exit)) (old room new : List (List Exit)) (at : ℕ) (none own : ℕ → Bool) (found : Exits)
     (made : room ≡ old ++ [] ∷ []) (number : at ≡ length old) (piece : IsFound ends paths room new none own found) where
-  in-room : AreAlike new (old ++ [] ∷ paths)
+  in-room : HaveSameExits new (old ++ [] ∷ paths)
   in-room =
-      subst (λ xs. AreAlike new xs) (ap (λ xs. xs ++ paths) made ∙ append_assoc old ([] ∷ []) paths) piece.entries
+      subst (λ xs. HaveSameExits new xs) (ap (λ xs. xs ++ paths) made ∙ append_assoc old ([] ∷ []) paths) piece.entries
 
   pub has-room : at < length new
   has-room = omega (arith, number, alike-length new (old ++ [] ∷ paths) in-room, length-append old ([] ∷ paths))
 
   pub reserved : (put : List (List Exit)) (had has : ℕ → Bool) → ((e : ℕ) → none e ≡ false)
-      → IsSum had own has → IsPut at found own new put → IsFound ends (ends ∷ paths) old put had has found
+      → IsSum had own has → IsEntryWritten at found own new put → IsFound ends (ends ∷ paths) old put had has found
   reserved put had has empty united written =
       let own-is : (e : ℕ) → own e ≡ throws ends e = λ e. piece.raised.has e ∙ ap (λ b. b || throws ends e) (empty e) in
       record {
         summary = piece.summary;
         entries =
-            subst (λ xs. AreAlike xs (old ++ ends ∷ paths)) (ap (λ i. set new i written.ends) (sym number) ∙ sym written.written)
+            subst (λ xs. HaveSameExits xs (old ++ ends ∷ paths)) (ap (λ i. set new i written.ends) (sym number) ∙ sym written.written)
             (alike-set old new [] paths written.ends ends in-room
             (put-same ends own found written.ends piece.summary own-is written.has));
         raised = record { has = λ e. united.has e ∙ ap (λ b. had e || b) (own-is e) };
@@ -160,7 +160,7 @@ none-both a b p q = ap (λ xs. xs ++ b) p ∙ q
 -- along the statements of a block: what was found so far, with what is to come, is what is found of the block
 pub record Along (program : Program) (in_loop : Bool) (block tail : Block) (old now : List (List Exit)) (had has : ℕ → Bool) (so_far : Exits) : Type 0 where
   pub summary : after so_far (exits_of (block_exits program tail)) ≡ exits_of (block_exits program block)
-  pub entries : AreAlike (now ++ rest_paths program tail) (old ++ rest_paths program block)
+  pub entries : HaveSameExits (now ++ rest_paths program tail) (old ++ rest_paths program block)
   pub raised : (e : ℕ) → (has e || (so_far.normal && throws (block_exits program tail) e)) ≡ (had e || throws (block_exits program block) e)
   pub faults : block_faults program in_loop so_far.normal tail ≡ block_faults program in_loop true block
 
@@ -237,7 +237,7 @@ pub record Remaining (program : Program) (in_loop : Bool) (faults : List ExitRef
 
 pub record Handling (program : Program) (in_loop : Bool) (handlers tail : Handlers) (old now : List (List Exit)) (had has was row : ℕ → Bool) (so_far : Exits) : Type 0 where
   pub summary : join so_far (exits_of (handlers_exits program tail)) ≡ exits_of (handlers_exits program handlers)
-  pub entries : AreAlike (now ++ handlers_paths program tail) (old ++ handlers_paths program handlers)
+  pub entries : HaveSameExits (now ++ handlers_paths program tail) (old ++ handlers_paths program handlers)
   pub raised : (e : ℕ) → (has e || throws (handlers_exits program tail) e) ≡ (had e || throws (handlers_exits program handlers) e)
   pub left : (e : ℕ) → (row e && not (handles tail e)) ≡ (was e && not (handles handlers e))
   pub remaining : (ends : List Exit) → AreThrown was ends → Remaining program in_loop (handlers_faults program in_loop ends handlers) row tail

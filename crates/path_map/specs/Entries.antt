@@ -46,14 +46,14 @@ pub record RowsGrow (old new : List KeptRow) : Type 0 where
   pub same : (row : ℕ) → row < length old → row_at new row ≡ row_at old row
 
 -- a row of a table with these exceptions
-pub record IsRowOf (set : ℕ → Bool) (rows : List KeptRow) (row : ℕ) : Type 0 where
+pub record IsRowOfSet (set : ℕ → Bool) (rows : List KeptRow) (row : ℕ) : Type 0 where
   pub there : row < length rows
   pub same : (exception : ℕ) → is_one_of (row_at rows row) exception ≡ set exception
 
 -- the same, where there is one
 abbrev pub MayBeRowOf : (set : ℕ → Bool) → List KeptRow → Option ℕ → Type 0
 MayBeRowOf set rows None = ⊤
-MayBeRowOf set rows (Some row) = IsRowOf set rows row
+MayBeRowOf set rows (Some row) = IsRowOfSet set rows row
 
 -- a row for a set with these exceptions and this summary: it has them, if they are several
 pub record IsRowFor (set : ℕ → Bool) (summary : Raised) (rows : List KeptRow) (row : ℕ) : Type 0 where
@@ -69,7 +69,7 @@ pub record HasExits (exits : Exits) (set : ℕ → Bool) (ends : List Exit) : Ty
   pub raised : (exception : ℕ) → throws ends exception ≡ set exception
 
 -- a table in which one entry was written
-pub record IsPut (at : ℕ) (exits : Exits) (raised : ℕ → Bool) (old new : List (List Exit)) : Type 0 where
+pub record IsEntryWritten (at : ℕ) (exits : Exits) (raised : ℕ → Bool) (old new : List (List Exit)) : Type 0 where
   pub ends : List Exit
   pub has : HasExits exits raised ends
   pub written : new ≡ set old at ends

@@ -12,6 +12,6 @@ kept_has (Single only) exception = exception == only
 kept_has (Many row) exception = has row exception
 
 -- its exceptions are below the bound, which is that of a row
-abbrev pub IsInside : (bound : ℕ) → SetForm → Type 0
-IsInside bound kept =
+abbrev pub IsSetInside : (bound : ℕ) → SetForm → Type 0
+IsSetInside bound kept =
     ((only : ℕ) → kept ≡ Single only → only < bound) × ((row : List Bool) → kept ≡ Many row → length row ≡ bound)

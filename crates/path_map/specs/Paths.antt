@@ -44,11 +44,11 @@ abbrev pub block_paths : Program → Block → List (List Exit)
 block_paths program block = block_exits program block ∷ rest_paths program block
 
 -- lists of exits of which each has the same exits as the other's
-abbrev pub AreAlike : List (List Exit) → List (List Exit) → Type 0
-AreAlike [] [] = ⊤
-AreAlike [] (y ∷ ys) = ⊥
-AreAlike (x ∷ xs) [] = ⊥
-AreAlike (x ∷ xs) (y ∷ ys) = SameExits x y × AreAlike xs ys
+abbrev pub HaveSameExits : List (List Exit) → List (List Exit) → Type 0
+HaveSameExits [] [] = ⊤
+HaveSameExits [] (y ∷ ys) = ⊥
+HaveSameExits (x ∷ xs) [] = ⊥
+HaveSameExits (x ∷ xs) (y ∷ ys) = SameExits x y × HaveSameExits xs ys
 
 -- of the bodies of all procedures
 abbrev pub program_paths : Program → List (List Exit)

@@ -17,13 +17,13 @@ use Rattle.resolved.specs.ExitFaults.{inner_faults, block_faults, handlers_fault
 use Rattle.resolved.specs.declared.fault.ExitRefusal.{ExitRefusal}
 use Rattle.path_map.specs.Exits.{Exits}
 use Rattle.path_map.specs.Exits.{exits_of}
-use Rattle.path_map.specs.Paths.{AreAlike, statement_paths, inner_paths, block_paths, rest_paths, handlers_paths}
+use Rattle.path_map.specs.Paths.{HaveSameExits, statement_paths, inner_paths, block_paths, rest_paths, handlers_paths}
 use Rattle.path_map.specs.Sets.{IsSum, throws}
 
 -- of a piece with these exits, and with these in it, where `old` are the exits before it and `had` the exceptions so far
 pub record IsFound (ends : List Exit) (paths : List (List Exit)) (old new : List (List Exit)) (had has : ℕ → Bool) (found : Exits) : Type 0 where
   pub summary : found ≡ exits_of ends
-  pub entries : AreAlike new (old ++ paths)
+  pub entries : HaveSameExits new (old ++ paths)
   pub raised : IsSum had (throws ends) has
 
 -- of a piece with nothing in it

@@ -3,7 +3,7 @@ ghost use Rattle.common.specs.Answers.{IfRefused};
 ghost use Rattle.path_map.specs.EndsOf.{AreEndsOf};
 ghost use Rattle.path_map.specs.Exceptions.{exceptions_of};
 ghost use Rattle.path_map.specs.FirstFault.{IsFirstEndFault};
-ghost use Rattle.path_map.specs.Paths.{AreAlike, block_paths};
+ghost use Rattle.path_map.specs.Paths.{HaveSameExits, block_paths};
 ghost use Rattle.path_map.specs.Sets.{AreDeclared, members};
 ghost use Rattle.resolved.specs.CoreOf.{program_of};
 ghost use Rattle.resolved.specs.ExitFaults.{exit_faults, procedure_faults};
@@ -35,7 +35,7 @@ pub fn ends(alloc: Global, core: &Core) -> Result<Ends, EndFault>
         (IsFirstEndFault (exit_faults (program_of core.now)))) }
 {
     let walk = EndsWalk::along(alloc, core)?;
-    let mut table = Ends::new(alloc, walk.bound, core.procedures.len())?;
+    let mut table = Ends::new(alloc, walk.bound, &core.procedures)?;
     for procedure in &core.procedures {
         walk_procedure(&walk, procedure, &mut table)?;
     }
@@ -47,7 +47,7 @@ fn walk_procedure(walk: &EndsWalk, procedure: &Procedure, table: &mut Ends) -> R
     requires { let core = walk.now.core.now in
         IsTrue (procedure_fits (program_of core) (procedure_entry core.labels procedure.now)) }
     ensures found { let core = walk.now.core.now in
-        OnOk result (AreAlike table.new (table.old
+        OnOk result (HaveSameExits table.new (table.old
         ++ block_paths (program_of core) (procedure_entry core.labels procedure.now).body)) }
     ensures accepted { let core = walk.now.core.now in
         OnOk result (procedure_faults (program_of core)

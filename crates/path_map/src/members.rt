@@ -1,5 +1,5 @@
 //! How sets of exceptions are kept.
-ghost use Rattle.path_map.specs.Kept.{IsInside};
+ghost use Rattle.path_map.specs.Kept.{IsSetInside};
 ghost use Rattle.std.specs.Prelude.{◌<◌};
 
 use labels::Row;
@@ -19,6 +19,6 @@ pub(crate) struct ExceptionSet {
     pub(crate) alloc: Global,
     pub(crate) bound: u32,
     pub(crate) kept: SetForm,
-    ghost inside: { IsInside bound kept },
+    ghost inside: { IsSetInside bound kept },
     ghost short: { bound < 4294967296 },
 }

@@ -4,11 +4,11 @@ ghost use Rattle.path_map.specs.Exceptions.{AreRaised, is_one_of, raised_list};
 ghost use Rattle.path_map.specs.Joins.{raises_some};
 ghost use Rattle.path_map.specs.Sets.{IsSum, members};
 ghost use Rattle.common.specs.declared.exceptions.TheConstants.{BUILT_IN};
-ghost use Rattle.resolved.specs.Exits.{divisor_can_raise, index_can_raise, is_division, raises, raises_all};
+ghost use Rattle.resolved.specs.Exits.{divisor_can_raise, index_can_raise, is_division, raises};
 ghost use Rattle.resolved.specs.TreeOf.{expression_of, some_expression_of};
 ghost use Rattle.resolved.specs.Value.{in_range, literal_number};
 ghost use Rattle.common.specs.Integers.{is_zero};
-ghost use Rattle.std.specs.Prelude.{IfOk, OnOk, map, ℕ, ◌||◌, ◌≡◌, ◌≤◌};
+ghost use Rattle.std.specs.Prelude.{IfOk, OnOk, map, ℕ, ◌||◌, ◌≡◌, ◌≤◌, flat_map};
 
 use crate::exits::Raised;
 use crate::members::ExceptionSet;
@@ -79,13 +79,15 @@ pub fn raises_of(expression: &Expression) -> Raises
             bounds: index_can_raise(index, *length),
         }),
         Expression::Unary(_, operand) => raises_of(operand),
-        Expression::Binary(operator, left, right) => {
-            raises_of(left).or(raises_of(right)).or(Raises {
-                arith: is_division(*operator) && divisor_can_raise(right),
-                bounds: false,
-            })
+        Expression::Binary(operator, operands) => {
+            raises_of(&operands.0)
+                .or(raises_of(&operands.1))
+                .or(Raises {
+                    arith: is_division(*operator) && divisor_can_raise(&operands.1),
+                    bounds: false,
+                })
         }
-        Expression::Short(_, left, right) => raises_of(left).or(raises_of(right)),
+        Expression::Short(_, operands) => raises_of(&operands.0).or(raises_of(&operands.1)),
     }
 }
 
@@ -101,7 +103,7 @@ pub(crate) fn raises_of_some(expression: &Option<Expression>) -> Raises
 
 /// What several expressions can raise.
 pub fn raises_of_all(expressions: &[Expression]) -> Raises
-    ensures { AreRaised result (raises_all (map expression_of expressions.now)) }
+    ensures { AreRaised result (flat_map raises (map expression_of expressions.now)) }
 {
     let mut found = Raises::NONE;
     for expression in expressions {

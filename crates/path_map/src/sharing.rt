@@ -1,5 +1,5 @@
 //! A new row of exceptions: one that is there already, one near those of what is in its statement, or a set of its own.
-ghost use Rattle.path_map.specs.Entries.{IsRowOf, MayBeRowOf, RowsGrow};
+ghost use Rattle.path_map.specs.Entries.{IsRowOfSet, MayBeRowOf, RowsGrow};
 ghost use Rattle.path_map.specs.Sets.{members};
 ghost use Rattle.std.specs.Prelude.{[], IfOk, IsTrue, OnOk, length, ◌++◌, ◌∷◌, ◌≡◌};
 
@@ -21,6 +21,8 @@ pub(crate) struct Nearby {
 }
 
 /// Keeps a set as a row, and gives its number.
+// A call, since few statements have several exceptions, and what finds their summary is short without it.
+#[inline(never)]
 #[tactic(auto, using(crate::proofs::RowLists::grown_none, crate::proofs::RowLists::grown_more, crate::proofs::RowLists::grown_push))]
 pub(crate) fn keep(
     alloc: Global,
@@ -28,7 +30,7 @@ pub(crate) fn keep(
     set: ExceptionSet,
     nearby: &Nearby,
 ) -> Result<usize, AllocError>
-    ensures kept { IfOk result (IsRowOf (members set) rows.new.items) }
+    ensures kept { IfOk result (IsRowOfSet (members set) rows.new.items) }
     ensures grown { RowsGrow rows.old.items rows.new.items }
 {
     if is_like(alloc, rows, nearby.like, &set)? {
@@ -44,7 +46,7 @@ pub(crate) fn keep(
 
 // Keeps a set as a row of its own.
 fn keep_whole(rows: &mut Vec<KeptRow>, set: ExceptionSet) -> Result<usize, AllocError>
-    ensures kept { IfOk result (IsRowOf (members set) rows.new.items) }
+    ensures kept { IfOk result (IsRowOfSet (members set) rows.new.items) }
     ensures grown { RowsGrow rows.old.items rows.new.items }
 {
     let number = push_row(rows, 1, KeptForm::Whole(set))?;
@@ -58,7 +60,7 @@ fn is_like(
     number: usize,
     set: &ExceptionSet,
 ) -> Result<bool, AllocError>
-    ensures { IfOk result (λ same. IsTrue same → IsRowOf (members set.now) rows.now number) }
+    ensures { IfOk result (λ same. IsTrue same → IsRowOfSet (members set.now) rows.now number) }
 {
     if number >= rows.len() {
         return Ok(false);

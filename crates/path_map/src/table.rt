@@ -1,5 +1,5 @@
 //! The possible exits of the statements and blocks of a program, as they are kept.
-ghost use Rattle.path_map.specs.Entries.{IsPut, IsRowFor, IsRowOf, RowsGrow, entry_exits};
+ghost use Rattle.path_map.specs.Entries.{IsEntryWritten, IsRowFor, IsRowOfSet, RowsGrow, entry_exits};
 ghost use Rattle.path_map.specs.ThrownExits.{has_exception};
 ghost use Rattle.path_map.specs.PathMaps.{value_at};
 ghost use Rattle.path_map.specs.Exits.{exits_of};
@@ -13,8 +13,9 @@ use crate::keeping::{KeptForm, KeptRow, row_has};
 use crate::members::ExceptionSet;
 use crate::raises::Raises;
 use crate::recent::RecentRows;
-use crate::sharing::{Nearby, keep};
+use crate::sharing::keep;
 use resolved::statement::Exit;
+use resolved::tables::Procedure;
 use std::alloc::{AllocError, Global};
 use std::marker::Model;
 
@@ -73,8 +74,12 @@ impl Model for Ends {
 }
 
 impl Ends {
-    // No exits, of a program with this many exceptions and procedures.
-    pub(crate) fn new(alloc: Global, bound: u32, procedures: usize) -> Result<Ends, AllocError>
+    // No exits, of a program with this many exceptions and with these procedures.
+    pub(crate) fn new(
+        alloc: Global,
+        bound: u32,
+        procedures: &[Procedure],
+    ) -> Result<Ends, AllocError>
         ensures { IfOk result (λ ends. ends ≡ []) }
     {
         let mut rows = Vec::new(alloc);
@@ -83,9 +88,9 @@ impl Ends {
             form: KeptForm::Whole(ExceptionSet::new(alloc, bound)),
         })?;
         Ok(Ends {
-            entries: Vec::new(alloc),
+            entries: Vec::with_capacity(alloc, likely_entries(procedures))?,
             rows,
-            recent: RecentRows::new(alloc, bound, procedures)?,
+            recent: RecentRows::new(alloc, bound, procedures.len())?,
         })
     }
 
@@ -103,6 +108,7 @@ impl Ends {
     }
 
     // Writes an entry: exits with these exceptions, which are also those of a call, if it is one.
+    #[inline(always)]
     pub(crate) fn put(
         &mut self,
         at: usize,
@@ -111,11 +117,10 @@ impl Ends {
         call: Option<(u32, Raises)>,
     ) -> Result<(), AllocError>
         requires { at < length self.old }
-        ensures { OnOk result (IsPut at exits (members raised) self.old self.new) }
+        ensures { OnOk result (IsEntryWritten at exits (members raised) self.old self.new) }
     {
         let summary = raised.summary();
-        let nearby = self.recent.nearby(raised.alloc, at, call)?;
-        let row = row_of(&mut self.rows, raised, summary, &nearby)?;
+        let row = row_of(&mut self.rows, raised, summary, &mut self.recent, at, call)?;
         self.entries[at] = ExitsEntry {
             exits: exits.with(summary),
             row,
@@ -158,6 +163,16 @@ impl Ends {
     }
 }
 
+// How many statements and blocks there are in most programs with these procedures: a third of them, or more, stand in the bodies
+// themselves.
+fn likely_entries(procedures: &[Procedure]) -> usize {
+    let mut count: usize = 0;
+    for procedure in procedures {
+        count = count.saturating_add(procedure.body.len());
+    }
+    count.saturating_mul(3)
+}
+
 // The exits of an entry.
 fn path_map_of<'a>(rows: &'a [KeptRow], entry: ExitsEntry) -> PathMap<bool, Exceptions<'a>>
     ensures { (exit : Exit) → value_at has_exception result exit
@@ -170,12 +185,15 @@ fn path_map_of<'a>(rows: &'a [KeptRow], entry: ExitsEntry) -> PathMap<bool, Exce
     })
 }
 
-// The number of a row for a set with this summary: of one of its exceptions, if they are several.
+// The number of a row for a set with this summary, of the statement or block with a number, which may be a call: of one of its
+// exceptions, if they are several.
 fn row_of(
     rows: &mut Vec<KeptRow>,
     set: ExceptionSet,
     summary: Raised,
-    nearby: &Nearby,
+    recent: &mut RecentRows,
+    at: usize,
+    call: Option<(u32, Raises)>,
 ) -> Result<usize, AllocError>
     requires { 0 < length rows.old.items }
     ensures row { IfOk result (IsRowFor (members set) summary rows.new.items) }
@@ -184,6 +202,9 @@ fn row_of(
     match summary {
         Raised::Nothing => Ok(0),
         Raised::One(_) => Ok(0),
-        Raised::Several => keep(set.alloc, rows, set, nearby),
+        Raised::Several => {
+            let nearby = recent.nearby(set.alloc, at, call)?;
+            keep(set.alloc, rows, set, &nearby)
+        }
     }
 }

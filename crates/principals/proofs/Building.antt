@@ -7,13 +7,14 @@ use Rattle.std.proofs.lemmas.List.Quantifiers.{all_pairs_push}
 use Rattle.std.proofs.lemmas.Option.{slice_get_within, none-some}
 use Rattle.lexer.specs.Terminal.{Terminal}
 use Rattle.principals.specs.ActsFor.{PrincipalHierarchy, AllDifferent}
-use Rattle.principals.specs.HierarchyText.{Entry, Declares, Relates, IsEntryRefusal, Twice, Crowded, UnknownLeft, UnknownRight, AllAccepted, IsFirstRefusal, IsDescribedBy, declared, written}
+use Rattle.principals.specs.HierarchyText.{Entry, Declares, Relates, IsDescribedBy, declared, written}
 use Rattle.std.proofs.Common.{take, drop}
 use Rattle.std.proofs.lemmas.List.{take-append-drop, drop_more, take_more, map-append, map_push}
 use Rattle.common.proofs.Cases.{contained_at}
-use Rattle.principals.specs.Reading.{IsHierarchyOfEntries, HaveNames, entry_of, entries_of}
+use Rattle.principals.specs.Reading.{IsHierarchyOfEntries, HaveNames, entry_of, entries_of, IsEntryRefusal, Twice, Crowded, UnknownLeft, UnknownRight, AllAccepted, IsFirstRefusal}
 use Rattle.principals.specs.declared.reading.HierarchyStatement.{HierarchyStatement}
 use Rattle.principals.specs.declared.fault.HierarchyRefusal.{HierarchyRefusal}
+use Rattle.principals.proofs.Faults.{accepted_faultless}
 
 -- ---- lists
 
@@ -159,7 +160,7 @@ built_refused es after names pairs entry fault built refused = record {
 
 -- when all entries are added the hierarchy is the one that they describe
 pub built_described : (es : List Entry) (hierarchy : PrincipalHierarchy) → IsHierarchyOfEntries es hierarchy.names hierarchy.pairs → IsDescribedBy es hierarchy
-built_described es hierarchy built = record { accepted = built.accepted; names = built.same_names; pairs = built.same_pairs }
+built_described es hierarchy built = record { accepted = accepted_faultless [] es built.accepted; names = built.same_names; pairs = built.same_pairs }
 
 -- ---- statements
 

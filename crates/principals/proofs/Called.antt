@@ -13,8 +13,9 @@ use Rattle.lexer.specs.Terminal.{Terminal}
 use Rattle.lexer.specs.declared.token.Kind.TheVariants.{Name, End}
 use Rattle.common.specs.declared.limits.TheConstants.{MAX_TEXT}
 use Rattle.principals.specs.ActsFor.{PrincipalHierarchy}
-use Rattle.principals.specs.HierarchyText.{Entry, Nonterminal, Derives, Finish, Declaration, PrincipalRelation, OneMore, Last, declared, IsHierarchyForm, IsHierarchyOf}
-use Rattle.principals.specs.Named.{IsNameWithin, IsKeptName}
+use Rattle.principals.specs.HierarchyText.{Entry, Nonterminal, Derives, Finish, Declaration, PrincipalRelation, OneMore, Last, declared, IsHierarchyOf}
+use Rattle.principals.specs.Reading.{IsHierarchyForm}
+use Rattle.principals.specs.Named.{IsUtf8NameWithin, IsKeptName}
 
 -- the text of a token is UTF-8
 abbrev IsText : Terminal → Type 0
@@ -54,7 +55,7 @@ slice_short : (text : List ℕ) (token : Terminal) → IsSliceOf text token → 
 slice_short text token slice =
     omega (arith, ap length slice, length-take (token.end - token.start) (drop token.start text), length-drop token.start text)
 
-name_within : (text : List ℕ) (token : Terminal) → IsSliceOf text token → IsSpelled token → IsText token → token.kind ≡ Name → IsNameWithin (length text) token.text
+name_within : (text : List ℕ) (token : Terminal) → IsSliceOf text token → IsSpelled token → IsText token → token.kind ≡ Name → IsUtf8NameWithin (length text) token.text
 name_within text token slice spelled characters kind = record {
   named = subst (λ kind. listing.SpellsToken kind token.text) kind spelled;
   characters = characters;
@@ -63,15 +64,15 @@ name_within text token slice spelled characters kind = record {
 
 -- the names that a text declares
 declared_named : (text : List ℕ) (tokens : List Terminal) (entries : List Entry) → IsUtf8 text → IsCut text tokens → IsHierarchyForm tokens entries →
-    All (IsNameWithin (length text)) (declared entries)
+    All (IsUtf8NameWithin (length text)) (declared entries)
 declared_named text tokens entries ok cut form =
     let each = listed text tokens ok cut in
     let texts = token_texts text tokens ok cut in
-    declared_hold (IsNameWithin (length text)) _ tokens entries form (λ k d lt. name_within text (get_or tokens k d) (each.slices k d lt) (each.spelled k d lt) (texts k d lt))
+    declared_hold (IsUtf8NameWithin (length text)) _ tokens entries form (λ k d lt. name_within text (get_or tokens k d) (each.slices k d lt) (each.spelled k d lt) (texts k d lt))
 
-pub names_are_names : (text : List ℕ) (hierarchy : PrincipalHierarchy) → IsUtf8 text → IsHierarchyOf text hierarchy → All (IsNameWithin (length text)) hierarchy.names
+pub names_are_names : (text : List ℕ) (hierarchy : PrincipalHierarchy) → IsUtf8 text → IsHierarchyOf text hierarchy → All (IsUtf8NameWithin (length text)) hierarchy.names
 names_are_names text hierarchy ok h =
-    subst (All (IsNameWithin (length text))) (sym h.described.names) (declared_named text h.has_entries.tokens h.entries ok h.has_entries.cut h.has_entries.form)
+    subst (All (IsUtf8NameWithin (length text))) (sym h.described.names) (declared_named text h.has_entries.tokens h.entries ok h.has_entries.cut h.has_entries.form)
 
 pub declared_kept : (text : List ℕ) (tokens : List Terminal) (entries : List Entry) → IsUtf8 text → length text ≤ MAX_TEXT → IsCut text tokens → IsHierarchyForm tokens entries →
     All IsKeptName (declared entries)

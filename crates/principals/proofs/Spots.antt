@@ -7,8 +7,10 @@ use Rattle.std.proofs.lemmas.Str.{IsCharBoundary-start}
 use Rattle.lexer.specs.Cut.{IsCut}
 use Rattle.lexer.specs.Terminal.{Terminal}
 use Rattle.lexer.proofs.Listed.{listed, refused_at}
-use Rattle.principals.specs.HierarchyText.{Entry, Declares, Relates, Nonterminal, Derives, Finish, Declaration, PrincipalRelation, OneMore, Last, IsEntryRefusal, Twice, Crowded, UnknownLeft, UnknownRight, IsFirstRefusal, HasEntries, IsSyntaxRefusal, IsRefusedText, Long, Formless, Wrong, HasBoundary}
+use Rattle.principals.specs.HierarchyText.{Entry, Declares, Relates, Nonterminal, Derives, Finish, Declaration, PrincipalRelation, OneMore, Last, HasEntries, IsSyntaxRefusal, IsRefusedText, Long, Formless, Wrong, HasBoundary}
+use Rattle.principals.specs.Reading.{IsEntryRefusal, Twice, Crowded, UnknownLeft, UnknownRight, IsFirstRefusal}
 use Rattle.principals.specs.declared.fault.HierarchyRefusal.{HierarchyRefusal}
+use Rattle.principals.proofs.Total.{begins_first}
 
 -- ---- tokens
 
@@ -63,4 +65,4 @@ syntax_spot text at ok s =
 pub refused_spot : (text : List ℕ) → IsUtf8 text → (f : HierarchyRefusal) → IsRefusedText text f → HasBoundary text f
 refused_spot text ok _ (Long long) = IsCharBoundary-start text ok
 refused_spot text ok _ (Formless at fits syntax) = syntax_spot text at ok syntax
-refused_spot text ok f (Wrong es _ has_entries first) = wrong_spot text f es ok has_entries first
+refused_spot text ok f (Wrong es _ others has_entries first) = wrong_spot text f es ok has_entries (begins_first es f others first)

@@ -10,15 +10,16 @@ use Rattle.lexer.specs.Terminal.{Terminal, IsTerminated}
 use Rattle.lexer.proofs.Listed.{listed}
 use Rattle.lexer.proofs.Total.{is_cut_or_refused}
 use Rattle.principals.specs.ActsFor.{PrincipalHierarchy, IsHierarchy, AllBelow, AllDifferent}
-use Rattle.principals.specs.HierarchyText.{Entry, Declares, Relates, IsHierarchyForm, IsUnexpectedInHierarchyAt, IsEntryRefusal, Twice, Crowded, UnknownLeft, UnknownRight, IsFirstRefusal, IsDescribedBy, written, HasEntries, IsHierarchyOf, IsRefusedText, Long, Formless, Wrong, refusal_for, refusal_of_lex}
+use Rattle.principals.specs.HierarchyText.{Entry, all_faults, Declares, Relates, IsUnexpectedInHierarchyAt, IsDescribedBy, written, HasEntries, IsHierarchyOf, IsRefusedText, Long, Formless, refusal_for, refusal_of_lex}
 use Rattle.principals.specs.Laws.{HasOneHierarchy, IsReadOrRefused}
-use Rattle.principals.specs.Reading.{IsHierarchyOfEntries, HaveNames, ReadingState, Fresh, Ended, next, run, finished_entries}
+use Rattle.principals.specs.Reading.{IsHierarchyOfEntries, HaveNames, ReadingState, Fresh, Ended, next, run, finished_entries, IsHierarchyForm, IsEntryRefusal, Twice, Crowded, UnknownLeft, UnknownRight, IsFirstRefusal}
 use Rattle.principals.specs.declared.fault.HierarchyRefusal.{HierarchyRefusal}
 use Rattle.principals.specs.declared.fault.HierarchyRefusalKind.TheVariants as kind
 use Rattle.principals.proofs.Automaton.{run-push, read_is_open, is_prefix, stops, run_ends}
+use Rattle.principals.proofs.Faults.{first_begins, accepted_faultless}
 use Rattle.principals.proofs.Building.{built_nothing, built_name, built_pair, built_refused, built_described}
 use Rattle.common.proofs.Elements.{none_in_nil, Contains-cons_cases, Contains-first, Contains-later}
-use Rattle.principals.proofs.Uniqueness.{hierarchy_once}
+use Rattle.principals.proofs.Uniqueness.{hierarchy_once, wrong_text}
 use Rattle.common.specs.declared.limits.TheConstants.{MAX_TEXT}
 use Rattle.common.proofs.Cases.{contained_place}
 
@@ -102,7 +103,18 @@ described_is_hierarchy es h is =
       different = subst AllDifferent same built.2.different;
       there = below h.names (written es) h.pairs is.pairs;
     })
-    (λ refused. absurd (is.accepted refused.1.before refused.1.after refused.1.entry refused.0 refused.1.entries_are refused.1.refused))
+    (λ refused. let begins = first_begins es refused.0 refused.1 in absurd (cc (is.accepted, begins.1)))
+    (entries_outcome es)
+
+-- the first fault is the first refusal
+pub begins_first : (es : List Entry) (f : HierarchyRefusal) (others : List HierarchyRefusal) → all_faults [] es ≡ f ∷ others → IsFirstRefusal es f
+begins_first es f others e =
+    ⊎_elim
+    (λ built. let none = accepted_faultless [] es built.2.accepted in absurd (cc (none, e)))
+    (λ refused.
+    let begins = first_begins es refused.0 refused.1 in
+    let same : refused.0 ≡ f = cc (begins.1, e) in
+    subst (IsFirstRefusal es) same refused.1)
     (entries_outcome es)
 
 -- ---- the form
@@ -156,7 +168,7 @@ lexed text tokens utf8 fits cut =
       record { names = built.0; pairs = built.1 },
       record { entries = form.0; has_entries = has_entries; described = built_described form.0 (record { names = built.0; pairs = built.1 }) built.2 },
     ))
-    (λ refused. inr (refused.0, Wrong form.0 refused.0 has_entries refused.1))
+    (λ refused. inr (refused.0, wrong_text text form.0 refused.0 has_entries refused.1))
     (entries_outcome form.0))
     (λ at. inr (refusal_for kind.Syntax at.0, Formless at.0 fits (inr (tokens, cut, at.1))))
     (form_outcome tokens (listed text tokens utf8 cut).terminated)

@@ -11,15 +11,16 @@ use Rattle.lexer.specs.Terminal.{Terminal}
 use Rattle.lexer.specs.declared.fault.LexRefusal.{LexRefusal}
 use Rattle.lexer.proofs.Cutting.{has_one_cut, not_cut_and_refused, has_one_refusal}
 use Rattle.principals.specs.ActsFor.{PrincipalHierarchy, HasName, IsHierarchy}
-use Rattle.principals.specs.HierarchyText.{Entry, IsHierarchyForm, IsPrefixOfForm, IsUnexpectedInHierarchyAt, IsEntryRefusal, Twice, Crowded, UnknownLeft, UnknownRight, IsFirstRefusal, IsDescribedBy, declared, written, HasEntries, IsHierarchyOf, IsSyntaxRefusal, IsRefusedText, Long, Formless, Wrong, refusal_for, refusal_of_lex}
-use Rattle.principals.specs.Reading.{Ended, IsFormRefusal}
+use Rattle.principals.specs.HierarchyText.{Entry, all_faults, IsPrefixOfForm, IsUnexpectedInHierarchyAt, IsDescribedBy, written, HasEntries, IsHierarchyOf, IsSyntaxRefusal, IsRefusedText, Long, Formless, Wrong, refusal_for, refusal_of_lex}
+use Rattle.principals.specs.Reading.{Ended, IsFormRefusal, IsHierarchyForm, IsFirstRefusal}
 use Rattle.principals.specs.declared.fault.HierarchyRefusal.{HierarchyRefusal}
 use Rattle.principals.specs.declared.fault.HierarchyRefusalKind.TheVariants as kind
 use Rattle.principals.proofs.Automaton.{derived_is_read}
+use Rattle.principals.proofs.Faults.{first_begins}
 use Rattle.principals.proofs.Names.{one_number}
 use Rattle.common.specs.declared.limits.TheConstants.{MAX_TEXT}
 
--- ---- two places in one list
+-- ---- two indices in one list
 
 abbrev IsLater : {X : Type 0} → List X → X → List X → Type 0
 IsLater {X} before x later = (between : List X) × (later ≡ before ++ x ∷ between)
@@ -41,28 +42,11 @@ two_places (a ∷ xs) (b ∷ ys) us vs x y h =
 
 -- ---- entries
 
-refused_once : (names : List (List ℕ)) (entry : Entry) (f g : HierarchyRefusal) → IsEntryRefusal names entry f → IsEntryRefusal names entry g → f ≡ g
-refused_once names entry f g (Twice name h) (Twice _ k) = refl
-refused_once names entry f g (Twice name h) (Crowded _ k l) = absurd (k h)
-refused_once names entry f g (Crowded name h l) (Twice _ k) = absurd (h k)
-refused_once names entry f g (Crowded name h l) (Crowded _ k m) = refl
-refused_once names entry f g (UnknownLeft left right h) (UnknownLeft _ _ k) = refl
-refused_once names entry f g (UnknownLeft left right h) (UnknownRight _ _ k l) = absurd (h k)
-refused_once names entry f g (UnknownRight left right h l) (UnknownLeft _ _ k) = absurd (k h)
-refused_once names entry f g (UnknownRight left right h l) (UnknownRight _ _ k m) = refl
+first_once : (faults : List HierarchyRefusal) (f g : HierarchyRefusal) (fs gs : List HierarchyRefusal) → faults ≡ f ∷ fs → faults ≡ g ∷ gs → f ≡ g
+first_once faults f g fs gs a b = cc
 
-first_once : (es : List Entry) (f g : HierarchyRefusal) → IsFirstRefusal es f → IsFirstRefusal es g → f ≡ g
-first_once es f g a b =
-    ⊎_elim
-    (λ same. refused_once (declared a.before) a.entry f g a.refused
-    (subst (λ x. IsEntryRefusal (declared x) a.entry g) (sym same.0) (subst (λ x. IsEntryRefusal (declared b.before) x g) (sym same.1) b.refused)))
-    (⊎_elim
-    (λ later. absurd (b.accepted a.before later.0 a.entry f later.1 a.refused))
-    (λ later. absurd (a.accepted b.before later.0 b.entry g later.1 b.refused)))
-    (two_places a.before b.before a.after b.after a.entry b.entry (sym a.entries_are ∙ b.entries_are))
-
-described_not_refused : (es : List Entry) (h : PrincipalHierarchy) (f : HierarchyRefusal) → IsDescribedBy es h → IsFirstRefusal es f → ⊥
-described_not_refused es h f described first = described.accepted first.before first.after first.entry f first.entries_are first.refused
+some_fault : (faults : List HierarchyRefusal) (f : HierarchyRefusal) (fs : List HierarchyRefusal) → faults ≡ [] → faults ≡ f ∷ fs → ⊥
+some_fault faults f fs a b = cc
 
 same_pairs : (h : PrincipalHierarchy) → IsHierarchy h → (texts : List (List ℕ × List ℕ)) (pairs others : List (ℕ × ℕ)) →
     AllZip (λ text pair. HasName h pair.0 text.0 × HasName h pair.1 text.1) texts pairs →
@@ -148,21 +132,21 @@ too_long text h k = absurd (omega arith)
 pub refused_text_once : (text : List ℕ) (f g : HierarchyRefusal) → IsRefusedText text f → IsRefusedText text g → f ≡ g
 refused_text_once text _ _ (Long long) (Long again) = refl
 refused_text_once text _ _ (Long long) (Formless at fits syntax) = too_long text long fits
-refused_text_once text _ g (Long long) (Wrong es _ has_entries first) = too_long text long has_entries.fits
+refused_text_once text _ g (Long long) (Wrong es _ more has_entries first) = too_long text long has_entries.fits
 refused_text_once text _ _ (Formless at fits syntax) (Long long) = too_long text long fits
 refused_text_once text _ _ (Formless at fits syntax) (Formless other again syntax_too) =
     ap (λ x. refusal_for kind.Syntax x) (syntax_once text at other syntax syntax_too)
-refused_text_once text _ g (Formless at fits syntax) (Wrong es _ has_entries first) = absurd (entries_not_syntax text es at has_entries syntax)
-refused_text_once text f _ (Wrong es _ has_entries first) (Long long) = too_long text long has_entries.fits
-refused_text_once text f _ (Wrong es _ has_entries first) (Formless at fits syntax) = absurd (entries_not_syntax text es at has_entries syntax)
-refused_text_once text f g (Wrong es _ has_entries first) (Wrong others _ has_too first_too) =
-    first_once es f g first (subst (λ x. IsFirstRefusal x g) (entries_once text others es has_too has_entries) first_too)
+refused_text_once text _ g (Formless at fits syntax) (Wrong es _ more has_entries first) = absurd (entries_not_syntax text es at has_entries syntax)
+refused_text_once text f _ (Wrong es _ more has_entries first) (Long long) = too_long text long has_entries.fits
+refused_text_once text f _ (Wrong es _ more has_entries first) (Formless at fits syntax) = absurd (entries_not_syntax text es at has_entries syntax)
+refused_text_once text f g (Wrong es _ more has_entries first) (Wrong others _ too has_too first_too) =
+    first_once (all_faults [] es) f g more too first (subst (λ x. all_faults [] x ≡ g ∷ too) (entries_once text others es has_too has_entries) first_too)
 
 pub hierarchy_not_refused : (text : List ℕ) (h : PrincipalHierarchy) (f : HierarchyRefusal) → IsHierarchyOf text h → IsRefusedText text f → ⊥
 hierarchy_not_refused text h _ of (Long long) = too_long text long of.has_entries.fits
 hierarchy_not_refused text h _ of (Formless at fits syntax) = entries_not_syntax text of.entries at of.has_entries syntax
-hierarchy_not_refused text h f of (Wrong es _ has_entries first) =
-    described_not_refused of.entries h f of.described (subst (λ x. IsFirstRefusal x f) (entries_once text es of.entries has_entries of.has_entries) first)
+hierarchy_not_refused text h f of (Wrong es _ more has_entries first) =
+    some_fault (all_faults [] of.entries) f more of.described.accepted (subst (λ x. all_faults [] x ≡ f ∷ more) (entries_once text es of.entries has_entries of.has_entries) first)
 
 pub hierarchy_once : (text : List ℕ) (h k : PrincipalHierarchy) → IsHierarchy h → IsHierarchyOf text h → IsHierarchyOf text k → h ≡ k
 hierarchy_once text h k kept a b =
@@ -178,6 +162,10 @@ tokens_refused text r f fits is refused = subst (IsRefusedText text) (sym is) (F
 pub form_refused : (text : List ℕ) (tokens : List Terminal) (f : HierarchyRefusal) → length text ≤ MAX_TEXT → IsCut text tokens → IsFormRefusal tokens f
     → IsRefusedText text f
 form_refused text tokens f fits cut (at, is, unexpected) = subst (IsRefusedText text) (sym is) (Formless at fits (inr (tokens, cut, unexpected)))
+
+-- and what the first refusal of its entries is
+pub wrong_text : (text : List ℕ) (entries : List Entry) (f : HierarchyRefusal) → HasEntries text entries → IsFirstRefusal entries f → IsRefusedText text f
+wrong_text text entries f has_entries first = let begins = first_begins entries f first in Wrong entries f begins.0 has_entries begins.1
 
 -- ---- what a reader has to meet
 

@@ -1,8 +1,9 @@
 -- The text of a principal hierarchy: its form, what it declares and writes, and the first refusal in it. Our own.
-use Rattle.std.specs.Prelude.{◌≡◌, ◌≢◌, ◌⊎◌, ℕ, ◌<◌, ◌≤◌, List, [], ◌∷◌, ◌++◌, length, codes, Contains, IsCharBoundary}
+use Rattle.std.specs.Prelude.{◌≡◌, ◌≢◌, ◌⊎◌, ℕ, ◌<◌, ◌≤◌, nat_le, Bool, not, if◌then◌else◌, List, [], ◌∷◌, ◌++◌, length, codes, bytes_eq, IsCharBoundary}
 use Rattle.common.specs.declared.limits.TheConstants.{MAX_PRINCIPALS, MAX_TEXT}
-use Rattle.std.specs.List.{AllZip}
+use Rattle.std.specs.List.{AllZip, list_any}
 use Rattle.lexer.specs.Cut.{IsCut, IsTextRefused}
+use Rattle.lexer.specs.FirstFault.{AreRefusedAt}
 use Rattle.lexer.specs.Terminal.{Terminal}
 use Rattle.lexer.specs.declared.fault.LexRefusal.{LexRefusal}
 use Rattle.lexer.specs.declared.token.Kind.TheVariants.{Name, Comma, Semicolon, End}
@@ -49,25 +50,15 @@ pub data Derives : Nonterminal → List Terminal → List Entry → Type 0 where
       → semicolon.kind ≡ Semicolon → Derives Items rest entries
       → Derives Names (name ∷ semicolon ∷ rest) (Declares name ∷ entries)
 
--- the tokens of a whole text of this form, with these entries
-abbrev pub IsHierarchyForm : List Terminal → List Entry → Type 0
-IsHierarchyForm tokens entries = Derives Items tokens entries
-
 -- the tokens are a prefix of those of some text of this form
 pub record IsPrefixOfForm (front : List Terminal) : Type 0 where
   pub more : List Terminal
   pub entries : List Entry
-  pub form : IsHierarchyForm (front ++ more) entries
+  pub form : Derives Items (front ++ more) entries
 
 -- the first token with which no text of this form goes on begins at a byte
-pub record IsUnexpectedInHierarchyAt (tokens : List Terminal) (at : ℕ) : Type 0 where
-  pub before : List Terminal
-  pub token : Terminal
-  pub after : List Terminal
-  pub tokens_are : tokens ≡ before ++ token ∷ after
-  pub goes_on : IsPrefixOfForm before
-  pub stops : IsPrefixOfForm (before ++ token ∷ []) → ⊥
-  pub place : at ≡ token.start
+abbrev pub IsUnexpectedInHierarchyAt : List Terminal → ℕ → Type 0
+IsUnexpectedInHierarchyAt tokens at = AreRefusedAt IsPrefixOfForm (λ front. ¬ IsPrefixOfForm front) tokens at
 
 -- ---- what the entries declare and write
 
@@ -87,33 +78,29 @@ written (Relates left right ∷ entries) = (left.text, right.text) ∷ written e
 abbrev pub refusal_for : HierarchyRefusalKind → (at : ℕ) → HierarchyRefusal
 refusal_for kind at = record { kind = kind; at = at }
 
--- an entry is refused, where these names are declared before it; of two refusals of one entry the first is reported
-pub data IsEntryRefusal (names : List (List ℕ)) : Entry → HierarchyRefusal → Type 0 where
-  Twice : (name : Terminal) → Contains names name.text → IsEntryRefusal names (Declares name) (refusal_for DeclaredTwice name.start)
-  Crowded : (name : Terminal) → (Contains names name.text → ⊥) → MAX_PRINCIPALS ≤ length names
-      → IsEntryRefusal names (Declares name) (refusal_for TooManyPrincipals name.start)
-  UnknownLeft : (left right : Terminal) → (Contains names left.text → ⊥)
-      → IsEntryRefusal names (Relates left right) (refusal_for UnknownPrincipal left.start)
-  UnknownRight : (left right : Terminal) → Contains names left.text → (Contains names right.text → ⊥)
-      → IsEntryRefusal names (Relates left right) (refusal_for UnknownPrincipal right.start)
+-- whether a name is declared
+abbrev pub is_declared : List (List ℕ) → Terminal → Bool
+is_declared names name = list_any (bytes_eq name.text) names
 
--- no entry is refused
-abbrev pub AllAccepted : List Entry → Type 0
-AllAccepted entries = (before after : List Entry) (entry : Entry) (refusal : HierarchyRefusal)
-    → entries ≡ before ++ entry ∷ after → IsEntryRefusal (declared before) entry refusal → ⊥
+-- a refusal at a token, if the test holds
+abbrev pub refused_if : Bool → HierarchyRefusalKind → Terminal → List HierarchyRefusal
+refused_if test kind token = if test then refusal_for kind token.start ∷ [] else []
 
--- the first entry that is refused, and why
-pub record IsFirstRefusal (entries : List Entry) (refusal : HierarchyRefusal) : Type 0 where
-  pub before : List Entry
-  pub entry : Entry
-  pub after : List Entry
-  pub entries_are : entries ≡ before ++ entry ∷ after
-  pub accepted : AllAccepted before
-  pub refused : IsEntryRefusal (declared before) entry refusal
+-- what is wrong with an entry, where these names are declared before it
+abbrev pub entry_faults : List (List ℕ) → Entry → List HierarchyRefusal
+entry_faults names (Declares name) =
+    refused_if (is_declared names name) DeclaredTwice name ++ refused_if (nat_le MAX_PRINCIPALS (length names)) TooManyPrincipals name
+entry_faults names (Relates left right) =
+    refused_if (not (is_declared names left)) UnknownPrincipal left ++ refused_if (not (is_declared names right)) UnknownPrincipal right
+
+-- what is wrong with entries, in order
+abbrev pub all_faults : List (List ℕ) → List Entry → List HierarchyRefusal
+all_faults names [] = []
+all_faults names (entry ∷ entries) = entry_faults names entry ++ all_faults (names ++ declared (entry ∷ [])) entries
 
 -- the hierarchy that the entries describe: its names are the declared ones, and its pairs are the numbers of the written ones
 pub record IsDescribedBy (entries : List Entry) (hierarchy : PrincipalHierarchy) : Type 0 where
-  pub accepted : AllAccepted entries
+  pub accepted : all_faults [] entries ≡ []
   pub names : hierarchy.names ≡ declared entries
   pub pairs : AllZip (λ names pair. HasName hierarchy pair.0 names.0 × HasName hierarchy pair.1 names.1) (written entries) hierarchy.pairs
 
@@ -124,7 +111,7 @@ pub record HasEntries (text : List ℕ) (entries : List Entry) : Type 0 where
   pub fits : length text ≤ MAX_TEXT
   pub tokens : List Terminal
   pub cut : IsCut text tokens
-  pub form : IsHierarchyForm tokens entries
+  pub form : Derives Items tokens entries
 
 -- the hierarchy of a text
 pub record IsHierarchyOf (text : List ℕ) (hierarchy : PrincipalHierarchy) : Type 0 where
@@ -142,12 +129,12 @@ IsSyntaxRefusal text at =
     ((refusal : LexRefusal) × IsTextRefused text refusal × (at ≡ refusal.at))
     ⊎ ((tokens : List Terminal) × IsCut text tokens × IsUnexpectedInHierarchyAt tokens at)
 
--- the first refusal of a text: that it is too long, that it is not of this form, or that of the first entry that is refused
+-- the first refusal of a text: that it is too long, that it is not of this form, or the first thing that is wrong with its entries
 pub data IsRefusedText (text : List ℕ) : HierarchyRefusal → Type 0 where
   Long : MAX_TEXT < length text → IsRefusedText text (refusal_for TooLong 0)
   Formless : (at : ℕ) → length text ≤ MAX_TEXT → IsSyntaxRefusal text at → IsRefusedText text (refusal_for Syntax at)
-  Wrong : (entries : List Entry) (refusal : HierarchyRefusal) → HasEntries text entries → IsFirstRefusal entries refusal
-      → IsRefusedText text refusal
+  Wrong : (entries : List Entry) (refusal : HierarchyRefusal) (others : List HierarchyRefusal) → HasEntries text entries
+      → all_faults [] entries ≡ refusal ∷ others → IsRefusedText text refusal
 
 -- the place of a refusal is a character boundary of the text, so that its line and its column can be found
 abbrev pub HasBoundary : List ℕ → HierarchyRefusal → Type 0

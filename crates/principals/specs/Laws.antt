@@ -3,14 +3,14 @@
 use Rattle.std.specs.Prelude.{◌≡◌, ◌⊎◌, ℕ, List, length, All, IsUtf8}
 use Rattle.principals.specs.ActsFor.{PrincipalHierarchy}
 use Rattle.principals.specs.HierarchyText.{IsHierarchyOf, IsRefusedText}
-use Rattle.principals.specs.Named.{IsNameWithin}
+use Rattle.principals.specs.Named.{IsUtf8NameWithin}
 use Rattle.principals.specs.declared.fault.HierarchyRefusal.{HierarchyRefusal}
 
 -- the principals of a text have names in UTF-8 that are no longer than the text
 abbrev pub NamesAreNames : Type 0
 NamesAreNames =
     (text : List ℕ) (hierarchy : PrincipalHierarchy) → IsUtf8 text → IsHierarchyOf text hierarchy
-    → All (IsNameWithin (length text)) hierarchy.names
+    → All (IsUtf8NameWithin (length text)) hierarchy.names
 
 -- ---- each text has one hierarchy or one refusal, and not both
 
@@ -25,8 +25,8 @@ IsNotReadAndRefused =
     (text : List ℕ) (hierarchy : PrincipalHierarchy) (refusal : HierarchyRefusal) → IsHierarchyOf text hierarchy → IsRefusedText text refusal → ⊥
 
 -- a text is refused for one reason at most
-abbrev pub HasOneRefusal : Type 0
-HasOneRefusal = (text : List ℕ) (refusal other : HierarchyRefusal) → IsRefusedText text refusal → IsRefusedText text other → refusal ≡ other
+abbrev pub HierarchiesHaveOneRefusal : Type 0
+HierarchiesHaveOneRefusal = (text : List ℕ) (refusal other : HierarchyRefusal) → IsRefusedText text refusal → IsRefusedText text other → refusal ≡ other
 
 -- a text is that of a hierarchy, or it is refused
 abbrev pub IsReadOrRefused : Type 0

@@ -1,5 +1,5 @@
 -- A text of a hierarchy, read one token after another. No public contract cites this file. Our own.
-use Rattle.std.specs.Prelude.{◌≡◌, ℕ, ◌≤◌, length, slice_get, List, [], ◌∷◌, ◌++◌, Option, None, Some, if◌then◌else◌, bytes_eq, codes, option_map, map}
+use Rattle.std.specs.Prelude.{◌≡◌, ℕ, ◌≤◌, length, slice_get, List, [], ◌∷◌, ◌++◌, Option, None, Some, if◌then◌else◌, bytes_eq, codes, option_map, map, Contains}
 use Rattle.common.specs.declared.limits.TheConstants.{MAX_PRINCIPALS}
 use Rattle.std.specs.List.{AllZip}
 use Rattle.principals.specs.ActsFor.{AllDifferent, AllBelow}
@@ -7,9 +7,9 @@ use Rattle.std.specs.Option.{option_and_then}
 use Rattle.lexer.specs.Terminal.{Terminal, terminal_of}
 use Rattle.lexer.specs.declared.token.Kind.{Kind}
 use Rattle.lexer.specs.declared.token.Kind.TheVariants.{Name as NameKind, Comma as CommaKind, Semicolon as SemicolonKind, End as EndKind}
-use Rattle.principals.specs.HierarchyText.{Entry, Declares, Relates, IsUnexpectedInHierarchyAt, AllAccepted, declared, written, refusal_for}
+use Rattle.principals.specs.HierarchyText.{Entry, Declares, Relates, Derives, Items, IsUnexpectedInHierarchyAt, declared, written, refusal_for}
 use Rattle.principals.specs.declared.fault.HierarchyRefusal.{HierarchyRefusal}
-use Rattle.principals.specs.declared.fault.HierarchyRefusalKind.TheVariants.{Syntax}
+use Rattle.principals.specs.declared.fault.HierarchyRefusalKind.TheVariants.{Syntax, DeclaredTwice, TooManyPrincipals, UnknownPrincipal}
 use Rattle.principals.specs.declared.reading.TokenRole.{TokenRole}
 use Rattle.principals.specs.declared.reading.TokenRole.TheVariants.{Principal, ActsFor, Name, Comma, Semicolon, End, Other}
 use Rattle.principals.specs.declared.reading.ItemState.{ItemState}
@@ -83,6 +83,37 @@ entry_of (statement.Relates left right) = Relates (terminal_of left) (terminal_o
 
 abbrev pub entries_of : List HierarchyStatement → List Entry
 entries_of statements = map entry_of statements
+
+-- the tokens of a whole text of this form, with these entries
+abbrev pub IsHierarchyForm : List Terminal → List Entry → Type 0
+IsHierarchyForm tokens entries = Derives Items tokens entries
+
+-- an entry is refused, where these names are declared before it; of two refusals of one entry the first is reported
+pub data IsEntryRefusal (names : List (List ℕ)) : Entry → HierarchyRefusal → Type 0 where
+  Twice : (name : Terminal) → Contains names name.text → IsEntryRefusal names (Declares name) (refusal_for DeclaredTwice name.start)
+  Crowded : (name : Terminal) → (Contains names name.text → ⊥) → MAX_PRINCIPALS ≤ length names
+      → IsEntryRefusal names (Declares name) (refusal_for TooManyPrincipals name.start)
+  UnknownLeft : (left right : Terminal) → (Contains names left.text → ⊥)
+      → IsEntryRefusal names (Relates left right) (refusal_for UnknownPrincipal left.start)
+  UnknownRight : (left right : Terminal) → Contains names left.text → (Contains names right.text → ⊥)
+      → IsEntryRefusal names (Relates left right) (refusal_for UnknownPrincipal right.start)
+
+-- no entry is refused, where these names are declared before the first
+abbrev pub AllAcceptedAfter : List (List ℕ) → List Entry → Type 0
+AllAcceptedAfter names entries = (before after : List Entry) (entry : Entry) (refusal : HierarchyRefusal)
+    → entries ≡ before ++ entry ∷ after → IsEntryRefusal (names ++ declared before) entry refusal → ⊥
+
+abbrev pub AllAccepted : List Entry → Type 0
+AllAccepted entries = AllAcceptedAfter [] entries
+
+-- the first entry that is refused, and why
+pub record IsFirstRefusal (entries : List Entry) (refusal : HierarchyRefusal) : Type 0 where
+  pub before : List Entry
+  pub entry : Entry
+  pub after : List Entry
+  pub entries_are : entries ≡ before ++ entry ∷ after
+  pub accepted : AllAccepted before
+  pub refused : IsEntryRefusal (declared before) entry refusal
 
 -- the refusal of the form alone: the first token with which no text of this form goes on
 abbrev pub IsFormRefusal : List Terminal → HierarchyRefusal → Type 0

@@ -3,9 +3,9 @@
 ghost use Rattle.common.specs.Answers.{IfRefused};
 ghost use Rattle.lexer.specs.Terminal.{terminal_of};
 ghost use Rattle.principals.specs.ActsFor.{IsHierarchy};
-ghost use Rattle.principals.specs.HierarchyText.{Declares, IsDescribedBy, IsEntryRefusal, IsFirstRefusal, Relates, declared, refusal_for};
+ghost use Rattle.principals.specs.HierarchyText.{Declares, IsDescribedBy, Relates, declared, refusal_for};
 ghost use Rattle.principals.specs.Named.{IsKeptName};
-ghost use Rattle.principals.specs.Reading.{entries_of};
+ghost use Rattle.principals.specs.Reading.{entries_of, IsEntryRefusal, IsFirstRefusal};
 ghost use Rattle.principals.specs.Table.{names_of};
 ghost use Rattle.principals.specs.declared.fault.HierarchyRefusalKind.TheVariants.{UnknownPrincipal};
 ghost use Rattle.std.specs.Prelude.{All, Contains, IfErr, IfOk, OnOk, Some, [], ◌∷◌, ◌++◌, length, slice_get, ◌<◌, ◌≡◌, ◌≤◌};

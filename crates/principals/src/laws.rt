@@ -1,7 +1,7 @@
 //! Laws of acts-for, over all lists of pairs, and of the texts of hierarchies.
 
 ghost use Rattle.principals.specs.ActsFor.{ActsFor, acts_for};
-ghost use Rattle.principals.specs.Laws.{HasOneHierarchy, HasOneRefusal, IsNotReadAndRefused, IsReadOrRefused, NamesAreNames};
+ghost use Rattle.principals.specs.Laws.{HasOneHierarchy, HierarchiesHaveOneRefusal, IsNotReadAndRefused, IsReadOrRefused, NamesAreNames};
 ghost use Rattle.std.specs.Prelude.{Contains, IsTrue, List, codes, ℕ, ◌↔◌, ◌≡◌};
 
 use crate::fault::{UNKNOWN_PRINCIPAL, UNKNOWN_PRINCIPAL_WORDS};
@@ -47,7 +47,7 @@ pub fn one_reading()
     ensures read_or_refused { IsReadOrRefused }
     ensures one_hierarchy { HasOneHierarchy }
     ensures not_both { IsNotReadAndRefused }
-    ensures one_refusal { HasOneRefusal }
+    ensures one_refusal { HierarchiesHaveOneRefusal }
 {}
 
 /// An unknown principal has the number and the words that are written here: a constant that is changed is refused here, while the

@@ -2,8 +2,7 @@
 
 ghost use Rattle.common.specs.Answers.{IfRefused};
 ghost use Rattle.lexer.specs.Terminal.{IsTerminated, terminal_of, terminals_of};
-ghost use Rattle.principals.specs.HierarchyText.{IsHierarchyForm};
-ghost use Rattle.principals.specs.Reading.{entries_of, IsFormRefusal, role_of};
+ghost use Rattle.principals.specs.Reading.{entries_of, IsFormRefusal, role_of, IsHierarchyForm};
 ghost use Rattle.std.specs.Prelude.{IfErr, IfOk, ◌≡◌};
 
 use crate::fault::{HierFault, HierarchyRefusal, HierarchyRefusalKind};

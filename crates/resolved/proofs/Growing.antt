@@ -3,8 +3,8 @@
 use Rattle.std.proofs.Common.{◌≡◌, refl, sym, ◌∙◌, ap, subst, ℕ, List, [], ◌∷◌, length, Bool, true, ◌&&◌}
 use Rattle.std.proofs.lemmas.Bool.{and_from, and_parts}
 use Rattle.std.specs.Prelude.{Option, Some, None, is_none, slice_get}
-use Rattle.resolved.specs.declared.expression.Base.{Base}
-use Rattle.resolved.specs.declared.expression.Base.TheVariants.{Int, Boolean}
+use Rattle.common.specs.declared.base_type.BaseType.{BaseType}
+use Rattle.common.specs.declared.base_type.BaseType.TheVariants.{Int, Boolean}
 use Rattle.resolved.specs.declared.expression.Variable.{Variable}
 use Rattle.resolved.specs.declared.expression.Variable.TheVariants.{Local}
 use Rattle.common.specs.declared.direction.Direction.{Direction}
@@ -27,7 +27,7 @@ pub record HasAsMuch (program : Program) (procedure : ProcedureEntry) (more : Pr
   pub result : whole.result ≡ procedure.result
 
 module _ (program : Program) (procedure : ProcedureEntry) (more : Program) (whole : ProcedureEntry) (as_much : HasAsMuch program procedure more whole) where
-  scalar_kept : (x : Variable) (test larger : Base → Bool) → ((base : Base) → test base ≡ true → larger base ≡ true)
+  scalar_kept : (x : Variable) (test larger : BaseType → Bool) → ((base : BaseType) → test base ≡ true → larger base ≡ true)
       → scalar_by (variable_type program procedure x) test ≡ true → scalar_by (variable_type more whole x) larger ≡ true
   scalar_kept x test larger keep h = go (variable_type program procedure x) refl h
     where
@@ -39,7 +39,7 @@ module _ (program : Program) (procedure : ProcedureEntry) (more : Program) (whol
           subst (λ found. scalar_by found larger ≡ true) (sym (as_much.variables x type e))
           (and_from (is_none type.size) (larger type.base) parts.0 (keep type.base parts.1))
 
-  array_kept : (array : Variable) (length : ℕ) (test larger : Base → Bool) → ((base : Base) → test base ≡ true → larger base ≡ true)
+  array_kept : (array : Variable) (length : ℕ) (test larger : BaseType → Bool) → ((base : BaseType) → test base ≡ true → larger base ≡ true)
       → array_by (variable_type program procedure array) length test ≡ true → array_by (variable_type more whole array) length larger ≡ true
   array_kept array length test larger keep h = go (variable_type program procedure array) refl h
     where
@@ -51,7 +51,7 @@ module _ (program : Program) (procedure : ProcedureEntry) (more : Program) (whol
           subst (λ found. array_by found length larger ≡ true) (sym (as_much.variables array type e))
           (and_from (has_length type.size length) (larger type.base) parts.0 (keep type.base parts.1))
 
-  pub has_base_kept : (base : Base) (e : Expression) → has_base program procedure base e ≡ true → has_base more whole base e ≡ true
+  pub has_base_kept : (base : BaseType) (e : Expression) → has_base program procedure base e ≡ true → has_base more whole base e ≡ true
   has_base_kept base (Integer n) h = h
   has_base_kept base (Logical b) h = h
   has_base_kept base (Read x) h = scalar_kept x (same_base base) (same_base base) (λ b k. k) h
@@ -95,7 +95,7 @@ module _ (program : Program) (procedure : ProcedureEntry) (more : Program) (whol
       and_from (has_base more whole parameter.base e) (arguments_match more whole parameters rest)
       (has_base_kept parameter.base e parts.0) (arguments_kept parameters rest parts.1)
 
-  target_kept : (target : Option Variable) (test : Base → Bool) → target_by program procedure target test ≡ true
+  target_kept : (target : Option Variable) (test : BaseType → Bool) → target_by program procedure target test ≡ true
       → target_by more whole target test ≡ true
   target_kept None test h = refl
   target_kept (Some x) test h = scalar_kept x test test (λ b k. k) h

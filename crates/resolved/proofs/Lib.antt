@@ -4,5 +4,6 @@ pub mod Sound
 pub mod Exits
 pub mod WellFormedParts
 pub mod Growing
+pub mod Measured
 pub mod Flow
 mod ExceptionNames

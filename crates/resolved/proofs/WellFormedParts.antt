@@ -4,7 +4,7 @@ use Rattle.std.specs.Prelude.{Option, None, Some, ◌==◌, slice_get, nat_le, s
 use Rattle.std.specs.List.{list_all}
 use Rattle.std.proofs.lemmas.Option.{get_or_from_slice_get}
 use Rattle.std.proofs.lemmas.Bool.{and_from, and_parts}
-use Rattle.resolved.specs.declared.expression.Base.{Base}
+use Rattle.common.specs.declared.base_type.BaseType.{BaseType}
 use Rattle.resolved.specs.Program.{Program, ProcedureEntry, ResultEntry, SlotEntry, ChannelEntry, procedure_at}
 use Rattle.resolved.specs.WellFormed.{has_result, parameter_fits, parameters_of, size_fits, written_fits, cell_count, result_fits, label_fits, label_nodes, throws_fit, block_fits, block_loops, counts_from, procedure_fits, globals_fit, main_fits, program_nodes, node_limit, well_formed}
 use Rattle.common.specs.declared.limits.TheConstants.{MAX_CELLS, MAX_PRINCIPALS}
@@ -185,6 +185,6 @@ pub procedure_at_is : (program : Program) (f : ℕ) (procedure : ProcedureEntry)
 procedure_at_is program f procedure e = get_or_from_slice_get program.procedures f procedure _ e
 
 -- where a result passes a test, a type does
-pub result_some : (result : Option ResultEntry) (test : Base → Bool) → has_result result test ≡ true → (base : Base) × (test base ≡ true)
+pub result_some : (result : Option ResultEntry) (test : BaseType → Bool) → has_result result test ≡ true → (base : BaseType) × (test base ≡ true)
 result_some None test h = absurd (cc)
 result_some (Some entry) test h = (entry.base, h)

@@ -1,6 +1,6 @@
 -- The exits that a statement may have, found without running it.
 -- Source: our own rules; several exits of a statement as in JFlow (Myers 1999).
-use Rattle.std.specs.Prelude.{ℕ, List, [], ◌∷◌, ◌++◌, Bool, true, false, not, map, filter, ◌==◌, ◌||◌, if◌then◌else◌, Some, None}
+use Rattle.std.specs.Prelude.{ℕ, List, [], ◌∷◌, ◌++◌, Bool, true, false, not, map, flat_map, filter, ◌==◌, ◌||◌, if◌then◌else◌, Some, None}
 use Rattle.std.specs.List.{list_any, list_all}
 use Rattle.resolved.specs.declared.expression.Prefix.TheVariants.{Negate}
 use Rattle.resolved.specs.declared.expression.Operator.{Operator}
@@ -63,10 +63,6 @@ raises (Unary prefix e) = raises e
 raises (Binary operator d e) = raises d ++ raises e ++ operator_raises operator e
 raises (Short connective d e) = raises d ++ raises e
 
-abbrev pub raises_all : List Expression → List ℕ
-raises_all [] = []
-raises_all (e ∷ rest) = raises e ++ raises_all rest
-
 abbrev pub thrown_exits : List ℕ → List Exit
 thrown_exits exceptions = map (λ exception. Throw exception) exceptions
 
@@ -107,7 +103,7 @@ abbrev mutual
   statement_exits program (Receive at channel target) = Normal ∷ Throw END ∷ []
   statement_exits program (Send at channel e) = Normal ∷ thrown_exits (raises e)
   statement_exits program (Call at procedure arguments target) =
-      Normal ∷ thrown_exits (raises_all arguments ++ declared_by (procedure_at program procedure).throws)
+      Normal ∷ thrown_exits (flat_map raises arguments ++ declared_by (procedure_at program procedure).throws)
   statement_exits program (If at e then_block else_block) =
       thrown_exits (raises e) ++ block_exits program then_block ++ block_exits program else_block
   statement_exits program (While at loop e body) =

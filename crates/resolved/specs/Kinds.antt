@@ -1,7 +1,7 @@
 -- What the states of a well-formed program hold: in each variable as many cells as it has, each with a value of its base type.
 -- Source: type soundness as in Milner 1978, for our own language.
 use Rattle.std.specs.Prelude.{◌≡◌, ℕ, List, [], ◌∷◌, length, All, Option, Some, None, IsTrue, ◌&&◌}
-use Rattle.resolved.specs.declared.expression.Base.{Base}
+use Rattle.common.specs.declared.base_type.BaseType.{BaseType}
 use Rattle.resolved.specs.declared.expression.Value.{Value}
 use Rattle.resolved.specs.declared.expression.Variable.{Variable}
 use Rattle.resolved.specs.declared.statement.Exit.{Exit}
@@ -31,7 +31,7 @@ ArgumentsFit (parameter ∷ parameters) [] = ⊥
 ArgumentsFit (parameter ∷ parameters) (v ∷ rest) = (base_of v ≡ parameter.base) × ArgumentsFit parameters rest
 
 -- a value of a base type, where evaluation gives a value
-abbrev pub GivesBase : Base → Evaluated Value → Type 0
+abbrev pub GivesBase : BaseType → Evaluated Value → Type 0
 GivesBase base (Yields v) = base_of v ≡ base
 GivesBase base (Raises exception) = Unit {0}
 
@@ -57,7 +57,7 @@ MeaningKeepsTypes = (program : Program) → IsTrue (well_formed program)
 
 -- in a state that fits, a well-formed expression has a value of its base type or raises an exception
 abbrev pub ValuesHaveTheirTypes : Type 0
-ValuesHaveTheirTypes = (program : Program) (procedure : ProcedureEntry) (base : Base) (e : Expression)
+ValuesHaveTheirTypes = (program : Program) (procedure : ProcedureEntry) (base : BaseType) (e : Expression)
     → IsTrue (has_base program procedure base e) → (s : SourceState) → StateFits program procedure s → GivesBase base (value_of s e)
 
 -- a well-formed program begins in a state that fits

@@ -6,7 +6,7 @@
 -- (in braces), and 13 the exits of a procedure.
 -- Source: our own rules; a label for each exit as in JFlow (Myers 1999), simple security and confinement after Volpano,
 -- Smith and Irvine 1996.
-use Rattle.std.specs.Prelude.{ℕ, suc, List, [], ◌∷◌, ◌++◌, Bool, true, false, not, map, flat_map, ◌==◌, ◌&&◌, if◌then◌else◌, Option, Some, None}
+use Rattle.std.specs.Prelude.{ℕ, suc, List, [], ◌∷◌, ◌++◌, Bool, true, false, not, map, flat_map, ◌==◌, ◌&&◌, if◌then◌else◌, Option, Some, None, unwrap_or}
 use Rattle.principals.specs.ActsFor.{PrincipalHierarchy}
 use Rattle.labels.specs.Label.{Label}
 use Rattle.lattices.specs.Constraints.{Atom, Written, Unknown, Constraint, FitsAll, join_of, value}
@@ -49,11 +49,6 @@ abbrev pub written_or : Option Label → Unwritten → LabelAtom
 written_or (Some label) other = Written label
 written_or None other = Unknown other
 
--- the label of a parameter, which is always written
-abbrev pub parameter_label : Option Label → Label
-parameter_label (Some label) = label
-parameter_label None = []
-
 -- the label of a procedure's value
 abbrev pub result_label : Option ResultEntry → Label
 result_label (Some entry) = entry.label
@@ -65,13 +60,13 @@ thrown_label [] exception = []
 thrown_label (entry ∷ rest) exception =
     if exception == entry.exception then entry.label else thrown_label rest exception
 
--- the label of what stands on the right side of a demand
+-- the label of what stands on the right side of a demand; that of a parameter is always written
 abbrev pub label_of : Program → Target → LabelAtom
 label_of program (ToVariable f (Global n)) = Written (global_at program n).label
 label_of program (ToVariable f (Local n)) = written_or (slot_at (procedure_at program f) n).written (OfLocal f n)
 label_of program (ToChannel channel) = Written (channel_at program channel).label
 label_of program (ToBegin f) = Written (procedure_at program f).begin_label
-label_of program (ToParameter f i) = Written (parameter_label (slot_at (procedure_at program f) i).written)
+label_of program (ToParameter f i) = Written (unwrap_or (slot_at (procedure_at program f) i).written [])
 label_of program (ToValue f) = Written (result_label (procedure_at program f).result)
 label_of program (ToEnd f) = Written (procedure_at program f).end_label
 label_of program (ToThrown f exception) = Written (thrown_label (procedure_at program f).throws exception)
@@ -116,10 +111,6 @@ raise_label scope (Binary operator d e) =
 raise_label scope (Short connective d e) =
     raise_label scope d ++ raise_label scope e ++ label_if (any_of (raises e)) (value_label scope d)
 
-abbrev pub raise_labels : Scope → List Expression → Join
-raise_labels scope [] = []
-raise_labels scope (e ∷ rest) = raise_label scope e ++ raise_labels scope rest
-
 -- X: a label for each exit
 abbrev pub ExitLabels : Type 0
 ExitLabels = Exit → Join
@@ -128,10 +119,6 @@ ExitLabels = Exit → Join
 -- (the rule of the single path)
 abbrev pub at_exits : (exits : List Exit) → (pc : Join) → ExitLabels → ExitLabels
 at_exits exits pc x exit = label_if (has_exit exits exit) (if one_exit exits then pc else x exit)
-
--- X of what an expression raises at q
-abbrev pub raised_exit_labels : Expression → (q : Join) → ExitLabels
-raised_exit_labels e q exit = label_if (has_exit (thrown_exits (raises e)) exit) q
 
 -- X of a call whose arguments were evaluated at q: the end label of the procedure counts where it declares exceptions
 abbrev pub call_exit_labels : Program → (callee : ℕ) → (q : Join) → ExitLabels
@@ -175,7 +162,27 @@ pub record Judgement : Type 0 where
   pub exits : ExitLabels
   pub demands : List Demand
 
--- the judgement of a whole block, by that of its statements
+-- two judgements together, on the exits of both: what the first demands comes before what the second does
+infixl 50 ◌&◌
+abbrev pub ◌&◌ : Judgement → Judgement → Judgement
+first & second =
+    record { exits = λ exit. first.exits exit ++ second.exits exit; demands = first.demands ++ second.demands }
+
+-- a judgement without the labels of the exits that fail a test
+abbrev pub only_exits : (Exit → Bool) → Judgement → Judgement
+only_exits test inner = record inner { exits = λ exit. label_if (test exit) (inner.exits exit) }
+
+-- what an expression raises at q
+abbrev pub raising : Expression → (q : Join) → Judgement
+raising e q = record { exits = λ exit. label_if (has_exit (thrown_exits (raises e)) exit) q; demands = [] }
+
+-- an expression is evaluated at pc, and its value goes to a target
+abbrev pub value_to : Scope → (pc : Join) → (at rule : ℕ) → Expression → Target → Judgement
+value_to scope pc at rule e target =
+    let q : Join = pc ++ raise_label scope e in
+    record { exits = λ exit. q; demands = demand scope.program at rule (q ++ value_label scope e) target }
+
+-- the judgement on a whole block, by that on its statements
 abbrev pub whole : Scope → (pc : Join) → Block → Judgement → Judgement
 whole scope pc block inner = record inner { exits = at_exits (block_exits scope.program block) pc inner.exits }
 
@@ -184,9 +191,7 @@ whole scope pc block inner = record inner { exits = at_exits (block_exits scope.
 -- the label of its exception
 abbrev mutual
   pub rule_of : Scope → (pc : Join) → Statement → Judgement
-  rule_of scope pc (Assign at x e) =
-      let q : Join = pc ++ raise_label scope e in
-      record { exits = λ exit. q; demands = demand scope.program at 1 (q ++ value_label scope e) (ToVariable scope.number x) }
+  rule_of scope pc (Assign at x e) = value_to scope pc at 1 e (ToVariable scope.number x)
   rule_of scope pc (Clear at slot) =
       record { exits = λ exit. pc; demands = demand scope.program at 2 pc (ToVariable scope.number (Local slot)) }
   rule_of scope pc (Store at array length index e) =
@@ -197,11 +202,9 @@ abbrev mutual
   rule_of scope pc (Receive at channel target) =
       let q : Join = pc ++ one (label_of scope.program (ToChannel channel)) in
       record { exits = λ exit. q; demands = demand scope.program at 4 pc (ToChannel channel) ++ target_demand scope at 4 q target }
-  rule_of scope pc (Send at channel e) =
-      let q : Join = pc ++ raise_label scope e in
-      record { exits = λ exit. q; demands = demand scope.program at 5 (q ++ value_label scope e) (ToChannel channel) }
+  rule_of scope pc (Send at channel e) = value_to scope pc at 5 e (ToChannel channel)
   rule_of scope pc (Call at procedure arguments target) =
-      let q : Join = pc ++ raise_labels scope arguments in
+      let q : Join = pc ++ flat_map (raise_label scope) arguments in
       let x : ExitLabels = call_exit_labels scope.program procedure q in
       let given : Join = x Normal ++ one (label_of scope.program (ToValue procedure)) in
       record {
@@ -213,55 +216,37 @@ abbrev mutual
   rule_of scope pc (If at e then_block else_block) =
       let q : Join = pc ++ raise_label scope e in
       let branch : Join = q ++ value_label scope e in
-      let first : Judgement = whole scope branch then_block (rule_of_block scope branch then_block) in
-      let second : Judgement = whole scope branch else_block (rule_of_block scope branch else_block) in
-      record {
-        exits = λ exit. raised_exit_labels e q exit ++ first.exits exit ++ second.exits exit;
-        demands = first.demands ++ second.demands;
-      }
+      raising e q & whole scope branch then_block (rule_of_block scope branch then_block)
+      & whole scope branch else_block (rule_of_block scope branch else_block)
   rule_of scope pc (While at loop e body) =
+      let to_loop : Join → List Demand = λ left. demand scope.program at 8 left (ToLoop scope.number loop) in
       let q : Join = one (label_of scope.program (ToLoop scope.number loop)) ++ raise_label scope e in
       let b : Join = q ++ value_label scope e in
       let inner : Judgement = whole scope b body (rule_of_block scope b body) in
-      let again : Join = inner.exits Normal ++ inner.exits Continue in
       record {
-        exits = λ exit. raised_exit_labels e q exit ++ loop_exit_labels b inner.exits exit;
-        demands = demand scope.program at 8 pc (ToLoop scope.number loop)
-            ++ inner.demands
-            ++ demand scope.program at 8 again (ToLoop scope.number loop);
+        exits = λ exit. (raising e q).exits exit ++ loop_exit_labels b inner.exits exit;
+        demands = to_loop pc ++ inner.demands ++ to_loop (inner.exits Normal ++ inner.exits Continue);
       }
   rule_of scope pc (Leave at taken) = record { exits = λ exit. pc; demands = [] }
-  rule_of scope pc (ReturnWith at (Some e)) =
-      let q : Join = pc ++ raise_label scope e in
-      record { exits = λ exit. q; demands = demand scope.program at 10 (q ++ value_label scope e) (ToValue scope.number) }
+  rule_of scope pc (ReturnWith at (Some e)) = value_to scope pc at 10 e (ToValue scope.number)
   rule_of scope pc (ReturnWith at None) = record { exits = λ exit. pc; demands = [] }
   rule_of scope pc (Try at block handlers) =
       let inner : Judgement = whole scope pc block (rule_of_block scope pc block) in
-      let handled : Judgement = rule_of_handlers scope inner.exits handlers in
-      record {
-        exits = λ exit. label_if (passes handlers exit) (inner.exits exit) ++ handled.exits exit;
-        demands = inner.demands ++ handled.demands;
-      }
+      only_exits (passes handlers) inner & rule_of_handlers scope inner.exits handlers
   rule_of scope pc (Nested at block) = whole scope pc block (rule_of_block scope pc block)
 
   pub rule_of_block : Scope → (pc : Join) → Block → Judgement
   rule_of_block scope pc Empty = record { exits = λ exit. label_if (same_exit Normal exit) pc; demands = [] }
   rule_of_block scope pc (Then statement rest) =
-      let first : Judgement = rule_of scope pc statement in
-      let x : ExitLabels = at_exits (statement_exits scope.program statement) pc first.exits in
-      let others : Judgement = rule_of_block scope (x Normal) rest in
-      record {
-        exits = λ exit. label_if (not (same_exit Normal exit)) (x exit) ++ others.exits exit;
-        demands = first.demands ++ others.demands;
-      }
+      let inner : Judgement = rule_of scope pc statement in
+      let x : ExitLabels = at_exits (statement_exits scope.program statement) pc inner.exits in
+      only_exits (λ exit. not (same_exit Normal exit)) (record inner { exits = x }) & rule_of_block scope (x Normal) rest
 
   pub rule_of_handlers : Scope → ExitLabels → Handlers → Judgement
   rule_of_handlers scope x NoMore = record { exits = λ exit. []; demands = [] }
   rule_of_handlers scope x (Catch at handled body rest) =
       let pc : Join = x (Throw handled) in
-      let inner : Judgement = whole scope pc body (rule_of_block scope pc body) in
-      let others : Judgement = rule_of_handlers scope x rest in
-      record { exits = λ exit. inner.exits exit ++ others.exits exit; demands = inner.demands ++ others.demands }
+      whole scope pc body (rule_of_block scope pc body) & rule_of_handlers scope x rest
 
 -- for a procedure, normal and return are one exit
 abbrev pub as_one_exit : Exit → Exit
@@ -308,15 +293,19 @@ label_under labelling atom = value labelling atom
 abbrev pub join_under : Labelling → Join → Label
 join_under labelling join = join_of (λ a b. a ++ b) [] labelling join
 
+-- a labelled program: all that it demands holds under some labelling
+abbrev pub Labelled : Program → Type 0
+Labelled program = (labelling : Labelling) × FitsAll (label_lattice program.hierarchy) (program_demands program) labelling
+
+-- ---- the parts of the rules, by which proofs speak of them
+
 -- demands that hold under a labelling
 abbrev pub FitsDemands : PrincipalHierarchy → Labelling → List Demand → Type 0
 FitsDemands h labelling demands = FitsAll (label_lattice h) demands labelling
 
--- a labelled program: all that it demands holds under some labelling
-abbrev pub Labelled : Program → Type 0
-Labelled program = (labelling : Labelling) × FitsDemands program.hierarchy labelling (program_demands program)
-
--- ---- the parts of the rules, by which proofs speak of them
+-- X of what an expression raises at q
+abbrev pub raised_exit_labels : Expression → (q : Join) → ExitLabels
+raised_exit_labels e q exit = (raising e q).exits exit
 
 -- X as a rule says it, of statements, of what is left of a block, and of handlers; and X of statements and blocks by their possible exits
 abbrev pub statement_rule : Scope → (pc : Join) → Statement → ExitLabels

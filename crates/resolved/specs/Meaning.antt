@@ -67,16 +67,18 @@ abbrev pub caught : Outcome → (ℕ → SourceState → Outcome) → Outcome
 caught (Ended (Throw exception) returned s) handle = handle exception s
 caught other handle = other
 
--- the state in which a target, if there is one, has a value
-abbrev pub kept_in : Option Variable → Value → SourceState → SourceState
-kept_in None v s = s
-kept_in (Some x) v s = assigned s x v
+-- the state in which a target, if there is one, has the value that was received or returned. In a well-formed program without a
+-- fault of its exits there is a value wherever there is a target
+abbrev pub given_to : Option Variable → Option Value → SourceState → SourceState
+given_to None returned s = s
+given_to (Some x) None s = s
+given_to (Some x) (Some v) s = assigned s x v
 
 -- takes the next number of an input, or raises `End`
 abbrev pub received : List ℤ → (channel : ℕ) → Option Variable → SourceState → Outcome
 received [] channel target s = thrown END s
 received (z ∷ rest) channel target s =
-    normally (kept_in target (Number z) (record s { inputs = updated s.inputs channel rest }))
+    normally (given_to target (Some (Number z)) (record s { inputs = updated s.inputs channel rest }))
 
 -- adds a pair to what was sent
 abbrev pub sending : (channel : ℕ) → Value → SourceState → SourceState
@@ -87,13 +89,6 @@ abbrev pub leaving : (SourceState → SourceState) → Outcome → Outcome
 leaving back (Ended Return returned s) = Ended Normal returned (back s)
 leaving back (Ended exit returned s) = Ended exit returned (back s)
 leaving back (Stopped stop s) = Stopped stop (back s)
-
--- the state in which a target, if there is one, has the value that was returned. In a well-formed program without a fault of its exits
--- there is a value wherever there is a target
-abbrev pub given_to : Option Variable → Option Value → SourceState → SourceState
-given_to None returned s = s
-given_to (Some x) None s = s
-given_to (Some x) (Some v) s = assigned s x v
 
 -- the value of a call goes to its target; every other exit than the normal one stays
 abbrev pub returned_to : Option Variable → Outcome → Outcome

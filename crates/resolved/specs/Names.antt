@@ -4,13 +4,13 @@ use Rattle.std.specs.Prelude.{ℕ, List, ◌++◌, map, All}
 use Rattle.common.specs.Exceptions.{built_in_names}
 use Rattle.common.specs.declared.limits.TheConstants.{MAX_TEXT}
 use Rattle.principals.specs.ActsFor.{AllDifferent, IsHierarchy}
-use Rattle.principals.specs.Named.{IsNameWithin, IsKeptName}
+use Rattle.principals.specs.Named.{IsUtf8NameWithin, IsKeptName}
 use Rattle.labels.specs.Canonical.{IsCanonicalLabel}
 use Rattle.resolved.specs.Program.{Program, ChannelEntry}
 
 -- a name in UTF-8 of at most 1 MiB
 abbrev pub IsShortName : List ℕ → Type 0
-IsShortName name = IsNameWithin MAX_TEXT name
+IsShortName name = IsUtf8NameWithin MAX_TEXT name
 
 -- the names that a module file keeps: those of declared exceptions, then those of channels
 abbrev pub kept_names : Program → List (List ℕ)

@@ -4,7 +4,7 @@
 -- Source: our own; a label for each exit as in JFlow (Myers 1999).
 use Rattle.std.specs.Prelude.{◌≡◌, ℕ, List, [], ◌∷◌, Some, None, IsTrue}
 use Rattle.labels.specs.Label.{Label}
-use Rattle.resolved.specs.declared.expression.Base.TheVariants.{Int, Boolean}
+use Rattle.common.specs.declared.base_type.BaseType.TheVariants.{Int, Boolean}
 use Rattle.resolved.specs.declared.expression.Connective.TheVariants.{And}
 use Rattle.resolved.specs.declared.expression.Operator.TheVariants.{Divide, Compare}
 use Rattle.resolved.specs.declared.expression.Division.TheVariants.{Quotient}

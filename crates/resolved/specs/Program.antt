@@ -3,8 +3,8 @@
 use Rattle.std.specs.Prelude.{ℕ, List, [], pos, Option, None, slice_index_or}
 use Rattle.principals.specs.ActsFor.{PrincipalHierarchy}
 use Rattle.labels.specs.Label.{Label}
-use Rattle.resolved.specs.declared.expression.Base.{Base}
-use Rattle.resolved.specs.declared.expression.Base.TheVariants.{Int}
+use Rattle.common.specs.declared.base_type.BaseType.{BaseType}
+use Rattle.common.specs.declared.base_type.BaseType.TheVariants.{Int}
 use Rattle.resolved.specs.declared.expression.Value.{Value}
 use Rattle.resolved.specs.declared.expression.Value.TheVariants.{Number}
 use Rattle.common.specs.declared.direction.Direction.{Direction}
@@ -20,7 +20,7 @@ pub record ChannelEntry : Type 0 where
 -- a global: its name, its base type, its length if it is an array, its label, and what its cells hold at first
 pub record GlobalEntry : Type 0 where
   pub name : List ℕ
-  pub base : Base
+  pub base : BaseType
   pub size : Option ℕ
   pub label : Label
   pub first : Value
@@ -28,7 +28,7 @@ pub record GlobalEntry : Type 0 where
 -- a parameter or local: its base type, its length if it is an array, its written label if it has one, the byte at which its
 -- declaration begins, and its name
 pub record SlotEntry : Type 0 where
-  pub base : Base
+  pub base : BaseType
   pub size : Option ℕ
   pub written : Option Label
   pub at : ℕ
@@ -36,7 +36,7 @@ pub record SlotEntry : Type 0 where
 
 -- the type of a procedure's value, and its label
 pub record ResultEntry : Type 0 where
-  pub base : Base
+  pub base : BaseType
   pub label : Label
 
 -- an exception that a procedure may let out, and its label

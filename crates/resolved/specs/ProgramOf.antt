@@ -38,7 +38,7 @@ slot_entry labels slot = record {
   size = slot.size;
   written = written_at labels slot.written;
   at = slot.at;
-  name = string_bytes slot.name;
+  name = slot.name;
 }
 
 abbrev pub result_entry : List Label → Option ResultType → Option ResultEntry

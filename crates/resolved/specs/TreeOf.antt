@@ -13,8 +13,8 @@ expression_of (E.Logical b) = Logical b
 expression_of (E.Read x) = Read x
 expression_of (E.Element' array length p index) = Element array length (expression_of index)
 expression_of (E.Unary' prefix p e) = Unary prefix (expression_of e)
-expression_of (E.Binary' operator p d q e) = Binary operator (expression_of d) (expression_of e)
-expression_of (E.Short' connective p d q e) = Short connective (expression_of d) (expression_of e)
+expression_of (E.Binary' operator p d e) = Binary operator (expression_of d) (expression_of e)
+expression_of (E.Short' connective p d e) = Short connective (expression_of d) (expression_of e)
 
 abbrev pub some_expression_of : Option E.Expression → Option Expression
 some_expression_of None = None

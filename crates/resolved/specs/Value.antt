@@ -7,23 +7,18 @@ use Rattle.common.specs.declared.exceptions.TheConstants.{ARITH, BOUNDS}
 use Rattle.std.specs.Int.{int_wrap}
 use Rattle.std.specs.Ordering.{int_eq}
 use mir.Syntax.{w32}
-use Rattle.resolved.specs.declared.expression.Base.{Base}
-use Rattle.resolved.specs.declared.expression.Base.TheVariants.{Int, Boolean}
+use Rattle.common.specs.declared.base_type.BaseType.{BaseType}
+use Rattle.common.specs.declared.base_type.BaseType.TheVariants.{Int, Boolean}
 use Rattle.resolved.specs.declared.expression.Value.{Value}
 use Rattle.resolved.specs.declared.expression.Value.TheVariants.{Number, Truth}
 use Rattle.resolved.specs.declared.expression.Prefix.{Prefix}
 use Rattle.resolved.specs.declared.expression.Prefix.TheVariants.{Negate, Not}
 use Rattle.resolved.specs.declared.expression.Operator.{Operator}
 use Rattle.resolved.specs.declared.expression.Operator.TheVariants.{Compute, Divide, Bits, Compare, Match}
-use Rattle.resolved.specs.declared.expression.Computation.{Computation}
 use Rattle.resolved.specs.declared.expression.Computation.TheVariants.{Add, Subtract, Multiply}
-use Rattle.resolved.specs.declared.expression.Division.{Division}
 use Rattle.resolved.specs.declared.expression.Division.TheVariants.{Quotient, Remainder}
-use Rattle.resolved.specs.declared.expression.BitOperator.{BitOperator}
 use Rattle.resolved.specs.declared.expression.BitOperator.TheVariants.{BitAnd, BitOr, BitXor, ShiftLeft, ShiftRight, ShiftRightUnsigned}
-use Rattle.resolved.specs.declared.expression.Relation.{Relation}
 use Rattle.resolved.specs.declared.expression.Relation.TheVariants.{LessThan, AtMost, GreaterThan, AtLeast, Equal, Unequal}
-use Rattle.resolved.specs.declared.expression.Sameness.{Sameness}
 use Rattle.resolved.specs.declared.expression.Sameness.TheVariants.{Same, Different}
 use Rattle.resolved.specs.declared.expression.Connective.{Connective}
 use Rattle.resolved.specs.declared.expression.Connective.TheVariants.{And, Or}
@@ -57,12 +52,12 @@ truth_in (Number z) = false
 truth_in (Truth b) = b
 
 -- what cells hold at first
-abbrev pub zero_value : Base → Value
+abbrev pub zero_value : BaseType → Value
 zero_value Int = Number (pos 0)
 zero_value Boolean = Truth false
 
 -- the base type of a value
-abbrev pub base_of : Value → Base
+abbrev pub base_of : Value → BaseType
 base_of (Number z) = Int
 base_of (Truth b) = Boolean
 
@@ -70,48 +65,31 @@ abbrev pub prefix_value : Prefix → Value → Value
 prefix_value Negate v = Number (wrapped (neg_ℤ (number_in v)))
 prefix_value Not v = Truth (not (truth_in v))
 
--- ---- the groups of operators, on numbers and on truth values
-abbrev pub computed : Computation → ℤ → ℤ → ℤ
-computed Add a b = wrapped (a +ℤ b)
-computed Subtract a b = wrapped (a -ℤ b)
-computed Multiply a b = wrapped (a *ℤ b)
-
--- division truncates toward zero, a remainder has the dividend's sign
-abbrev pub divided : Division → ℤ → ℤ → ℤ
-divided Quotient a b = wrapped (int_div a b)
-divided Remainder a b = int_rem a b
-
-abbrev pub of_bits : BitOperator → ℤ → ℤ → ℤ
-of_bits BitAnd a b = bits_and a b
-of_bits BitOr a b = bits_or a b
-of_bits BitXor a b = bits_xor a b
-of_bits ShiftLeft a b = shifted_left a b
-of_bits ShiftRight a b = shifted_right a b
-of_bits ShiftRightUnsigned a b = shifted_right_unsigned a b
-
-abbrev pub compared : Relation → ℤ → ℤ → Bool
-compared LessThan a b = int_lt a b
-compared AtMost a b = int_le a b
-compared GreaterThan a b = int_lt b a
-compared AtLeast a b = int_le b a
-compared Equal a b = int_eq a b
-compared Unequal a b = not (int_eq a b)
-
-abbrev pub matched : Sameness → Bool → Bool → Bool
-matched Same b c = same_truth b c
-matched Different b c = not (same_truth b c)
-
 -- what a division gives, which raises `Arith` where the divisor is 0
 abbrev pub unless_zero : ℤ → ℤ → Evaluated Value
 unless_zero divisor result = if is_zero divisor then Raises ARITH else Yields (Number result)
 
--- an operator on both its operands
+-- an operator on both its operands. Division truncates toward zero, a remainder has the dividend's sign
 abbrev pub operator_value : Operator → Value → Value → Evaluated Value
-operator_value (Compute computation) v w = Yields (Number (computed computation (number_in v) (number_in w)))
-operator_value (Divide division) v w = unless_zero (number_in w) (divided division (number_in v) (number_in w))
-operator_value (Bits operator) v w = Yields (Number (of_bits operator (number_in v) (number_in w)))
-operator_value (Compare relation) v w = Yields (Truth (compared relation (number_in v) (number_in w)))
-operator_value (Match sameness) v w = Yields (Truth (matched sameness (truth_in v) (truth_in w)))
+operator_value (Compute Add) v w = Yields (Number (wrapped (number_in v +ℤ number_in w)))
+operator_value (Compute Subtract) v w = Yields (Number (wrapped (number_in v -ℤ number_in w)))
+operator_value (Compute Multiply) v w = Yields (Number (wrapped (number_in v *ℤ number_in w)))
+operator_value (Divide Quotient) v w = unless_zero (number_in w) (wrapped (int_div (number_in v) (number_in w)))
+operator_value (Divide Remainder) v w = unless_zero (number_in w) (int_rem (number_in v) (number_in w))
+operator_value (Bits BitAnd) v w = Yields (Number (bits_and (number_in v) (number_in w)))
+operator_value (Bits BitOr) v w = Yields (Number (bits_or (number_in v) (number_in w)))
+operator_value (Bits BitXor) v w = Yields (Number (bits_xor (number_in v) (number_in w)))
+operator_value (Bits ShiftLeft) v w = Yields (Number (shifted_left (number_in v) (number_in w)))
+operator_value (Bits ShiftRight) v w = Yields (Number (shifted_right (number_in v) (number_in w)))
+operator_value (Bits ShiftRightUnsigned) v w = Yields (Number (shifted_right_unsigned (number_in v) (number_in w)))
+operator_value (Compare LessThan) v w = Yields (Truth (int_lt (number_in v) (number_in w)))
+operator_value (Compare AtMost) v w = Yields (Truth (int_le (number_in v) (number_in w)))
+operator_value (Compare GreaterThan) v w = Yields (Truth (int_lt (number_in w) (number_in v)))
+operator_value (Compare AtLeast) v w = Yields (Truth (int_le (number_in w) (number_in v)))
+operator_value (Compare Equal) v w = Yields (Truth (int_eq (number_in v) (number_in w)))
+operator_value (Compare Unequal) v w = Yields (Truth (not (int_eq (number_in v) (number_in w))))
+operator_value (Match Same) v w = Yields (Truth (same_truth (truth_in v) (truth_in w)))
+operator_value (Match Different) v w = Yields (Truth (not (same_truth (truth_in v) (truth_in w))))
 
 -- whether the left operand alone decides: `false` does for `&&` and `true` for `||`, and then it is the result
 abbrev pub decides : Connective → Value → Bool

@@ -8,9 +8,9 @@ use Rattle.common.specs.declared.limits.TheConstants.{MAX_CELLS, MAX_ELEMENTS, M
 use Rattle.std.specs.List.{list_all, list_any}
 use Rattle.principals.specs.ActsFor.{PrincipalHierarchy}
 use Rattle.labels.specs.Label.{Label, ReaderPolicy}
-use Rattle.resolved.specs.declared.expression.Base.{Base}
-use Rattle.resolved.specs.declared.expression.Base.TheVariants.{Int, Boolean}
-use Rattle.resolved.specs.contracts.expression.BasePartialEq.TheImpl.{eq-value}
+use Rattle.common.specs.declared.base_type.BaseType.{BaseType}
+use Rattle.common.specs.declared.base_type.BaseType.TheVariants.{Int, Boolean}
+use Rattle.common.specs.contracts.base_type.BaseTypePartialEq.TheImpl.{eq-value}
 use Rattle.resolved.specs.declared.expression.Value.{Value}
 use Rattle.resolved.specs.declared.expression.Value.TheVariants.{Number, Truth}
 use Rattle.resolved.specs.declared.expression.Variable.{Variable}
@@ -29,22 +29,22 @@ use Rattle.resolved.specs.Value.{base_of}
 use Rattle.common.specs.Integers.{is_zero}
 
 -- ---- types
-abbrev pub same_base : Base → Base → Bool
+abbrev pub same_base : BaseType → BaseType → Bool
 same_base one other = eq-value.it one other
 
 -- the base types of operands and results
-abbrev pub prefix_base : Prefix → Base
+abbrev pub prefix_base : Prefix → BaseType
 prefix_base Negate = Int
 prefix_base Not = Boolean
 
-abbrev pub operand_base : Operator → Base
+abbrev pub operand_base : Operator → BaseType
 operand_base (Compute computation) = Int
 operand_base (Divide division) = Int
 operand_base (Bits operator) = Int
 operand_base (Compare relation) = Int
 operand_base (Match sameness) = Boolean
 
-abbrev pub result_base : Operator → Base
+abbrev pub result_base : Operator → BaseType
 result_base (Compute computation) = Int
 result_base (Divide division) = Int
 result_base (Bits operator) = Int
@@ -53,7 +53,7 @@ result_base (Match sameness) = Boolean
 
 -- 301 unknown name, 403 wrong use: what a variable is that is there, a base type, and a length if it is an array
 pub record VariableType : Type 0 where
-  pub base : Base
+  pub base : BaseType
   pub size : Option ℕ
 
 abbrev pub slot_type : Option SlotEntry → Option VariableType
@@ -69,7 +69,7 @@ variable_type program procedure (Global n) = global_type (slice_get program.glob
 variable_type program procedure (Local n) = slot_type (slice_get procedure.slots n)
 
 -- a scalar whose base type passes a test, and an array of this length whose base type does
-abbrev pub scalar_by : Option VariableType → (Base → Bool) → Bool
+abbrev pub scalar_by : Option VariableType → (BaseType → Bool) → Bool
 scalar_by None test = false
 scalar_by (Some type) test = is_none type.size && test type.base
 
@@ -77,12 +77,12 @@ abbrev pub has_length : Option ℕ → ℕ → Bool
 has_length None length = false
 has_length (Some size) length = size == length
 
-abbrev pub array_by : Option VariableType → (length : ℕ) → (Base → Bool) → Bool
+abbrev pub array_by : Option VariableType → (length : ℕ) → (BaseType → Bool) → Bool
 array_by None length test = false
 array_by (Some type) length test = has_length type.size length && test type.base
 
 -- 401 wrong type: an expression of a base type. Its variables are there (301), of the kind that is wanted (403)
-abbrev pub has_base : Program → ProcedureEntry → Base → Expression → Bool
+abbrev pub has_base : Program → ProcedureEntry → BaseType → Expression → Bool
 has_base program procedure base (Integer n) = same_base Int base && nat_le n MAX_INTEGER
 has_base program procedure base (Logical b) = same_base Boolean base
 has_base program procedure base (Read x) = scalar_by (variable_type program procedure x) (same_base base)
@@ -97,12 +97,12 @@ has_base program procedure base (Short connective d e) =
     same_base Boolean base && has_base program procedure Boolean d && has_base program procedure Boolean e
 
 -- 401 wrong type: a base type for the value of a procedure that has one
-abbrev pub has_result : Option ResultEntry → (Base → Bool) → Bool
+abbrev pub has_result : Option ResultEntry → (BaseType → Bool) → Bool
 has_result None test = false
 has_result (Some entry) test = test entry.base
 
 -- 401 wrong type: a target that takes a value whose base type passes a test, if there is a target
-abbrev pub target_by : Program → ProcedureEntry → Option Variable → (Base → Bool) → Bool
+abbrev pub target_by : Program → ProcedureEntry → Option Variable → (BaseType → Bool) → Bool
 target_by program procedure None test = true
 target_by program procedure (Some x) test = scalar_by (variable_type program procedure x) test
 

@@ -18,7 +18,7 @@ pub fn exception_name(declared: &[String], exception: u32) -> &str
     }
 }
 
-// The name of a declared exception, by its place among these.
+// The name of a declared exception, by its index among these.
 fn declared_name(declared: &[String], index: usize) -> &str
     ensures { result.now ≡ unwrap_or (slice_get (map string_bytes declared.now) index) [] }
 {

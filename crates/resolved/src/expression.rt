@@ -1,12 +1,5 @@
 //! Expressions and what they are made of.
 
-/// A base type.
-#[derive(Clone, Copy, Debug, PartialEq, Eq)]
-pub enum Base {
-    Int,
-    Boolean,
-}
-
 /// A variable, a parameter or an array: a global, or a slot of the frame, by its number.
 #[derive(Clone, Copy, Debug, PartialEq, Eq)]
 pub enum Variable {
@@ -108,6 +101,8 @@ pub enum Expression {
     /// An element: the array, its declared length, and the index.
     Element(Variable, u32, Box<Expression>),
     Unary(Prefix, Box<Expression>),
-    Binary(Operator, Box<Expression>, Box<Expression>),
-    Short(Connective, Box<Expression>, Box<Expression>),
+    /// An operator with both of its operands.
+    Binary(Operator, Box<(Expression, Expression)>),
+    /// A connective with both of its operands.
+    Short(Connective, Box<(Expression, Expression)>),
 }

@@ -7,6 +7,7 @@ pub mod fault;
 pub mod laws;
 pub mod lookup;
 pub mod program;
+pub mod slot_name;
 pub mod statement;
 pub mod tables;
 pub mod target;

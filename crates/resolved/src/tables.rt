@@ -1,8 +1,9 @@
 //! The tables in which the numbers of a tree are looked up.
 
-use crate::expression::{Base, Value};
+use crate::expression::Value;
+use crate::slot_name::SlotName;
 use crate::statement::Statement;
-use common::Direction;
+use common::{BaseType, Direction};
 
 /// An input or an output.
 #[derive(Drop)]
@@ -17,7 +18,7 @@ pub struct Channel {
 #[derive(Drop)]
 pub struct GlobalVariable {
     pub name: String,
-    pub base: Base,
+    pub base: BaseType,
     pub size: Option<u32>,
     /// The number of its label.
     pub label: u32,
@@ -27,19 +28,19 @@ pub struct GlobalVariable {
 /// A parameter or a local: a scalar, or an array of `size` elements. A parameter has a written label.
 #[derive(Drop)]
 pub struct Slot {
-    pub base: Base,
+    pub base: BaseType,
     pub size: Option<u32>,
     /// The number of the label that is written.
     pub written: Option<u32>,
     /// The byte at which its declaration begins.
     pub at: usize,
-    pub name: String,
+    pub name: SlotName,
 }
 
 /// The base type of a procedure's value, and its label.
 #[derive(Drop)]
 pub struct ResultType {
-    pub base: Base,
+    pub base: BaseType,
     /// The number of its label.
     pub label: u32,
 }

@@ -59,7 +59,7 @@ fn put_file(rt: &HostRuntime, texts: &mut Texts, rest: &str) -> Result<(), LineF
     }
 }
 
-// `& NAME`: another text. `& NAME FROM TO`: its bytes from one place up to another.
+// `& NAME`: another text. `& NAME FROM TO`: its bytes from one offset up to another.
 fn add_text(texts: &mut Texts, rest: &str) -> Result<(), LineFault> {
     let (name, range) = cut_word(rest);
     let copy = texts.copy(name)?;
@@ -73,7 +73,7 @@ fn add_text(texts: &mut Texts, rest: &str) -> Result<(), LineFault> {
     )
 }
 
-// The bytes from one place up to another.
+// The bytes from one offset up to another.
 fn part(bytes: &[u8], from: usize, to: usize) -> Result<&[u8], LineFault> {
     if from > to || to > bytes.len() {
         return Err(OrNoMemory::Refused(LineRefusal::Outside));

@@ -137,7 +137,7 @@ fn write_fault(alloc: Global, answer: &mut Vec<u8>, fault: HostFault) -> Result<
     write_lines(answer, b'!', line.as_bytes())
 }
 
-// The place in the bytes, where the refusal has one, its number, and its words.
+// The offset in the bytes, where the refusal has one, its number, and its words.
 fn line_of(alloc: Global, refusal: HostRefusal) -> Result<String, AllocError> {
     let (number, words) = (refusal.number(), refusal.words());
     match refusal {

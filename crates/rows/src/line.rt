@@ -30,7 +30,7 @@ pub fn number_of(word: &str) -> Result<u64, LineFault> {
     }
 }
 
-/// The same for a length or a place in a text.
+/// The same for a length or an offset in a text.
 pub fn place_of(word: &str) -> Result<usize, LineFault> {
     match word.parse::<usize>() {
         Ok(number) => Ok(number),

@@ -5,7 +5,7 @@ use crate::events::{event_of, write_answer};
 use crate::fault::LineFault;
 use crate::line::{cut_word, place_of};
 use crate::texts::Texts;
-use flowc::{Answer, Event, Host};
+use flowc::{Event, Host};
 use std::alloc::Global;
 use std::mem;
 
@@ -33,8 +33,8 @@ impl Stage {
         Ok(())
     }
 
-    /// Answers words: `new` for a host without sessions, `run` for the events of the list, `many TIMES EVENT` for an event so
-    /// many times, of which the last answer is written, or one event, by the call that it names.
+    /// Answers words: `new` for a host without sessions, `run` for the events of the list, `many TIMES EVENT` for an event asked
+    /// this number of times, of which the last answer is written, or one event.
     pub fn answer(
         &mut self,
         texts: &Texts,
@@ -49,7 +49,7 @@ impl Stage {
             ("run", _) => self.answer_events(answer),
             ("many", rest) => self.answer_many(texts, rest, answer),
             _ => {
-                let answered = call(&mut self.host, event_of(texts, words)?);
+                let answered = self.host.answer(event_of(texts, words)?);
                 write_answer(self.alloc, answer, &answered)
             }
         }
@@ -76,37 +76,9 @@ impl Stage {
         let (times, words) = cut_word(rest);
         for _ in 1..place_of(times)? {
             // Only the last answer is wanted.
-            let _ = call(&mut self.host, event_of(texts, words)?);
+            let _ = self.host.answer(event_of(texts, words)?);
         }
-        let answered = call(&mut self.host, event_of(texts, words)?);
+        let answered = self.host.answer(event_of(texts, words)?);
         write_answer(self.alloc, answer, &answered)
-    }
-}
-
-// The answer of the one call that an event asks for.
-fn call(host: &mut Host, event: Event) -> Answer {
-    match event {
-        Event::Open(bytes, world) => match host.open(&bytes, world) {
-            Ok(id) => Answer::Opened(id),
-            Err(fault) => Answer::Refused(fault),
-        },
-        Event::OpenUnder(bytes, world, hierarchy) => {
-            match host.open_under(&bytes, world, hierarchy) {
-                Ok(id) => Answer::Opened(id),
-                Err(fault) => Answer::Refused(fault),
-            }
-        }
-        Event::Turn(id, steps) => match host.turn(id, steps) {
-            Ok((taken, status)) => Answer::Turned(taken, status),
-            Err(fault) => Answer::Refused(fault),
-        },
-        Event::View(id, principal) => match host.view(id, principal) {
-            Ok(pairs) => Answer::Viewed(pairs),
-            Err(fault) => Answer::Refused(fault),
-        },
-        Event::Close(id) => match host.close(id) {
-            Ok(()) => Answer::Closed,
-            Err(fault) => Answer::Refused(fault),
-        },
     }
 }

@@ -1,4 +1,4 @@
--- Rows of edges in one list: how each is read, that places are counted, and that rows are filled with the edges of links.
+-- Rows of edges in one list: how each is read, that edges are counted, and that rows are filled with the edges of links.
 use Rattle.std.proofs.Common.{◌≡◌, refl, sym, ap, ◌∙◌, subst, ℕ, zero, suc, ◌<◌, ◌≤◌, ◌+◌, ◌-◌, ◌^◌, length, set, get_or, take, drop, replicate, List, [], ◌∷◌, ◌++◌, Bool, true, false, nat_eq, arith, add-zero, append_assoc, append-nil, ◌⊎◌, inl, inr}
 use Rattle.std.specs.Prelude.{slice_range}
 use Rattle.std.proofs.lemmas.Bool.{cases_lt, eqb-true, eq-eqb}
@@ -105,7 +105,7 @@ starts-step counts i start count start' counts' h count_is set_is start_is =
       ap (end_from start') later ∙ (ap (λ n. end_from n (drop (i + 1) counts)) next ∙ ap (end_from start) (sym rest)),
     )
 
--- ---- rows without edges, with places for so many
+-- ---- rows without edges, with room for these counts
 abbrev pub no_edges : Edge → List ℕ → List PartRow
 no_edges e [] = []
 no_edges e (count ∷ counts) = record { edges = []; free = replicate count e } ∷ no_edges e counts

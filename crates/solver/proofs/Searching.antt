@@ -6,7 +6,7 @@ use Rattle.std.proofs.lemmas.List.{get_or_read, length_push, length-replicate, t
 use Rattle.std.proofs.lemmas.List.Elements.{Contains-append_cases, Contains-get_or}
 use Rattle.common.proofs.Elements.{none_in_nil, Contains-cons_cases, Contains-first}
 use Rattle.solver.specs.EdgeRows.{row_at}
-use Rattle.solver.specs.Reach.{AllMarked, CameFrom, Grows, Has, IsStep, IsTrace, IsTrail, LeadsTo, ReachesBy, LeadInside, LeadsInside, directly, earlier, edge, itself, more, nothing_found, onward, row_of, same}
+use Rattle.solver.specs.Reach.{AllMarked, CameFrom, Grows, Has, IsStep, IsTrace, IsTrail, LeadsTo, ReachesBy, LeadInside, AllLeadInside, directly, earlier, edge, itself, more, nothing_found, onward, row_of, same}
 use Rattle.solver.specs.declared.edges.Edge.{Edge}
 use Rattle.solver.specs.declared.edges.Edges.{Edges}
 use Rattle.solver.specs.declared.search.Found.{Found}
@@ -202,18 +202,18 @@ grows-trail edges n row parent marks found _ _ from (more marks' found' by u bef
     trail-push edges n found' (record { unknown = u; by = by; parent = parent }) from (grows-trail edges n row parent marks found marks' found' from before came leads trail)
     (came-kept (λ k h. grows-at before k h) (omega arith) (grows-longer before) came) (leads by u h)
 
-pub found-inside : (edges : Edges) (n : ℕ) (found : List Found) (k : ℕ) → IsTrail edges n found → LeadsInside edges → k < length found →
+pub found-inside : (edges : Edges) (n : ℕ) (found : List Found) (k : ℕ) → IsTrail edges n found → AllLeadInside edges → k < length found →
     (get_or found k nothing_found).unknown < length edges.unknown
 found-inside edges n found k trail inside h =
     let step = trail k h in inside step.from (get_or found k nothing_found).by (get_or found k nothing_found).unknown step.leads
 
 -- what was read at an index, and the row that was read for it
-pub next-inside : (edges : Edges) (n : ℕ) (found : List Found) (next : ℕ) (x : Found) → IsTrail edges n found → LeadsInside edges → next < length found →
+pub next-inside : (edges : Edges) (n : ℕ) (found : List Found) (next : ℕ) (x : Found) → IsTrail edges n found → AllLeadInside edges → next < length found →
     x ≡ get_or found next x → x.unknown < length edges.unknown
 next-inside edges n found next x trail inside h is =
     subst (λ (f : Found). f.unknown < length edges.unknown) (sym (get_or_read found next x h is nothing_found)) (found-inside edges n found next trail inside h)
 
-pub next-row : (edges : Edges) (n : ℕ) (found : List Found) (next : ℕ) (x : Found) (row : List Edge) → IsTrail edges n found → LeadsInside edges → next < length found →
+pub next-row : (edges : Edges) (n : ℕ) (found : List Found) (next : ℕ) (x : Found) (row : List Edge) → IsTrail edges n found → AllLeadInside edges → next < length found →
     x ≡ get_or found next x → row ≡ row_at edges.unknown x.unknown → row ≡ row_of edges (Unknown (get_or found next nothing_found).unknown)
 next-row edges n found next x row trail inside h is row_is =
     row_is

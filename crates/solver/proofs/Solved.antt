@@ -16,7 +16,7 @@ use Rattle.solver.specs.Broken.{AllRightsInside, is_below, written_at}
 use Rattle.solver.specs.Links.{AreBelow, InRange, IsBelow, edges_at, links_of}
 use Rattle.solver.specs.EdgeRows.{row_at}
 use Rattle.solver.specs.Reach as reach
-use Rattle.solver.specs.Reach.{AreEdges, CameFrom, IsTrail, LeadsTo, LeadsOn, ReachesBy, LeadsInside, nothing_found, row_of}
+use Rattle.solver.specs.Reach.{AreEdges, CameFrom, IsTrail, LeadsTo, LeadsOn, ReachesBy, AllLeadInside, nothing_found, row_of}
 use Rattle.solver.specs.Rows.{AreRows, atom_has, has_at, left_has, reached_by, unknowns_with}
 use Rattle.solver.specs.Constraints.{Picks, atom_of, constraint_of, is_among, row_join, rows_with, values_of}
 use Rattle.solver.specs.declared.edges.Edges.{Edges}
@@ -105,7 +105,7 @@ right-below {T} cs edges are written unknowns range from by to leads =
     (All-contains (λ (c : Constraint T). AreBelow written unknowns c.left.items × IsBelow written unknowns c.right) cs part.constraint range (contained_at cs by part.constraint part.at)).1
 
 pub unknowns-inside : {T : Type 0} (cs : List (Constraint T)) (edges : Edges) → AreEdges cs edges → (written unknowns : ℕ) → InRange written unknowns cs →
-    length edges.unknown ≡ unknowns → LeadsInside edges
+    length edges.unknown ≡ unknowns → AllLeadInside edges
 unknowns-inside cs edges are written unknowns range count from by u leads =
     subst (λ n. u < n) (sym count) (right-below cs edges are written unknowns range from by (Unknown u) leads)
 

@@ -18,7 +18,7 @@ abbrev pub MoreCounted : (part : ℕ → Atom) → List Atom → (old new : List
 MoreCounted part left old new =
     (k n : ℕ) → slice_index_or old k 0 ≡ capped n → slice_index_or new k 0 ≡ capped (n + count_of (same (part k)) left)
 
--- where rows of these lengths begin, one after another from a place on, and where the last one ends
+-- where rows of these lengths begin, one after another from an index on, and where the last one ends
 abbrev pub starts_from : (start : ℕ) → (counts : List ℕ) → List ℕ
 starts_from start [] = []
 starts_from start (count ∷ counts) = start ∷ starts_from (capped (start + count)) counts
@@ -27,7 +27,7 @@ abbrev pub end_from : (start : ℕ) → (counts : List ℕ) → ℕ
 end_from start [] = start
 end_from start (count ∷ counts) = end_from (capped (start + count)) counts
 
--- ---- filling: the edges that a row has, and what stands in the places for those to come
+-- ---- filling: the edges that a row has, and what stands in the room for those to come
 pub record PartRow : Type 0 where
   pub edges : List Edge
   pub free : List Edge
@@ -41,7 +41,7 @@ abbrev pub places_from : (start : ℕ) → List PartRow → List ℕ
 places_from start [] = []
 places_from start (row ∷ rows) = (start + length row.edges) ∷ places_from (start + length row.edges + length row.free) rows
 
--- from a part on, each row has the edges of the first links, and places for those of the others
+-- from a part on, each row has the edges of the first links, and room for those of the others
 abbrev pub HaveEdges : (part : ℕ → Atom) → (k : ℕ) → (done left : List Link) → List PartRow → Type 0
 HaveEdges part k done left [] = Unit {0}
 HaveEdges part k done left (row ∷ rows) =

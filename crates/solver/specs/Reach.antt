@@ -29,8 +29,8 @@ pub record AreEdges {T : Type 0} (cs : List (Constraint T)) (edges : Edges) : Ty
 abbrev pub LeadInside : ℕ → List Edge → Type 0
 LeadInside count edges = (by u : ℕ) → Contains edges (edge by (Unknown u)) → u < count
 
-abbrev pub LeadsInside : Edges → Type 0
-LeadsInside edges = (from : Atom) → LeadInside (length edges.unknown) (row_of edges from)
+abbrev pub AllLeadInside : Edges → Type 0
+AllLeadInside edges = (from : Atom) → LeadInside (length edges.unknown) (row_of edges from)
 
 -- a written element reaches an unknown along edges
 pub data ReachesBy (edges : Edges) (n : ℕ) : ℕ → Type 0 where

@@ -11,7 +11,7 @@ pub enum Atom {
     Unknown(u32),
 }
 
-// What fills the places of a left side that are not used.
+// What fills the room of a left side that is not used.
 impl Default for Atom {
     fn default() -> Atom {
         Atom::Written(0)

@@ -66,7 +66,7 @@ fn start_of(ends: &[usize], part: usize) -> usize
     if part == 0 { 0 } else { ends[part - 1] }
 }
 
-// The edges from one place to another.
+// The edges from one index up to another.
 fn edges_between(list: &[Edge], start: usize, end: usize) -> &[Edge]
     requires start { start ≤ end }
     requires end { end ≤ length list.now }
@@ -176,7 +176,7 @@ fn counts_of<T>(
     Ok(counts)
 }
 
-// The numbers of edges become the places where rows with so many begin. The answer is where the last one ends.
+// The counts of edges become the indices where rows of that length begin. The answer is where the last one ends.
 fn to_starts(counts: &mut Vec<usize>) -> usize
     ensures starts { counts.new.items ≡ starts_from 0 counts.old.items }
     ensures end { result ≡ end_from 0 counts.old.items }
@@ -190,14 +190,14 @@ fn to_starts(counts: &mut Vec<usize>) -> usize
     start
 }
 
-// Rows that are filled: where the next edge from each part goes, and the list with a place for each edge.
+// Rows that are filled: where the next edge from each part goes, and the list with room for each edge.
 #[derive(Drop)]
 struct FilledRows {
     places: Vec<usize>,
     list: Vec<Edge>,
 }
 
-// Rows with a place for each of so many edges.
+// Rows with room for as many edges as they are to have.
 fn places_of(alloc: Global, counts: Vec<usize>) -> Result<FilledRows, AllocError>
     ensures empty { IfOk result (λ rows. (part : ℕ → AtomOf) (links : List Link) →
         AreCounted part links counts.items →

@@ -86,7 +86,7 @@ fn walked(alloc: Global, edges: &EdgeRows) -> Result<Vec<usize>, AllocError> {
     let mut walk = EdgeWalk {
         left: lengths(alloc, edges)?,
         marks: vec![in alloc; false; edges.len()]?,
-        way: Vec::new(alloc),
+        way: Vec::with_capacity(alloc, edges.len())?,
         done: Vec::with_capacity(alloc, edges.len())?,
     };
     for unknown in 0..edges.len() {

@@ -1,5 +1,5 @@
 //! What one written element reaches: a search along the edges, that looks at the edges from an unknown once, when it is found.
-ghost use Rattle.solver.specs.Reach.{AllMarked, Grows, IsTrace, LeadsInside, LeadInside, row_of};
+ghost use Rattle.solver.specs.Reach.{AllMarked, Grows, IsTrace, AllLeadInside, LeadInside, row_of};
 ghost use Rattle.solver.specs.declared.constraints.Atom.TheVariants.{Written};
 ghost use Rattle.std.specs.Prelude.{IfOk, OnOk, if◌then◌else◌, length, set, slice_index_or, true, false, ◌++◌, ◌<◌, ◌∷◌, ◌≡◌, []};
 
@@ -77,7 +77,7 @@ impl Search {
 /// What the written element of this number reaches, each unknown once, with the path to it.
 pub fn trace(alloc: Global, edges: &Edges, value: usize) -> Result<Vec<Found>, AllocError>
     requires value { value < length edges.now.written }
-    requires inside { LeadsInside edges.now }
+    requires inside { AllLeadInside edges.now }
     ensures { IfOk result (λ found. IsTrace edges.now value found.items) }
 {
     let count = edges.unknown.len();

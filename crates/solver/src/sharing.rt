@@ -122,7 +122,7 @@ fn whole(alloc: Global, kept: &[Kept], number: usize) -> Result<Row, AllocError>
     }
 }
 
-// A row with the first numbers of another one that it lacks, at most so many.
+// A row with the first numbers of another one that it lacks, but no more than `most`.
 fn come_near(alloc: Global, base: Row, row: &Row, most: usize) -> Result<Near, AllocError>
     requires { length row.now ≡ length base }
     ensures row { IfOk result (λ near. near.row ≡ with_numbers base near.more.items) }
@@ -166,7 +166,7 @@ fn grown(own: &Row, row: Row) -> Option<Row>
     None
 }
 
-// How a row is kept beyond that with a number, if it has at most so many numbers more.
+// How a row is kept beyond that with a number, if it has no more than `most` numbers more.
 fn beyond(
     alloc: Global,
     kept: &[Kept],
@@ -196,7 +196,7 @@ fn beyond(
     }))
 }
 
-// How a row is kept beyond that of an unknown, if there is one and it has at most so many numbers more.
+// How a row is kept beyond that of an unknown, if there is one and it has no more than `most` numbers more.
 fn beyond_unknown(
     alloc: Global,
     kept: &[Kept],
@@ -273,7 +273,8 @@ impl SharedRows {
     ) -> Result<SharedRows, AllocError>
         ensures { IfOk result (λ rows. rows ≡ replicate unknowns []) }
     {
-        let mut kept = Vec::new(alloc);
+        // Most unknowns get a row once.
+        let mut kept = Vec::with_capacity(alloc, unknowns.saturating_add(2))?;
         let nothing = Row::new(alloc, 0)?;
         kept.push(Kept {
             steps: 0,

@@ -3,7 +3,7 @@ ghost use Rattle.solver.specs.Breaker.{BreaksAlong, IsBreakChain};
 ghost use Rattle.solver.specs.Broken.{AllRightsInside, is_below};
 ghost use Rattle.solver.specs.Links.{InRange};
 ghost use Rattle.solver.specs.Looks.{AreLooks};
-ghost use Rattle.solver.specs.Reach.{LeadsInside};
+ghost use Rattle.solver.specs.Reach.{AllLeadInside};
 ghost use Rattle.common.specs.Answers.{IfRefused};
 ghost use Rattle.solver.specs.Constraints.{IsSolution, IsSolveRefusal};
 ghost use Rattle.std.specs.Prelude.{IfErr, IfOk, length, ℕ, ◌<◌, ◌≡◌};
@@ -101,7 +101,7 @@ fn find_refusal<W: WrittenElements>(
 ) -> Result<SolveRefusal, AllocError>
     requires value { value < length (W.elements written.now) }
     requires written { length edges.now.written ≡ length (W.elements written.now) }
-    requires inside { LeadsInside edges.now }
+    requires inside { AllLeadInside edges.now }
     requires rights { AllRightsInside (length (W.elements written.now)) edges.now }
     requires breaks { (i : ℕ) × BreaksAlong edges.now
         (is_below (W.order written.now) (W.elements written.now)) value i }

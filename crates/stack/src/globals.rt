@@ -5,7 +5,8 @@ ghost use Rattle.std.specs.List.{flat_map};
 ghost use Rattle.std.specs.Prelude.{IfOk, OnOk, Some, is_some, length, map, ◌++◌, ◌<◌, ◌≡◌};
 
 use crate::shape::{Shape, repeat};
-use modules::{Cell, Global as Variable, Slot, ValueKind};
+use common::BaseType;
+use modules::{Cell, Global as Variable, Slot};
 use std::alloc::{AllocError, Global};
 use std::marker::Model;
 
@@ -102,8 +103,8 @@ fn slot_of(global: Variable) -> Slot
     ensures { result ≡ slot_of global }
 {
     match global {
-        Variable::Int(_) => Slot::Scalar(ValueKind::Int),
-        Variable::Boolean(_) => Slot::Scalar(ValueKind::Boolean),
+        Variable::Int(_) => Slot::Scalar(BaseType::Int),
+        Variable::Boolean(_) => Slot::Scalar(BaseType::Boolean),
         Variable::Array(kind, count) => Slot::Array(kind, count),
     }
 }
@@ -115,6 +116,6 @@ fn add_first(cells: &mut Vec<Cell>, global: Variable) -> Result<(), AllocError>
     match global {
         Variable::Int(number) => repeat(cells, Cell::Int(number), 1),
         Variable::Boolean(truth) => repeat(cells, Cell::Bool(truth), 1),
-        Variable::Array(kind, count) => repeat(cells, kind.zero(), count as usize),
+        Variable::Array(kind, count) => repeat(cells, Cell::zero_of(kind), count as usize),
     }
 }

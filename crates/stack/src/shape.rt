@@ -3,7 +3,8 @@
 ghost use Rattle.stack.specs.Slab.{cells_in, cell_index_in, total};
 ghost use Rattle.std.specs.Prelude.{IfOk, OnErr, OnOk, map, replicate, slice_get, ◌++◌, ◌<◌, ◌^◌, ◌≡◌};
 
-use modules::{Cell, Slot, ValueKind};
+use common::BaseType;
+use modules::{Cell, Slot};
 use std::alloc::{AllocError, Global};
 use std::marker::Model;
 
@@ -37,7 +38,7 @@ impl Shape {
         requires { total (map cells_in slots.now) < 2 ^ 63 }
         ensures { IfOk result (λ shape. shape ≡ map cells_in slots.now) }
     {
-        let mut spans = Vec::new(alloc);
+        let mut spans = Vec::with_capacity(alloc, slots.len())?;
         let mut start: usize = 0;
         for slot in slots {
             let count = count_of(*slot);

@@ -1,15 +1,15 @@
 -- Laws of the spelling of programs.
 -- Source: our own.
-use Rattle.std.specs.Prelude.{◌≡◌, ℕ, ◌≤◌, Bool, List, length, map, Some, IsTrue, All, Contains}
-use Rattle.std.specs.List.{list_any}
+use Rattle.std.specs.Prelude.{◌≡◌, ℕ, ◌≤◌, Bool, List, [], ◌∷◌, length, map, Some, All, Contains}
 use Rattle.lexer.specs.Listing.{IsSpelled}
 use Rattle.lexer.specs.Terminal.{Terminal, IsTerminated}
 use Rattle.lexer.specs.declared.token.Kind.{Kind}
-use Rattle.syntax.specs.Grammar.{SpellsProgram, base_of, direction_of, truth_of, sign_of, operator_of, lines, same_line}
+use Rattle.syntax.specs.Form.{Form, table}
+use Rattle.syntax.specs.Grammar.{SpellsProgram, Spelled, base, direction, truth, signs, operators_of, lines}
 use Rattle.syntax.specs.Nesting.{IsNested}
 use Rattle.syntax.specs.Nodes.{program_nodes}
 use Rattle.syntax.specs.declared.line.Line.{Line}
-use Rattle.syntax.specs.declared.tree.BaseType.{BaseType}
+use Rattle.common.specs.declared.base_type.BaseType.{BaseType}
 use Rattle.syntax.specs.declared.tree.BinaryOperator.{BinaryOperator}
 use Rattle.syntax.specs.declared.tree.UnaryOperator.{UnaryOperator}
 use Rattle.syntax.specs.Tree.{ProgramTree}
@@ -44,11 +44,15 @@ SpelledIsWritten =
     → All (λ token. length token.text ≤ longest) tokens
     → IsWritten (Contains (map (λ token. token.start) tokens)) (IsNameWithin longest) IsInteger tree
 
+-- one token spells the tree by this form, and the place of the token
+abbrev pub SpellsAlone : {A : Type 0} → Form (ℕ × A) → Terminal → A → Type 0
+SpellsAlone F token tree = Spelled F 0 0 (token ∷ []) (token.start, tree) []
+
 -- the grammar leaves nothing out: it has each line, and each operator, base type, truth value and direction has a token
 pub record EachIsThere : Type 0 where
-  pub line : (line : Line) → IsTrue (list_any (same_line line) lines)
-  pub binary : (operator : BinaryOperator) → (line : Line) × (kind : Kind) × (operator_of line kind ≡ Some operator)
-  pub unary : (operator : UnaryOperator) → (kind : Kind) × (sign_of kind ≡ Some operator)
-  pub base : (base : BaseType) → (kind : Kind) × (base_of kind ≡ Some base)
-  pub truth : (value : Bool) → (kind : Kind) × (truth_of kind ≡ Some value)
-  pub direction : (direction : Direction) → (kind : Kind) × (direction_of kind ≡ Some direction)
+  pub line : (line : Line) → Contains lines line
+  pub binary : (operator : BinaryOperator) → (line : Line) × (kind : Kind) × (table (operators_of line) kind ≡ Some operator)
+  pub unary : (operator : UnaryOperator) → (kind : Kind) × (table signs kind ≡ Some operator)
+  pub base : (tree : BaseType) → (token : Terminal) × SpellsAlone base token tree
+  pub truth : (tree : Bool) → (token : Terminal) × SpellsAlone truth token tree
+  pub direction : (tree : Direction) → (token : Terminal) × SpellsAlone direction token tree

@@ -6,7 +6,7 @@ use Rattle.syntax.specs.declared.tree.Name.{Name}
 use Rattle.syntax.specs.declared.tree.Component.{Component}
 use Rattle.syntax.specs.declared.tree.Component.TheVariants as components
 use Rattle.syntax.specs.declared.tree.WrittenLabel.{WrittenLabel}
-use Rattle.syntax.specs.declared.tree.BaseType.{BaseType}
+use Rattle.common.specs.declared.base_type.BaseType.{BaseType}
 use Rattle.syntax.specs.declared.tree.UnaryOperator.{UnaryOperator}
 use Rattle.syntax.specs.declared.tree.BinaryOperator.{BinaryOperator}
 use Rattle.syntax.specs.declared.tree.Expression as declared_expression
@@ -110,15 +110,9 @@ abbrev pub statements_of : List StatementTree → StatementTrees
 statements_of [] = NoStatement
 statements_of (statement ∷ rest) = StatementThen statement (statements_of rest)
 
--- the handler of an exception
-pub record CatchTree : Type 0 where
-  pub at : ℕ
-  pub exception : NameTree
-  pub body : BlockTree
-
-abbrev pub catches_of : List CatchTree → CatchTrees
+abbrev pub catches_of : List (ℕ × NameTree × BlockTree) → CatchTrees
 catches_of [] = NoCatch
-catches_of (one ∷ rest) = CatchThen one.at one.exception one.body (catches_of rest)
+catches_of ((at, exception, body) ∷ rest) = CatchThen at exception body (catches_of rest)
 
 pub record ChannelTree : Type 0 where
   pub at : ℕ
@@ -297,8 +291,8 @@ abbrev pub optional_block_tree : Option Block → Option BlockTree
 optional_block_tree None = None
 optional_block_tree (Some block) = Some (block_tree block)
 
-abbrev pub catch_tree : Catch → CatchTree
-catch_tree one = record { at = one.at; exception = name_tree one.exception; body = block_tree one.body }
+abbrev pub catch_tree : Catch → ℕ × NameTree × BlockTree
+catch_tree one = (one.at, name_tree one.exception, block_tree one.body)
 
 abbrev pub channel_tree : Channel → ChannelTree
 channel_tree channel = record {

@@ -4,7 +4,7 @@
 ghost use Rattle.std.specs.Prelude.{◌≡◌, map};
 ghost use Rattle.syntax.specs.Tree.{expression_tree, expression_at, statement_tree, statement_at, item_tree, item_at, block_tree, optional_block_tree, catch_tree, catches_of, if_tree, WhileTree, TryTree, NestedTree};
 
-use common::Direction;
+use common::{BaseType, Direction};
 
 /// A name, which is a slice of the source, and where it stands.
 #[derive(Clone, Copy, Debug)]
@@ -30,13 +30,6 @@ pub enum Component<'a> {
 pub struct WrittenLabel<'a> {
     pub at: usize,
     pub components: Vec<Component<'a>>,
-}
-
-/// The type of a value without its label.
-#[derive(Clone, Copy, Debug, PartialEq, Eq)]
-pub enum BaseType {
-    Int,
-    Boolean,
 }
 
 /// What a unary operator does.

@@ -2,11 +2,11 @@
 
 use bytecode::{decode, encode, laws};
 use channels::{Device, SinkFault};
-use common::{Direction, OrNoMemory};
+use common::{BaseType, Direction, OrNoMemory};
 use listing::write_listing;
 use modules::{
-    Arithmetic, Cell, Comparison, Global, Handler, Instruction, Module, Procedure, Slot, ValueKind,
-    Version,
+    Arithmetic, Cell, Comparison, Global, Handler, Instruction, MachineOperator, Module, Procedure,
+    Slot, Storage, Version,
 };
 use std::alloc::Global as Heap;
 use std::io::Cursor;
@@ -146,15 +146,15 @@ fn sends_fewer(procedure: &Procedure) -> bool {
         procedure.code(),
         [
             Instruction::Receive(0),
-            Instruction::Store(0),
-            Instruction::Load(0),
+            Instruction::Store(Storage::Local, 0),
+            Instruction::Load(Storage::Local, 0),
             Instruction::Push(-43),
-            Instruction::Compute(Arithmetic::Add),
+            Instruction::Operate(MachineOperator::Compute(Arithmetic::Add)),
             Instruction::Send(1),
             Instruction::Return
         ]
     );
-    let slots = [Slot::Scalar(ValueKind::Int)];
+    let slots = [Slot::Scalar(BaseType::Int)];
     is_wanted && procedure.slots() == slots.as_slice()
 }
 
@@ -185,16 +185,16 @@ fn lends_globals_and_handlers(rt: HostRuntime) -> Result<(), Fail> {
     let globals = [
         Global::Int(-7),
         Global::Boolean(true),
-        Global::Array(ValueKind::Int, 3),
-        Global::Array(ValueKind::Boolean, 2),
+        Global::Array(BaseType::Int, 3),
+        Global::Array(BaseType::Boolean, 2),
     ];
     assert!(rt; module.globals() == globals.as_slice());
     let [main, first, second] = module.procedures() else {
         return Err("three procedures".into());
     };
     let slots = [
-        Slot::Scalar(ValueKind::Boolean),
-        Slot::Array(ValueKind::Int, 2),
+        Slot::Scalar(BaseType::Boolean),
+        Slot::Array(BaseType::Int, 2),
     ];
     let handler = Handler {
         start: 0,
@@ -203,8 +203,8 @@ fn lends_globals_and_handlers(rt: HostRuntime) -> Result<(), Fail> {
         target: 7,
     };
     assert!(rt; main.slots() == slots.as_slice() && main.handlers() == [handler].as_slice());
-    assert!(rt; first.parameters() == 1 && first.returned() == Some(ValueKind::Int));
-    assert!(rt; second.parameters() == 0 && second.returned() == Some(ValueKind::Boolean));
+    assert!(rt; first.parameters() == 1 && first.returned() == Some(BaseType::Int));
+    assert!(rt; second.parameters() == 0 && second.returned() == Some(BaseType::Boolean));
     Ok(())
 }
 
@@ -214,17 +214,44 @@ fn prints_names_and_operands(rt: HostRuntime) -> Result<(), Fail> {
         (Instruction::Push(-7), "PUSH -7"),
         (Instruction::PushBoolean(true), "PUSHB true"),
         (Instruction::PushBoolean(false), "PUSHB false"),
-        (Instruction::LoadGlobal(4294967295), "GLOAD 4294967295"),
-        (Instruction::StoreElement(0), "ASTORE 0"),
-        (Instruction::Compute(Arithmetic::Remainder), "REM"),
-        (Instruction::Compute(Arithmetic::BitAnd), "AND"),
-        (Instruction::Compute(Arithmetic::BitOr), "OR"),
-        (Instruction::Compute(Arithmetic::BitXor), "XOR"),
-        (Instruction::Compute(Arithmetic::ShiftLeft), "SHL"),
-        (Instruction::Compute(Arithmetic::ShiftRight), "SHR"),
-        (Instruction::Compute(Arithmetic::ShiftRightUnsigned), "USHR"),
-        (Instruction::Compare(Comparison::AtMost), "LE"),
-        (Instruction::OtherBoolean, "BNE"),
+        (
+            Instruction::Load(Storage::Global, 4294967295),
+            "GLOAD 4294967295",
+        ),
+        (Instruction::StoreElement(Storage::Local, 0), "ASTORE 0"),
+        (
+            Instruction::Operate(MachineOperator::Compute(Arithmetic::Remainder)),
+            "REM",
+        ),
+        (
+            Instruction::Operate(MachineOperator::Compute(Arithmetic::BitAnd)),
+            "AND",
+        ),
+        (
+            Instruction::Operate(MachineOperator::Compute(Arithmetic::BitOr)),
+            "OR",
+        ),
+        (
+            Instruction::Operate(MachineOperator::Compute(Arithmetic::BitXor)),
+            "XOR",
+        ),
+        (
+            Instruction::Operate(MachineOperator::Compute(Arithmetic::ShiftLeft)),
+            "SHL",
+        ),
+        (
+            Instruction::Operate(MachineOperator::Compute(Arithmetic::ShiftRight)),
+            "SHR",
+        ),
+        (
+            Instruction::Operate(MachineOperator::Compute(Arithmetic::ShiftRightUnsigned)),
+            "USHR",
+        ),
+        (
+            Instruction::Operate(MachineOperator::Compare(Comparison::AtMost)),
+            "LE",
+        ),
+        (Instruction::Operate(MachineOperator::OtherBoolean), "BNE"),
         (Instruction::JumpIfFalse(10), "JFALSE 10"),
         (Instruction::ReturnValue, "RETV"),
         (Instruction::Throw(3), "THROW 3"),
@@ -239,10 +266,11 @@ fn prints_names_and_operands(rt: HostRuntime) -> Result<(), Fail> {
 #[test]
 fn values_have_kinds(rt: HostRuntime) {
     assert!(rt;
-        ValueKind::Int.zero() == Cell::Int(0) && ValueKind::Boolean.zero() == Cell::Bool(false)
+        Cell::zero_of(BaseType::Int) == Cell::Int(0)
+            && Cell::zero_of(BaseType::Boolean) == Cell::Bool(false)
     );
     assert!(rt;
-        Cell::Int(5).kind() == ValueKind::Int && Cell::Bool(true).kind() == ValueKind::Boolean
+        Cell::Int(5).kind() == BaseType::Int && Cell::Bool(true).kind() == BaseType::Boolean
     );
 }
 

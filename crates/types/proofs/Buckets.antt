@@ -246,6 +246,15 @@ found_mapped shift n table old new now mapped updates o =
 pub found_nothing : (n : ℕ) (found : ℕ → Option Meaning) → found n ≡ None → Updates n None found found
 found_nothing n found none o = same_or_other n o (λ b. found o ≡ cond b None (found o)) (λ same. ap found (sym same) ∙ none) (λ _. refl)
 
+-- of a bucket where a number stands alone or first
+pub alone_found : (shift n : ℕ) (table : List Bucket) (others : BTreeMap ℕ Meaning) (kept : ℕ) (meaning : Meaning) → bucket_at table (bucket_of shift n) ≡ buckets.Alone kept meaning → kept ≡ n
+    → found_short shift table others n ≡ Some meaning
+alone_found shift n table others kept meaning is same = ap (λ p. found_by p n others) is ∙ same_or_other kept n (λ b. cond b (Some meaning) None ≡ Some meaning) (λ _. refl) (λ apart. absurd (apart same))
+
+pub first_found : (shift n : ℕ) (table : List Bucket) (others : BTreeMap ℕ Meaning) (kept : ℕ) (meaning : Meaning) → bucket_at table (bucket_of shift n) ≡ buckets.First kept meaning → kept ≡ n
+    → found_short shift table others n ≡ Some meaning
+first_found shift n table others kept meaning is same = ap (λ p. found_by p n others) is ∙ same_or_other kept n (λ b. cond b (Some meaning) (get nat_cmp others n) ≡ Some meaning) (λ _. refl) (λ apart. absurd (apart same))
+
 -- of a bucket where another number stands alone
 pub alone_tells : (shift n : ℕ) (table : List Bucket) (others : BTreeMap ℕ Meaning) (kept : ℕ) (meaning : Meaning) → bucket_at table (bucket_of shift n) ≡ buckets.Alone kept meaning → (kept ≡ n → ⊥)
     → found_short shift table others n ≡ None

@@ -12,11 +12,10 @@ use Rattle.resolved.specs.declared.expression.Variable.{Variable}
 use Rattle.resolved.specs.declared.expression.Variable.TheVariants.{Global, Local}
 use Rattle.resolved.specs.Program.{Program, ChannelEntry, GlobalEntry, SlotEntry}
 use Rattle.types.specs.Environment.{use_as, variable_of}
-use Rattle.types.specs.Expressions.{base_of}
 use Rattle.types.specs.declared.fault.TypeRefusalKind.TheVariants as refusals
 use Rattle.types.specs.Finding.{found_or, along, of_each, ◌>>=◌}
 use Rattle.types.specs.Labels.{LabelScope, principal_finding, policy_finding, variable_label_finding, component_finding, next_component, label_finding}
-use Rattle.types.specs.Resolution.{TopLevel, top_finding, heads, channel_finding, first_finding, global_finding, procedure_entry_finding, Tables, next_item, no_tables, items_finding, main_finding, global_cells_finding, frames_finding, resolution}
+use Rattle.types.specs.Resolution.{TopLevel, heads, channel_finding, first_finding, global_finding, procedure_entry_finding, next_item, main_finding, resolution, empty_program, next_name, built_in, next_frame, next_global_cells}
 use Rattle.types.proofs.Passing.{then_finds, found_finds, any_finds}
 
 abbrev IsCanonicalChannel : ChannelEntry → Type 0
@@ -25,7 +24,7 @@ IsCanonicalChannel entry = IsCanonicalLabel entry.label
 abbrev IsCanonicalGlobal : GlobalEntry → Type 0
 IsCanonicalGlobal entry = IsCanonicalLabel entry.label
 
-record HasCanonicalLabels (tables : Tables) : Type 0 where
+record HasCanonicalLabels (tables : Program) : Type 0 where
   pub channels : All IsCanonicalChannel tables.channels
   pub globals : All IsCanonicalGlobal tables.globals
 
@@ -82,7 +81,7 @@ module _ (scope : LabelScope) (globals : (number : ℕ) → IfSome (slice_get sc
 -- ---- items
 
 module _ (h : PrincipalHierarchy) where
-  item_canonical : (top : TopLevel) (tables : Tables) (item : ItemTree) → HasCanonicalLabels tables → IfOk (next_item h top tables item) HasCanonicalLabels
+  item_canonical : (top : TopLevel) (tables : Program) (item : ItemTree) → HasCanonicalLabels tables → IfOk (next_item h top tables item) HasCanonicalLabels
   unfolding next_item channel_finding global_finding
   item_canonical top tables (ChannelItem channel) kept =
       then_finds (channel_finding (heads h top tables.globals) channel) _ IsCanonicalChannel HasCanonicalLabels
@@ -97,7 +96,7 @@ module _ (h : PrincipalHierarchy) where
       then_finds (global_finding (heads h top tables.globals) global) _ IsCanonicalGlobal HasCanonicalLabels
       (then_finds (label_finding (heads h top tables.globals) global.label) _ IsCanonicalLabel IsCanonicalGlobal
       (label_canonical (heads h top tables.globals) (λ number. all_there IsCanonicalGlobal tables.globals number kept.globals) refl global.label) (λ label is.
-      then_finds (first_finding (base_of global.base) global.value) _ (λ one. Unit {0}) IsCanonicalGlobal (any_finds (first_finding (base_of global.base) global.value))
+      then_finds (first_finding global.base global.value) _ (λ one. Unit {0}) IsCanonicalGlobal (any_finds (first_finding global.base global.value))
       (λ value nothing. is)))
       (λ entry is. record {
         channels = kept.channels;
@@ -108,7 +107,7 @@ module _ (h : PrincipalHierarchy) where
       (any_finds (procedure_entry_finding (heads h top tables.globals) top.signatures procedure))
       (λ entry nothing. record { channels = kept.channels; globals = kept.globals })
 
-  items_canonical : (top : TopLevel) (tables : Tables) (items : List ItemTree) → HasCanonicalLabels tables
+  items_canonical : (top : TopLevel) (tables : Program) (items : List ItemTree) → HasCanonicalLabels tables
       → IfOk (along (next_item h top) tables items) HasCanonicalLabels
   items_canonical top tables [] kept = kept
   items_canonical top tables (item ∷ items) kept =
@@ -120,13 +119,13 @@ module _ (h : PrincipalHierarchy) where
     pub labels : All IsCanonicalChannel program.channels
 
   pub channels_kept : (written : ProgramTree) → IfOk (resolution h written) KeepsChannels
-  unfolding resolution items_finding
+  unfolding resolution
   channels_kept written =
-      then_finds (top_finding written.items) _ (λ one. Unit {0}) _ (any_finds (top_finding written.items)) (λ top nothing.
-      then_finds (along (next_item h top) no_tables written.items) _ HasCanonicalLabels _
-      (items_canonical top no_tables written.items (record { channels = All-nil IsCanonicalChannel; globals = All-nil IsCanonicalGlobal })) (λ tables kept.
+      then_finds (along next_name built_in written.items) _ (λ one. Unit {0}) _ (any_finds (along next_name built_in written.items)) (λ top nothing.
+      then_finds (along (next_item h top) empty_program written.items) _ HasCanonicalLabels _
+      (items_canonical top empty_program written.items (record { channels = All-nil IsCanonicalChannel; globals = All-nil IsCanonicalGlobal })) (λ tables kept.
       then_finds (main_finding (top.names (codes "main")) tables.procedures) _ (λ one. Unit {0}) _
       (any_finds (main_finding (top.names (codes "main")) tables.procedures)) (λ main nothing.
-      then_finds (global_cells_finding written.items) _ (λ one. Unit {0}) _ (any_finds (global_cells_finding written.items)) (λ cells nothing.
-      then_finds (frames_finding tables.procedures) _ (λ one. Unit {0}) _ (any_finds (frames_finding tables.procedures)) (λ done nothing.
+      then_finds (along next_global_cells 0 written.items) _ (λ one. Unit {0}) _ (any_finds (along next_global_cells 0 written.items)) (λ cells nothing.
+      then_finds (along next_frame tt tables.procedures) _ (λ one. Unit {0}) _ (any_finds (along next_frame tt tables.procedures)) (λ done nothing.
       record { hierarchy = refl; labels = kept.channels })))))

@@ -3,7 +3,7 @@ use Rattle.std.proofs.Common.{◌≡◌, ℕ, List, length, map, Option, None, S
 use Rattle.std.proofs.lemmas.List.{length-map}
 use Rattle.labels.specs.Label.{Label}
 use Rattle.syntax.specs.Tree.{NameTree, LabelTree, RightTree, SizeTree}
-use Rattle.resolved.specs.declared.expression.Base.{Base}
+use Rattle.common.specs.declared.base_type.BaseType.{BaseType}
 use Rattle.resolved.specs.declared.expression.Variable.TheVariants.{Local}
 use Rattle.resolved.specs.declared.tables.Slot.{Slot}
 use Rattle.resolved.specs.Program.{SlotEntry}
@@ -32,7 +32,7 @@ pub next_slot : (labels : List Label) (slots : List Slot) (entries : List SlotEn
     → number ≡ length entries
 next_slot labels slots entries number are counted = counted ∙ sym (length-map slots (slot_entry labels)) ∙ ap length are
 
-module _ (setting : Setting) (point : Point) (at : ℕ) (base : Base) (label : Option LabelTree) (name : NameTree) (written : Option Label)
+module _ (setting : Setting) (point : Point) (at : ℕ) (base : BaseType) (label : Option LabelTree) (name : NameTree) (written : Option Label)
     (found : Option Meaning) (number : ℕ) (written_is : optional_label_finding (label_scope setting point) label ≡ Ok written)
     (looked : found ≡ point.names name.text) (new : fresh_finding found name.at ≡ Ok tt) (next : number ≡ length point.slots) where
   fresh_there : fresh_finding (point.names name.text) name.at ≡ Ok tt

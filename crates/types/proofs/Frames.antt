@@ -1,6 +1,6 @@
 -- The cells of a frame, counted slot by slot.
 use Rattle.std.proofs.Common.{◌≡◌, ℕ, ◌+◌, ◌≤◌, List, [], ◌∷◌, map, drop, Bool, refl, sym, ◌∙◌, ap}
-use Rattle.std.specs.Prelude.{nat_le}
+use Rattle.std.specs.Prelude.{nat_le, sum_by}
 use Rattle.std.proofs.lemmas.List.Sums.{sum_by-cons}
 use Rattle.resolved.specs.declared.tables.Procedure.{Procedure}
 use Rattle.resolved.specs.declared.tables.Slot.{Slot}
@@ -10,7 +10,7 @@ use Rattle.resolved.specs.ProgramOf.{slot_entry, procedure_entry}
 use Rattle.resolved.specs.WellFormed.{cell_count}
 use Rattle.types.specs.declared.fault.TypeRefusalKind.TheVariants as refusals
 use Rattle.types.specs.Finding.{require}
-use Rattle.types.specs.Resolution.{frame_cells, next_frame}
+use Rattle.types.specs.Resolution.{next_frame}
 use Rattle.types.specs.Views.{cells_of_slots}
 use Rattle.common.specs.declared.limits.TheConstants.{MAX_CELLS}
 
@@ -26,7 +26,7 @@ abbrev slot_cells : Slot → ℕ
 slot_cells slot = cell_count slot.size
 
 -- a frame has the cells of its slots
-pub cells_of_frame : (labels : List Label) (slots : List Slot) → frame_cells (map (slot_entry labels) slots) ≡ cells_of_slots slots
+pub cells_of_frame : (labels : List Label) (slots : List Slot) → sum_by (λ (slot : SlotEntry). cell_count slot.size) (map (slot_entry labels) slots) ≡ cells_of_slots slots
 cells_of_frame labels [] = refl
 cells_of_frame labels (slot ∷ slots) =
     sum_by-cons entry_cells (slot_entry labels slot) (map (slot_entry labels) slots) ∙ ap (λ cells. cell_count slot.size + cells) (cells_of_frame labels slots) ∙ sym (sum_by-cons slot_cells slot slots)

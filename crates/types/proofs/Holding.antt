@@ -2,14 +2,14 @@
 use Rattle.std.proofs.Common.{◌≡◌, ℕ, ◌+◌, ◌≤◌, ◌∙◌, Ok, Option, None, Some, arith}
 use Rattle.syntax.specs.Nodes.{expression_nodes, block_nodes, statement_nodes}
 use Rattle.syntax.specs.Tree.{ExpressionTree, IfElseTree, IfTree, WhileTree, TryTree, NestedTree, BlockTree, BlockOf, StatementTrees, CatchTrees, if_tree}
-use Rattle.resolved.specs.declared.expression.Base.TheVariants.{Boolean}
+use Rattle.common.specs.declared.base_type.BaseType.TheVariants.{Boolean}
 use Rattle.resolved.specs.Tree.{Expression, If, While, Try, Nested, Block, Empty, Handlers}
 use Rattle.common.specs.Answers.{IfRefused}
 use Rattle.common.specs.declared.fault.OrNoMemory.{OrNoMemory}
 use Rattle.types.specs.Finding.{IsRefusalOf}
 use Rattle.types.specs.declared.fault.TypeRefusal.{TypeRefusal}
 use Rattle.types.specs.Expressions.{typed_finding}
-use Rattle.types.specs.Statements.{Setting, Point, in_loop, statement_finding, block_finding, catches_finding}
+use Rattle.types.specs.Statements.{Setting, Point, statement_finding, block_finding, catches_finding}
 use Rattle.types.proofs.Loops.{fails_later, fails_second, then_ok}
 
 -- ---- conditions
@@ -49,12 +49,12 @@ module _ (setting : Setting) (point : Point) (at : ℕ) (condition : ExpressionT
 
   -- ---- loops
 
-  pub while_done : (body : BlockTree) (inside : Point) (block : Block) → block_finding setting (in_loop point) body ≡ Ok (inside, block)
+  pub while_done : (body : BlockTree) (inside : Point) (block : Block) → block_finding setting (record point { loops = point.loops + 1 }) body ≡ Ok (inside, block)
       → statement_finding setting point (WhileTree at condition body) ≡ Ok (inside, While at point.loops e block)
   unfolding statement_finding
   while_done body inside block done = then_ok _ _ e typed ∙ then_ok _ _ (inside, block) done
 
-  pub while_wrong : (body : BlockTree) (fault : OrNoMemory TypeRefusal) → IfRefused (IsRefusalOf (block_finding setting (in_loop point) body)) fault
+  pub while_wrong : (body : BlockTree) (fault : OrNoMemory TypeRefusal) → IfRefused (IsRefusalOf (block_finding setting (record point { loops = point.loops + 1 }) body)) fault
       → IfRefused (IsRefusalOf (statement_finding setting point (WhileTree at condition body))) fault
   unfolding statement_finding
   while_wrong body fault wrong = fails_second _ _ e fault typed (fails_later _ _ fault wrong)

@@ -19,8 +19,9 @@ use Rattle.types.specs.Environment.{Environment, declaring, fresh_finding}
 use Rattle.types.specs.Labels.{LabelScope, label_finding, optional_label_finding}
 use Rattle.types.specs.Laws.{IsProperName, item_names}
 use Rattle.types.specs.Statements.{Signature, block_finding}
-use Rattle.types.specs.Resolution.{TopLevel, built_in, item_name, item_meaning, next_name, top_finding, heads, channel_finding, first_finding, global_finding, result_finding, parameters_finding, procedure_entry_finding, Tables, next_item, no_tables, items_finding, main_finding, global_cells_finding, frames_finding, resolution, next_thrown}
+use Rattle.types.specs.Resolution.{TopLevel, built_in, item_name, item_meaning, next_name, heads, channel_finding, first_finding, global_finding, result_finding, procedure_entry_finding, next_item, main_finding, resolution, next_thrown, empty_program, next_frame, next_global_cells}
 use Rattle.types.proofs.Passing.{then_finds, any_finds}
+use Rattle.types.proofs.Procedures.{parameters_finding}
 
 -- ---- lists
 
@@ -198,7 +199,7 @@ global_name entry = entry.name
 abbrev procedure_name : ProcedureEntry → List ℕ
 procedure_name entry = entry.name
 
-pub record TableNames (named : ItemNames) (tables : Tables) : Type 0 where
+pub record TableNames (named : ItemNames) (tables : Program) : Type 0 where
   pub exceptions : tables.exceptions ≡ named.exceptions
   pub channels : map channel_name tables.channels ≡ named.channels
   pub globals : map global_name tables.globals ≡ named.globals
@@ -225,7 +226,7 @@ procedure_named scope signatures procedure =
     then_finds (along (next_thrown scope) [] procedure.throws) _ (λ one. Unit {0}) _ (any_finds (along (next_thrown scope) [] procedure.throws)) (λ throws nothing.
     then_finds (block_finding _ point procedure.body) _ (λ one. Unit {0}) _ (any_finds (block_finding _ point procedure.body)) (λ done nothing. refl))))))
 
-item_named : (h : PrincipalHierarchy) (top : TopLevel) (named : ItemNames) (tables : Tables) (item : ItemTree) → TableNames named tables
+item_named : (h : PrincipalHierarchy) (top : TopLevel) (named : ItemNames) (tables : Program) (item : ItemTree) → TableNames named tables
     → IfOk (next_item h top tables item) (TableNames (names_with named item))
 unfolding next_item
 item_named h top named tables (ChannelItem channel) kept =
@@ -257,17 +258,17 @@ item_named h top named tables (ProcedureItem procedure) kept =
       procedures = map_push procedure_name tables.procedures entry ∙ (λ i. kept.procedures i ++ same i ∷ []);
     })
 
-pub items_named : (h : PrincipalHierarchy) (top : TopLevel) (named : ItemNames) (tables : Tables) (items : List ItemTree) → TableNames named tables
+pub items_named : (h : PrincipalHierarchy) (top : TopLevel) (named : ItemNames) (tables : Program) (items : List ItemTree) → TableNames named tables
     → IfOk (along (next_item h top) tables items) (TableNames (names_all named items))
 items_named h top named tables [] kept = kept
 items_named h top named tables (item ∷ items) kept =
     then_finds (next_item h top tables item) (λ next. along (next_item h top) next items) (TableNames (names_with named item)) _
     (item_named h top named tables item kept) (λ next kept_next. items_named h top (names_with named item) next items kept_next)
 
-abbrev table_names : Tables → List (List ℕ)
+abbrev table_names : Program → List (List ℕ)
 table_names tables = tables.exceptions ++ (map channel_name tables.channels ++ (map global_name tables.globals ++ map procedure_name tables.procedures))
 
-same_names : (named : ItemNames) (tables : Tables) → TableNames named tables → all_names named ≡ table_names tables
+same_names : (named : ItemNames) (tables : Program) → TableNames named tables → all_names named ≡ table_names tables
 same_names named tables kept i = sym kept.exceptions i ++ (sym kept.channels i ++ (sym kept.globals i ++ sym kept.procedures i))
 
 -- ---- what holds of the name of each item
@@ -287,16 +288,16 @@ each_item_name P named (item ∷ items) all each =
 -- what holds of the name of each item of a tree holds of the names of the program
 pub names_hold : (P : List ℕ → Type 0) (h : PrincipalHierarchy) (written : ProgramTree) → All (λ (item : ItemTree). P (item_name item).text) written.items
     → IfOk (resolution h written) (λ (program : Program). All P (item_names program))
-unfolding resolution items_finding
+unfolding resolution
 names_hold P h written all =
     let named = names_all no_names written.items in
-    then_finds (top_finding written.items) _ (λ one. Unit {0}) _ (any_finds (top_finding written.items)) (λ top nothing.
-    then_finds (along (next_item h top) no_tables written.items) _ (TableNames named) _
-    (items_named h top no_names no_tables written.items (record { exceptions = refl; channels = refl; globals = refl; procedures = refl })) (λ tables kept.
+    then_finds (along next_name built_in written.items) _ (λ one. Unit {0}) _ (any_finds (along next_name built_in written.items)) (λ top nothing.
+    then_finds (along (next_item h top) empty_program written.items) _ (TableNames named) _
+    (items_named h top no_names empty_program written.items (record { exceptions = refl; channels = refl; globals = refl; procedures = refl })) (λ tables kept.
     then_finds (main_finding (top.names (codes "main")) tables.procedures) _ (λ one. Unit {0}) _
     (any_finds (main_finding (top.names (codes "main")) tables.procedures)) (λ main nothing.
-    then_finds (global_cells_finding written.items) _ (λ one. Unit {0}) _ (any_finds (global_cells_finding written.items)) (λ cells nothing.
-    then_finds (frames_finding tables.procedures) _ (λ one. Unit {0}) _ (any_finds (frames_finding tables.procedures)) (λ done nothing.
+    then_finds (along next_global_cells 0 written.items) _ (λ one. Unit {0}) _ (any_finds (along next_global_cells 0 written.items)) (λ cells nothing.
+    then_finds (along next_frame tt tables.procedures) _ (λ one. Unit {0}) _ (any_finds (along next_frame tt tables.procedures)) (λ done nothing.
     subst (All P) (same_names named tables kept) (all_of_each P (all_names named) (each_item_name P no_names written.items all tt)))))))
 
 pub record ProgramNames (program : Program) : Type 0 where
@@ -304,17 +305,17 @@ pub record ProgramNames (program : Program) : Type 0 where
   pub different : AllDifferent (built_in_names ++ item_names program)
 
 pub program_names : (h : PrincipalHierarchy) (written : ProgramTree) → IsWritten Anywhere (IsNameWithin MAX_TEXT) IsInteger written → IfOk (resolution h written) ProgramNames
-unfolding resolution top_finding items_finding
+unfolding resolution
 program_names h written is =
     let named = names_all no_names written.items in
     then_finds (along next_name built_in written.items) _ (λ after. AreWellFormedNames after.names (all_names named)) _
     (names_kept no_names built_in written.items is built_in_kept) (λ top top_kept.
-    then_finds (along (next_item h top) no_tables written.items) _ (TableNames named) _
-    (items_named h top no_names no_tables written.items (record { exceptions = refl; channels = refl; globals = refl; procedures = refl })) (λ tables kept.
+    then_finds (along (next_item h top) empty_program written.items) _ (TableNames named) _
+    (items_named h top no_names empty_program written.items (record { exceptions = refl; channels = refl; globals = refl; procedures = refl })) (λ tables kept.
     then_finds (main_finding (top.names (codes "main")) tables.procedures) _ (λ one. Unit {0}) _
     (any_finds (main_finding (top.names (codes "main")) tables.procedures)) (λ main nothing.
-    then_finds (global_cells_finding written.items) _ (λ one. Unit {0}) _ (any_finds (global_cells_finding written.items)) (λ cells nothing.
-    then_finds (frames_finding tables.procedures) _ (λ one. Unit {0}) _ (any_finds (frames_finding tables.procedures)) (λ done nothing.
+    then_finds (along next_global_cells 0 written.items) _ (λ one. Unit {0}) _ (any_finds (along next_global_cells 0 written.items)) (λ cells nothing.
+    then_finds (along next_frame tt tables.procedures) _ (λ one. Unit {0}) _ (any_finds (along next_frame tt tables.procedures)) (λ done nothing.
     let same = same_names named tables kept in
     record {
       proper = subst (All IsProperName) same (all_of_each IsProperName (all_names named) top_kept.proper);

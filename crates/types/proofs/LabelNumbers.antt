@@ -11,7 +11,7 @@ use Rattle.resolved.specs.declared.tables.ResultType.{ResultType}
 use Rattle.resolved.specs.declared.tables.Slot.{Slot}
 use Rattle.resolved.specs.declared.tables.Thrown.{Thrown}
 use Rattle.resolved.specs.ProgramOf.{channel_entry, global_entry, slot_entry, written_at, result_entry, thrown_entry, procedure_entry}
-use Rattle.types.specs.VariableEntries.{VariableEntries, IsInside, IsOptionInside, IsResultInside, AreSlotsInside, AreThrownInside, IsProcedureInside, HasMoreLabels}
+use Rattle.types.specs.VariableEntries.{VariableEntries, IsInside, IsOptionInside, IsResultInside, AreSlotsInside, AreThrownLabelsInside, IsProcedureInside, HasMoreLabels}
 
 pub extends_itself : (labels : List Label) → Extends labels labels
 extends_itself labels = record { more = []; after_is = sym (append-nil labels) }
@@ -85,10 +85,10 @@ module _ (before after : List Label) (extended : Extends before after) where
   same_result (Some type) inside = λ i. Some (record { base = type.base; label = same_label type.label inside i })
 
   -- exceptions
-  pub thrown_still_inside : (throws : List Thrown) → AreThrownInside before throws → AreThrownInside after throws
+  pub thrown_still_inside : (throws : List Thrown) → AreThrownLabelsInside before throws → AreThrownLabelsInside after throws
   thrown_still_inside throws inside = All_weaker _ _ throws (λ (thrown : Thrown) within. still_inside thrown.label within) inside
 
-  pub same_thrown : (throws : List Thrown) → AreThrownInside before throws → map (thrown_entry after) throws ≡ map (thrown_entry before) throws
+  pub same_thrown : (throws : List Thrown) → AreThrownLabelsInside before throws → map (thrown_entry after) throws ≡ map (thrown_entry before) throws
   same_thrown throws inside =
       map_same (thrown_entry after) (thrown_entry before) _ throws
       (λ thrown within i. record { exception = thrown.exception; label = same_label thrown.label within i }) inside

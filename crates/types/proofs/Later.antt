@@ -36,8 +36,7 @@ later_through first second third p q =
 
 pub setting_same : (before after : BodyScope) → IsLater before after → setting_of after ≡ setting_of before
 setting_same before after later = λ i. record {
-  hierarchy = later.hierarchy i;
-  globals = later.globals i;
+  outer = heads (later.hierarchy i) (top_view (later.top i)) (later.globals i);
   signatures = map signature_view (later.top i).signatures.items;
   result = later.result i;
 }

@@ -15,7 +15,8 @@ use Rattle.types.specs.declared.fault.TypeRefusalKind.TheVariants as refusals
 use Rattle.types.specs.Finding.{Finding, give, found_or, give_if, along, ◌>>=◌}
 use Rattle.types.specs.Environment.{Environment, declaring, fresh_finding}
 use Rattle.types.specs.Laws.{MeaningHasName}
-use Rattle.types.specs.Resolution.{TopLevel, nothing_declared, built_in, item_name, item_meaning, signature_of, counted, Tables, program_with, next_name, top_finding, next_item, no_tables, items_finding, main_finding, global_cells_finding, frames_finding, resolution}
+use Rattle.types.specs.Views.{program_with}
+use Rattle.types.specs.Resolution.{TopLevel, nothing_declared, built_in, item_name, item_meaning, signature_of, counted, next_name, next_item, main_finding, resolution, empty_program, next_frame, next_global_cells}
 use Rattle.types.proofs.Passing.{then_finds, if_finds, any_finds}
 use Rattle.types.proofs.Tables.{ok_inside}
 use Rattle.types.proofs.WellFormedPrograms.{last_is, still_is}
@@ -172,7 +173,7 @@ both_find : {A : Type 0} (looked : Finding A) (P Q : A → Type 0) → IfOk look
 both_find (Ok x) P Q p q = (p, q)
 both_find (Err fault) P Q p q = tt
 
-placed_there : (h : PrincipalHierarchy) (tables : Tables) (main : ℕ) (named : ItemNames) → TableNames named tables → (meaning : Meaning) (name : List ℕ)
+placed_there : (h : PrincipalHierarchy) (tables : Program) (main : ℕ) (named : ItemNames) → TableNames named tables → (meaning : Meaning) (name : List ℕ)
     → PlacedIn named meaning name → MeaningHasName (program_with h tables main) meaning name
 placed_there h tables main named kept (meanings.Item (Channel direction) n) name e = ap (λ one. slice_get one n) kept.channels ∙ e
 placed_there h tables main named kept (meanings.Item Exception n) name e = ap (λ one. slice_get (built_in_names ++ one) n) kept.exceptions ∙ e
@@ -181,22 +182,22 @@ placed_there h tables main named kept (meanings.Variable (Global n) base size) n
 placed_there h tables main named kept (meanings.Variable (Local n) base size) name e = e
 
 pub record MeaningsHaveNames (items : List ItemTree) (program : Program) : Type 0 where
-  pub names : (top : TopLevel) → top_finding items ≡ give top → (name : List ℕ) (meaning : Meaning) → top.names name ≡ Some meaning → MeaningHasName program meaning name
+  pub names : (top : TopLevel) → along next_name built_in items ≡ give top → (name : List ℕ) (meaning : Meaning) → top.names name ≡ Some meaning → MeaningHasName program meaning name
   pub main : MeaningHasName program (meanings.Item Procedure program.main) (codes "main")
 
 pub meanings_have_names : (h : PrincipalHierarchy) (written : ProgramTree) → IfOk (resolution h written) (MeaningsHaveNames written.items)
-unfolding resolution top_finding items_finding
+unfolding resolution
 meanings_have_names h written =
     let named = names_all no_names written.items in
     let looked = along next_name built_in written.items in
     then_finds looked _ (λ top. (looked ≡ give top) × NamesAreNumbered named top) _
     (both_find looked (λ top. looked ≡ give top) (NamesAreNumbered named) (finds_itself looked) (names_numbered no_names built_in written.items built_in_placed)) (λ top top_parts.
-    then_finds (along (next_item h top) no_tables written.items) _ (TableNames named) _
-    (items_named h top no_names no_tables written.items (record { exceptions = refl; channels = refl; globals = refl; procedures = refl })) (λ tables kept.
+    then_finds (along (next_item h top) empty_program written.items) _ (TableNames named) _
+    (items_named h top no_names empty_program written.items (record { exceptions = refl; channels = refl; globals = refl; procedures = refl })) (λ tables kept.
     then_finds (main_finding (top.names (codes "main")) tables.procedures) _ (λ main. top.names (codes "main") ≡ Some (meanings.Item Procedure main)) _
     (main_named (top.names (codes "main")) tables.procedures) (λ main main_is.
-    then_finds (global_cells_finding written.items) _ (λ one. Unit {0}) _ (any_finds (global_cells_finding written.items)) (λ cells nothing.
-    then_finds (frames_finding tables.procedures) _ (λ one. Unit {0}) _ (any_finds (frames_finding tables.procedures)) (λ done nothing.
+    then_finds (along next_global_cells 0 written.items) _ (λ one. Unit {0}) _ (any_finds (along next_global_cells 0 written.items)) (λ cells nothing.
+    then_finds (along next_frame tt tables.procedures) _ (λ one. Unit {0}) _ (any_finds (along next_frame tt tables.procedures)) (λ done nothing.
     record {
       names =
           λ other e name meaning means.

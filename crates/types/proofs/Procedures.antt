@@ -9,7 +9,7 @@ use Rattle.labels.specs.Label.{Label}
 use Rattle.labels.specs.LabelTable.{Extends}
 use Rattle.syntax.specs.Nodes.{parameter_nodes, thrown_nodes}
 use Rattle.syntax.specs.Tree.{LabelTree, ParameterTree, ProcedureTree, ThrownTree}
-use Rattle.resolved.specs.declared.expression.Base.{Base}
+use Rattle.common.specs.declared.base_type.BaseType.{BaseType}
 use Rattle.resolved.specs.declared.tables.Thrown.{Thrown}
 use Rattle.resolved.specs.ProgramOf.{thrown_entry}
 use Rattle.resolved.specs.Program.{SlotEntry, ResultEntry, ThrownEntry}
@@ -19,15 +19,14 @@ use Rattle.common.specs.declared.fault.OrNoMemory.{OrNoMemory}
 use Rattle.types.specs.declared.fault.TypeRefusal.{TypeRefusal}
 use Rattle.types.specs.declared.scope.Meaning.{Meaning}
 use Rattle.types.specs.declared.fault.TypeRefusalKind.TheVariants as refusals
-use Rattle.types.specs.Finding.{IsRefusalOf, give, along, require}
+use Rattle.types.specs.Finding.{Finding, IsRefusalOf, give, along, require}
 use Rattle.types.specs.Environment.{fresh_finding, use_as, item_of}
-use Rattle.types.specs.Expressions.{base_of}
 use Rattle.types.specs.Labels.{LabelScope, label_finding, optional_label_finding}
 use Rattle.types.specs.declared.label.ItemContext.{ItemContext}
-use Rattle.types.specs.Views.{item_scope, top_view}
-use Rattle.types.specs.Resolution.{heads, is_thrown, next_parameter, next_thrown, parameters_finding, procedure_entry_finding, result_finding, setting_within, joined_all}
+use Rattle.types.specs.Views.{setting_within, item_scope, top_view}
+use Rattle.types.specs.Resolution.{heads, is_thrown, next_parameter, next_thrown, procedure_entry_finding, result_finding, joined_all}
 use Rattle.types.specs.Statements.{Signature, Point, with_local, block_finding, slot_of}
-use Rattle.types.specs.VariableEntries.{VariableEntries, LabelPolicies, AreThrownInside, label_with}
+use Rattle.types.specs.VariableEntries.{VariableEntries, LabelPolicies, AreThrownLabelsInside, label_with}
 use Rattle.types.proofs.LabelNumbers.{same_thrown}
 use Rattle.types.proofs.Loops.{then_ok, fails_later, fails_second}
 
@@ -39,8 +38,8 @@ pub item_labelled : (label : LabelTree) (parts : LabelPolicies) (seen scope : La
 item_labelled label parts seen scope there variables same held found =
     ap (λ one. label_finding one label) (sym same) ∙ found ∙ ap (λ (one : VariableEntries). Ok (label_with one.labels parts)) held
 
-pub parameter_declared : (scope : LabelScope) (point after : Point) (parameter : ParameterTree) (label : Label) (found : Option Meaning) (base : Base) (slot : SlotEntry)
-    → label_finding scope parameter.label ≡ Ok label → found ≡ point.names parameter.name.text → fresh_finding found parameter.name.at ≡ Ok tt → base ≡ base_of parameter.base
+pub parameter_declared : (scope : LabelScope) (point after : Point) (parameter : ParameterTree) (label : Label) (found : Option Meaning) (base : BaseType) (slot : SlotEntry)
+    → label_finding scope parameter.label ≡ Ok label → found ≡ point.names parameter.name.text → fresh_finding found parameter.name.at ≡ Ok tt → base ≡ parameter.base
     → slot ≡ slot_of parameter.at base (Some label) parameter.name.text None → give (with_local point slot) ≡ give after
     → next_parameter scope point parameter ≡ Ok after
 parameter_declared scope point after parameter label found base slot labelled looked new typed entry declared =
@@ -48,9 +47,12 @@ parameter_declared scope point after parameter label found base slot labelled lo
     ∙ ap (λ b. Ok (with_local point (slot_of parameter.at b (Some label) parameter.name.text None))) (sym typed)
     ∙ ap (λ one. Ok (with_local point one)) (sym entry) ∙ declared
 
+-- what the parameters of a procedure come to
+abbrev pub parameters_finding : LabelScope → List ParameterTree → Finding Point
+parameters_finding scope parameters = along (next_parameter scope) (record { names = scope.names; slots = []; loops = 0 }) parameters
+
 parameters_are : (scope : LabelScope) (begin : Point) (parameters : List ParameterTree)
     → begin ≡ record { names = scope.names; slots = []; loops = 0 } → along (next_parameter scope) begin parameters ≡ parameters_finding scope parameters
-unfolding parameters_finding
 parameters_are scope begin parameters first = λ i. along (next_parameter scope) (first i) parameters
 
 -- the parameters of a procedure, by what their labels may name
@@ -71,7 +73,7 @@ parameters_need tree lent all are = let few = parameters_few (map tree all) in o
 -- ---- exceptions
 
 -- the entries of exceptions with one more
-pub thrown_pushed : (before after : List Label) → Extends before after → (throws pushed : List Thrown) (one : Thrown) → AreThrownInside before throws → pushed ≡ throws ++ one ∷ []
+pub thrown_pushed : (before after : List Label) → Extends before after → (throws pushed : List Thrown) (one : Thrown) → AreThrownLabelsInside before throws → pushed ≡ throws ++ one ∷ []
     → map (thrown_entry after) pushed ≡ map (thrown_entry before) throws ++ thrown_entry after one ∷ []
 thrown_pushed before after extended throws pushed one inside is =
     ap (map (thrown_entry after)) is ∙ map_push (thrown_entry after) throws one

@@ -1,13 +1,13 @@
 -- The statements, procedures and programs that are found read as they are written.
-use Rattle.std.proofs.Common.{◌≡◌, refl, sym, ◌∙◌, ap, subst, ℕ, List, [], ◌∷◌, ◌++◌, map, length, append-nil, append_assoc}
+use Rattle.std.proofs.Common.{◌+◌, ◌≡◌, refl, sym, ◌∙◌, ap, subst, ℕ, List, [], ◌∷◌, ◌++◌, map, length, append-nil, append_assoc}
 use Rattle.std.specs.Prelude.{IfOk, Option, Some, None, not, codes, is_none}
 use Rattle.std.proofs.lemmas.List.{length-map, map_push}
 use Rattle.std.proofs.lemmas.Result.{IfOk-weaker}
 use Rattle.principals.specs.ActsFor.{PrincipalHierarchy}
 use Rattle.syntax.specs.Tree.{NameTree, LabelTree, ExpressionTree, RightTree, SizeTree, StatementTree, DeclareTree, DeclareArrayTree, AssignTree, AssignElementTree, CallTree', ReceiveTree, SendTree, IfTree, IfElseTree, WhileTree, BreakTree, ContinueTree, ThrowTree, ReturnTree, TryTree, NestedTree, BlockTree, BlockOf, StatementTrees, NoStatement, StatementThen, CatchTrees, NoCatch, CatchThen, ParameterTree, ThrownTree, ProcedureTree, ItemTree, ChannelItem, ExceptionItem, GlobalItem, ProcedureItem, ProgramTree, expression_at}
-use Rattle.resolved.specs.declared.expression.Base.{Base}
+use Rattle.common.specs.declared.base_type.BaseType.{BaseType}
 use Rattle.resolved.specs.declared.expression.Variable.{Variable}
-use Rattle.resolved.specs.declared.expression.Base.TheVariants.{Int, Boolean}
+use Rattle.common.specs.declared.base_type.BaseType.TheVariants.{Int, Boolean}
 use Rattle.resolved.specs.declared.expression.Variable.TheVariants.{Global, Local}
 use Rattle.resolved.specs.Program.{Program, ChannelEntry, GlobalEntry, SlotEntry, ThrownEntry, ProcedureEntry}
 use Rattle.resolved.specs.Tree.{Statement, Clear, ReturnWith, Block, Handlers}
@@ -19,10 +19,11 @@ use Rattle.types.specs.declared.scope.Meaning.TheVariants as meanings
 use Rattle.types.specs.Finding.{give, require, along}
 use Rattle.types.specs.Environment.{Environment, declaring, fresh_finding, use_as, scalar_of, array_of, item_of}
 use Rattle.types.specs.Labels.{LabelScope, label_finding, optional_label_finding}
-use Rattle.types.specs.Expressions.{Typed, base_of, expression_finding, typed_finding}
+use Rattle.types.specs.Expressions.{Typed, expression_finding, typed_finding}
 use Rattle.types.specs.Laws.{channel_names, global_names, MeaningHasName}
-use Rattle.types.specs.Statements.{Signature, Setting, Point, label_scope, with_local, CallUse, call_finding, assigned_finding, declare_finding, size_finding, declare_array_finding, returned_finding, return_finding, in_loop, after_block, statement_finding, block_finding, statements_finding, catches_finding, slot_of}
-use Rattle.types.specs.Resolution.{TopLevel, heads, setting_within, result_finding, next_parameter, parameters_finding, is_thrown, next_thrown, procedure_entry_finding, channel_finding, global_finding, Tables, next_item, no_tables, items_finding, top_finding, main_finding, global_cells_finding, frames_finding, program_with, resolution}
+use Rattle.types.specs.Statements.{Signature, Setting, Point, label_scope, with_local, call_finding, assigned_finding, declare_finding, size_finding, declare_array_finding, returned_finding, return_finding, after_block, statement_finding, block_finding, statements_finding, catches_finding, slot_of}
+use Rattle.types.specs.Views.{CallUse, setting_within, program_with}
+use Rattle.types.specs.Resolution.{TopLevel, heads, result_finding, next_parameter, is_thrown, next_thrown, procedure_entry_finding, channel_finding, global_finding, next_item, main_finding, resolution, empty_program, next_name, built_in, next_frame, next_global_cells}
 use Rattle.types.specs.ReadBack.{NameScope, top_scope, with_declared, leaving_block, IsChannel, IsException, IsProcedure, IsVariable, ReadsExpression, ReadsArguments, ReadsRight, ReadsStatement, ReadDeclare, ReadDeclareArray, ReadAssign, ReadStore, ReadCall, ReadReceive, ReadSend, ReadIf, ReadIfElse, ReadWhile, ReadBreak, ReadContinue, ReadThrow, ReadReturn, ReadReturnValue, ReadTry, ReadNested, ReadsBlock, ReadBlock, ReadsStatements, ReadNoStatement, ReadStatement, ReadsCatches, ReadNoCatch, ReadCatch, ReadsThrows, ReadNoThrown, ReadThrown, with_parameters, slot_declaration, ReadsProcedure, ReadsItems, ReadNoItem, ReadChannel, ReadException, ReadGlobal, ReadProcedure}
 use Rattle.types.proofs.ItemNames.{channel_name, global_name, channel_named, global_named}
 use Rattle.types.proofs.NamedMeanings.{finds_itself}
@@ -93,13 +94,13 @@ module _ (program : Program) where
     abbrev Stays : StatementTree → Statement → Type 0
     Stays written s = ReadsStatement program scope written s scope
 
-    returned_reads : (result : Option Base) (at value_at : ℕ) (value : ExpressionTree) (found : Typed) → ReadsExpression program scope value found.expression
+    returned_reads : (result : Option BaseType) (at value_at : ℕ) (value : ExpressionTree) (found : Typed) → ReadsExpression program scope value found.expression
         → IfOk (returned_finding result at value_at found) (Stays (ReturnTree at (Some value)))
     returned_reads None at value_at value found reads = tt
     returned_reads (Some base) at value_at value found reads =
         if_finds (same_base found.base base) (ReturnWith at (Some found.expression)) _ value_at _ (λ is. ReadReturnValue reads)
 
-    return_reads : (result : Option Base) (at : ℕ) (value : Option ExpressionTree) → IfOk (return_finding result names at value) (Stays (ReturnTree at value))
+    return_reads : (result : Option BaseType) (at : ℕ) (value : Option ExpressionTree) → IfOk (return_finding result names at value) (Stays (ReturnTree at value))
     unfolding return_finding
     return_reads result at None = if_finds (is_none result) (ReturnWith at None) _ at _ (λ none. ReadReturn)
     return_reads result at (Some value) =
@@ -110,23 +111,23 @@ module _ (program : Program) where
 
   declare_reads : (setting : Setting) (scope : NameScope) (point : Point) (at : ℕ) (base : _) (label : Option LabelTree) (name : NameTree) (right : RightTree)
       → Matches scope point
-      → IfOk (declare_finding setting point at (base_of base) label name right) (StatementRead scope (DeclareTree at base label name right))
+      → IfOk (declare_finding setting point at base label name right) (StatementRead scope (DeclareTree at base label name right))
   unfolding declare_finding
   declare_reads setting scope point at base label name right matches =
       let target = Local (length point.slots) in
       then_finds (optional_label_finding (label_scope setting point) label) _ (λ one. Unit {0}) _ (any_finds (optional_label_finding (label_scope setting point) label)) (λ written nothing.
       then_finds (fresh_finding (point.names name.text) name.at) _ (λ one. Unit {0}) _ (any_finds (fresh_finding (point.names name.text) name.at)) (λ one nothing.
-      then_finds (assigned_finding setting.signatures point.names at target (base_of base) right) _ (ReadsRight program scope at target right) _
-      (right_reads program scope point.names matches.agrees setting.signatures at target (base_of base) right) (λ s reads. record {
+      then_finds (assigned_finding setting.signatures point.names at target base right) _ (ReadsRight program scope at target right) _
+      (right_reads program scope point.names matches.agrees setting.signatures at target base right) (λ s reads. record {
         after = with_declared scope name at;
         reads = ReadDeclare (subst (λ n. ReadsRight program scope at (Local n) right s) (next_number scope point matches) reads);
         matches =
-            local_matches scope point name (slot_of at (base_of base) written name.text None) matches refl;
+            local_matches scope point name (slot_of at base written name.text None) matches refl;
       })))
 
   declare_array_reads : (setting : Setting) (scope : NameScope) (point : Point) (at : ℕ) (base : _) (label : Option LabelTree) (name : NameTree) (size : SizeTree)
       → Matches scope point
-      → IfOk (declare_array_finding setting point at (base_of base) label name size) (StatementRead scope (DeclareArrayTree at base label name size))
+      → IfOk (declare_array_finding setting point at base label name size) (StatementRead scope (DeclareArrayTree at base label name size))
   unfolding declare_array_finding
   declare_array_reads setting scope point at base label name size matches =
       let target = Local (length point.slots) in
@@ -138,7 +139,7 @@ module _ (program : Program) where
             subst (λ n. ReadsStatement program scope (DeclareArrayTree at base label name size) (Clear at n) (with_declared scope name at))
             (sym (next_number scope point matches)) ReadDeclareArray;
         matches =
-            local_matches scope point name (slot_of at (base_of base) written name.text (Some length_of)) matches refl;
+            local_matches scope point name (slot_of at base written name.text (Some length_of)) matches refl;
       })))
 
   -- ---- statements, blocks and handlers
@@ -152,13 +153,13 @@ module _ (program : Program) where
       statement_reads scope point (DeclareTree at base label name right) matches = declare_reads setting scope point at base label name right matches
       statement_reads scope point (DeclareArrayTree at base label name size) matches = declare_array_reads setting scope point at base label name size matches
       statement_reads scope point (AssignTree name right) matches =
-          then_finds (use_as scalar_of (point.names name.text) name.at) _ (λ (x : Variable × Base). IsVariable program scope name x.0) _
+          then_finds (use_as scalar_of (point.names name.text) name.at) _ (λ (x : Variable × BaseType). IsVariable program scope name x.0) _
           (scalar_reads program scope point.names matches.agrees name) (λ x is.
           then_finds (assigned_finding setting.signatures point.names name.at x.0 x.1 right) _ (ReadsRight program scope name.at x.0 right) _
           (right_reads program scope point.names matches.agrees setting.signatures name.at x.0 x.1 right)
           (λ s reads. record { after = scope; reads = ReadAssign is reads; matches = matches }))
       statement_reads scope point (AssignElementTree array index value) matches =
-          then_finds (use_as array_of (point.names array.text) array.at) _ (λ (a : Variable × Base × ℕ). IsVariable program scope array a.0) _
+          then_finds (use_as array_of (point.names array.text) array.at) _ (λ (a : Variable × BaseType × ℕ). IsVariable program scope array a.0) _
           (array_reads program scope point.names matches.agrees array) (λ a is.
           then_finds (typed_finding point.names Int index) _ (ReadsExpression program scope index) _
           (typed_reads program scope point.names matches.agrees Int index) (λ i index_reads.
@@ -167,7 +168,7 @@ module _ (program : Program) where
           (λ e reads. record { after = scope; reads = ReadStore is index_reads reads; matches = matches })))
       statement_reads scope point (CallTree' call) matches =
           then_finds (call_finding setting.signatures point.names call) _
-          (λ (made : CallUse). IsProcedure program scope call.procedure made.procedure × ReadsArguments program scope call.arguments made.arguments) _
+          (λ (made : CallUse). IsProcedure program scope call.procedure made.0 × ReadsArguments program scope call.arguments made.1) _
           (call_reads program scope point.names matches.agrees setting.signatures call)
           (λ made parts. record { after = scope; reads = ReadCall parts.0 parts.1; matches = matches })
       statement_reads scope point (ReceiveTree at channel) matches =
@@ -201,8 +202,8 @@ module _ (program : Program) where
       statement_reads scope point (WhileTree at condition body) matches =
           then_finds (typed_finding point.names Boolean condition) _ (ReadsExpression program scope condition) _
           (typed_reads program scope point.names matches.agrees Boolean condition) (λ e reads.
-          then_finds (block_finding setting (in_loop point) body) _ (BlockRead scope body) _
-          (block_reads scope (in_loop point) body (record { agrees = matches.agrees; declared = matches.declared })) (λ done read. record {
+          then_finds (block_finding setting (record point { loops = point.loops + 1 }) body) _ (BlockRead scope body) _
+          (block_reads scope (record point { loops = point.loops + 1 }) body (record { agrees = matches.agrees; declared = matches.declared })) (λ done read. record {
             after = read.after;
             reads = ReadWhile reads read.reads;
             matches = read.matches;
@@ -280,7 +281,7 @@ module _ (program : Program) where
       (then_finds (label_finding labels parameter.label) _ (λ one. Unit {0}) _ (any_finds (label_finding labels parameter.label)) (λ label nothing.
       then_finds (fresh_finding (point.names parameter.name.text) parameter.name.at) _ (λ one. Unit {0}) _
       (any_finds (fresh_finding (point.names parameter.name.text) parameter.name.at)) (λ one nothing.
-      local_matches scope point parameter.name (slot_of parameter.at (base_of parameter.base) (Some label) parameter.name.text None) matches refl)))
+      local_matches scope point parameter.name (slot_of parameter.at parameter.base (Some label) parameter.name.text None) matches refl)))
       (λ next matches_next. parameters_read labels (with_declared scope parameter.name parameter.at) next parameters matches_next)
 
   -- after those that were found before
@@ -313,7 +314,7 @@ module _ (program : Program) where
 
   procedure_read : (labels : LabelScope) (signatures : List Signature) (written : ProcedureTree) → Agrees program top_scope labels.names
       → IfOk (procedure_entry_finding labels signatures written) (ReadsProcedure program written)
-  unfolding procedure_entry_finding parameters_finding
+  unfolding procedure_entry_finding
   procedure_read labels signatures written agrees =
       let setting = setting_within labels signatures written in
       let first : Point = record { names = labels.names; slots = []; loops = 0 } in
@@ -338,7 +339,7 @@ module _ (program : Program) where
   -- ---- items
 
   -- after the items that were found before
-  record ItemsRead (before : Tables) (items : List ItemTree) (tables : Tables) : Type 0 where
+  record ItemsRead (before : Program) (items : List ItemTree) (tables : Program) : Type 0 where
     pub channels : List (List ℕ)
     pub exceptions : List (List ℕ)
     pub globals : List (List ℕ)
@@ -351,10 +352,10 @@ module _ (program : Program) where
 
   module _ (h : PrincipalHierarchy) (top : TopLevel) (agrees : Agrees program top_scope top.names) where
     -- what is found after the next item is found after those before it, with that item
-    abbrev Step : Tables → ItemTree → List ItemTree → Tables → Type 0
-    Step before item items next = (tables : Tables) → ItemsRead next items tables → ItemsRead before (item ∷ items) tables
+    abbrev Step : Program → ItemTree → List ItemTree → Program → Type 0
+    Step before item items next = (tables : Program) → ItemsRead next items tables → ItemsRead before (item ∷ items) tables
 
-    step : (before : Tables) (item : ItemTree) (items : List ItemTree) → IfOk (next_item h top before item) (Step before item items)
+    step : (before : Program) (item : ItemTree) (items : List ItemTree) → IfOk (next_item h top before item) (Step before item items)
     unfolding next_item
     step before (ChannelItem channel) items =
         then_finds (channel_finding (heads h top before.globals) channel) _ (λ (entry : ChannelEntry). entry.name ≡ channel.name.text) _ (channel_named (heads h top before.globals) channel)
@@ -407,7 +408,7 @@ module _ (program : Program) where
           reads = ReadProcedure reads rest.reads;
         })
 
-    items_read : (before : Tables) (items : List ItemTree) → IfOk (along (next_item h top) before items) (ItemsRead before items)
+    items_read : (before : Program) (items : List ItemTree) → IfOk (along (next_item h top) before items) (ItemsRead before items)
     items_read before [] = record {
       channels = [];
       exceptions = [];
@@ -444,7 +445,7 @@ record World (top : TopLevel) : Type 0 where
   pub agrees : Agrees program top_scope top.names
 
 abbrev pub TopAgrees : List ItemTree → Program → Type 0
-TopAgrees items program = (top : TopLevel) → top_finding items ≡ give top → Agrees program top_scope top.names
+TopAgrees items program = (top : TopLevel) → along next_name built_in items ≡ give top → Agrees program top_scope top.names
 
 abbrev pub ReadsProgram : List ItemTree → Program → Type 0
 ReadsProgram items program =
@@ -452,21 +453,21 @@ ReadsProgram items program =
 
 pub program_read : (h : PrincipalHierarchy) (written : ProgramTree)
     → IfOk (resolution h written) (λ program. TopAgrees written.items program → ReadsProgram written.items program)
-unfolding resolution items_finding
+unfolding resolution
 program_read h written =
-    then_finds (top_finding written.items) _ (λ top. top_finding written.items ≡ give top) _ (finds_itself (top_finding written.items)) (λ top top_is.
-    then_finds (along (next_item h top) no_tables written.items) _
-    (λ tables. (world : World top) → ItemsRead world.program no_tables written.items tables) _
-    (finds_for_all (along (next_item h top) no_tables written.items) (λ (world : World top) tables. ItemsRead world.program no_tables written.items tables)
-    (λ world. items_read world.program h top world.agrees no_tables written.items)) (λ tables read.
+    then_finds (along next_name built_in written.items) _ (λ top. along next_name built_in written.items ≡ give top) _ (finds_itself (along next_name built_in written.items)) (λ top top_is.
+    then_finds (along (next_item h top) empty_program written.items) _
+    (λ tables. (world : World top) → ItemsRead world.program empty_program written.items tables) _
+    (finds_for_all (along (next_item h top) empty_program written.items) (λ (world : World top) tables. ItemsRead world.program empty_program written.items tables)
+    (λ world. items_read world.program h top world.agrees empty_program written.items)) (λ tables read.
     then_finds (main_finding (top.names (codes "main")) tables.procedures) _ (λ one. Unit {0}) _
     (any_finds (main_finding (top.names (codes "main")) tables.procedures)) (λ main nothing.
-    then_finds (global_cells_finding written.items) _ (λ one. Unit {0}) _ (any_finds (global_cells_finding written.items)) (λ cells nothing.
-    then_finds (frames_finding tables.procedures) _ (λ one. Unit {0}) _ (any_finds (frames_finding tables.procedures)) (λ done nothing agrees.
+    then_finds (along next_global_cells 0 written.items) _ (λ one. Unit {0}) _ (any_finds (along next_global_cells 0 written.items)) (λ cells nothing.
+    then_finds (along next_frame tt tables.procedures) _ (λ one. Unit {0}) _ (any_finds (along next_frame tt tables.procedures)) (λ done nothing agrees.
     tables_read h tables main written.items (read (record { program = program_with h tables main; agrees = agrees top top_is })))))))
   where
-    tables_read : (h : PrincipalHierarchy) (tables : Tables) (main : ℕ) (items : List ItemTree)
-        → ItemsRead (program_with h tables main) no_tables items tables → ReadsProgram items (program_with h tables main)
+    tables_read : (h : PrincipalHierarchy) (tables : Program) (main : ℕ) (items : List ItemTree)
+        → ItemsRead (program_with h tables main) empty_program items tables → ReadsProgram items (program_with h tables main)
     tables_read h tables main items found =
         subst (λ one. ReadsItems (program_with h tables main) items one tables.exceptions (map global_name tables.globals) tables.procedures)
         (sym found.channels_are)

@@ -1,4 +1,5 @@
 -- Names that mean what is declared, and the expressions and calls in which they are used: what is found reads as it is written.
+use Rattle.types.specs.Views.{CallUse}
 use Rattle.std.proofs.Common.{◌≡◌, refl, sym, ◌∙◌, ap, subst, ℕ, List, [], ◌∷◌, ◌++◌, length, Bool, true, false, cond, append-nil, append_assoc}
 use Rattle.std.specs.Prelude.{IfOk, Option, Some, None, ◌==◌, bytes_eq, slice_index_or}
 use Rattle.std.proofs.lemmas.Result.{IfOk-weaker}
@@ -7,8 +8,8 @@ use Rattle.syntax.specs.declared.tree.UnaryOperator.TheVariants as unary
 use Rattle.syntax.specs.declared.tree.BinaryOperator.{BinaryOperator}
 use Rattle.syntax.specs.declared.tree.BinaryOperator.TheVariants as binary
 use Rattle.syntax.specs.Tree.{NameTree, ExpressionTree, IntegerTree, TruthTree, VariableTree, ElementTree, UnaryTree, BinaryTree, CallTree, RightTree, ReceivedTree, CalledTree, ValueTree, expression_at}
-use Rattle.resolved.specs.declared.expression.Base.{Base}
-use Rattle.resolved.specs.declared.expression.Base.TheVariants.{Int, Boolean}
+use Rattle.common.specs.declared.base_type.BaseType.{BaseType}
+use Rattle.common.specs.declared.base_type.BaseType.TheVariants.{Int, Boolean}
 use Rattle.resolved.specs.declared.expression.Variable.{Variable}
 use Rattle.resolved.specs.declared.expression.Variable.TheVariants.{Global, Local}
 use Rattle.resolved.specs.declared.expression.Operator.TheVariants.{Compute, Divide, Bits, Compare, Match}
@@ -28,7 +29,7 @@ use Rattle.types.specs.declared.scope.Meaning.TheVariants as meanings
 use Rattle.types.specs.Finding.{Finding, require, along}
 use Rattle.types.specs.Environment.{Environment, declaring, use_as, scalar_of, array_of, item_of}
 use Rattle.types.specs.Expressions.{prefix_of, use_of, Typed, of_base, wanting, operands_base, combined, expression_finding, typed_finding}
-use Rattle.types.specs.Statements.{Signature, signature_at, next_argument, CallUse, call_finding, gives_base, assigned_finding, arguments_finding}
+use Rattle.types.specs.Statements.{arguments_finding, Signature, signature_at, next_argument, call_finding, gives_base, assigned_finding}
 use Rattle.types.specs.ReadBack.{NameScope, with_declared, innermost, IsChannel, IsException, IsProcedure, IsVariable, written_prefix, ReadsExpression, ReadInteger, ReadTruth, ReadVariable, ReadElement, ReadUnary, ReadBinary, ReadShort, ReadsArguments, ReadNoArgument, ReadArgument, ReadsRight, ReadReceived, ReadCalled, ReadValue}
 use Rattle.types.proofs.Passing.{then_finds, if_finds, any_finds}
 
@@ -36,7 +37,7 @@ prefix_written : (operator : UnaryOperator) → written_prefix (prefix_of operat
 prefix_written unary.Negate = refl
 prefix_written unary.Not = refl
 
-of_base_finds : (base : Base) (at : ℕ) (found : Typed) (P : Expression → Type 0) → P found.expression → IfOk (of_base base at found) P
+of_base_finds : (base : BaseType) (at : ℕ) (found : Typed) (P : Expression → Type 0) → P found.expression → IfOk (of_base base at found) P
 unfolding of_base
 of_base_finds base at found P h = if_finds (same_base found.base base) found.expression _ at P (λ same. h)
 
@@ -86,12 +87,12 @@ module _ (program : Program) where
   module _ (scope : NameScope) (names : Environment) (agrees : Agrees scope names) where
     -- ---- uses
 
-    pub scalar_reads : (name : NameTree) → IfOk (use_as scalar_of (names name.text) name.at) (λ (x : Variable × Base). IsVariable program scope name x.0)
+    pub scalar_reads : (name : NameTree) → IfOk (use_as scalar_of (names name.text) name.at) (λ (x : Variable × BaseType). IsVariable program scope name x.0)
     unfolding use_as
     scalar_reads name = go (names name.text) (agrees name)
       where
         go : (found : Option Meaning) → ((meaning : Meaning) → found ≡ Some meaning → IsMeaning scope name meaning)
-            → IfOk (use_as scalar_of found name.at) (λ (x : Variable × Base). IsVariable program scope name x.0)
+            → IfOk (use_as scalar_of found name.at) (λ (x : Variable × BaseType). IsVariable program scope name x.0)
         go None h = tt
         go (Some (meanings.Variable x base None)) h = h (meanings.Variable x base None) refl
         go (Some (meanings.Variable x base (Some size))) h = tt
@@ -99,12 +100,12 @@ module _ (program : Program) where
         go (Some (meanings.Item Exception number)) h = tt
         go (Some (meanings.Item Procedure number)) h = tt
 
-    pub array_reads : (name : NameTree) → IfOk (use_as array_of (names name.text) name.at) (λ (a : Variable × Base × ℕ). IsVariable program scope name a.0)
+    pub array_reads : (name : NameTree) → IfOk (use_as array_of (names name.text) name.at) (λ (a : Variable × BaseType × ℕ). IsVariable program scope name a.0)
     unfolding use_as
     array_reads name = go (names name.text) (agrees name)
       where
         go : (found : Option Meaning) → ((meaning : Meaning) → found ≡ Some meaning → IsMeaning scope name meaning)
-            → IfOk (use_as array_of found name.at) (λ (a : Variable × Base × ℕ). IsVariable program scope name a.0)
+            → IfOk (use_as array_of found name.at) (λ (a : Variable × BaseType × ℕ). IsVariable program scope name a.0)
         go None h = tt
         go (Some (meanings.Variable x base (Some size))) h = h (meanings.Variable x base (Some size)) refl
         go (Some (meanings.Variable x base None)) h = tt
@@ -171,7 +172,7 @@ module _ (program : Program) where
     abbrev pub Reads : ExpressionTree → Expression → Type 0
     Reads tree e = ReadsExpression program scope tree e
 
-    combined_reads : (at : ℕ) (operator : BinaryOperator) (base : Base) (left right : ExpressionTree) (d e : Expression) → Reads left d → Reads right e
+    combined_reads : (at : ℕ) (operator : BinaryOperator) (base : BaseType) (left right : ExpressionTree) (d e : Expression) → Reads left d → Reads right e
         → Reads (BinaryTree at operator left right) (combined (use_of operator) base d e)
     combined_reads at binary.Multiply base left right d e p q = ReadBinary {made = Compute computations.Multiply} refl p q
     combined_reads at binary.Divide base left right d e p q = ReadBinary {made = Divide divisions.Quotient} refl p q
@@ -195,7 +196,7 @@ module _ (program : Program) where
     combined_reads at binary.And base left right d e p q = ReadShort {made = connectives.And} refl p q
     combined_reads at binary.Or base left right d e p q = ReadShort {made = connectives.Or} refl p q
 
-    wanting_reads : (base : Base) (at : ℕ) (looked : Finding Typed) (tree : ExpressionTree) → IfOk looked (λ (found : Typed). Reads tree found.expression)
+    wanting_reads : (base : BaseType) (at : ℕ) (looked : Finding Typed) (tree : ExpressionTree) → IfOk looked (λ (found : Typed). Reads tree found.expression)
         → IfOk (wanting base at looked) (Reads tree)
     wanting_reads base at looked tree h =
         then_finds looked (of_base base at) (λ (found : Typed). Reads tree found.expression) (Reads tree) h
@@ -206,10 +207,10 @@ module _ (program : Program) where
     expression_reads (IntegerTree at value) = ReadInteger
     expression_reads (TruthTree at value) = ReadTruth
     expression_reads (VariableTree name) =
-        then_finds (use_as scalar_of (names name.text) name.at) _ (λ (x : Variable × Base). IsVariable program scope name x.0) _ (scalar_reads name)
+        then_finds (use_as scalar_of (names name.text) name.at) _ (λ (x : Variable × BaseType). IsVariable program scope name x.0) _ (scalar_reads name)
         (λ x is. ReadVariable is)
     expression_reads (ElementTree array index) =
-        then_finds (use_as array_of (names array.text) array.at) _ (λ (a : Variable × Base × ℕ). IsVariable program scope array a.0) _ (array_reads array) (λ a is.
+        then_finds (use_as array_of (names array.text) array.at) _ (λ (a : Variable × BaseType × ℕ). IsVariable program scope array a.0) _ (array_reads array) (λ a is.
         then_finds (wanting Int (expression_at index) (expression_finding names index)) _ (Reads index) _
         (wanting_reads Int (expression_at index) (expression_finding names index) index (expression_reads index)) (λ i reads. ReadElement is reads))
     expression_reads (UnaryTree at operator operand) =
@@ -225,7 +226,7 @@ module _ (program : Program) where
         then_finds (of_base base (expression_at right) r) _ (Reads right) _ (of_base_finds base (expression_at right) r (Reads right) right_reads)
         (λ e e_reads. combined_reads at operator l.base left right d e d_reads e_reads))))
 
-    pub typed_reads : (base : Base) (tree : ExpressionTree) → IfOk (typed_finding names base tree) (Reads tree)
+    pub typed_reads : (base : BaseType) (tree : ExpressionTree) → IfOk (typed_finding names base tree) (Reads tree)
     unfolding typed_finding
     typed_reads base tree = wanting_reads base (expression_at tree) (expression_finding names tree) tree (expression_reads tree)
 
@@ -237,7 +238,7 @@ module _ (program : Program) where
       pub found_is : found ≡ before ++ more
       pub reads : ReadsArguments program scope arguments more
 
-    arguments_read : (parameters : List Base) (before : List Expression) (arguments : List ExpressionTree)
+    arguments_read : (parameters : List BaseType) (before : List Expression) (arguments : List ExpressionTree)
         → IfOk (along (next_argument names parameters) before arguments) (ArgumentsRead before arguments)
     arguments_read parameters before [] = record { more = []; found_is = sym (append-nil before); reads = ReadNoArgument }
     arguments_read parameters before (argument ∷ arguments) =
@@ -257,7 +258,7 @@ module _ (program : Program) where
 
     pub call_reads : (signatures : List Signature) (call : CallTree)
         → IfOk (call_finding signatures names call)
-        (λ (made : CallUse). IsProcedure program scope call.procedure made.procedure × ReadsArguments program scope call.arguments made.arguments)
+        (λ (made : CallUse). IsProcedure program scope call.procedure made.0 × ReadsArguments program scope call.arguments made.1)
     unfolding call_finding arguments_finding
     call_reads signatures call =
         then_finds (use_as (item_of Procedure) (names call.procedure.text) call.procedure.at) _ (IsProcedure program scope call.procedure) _
@@ -269,7 +270,7 @@ module _ (program : Program) where
         (arguments_read signature.parameters [] call.arguments)
         (λ arguments read. (is, subst (ReadsArguments program scope call.arguments) (sym read.found_is) read.reads))))
 
-    pub right_reads : (signatures : List Signature) (at : ℕ) (x : Variable) (base : Base) (right : RightTree)
+    pub right_reads : (signatures : List Signature) (at : ℕ) (x : Variable) (base : BaseType) (right : RightTree)
         → IfOk (assigned_finding signatures names at x base right) (ReadsRight program scope at x right)
     unfolding assigned_finding
     right_reads signatures at x base (ReceivedTree receive_at channel) =
@@ -277,8 +278,8 @@ module _ (program : Program) where
         then_finds (use_as (item_of (Channel directions.Input)) (names channel.text) channel.at) _ (IsChannel program scope channel) _ (input_reads channel) (λ number is. ReadReceived is))
     right_reads signatures at x base (CalledTree call) =
         then_finds (call_finding signatures names call) _
-        (λ (made : CallUse). IsProcedure program scope call.procedure made.procedure × ReadsArguments program scope call.arguments made.arguments) _
+        (λ (made : CallUse). IsProcedure program scope call.procedure made.0 × ReadsArguments program scope call.arguments made.1) _
         (call_reads signatures call) (λ made parts.
-        if_finds (gives_base base made.result) (Call at made.procedure made.arguments (Some x)) _ call.procedure.at _ (λ given. ReadCalled parts.0 parts.1))
+        if_finds (gives_base base made.2) (Call at made.0 made.1 (Some x)) _ call.procedure.at _ (λ given. ReadCalled parts.0 parts.1))
     right_reads signatures at x base (ValueTree value) =
         then_finds (typed_finding names base value) _ (Reads value) _ (typed_reads base value) (λ e reads. ReadValue reads)

@@ -8,9 +8,9 @@ use Rattle.syntax.specs.declared.tree.BinaryOperator.TheVariants as binary
 use Rattle.syntax.specs.Nodes.{expression_nodes as written_nodes}
 use Rattle.syntax.specs.Tree.{NameTree, ExpressionTree, IntegerTree, TruthTree, VariableTree, ElementTree, UnaryTree, BinaryTree, expression_at}
 use Rattle.syntax.specs.Written.{IsInteger, IsWrittenExpression}
-use Rattle.resolved.specs.declared.expression.Base.{Base}
+use Rattle.common.specs.declared.base_type.BaseType.{BaseType}
 use Rattle.resolved.specs.declared.expression.Variable.{Variable}
-use Rattle.resolved.specs.declared.expression.Base.TheVariants.{Int, Boolean}
+use Rattle.common.specs.declared.base_type.BaseType.TheVariants.{Int, Boolean}
 use Rattle.common.specs.declared.direction.Direction.TheVariants as directions
 use Rattle.resolved.specs.Program.{Program, ProcedureEntry, SlotEntry, ResultEntry}
 use Rattle.resolved.specs.Tree.{Expression}
@@ -29,11 +29,11 @@ use Rattle.common.specs.declared.limits.TheConstants.{MAX_INTEGER}
 -- ---- what names stand for
 
 -- the type of a procedure's value, if it gives one
-abbrev pub given_base : Option ResultEntry → Option Base
+abbrev pub given_base : Option ResultEntry → Option BaseType
 given_base None = None
 given_base (Some entry) = Some entry.base
 
-abbrev pub slot_base : SlotEntry → Base
+abbrev pub slot_base : SlotEntry → BaseType
 slot_base slot = slot.base
 
 -- a procedure has this signature
@@ -41,10 +41,10 @@ pub record Signed (callee : ProcedureEntry) (signature : Signature) : Type 0 whe
   pub parameters : map slot_base (parameters_of callee) ≡ signature.parameters
   pub value : given_base callee.result ≡ signature.result
 
-abbrev pub scalar_type : Base → Option VariableType
+abbrev pub scalar_type : BaseType → Option VariableType
 scalar_type base = Some (record { base = base; size = None })
 
-abbrev pub array_type : Base → ℕ → Option VariableType
+abbrev pub array_type : BaseType → ℕ → Option VariableType
 array_type base size = Some (record { base = base; size = Some size })
 
 module _ (program : Program) (procedure : ProcedureEntry) (signatures : List Signature) where
@@ -72,12 +72,12 @@ module _ (program : Program) (procedure : ProcedureEntry) (signatures : List Sig
   -- ---- uses
 
   pub scalar_found : (names : Environment) (name : NameTree)
-      → IfOk (use_as scalar_of (names name.text) name.at) (λ (x : Variable × Base). Means names → variable_type program procedure x.0 ≡ scalar_type x.1)
+      → IfOk (use_as scalar_of (names name.text) name.at) (λ (x : Variable × BaseType). Means names → variable_type program procedure x.0 ≡ scalar_type x.1)
   unfolding use_as
   scalar_found names name = go (names name.text) refl
     where
       go : (found : Option Meaning) → names name.text ≡ found
-          → IfOk (use_as scalar_of found name.at) (λ (x : Variable × Base). Means names → variable_type program procedure x.0 ≡ scalar_type x.1)
+          → IfOk (use_as scalar_of found name.at) (λ (x : Variable × BaseType). Means names → variable_type program procedure x.0 ≡ scalar_type x.1)
       go None e = tt
       go (Some (meanings.Variable x base None)) e = λ means. means name.text (meanings.Variable x base None) e
       go (Some (meanings.Variable x base (Some size))) e = tt
@@ -86,12 +86,12 @@ module _ (program : Program) (procedure : ProcedureEntry) (signatures : List Sig
       go (Some (meanings.Item Procedure number)) e = tt
 
   pub array_found : (names : Environment) (name : NameTree)
-      → IfOk (use_as array_of (names name.text) name.at) (λ (a : Variable × Base × ℕ). Means names → variable_type program procedure a.0 ≡ array_type a.1 a.2)
+      → IfOk (use_as array_of (names name.text) name.at) (λ (a : Variable × BaseType × ℕ). Means names → variable_type program procedure a.0 ≡ array_type a.1 a.2)
   unfolding use_as
   array_found names name = go (names name.text) refl
     where
       go : (found : Option Meaning) → names name.text ≡ found
-          → IfOk (use_as array_of found name.at) (λ (a : Variable × Base × ℕ). Means names → variable_type program procedure a.0 ≡ array_type a.1 a.2)
+          → IfOk (use_as array_of found name.at) (λ (a : Variable × BaseType × ℕ). Means names → variable_type program procedure a.0 ≡ array_type a.1 a.2)
       go None e = tt
       go (Some (meanings.Variable x base (Some size))) e = λ means. means name.text (meanings.Variable x base (Some size)) e
       go (Some (meanings.Variable x base None)) e = tt
@@ -156,14 +156,14 @@ module _ (program : Program) (procedure : ProcedureEntry) (signatures : List Sig
   -- ---- expressions
 
   -- an expression of a base type that has no more nodes than the written one
-  pub record IsWellFormedTyped (names : Environment) (base : Base) (written : ℕ) (e : Expression) : Type 0 where
+  pub record IsWellFormedTyped (names : Environment) (base : BaseType) (written : ℕ) (e : Expression) : Type 0 where
     pub fits : Means names → has_base program procedure base e ≡ true
     pub few : expression_nodes e ≤ written
 
   abbrev pub IsWellFormedExpression : Environment → ℕ → Typed → Type 0
   IsWellFormedExpression names written found = IsWellFormedTyped names found.base written found.expression
 
-  of_base_keeps : (names : Environment) (base : Base) (at written : ℕ) (found : Typed) → IsWellFormedExpression names written found
+  of_base_keeps : (names : Environment) (base : BaseType) (at written : ℕ) (found : Typed) → IsWellFormedExpression names written found
       → IfOk (of_base base at found) (IsWellFormedTyped names base written)
   unfolding of_base
   of_base_keeps names base at written found kept =
@@ -172,21 +172,21 @@ module _ (program : Program) (procedure : ProcedureEntry) (signatures : List Sig
         few = kept.few;
       })
 
-  wanting_keeps : (names : Environment) (base : Base) (at written : ℕ) (looked : Finding Typed) → IfOk looked (IsWellFormedExpression names written)
+  wanting_keeps : (names : Environment) (base : BaseType) (at written : ℕ) (looked : Finding Typed) → IfOk looked (IsWellFormedExpression names written)
       → IfOk (wanting base at looked) (IsWellFormedTyped names base written)
   wanting_keeps names base at written looked h =
       then_finds looked (of_base base at) (IsWellFormedExpression names written) (IsWellFormedTyped names base written) h
       (λ found kept. of_base_keeps names base at written found kept)
 
-  scalar_read : (found : Option VariableType) (base : Base) → found ≡ scalar_type base → scalar_by found (same_base base) ≡ true
+  scalar_read : (found : Option VariableType) (base : BaseType) → found ≡ scalar_type base → scalar_by found (same_base base) ≡ true
   scalar_read found base e = subst (λ one. scalar_by one (same_base base) ≡ true) (sym e) (same_base_itself base)
 
-  element_read : (found : Option VariableType) (base : Base) (size : ℕ) → found ≡ array_type base size → array_by found size (same_base base) ≡ true
+  element_read : (found : Option VariableType) (base : BaseType) (size : ℕ) → found ≡ array_type base size → array_by found size (same_base base) ≡ true
   element_read found base size e =
       subst (λ one. array_by one size (same_base base) ≡ true) (sym e)
       (and_from (size == size) (same_base base base) (eq-eqb size size refl) (same_base_itself base))
 
-  combined_fits : (operator : BinaryOperator) (base : Base) (d e : Expression)
+  combined_fits : (operator : BinaryOperator) (base : BaseType) (d e : Expression)
       → has_base program procedure (operands_base (use_of operator) base) d ≡ true
       → has_base program procedure (operands_base (use_of operator) base) e ≡ true
       → has_base program procedure (value_base (use_of operator)) (combined (use_of operator) base d e) ≡ true
@@ -212,7 +212,7 @@ module _ (program : Program) (procedure : ProcedureEntry) (signatures : List Sig
   combined_fits binary.And base d e = and_from (has_base program procedure Boolean d) (has_base program procedure Boolean e)
   combined_fits binary.Or base d e = and_from (has_base program procedure Boolean d) (has_base program procedure Boolean e)
 
-  combined_nodes : (operator : BinaryOperator) (base : Base) (d e : Expression)
+  combined_nodes : (operator : BinaryOperator) (base : BaseType) (d e : Expression)
       → expression_nodes (combined (use_of operator) base d e) ≡ 1 + expression_nodes d + expression_nodes e
   combined_nodes binary.Multiply base d e = refl
   combined_nodes binary.Divide base d e = refl
@@ -245,14 +245,14 @@ module _ (program : Program) (procedure : ProcedureEntry) (signatures : List Sig
     expression_keeps (TruthTree at value) written = record { fits = λ means. refl; few = omega arith }
     expression_keeps (VariableTree name) written =
         then_finds (use_as scalar_of (names name.text) name.at) _
-        (λ (x : Variable × Base). Means names → variable_type program procedure x.0 ≡ scalar_type x.1) _
+        (λ (x : Variable × BaseType). Means names → variable_type program procedure x.0 ≡ scalar_type x.1) _
         (scalar_found names name) (λ x stands. record {
           fits = λ means. scalar_read (variable_type program procedure x.0) x.1 (stands means);
           few = omega arith;
         })
     expression_keeps (ElementTree array index) written =
         then_finds (use_as array_of (names array.text) array.at) _
-        (λ (a : Variable × Base × ℕ). Means names → variable_type program procedure a.0 ≡ array_type a.1 a.2) _
+        (λ (a : Variable × BaseType × ℕ). Means names → variable_type program procedure a.0 ≡ array_type a.1 a.2) _
         (array_found names array) (λ a stands.
         then_finds (wanting Int (expression_at index) (expression_finding names index)) _ (IsWellFormedTyped names Int (written_nodes index)) _
         (wanting_keeps names Int (expression_at index) (written_nodes index) (expression_finding names index) (expression_keeps index written.1))
@@ -282,7 +282,7 @@ module _ (program : Program) (procedure : ProcedureEntry) (signatures : List Sig
           few = omega (arith, combined_nodes operator l.base d e, d_kept.few, e_kept.few);
         }))))
 
-    pub typed_keeps : (base : Base) (tree : ExpressionTree) → IsWrittenExpression fits word IsInteger tree
+    pub typed_keeps : (base : BaseType) (tree : ExpressionTree) → IsWrittenExpression fits word IsInteger tree
         → IfOk (typed_finding names base tree) (IsWellFormedTyped names base (written_nodes tree))
     unfolding typed_finding
     typed_keeps base tree written =

@@ -12,20 +12,20 @@ use Rattle.labels.specs.Label.{Label}
 use Rattle.syntax.specs.Nodes as tree
 use Rattle.syntax.specs.Tree.{WrittenResultTree, NothingTree, ResultTree, ParameterTree, ThrownTree, ProcedureTree}
 use Rattle.syntax.specs.Written.{IsInteger, IsWrittenProcedure}
-use Rattle.resolved.specs.declared.expression.Base.{Base}
+use Rattle.common.specs.declared.base_type.BaseType.{BaseType}
 use Rattle.resolved.specs.declared.expression.Variable.TheVariants.{Local}
 use Rattle.resolved.specs.Program.{Program, GlobalEntry, ProcedureEntry, SlotEntry, ResultEntry, ThrownEntry}
 use Rattle.resolved.specs.Tree.{Block}
-use Rattle.resolved.specs.WellFormed.{is_exception, label_fits, written_fits, result_fits, size_fits, parameter_fits, throws_fit, block_loops, counts_from, procedure_fits, procedure_nodes}
+use Rattle.resolved.specs.WellFormed.{is_exception, label_fits, written_fits, result_fits, size_fits, parameter_fits, throws_fit, block_loops, counts_from, procedure_fits, procedure_nodes, cell_count}
 use Rattle.resolved.proofs.WellFormedParts.{procedure_from_parts}
 use Rattle.types.specs.declared.scope.ItemKind.TheVariants.{Exception}
 use Rattle.types.specs.declared.scope.Meaning.TheVariants as meanings
 use Rattle.types.specs.Finding.{require, along}
 use Rattle.types.specs.Environment.{Environment, fresh_finding, use_as, item_of}
 use Rattle.types.specs.Labels.{LabelScope, label_finding, optional_label_finding}
-use Rattle.types.specs.Expressions.{base_of}
 use Rattle.types.specs.Statements.{Signature, Setting, Point, block_finding, slot_of}
-use Rattle.types.specs.Resolution.{TopLevel, heads, setting_within, result_base_of, signature_of, result_finding, next_parameter, parameters_finding, is_thrown, next_thrown, procedure_entry_finding, frame_cells, joined_all}
+use Rattle.types.specs.Views.{setting_within}
+use Rattle.types.specs.Resolution.{TopLevel, heads, result_base_of, signature_of, result_finding, next_parameter, is_thrown, next_thrown, procedure_entry_finding, joined_all}
 use Rattle.types.proofs.Passing.{then_finds, require_finds, any_finds, finds_for_all}
 use Rattle.types.proofs.WellFormedExpressions.{given_base, slot_base, Signed, Stands, Means, means_declaring, exception_found}
 use Rattle.types.proofs.WellFormedLabels.{GlobalsFit, SlotsFit, label_there, optional_label_there, joined_all_there, all_pushed}
@@ -71,19 +71,19 @@ throws_pushed program (entry ∷ rest) new fit absent there labelled =
 
 -- ---- parts of a procedure
 
-abbrev pub parameter_base : ParameterTree → Base
-parameter_base parameter = base_of parameter.base
+abbrev pub parameter_base : ParameterTree → BaseType
+parameter_base parameter = parameter.base
 
 -- the point after parameters of these types, of which each has a label
-record Begun (program : Program) (procedure : ProcedureEntry) (setting : Setting) (names : Environment) (bases : List Base) (point : Point) : Type 0 where
+record Begun (program : Program) (procedure : ProcedureEntry) (setting : Setting) (names : Environment) (bases : List BaseType) (point : Point) : Type 0 where
   pub slots_fit : list_all (slot_fits setting) point.slots ≡ true
   pub parameters_fit : list_all parameter_fits point.slots ≡ true
   pub bases_are : map slot_base point.slots ≡ bases
   pub no_loops : point.loops ≡ 0
   pub means : IsPrefix program procedure setting point.slots → Means program procedure setting.signatures names → Means program procedure setting.signatures point.names
 
-parameters_begin : (program : Program) (procedure : ProcedureEntry) (setting : Setting) (scope : LabelScope) (same : scope.hierarchy ≡ setting.hierarchy) (globals_fit : GlobalsFit scope.hierarchy scope.globals)
-    (slots_fit : SlotsFit scope.hierarchy scope.slots) (names : Environment) (bases all : List Base) (point : Point) (parameters : List ParameterTree)
+parameters_begin : (program : Program) (procedure : ProcedureEntry) (setting : Setting) (scope : LabelScope) (same : scope.hierarchy ≡ setting.outer.hierarchy) (globals_fit : GlobalsFit scope.hierarchy scope.globals)
+    (slots_fit : SlotsFit scope.hierarchy scope.slots) (names : Environment) (bases all : List BaseType) (point : Point) (parameters : List ParameterTree)
     → all ≡ bases ++ map parameter_base parameters → Begun program procedure setting names bases point
     → IfOk (along (next_parameter scope) point parameters) (Begun program procedure setting names all)
 parameters_begin program procedure setting scope same globals_fit slots_fit names bases all point [] e begun =
@@ -98,7 +98,7 @@ parameters_begin program procedure setting scope same globals_fit slots_fit name
     (any_finds (fresh_finding (point.names parameter.name.text) parameter.name.at)) (λ one nothing.
     let slot = slot_of parameter.at base (Some label) parameter.name.text None in
     record {
-      slots_fit = all_pushed (slot_fits setting) point.slots slot begun.slots_fit (and_from true (label_fits setting.hierarchy label) refl (subst (λ h. label_fits h label ≡ true) same there));
+      slots_fit = all_pushed (slot_fits setting) point.slots slot begun.slots_fit (and_from true (label_fits setting.outer.hierarchy label) refl (subst (λ h. label_fits h label ≡ true) same there));
       parameters_fit = all_pushed parameter_fits point.slots slot begun.parameters_fit refl;
       bases_are = map_push slot_base point.slots slot ∙ ap (λ one. one ++ base ∷ []) begun.bases_are;
       no_loops = begun.no_loops;
@@ -172,12 +172,12 @@ pub record World (h : PrincipalHierarchy) (top : TopLevel) : Type 0 where
   pub means : (procedure : ProcedureEntry) → Means program procedure top.signatures top.names
 
 pub record IsWellFormedProcedure (h : PrincipalHierarchy) (top : TopLevel) (written : ProcedureTree) (entry : ProcedureEntry) : Type 0 where
-  pub fits : (world : World h top) → nat_le (frame_cells entry.slots) MAX_CELLS ≡ true → procedure_fits world.program entry ≡ true
+  pub fits : (world : World h top) → nat_le (sum_by (λ (slot : SlotEntry). cell_count slot.size) entry.slots) MAX_CELLS ≡ true → procedure_fits world.program entry ≡ true
   pub signed : Signed entry (signature_of written)
   pub few : procedure_nodes entry ≤ tree.procedure_nodes written
 
 -- a procedure of a program, which gives a value of the type that is wanted
-record Bucket (h : PrincipalHierarchy) (top : TopLevel) (result : Option Base) : Type 0 where
+record Bucket (h : PrincipalHierarchy) (top : TopLevel) (result : Option BaseType) : Type 0 where
   pub program : Program
   pub procedure : ProcedureEntry
   pub value : given_base procedure.result ≡ result
@@ -219,7 +219,7 @@ module _ (h : PrincipalHierarchy) (top : TopLevel) (globals : List GlobalEntry) 
   abbrev entry : ProcedureEntry
   entry = entry_with written result begin end throws done
 
-  parts_fit : (world : World h top) → nat_le (frame_cells done.0.slots) MAX_CELLS ≡ true → procedure_fits world.program entry ≡ true
+  parts_fit : (world : World h top) → nat_le (sum_by (λ (slot : SlotEntry). cell_count slot.size) done.0.slots) MAX_CELLS ≡ true → procedure_fits world.program entry ≡ true
   parts_fit world few_cells =
       let place : Bucket h top (result_base_of written.result) = record { program = world.program; procedure = entry; value = parts.result_there.1 } in
       let begun = parts.begun place in
@@ -296,7 +296,7 @@ some_program h = record { hierarchy = h; channels = []; exceptions = []; globals
 
 pub procedure_keeps : (placed : ℕ → Type 0) (word : List ℕ → Type 0) (h : PrincipalHierarchy) (top : TopLevel) (globals : List GlobalEntry) → GlobalsFit h globals → (written : ProcedureTree)
     → IsWrittenProcedure placed word IsInteger written → IfOk (procedure_entry_finding (heads h top globals) top.signatures written) (IsWellFormedProcedure h top written)
-unfolding procedure_entry_finding parameters_finding
+unfolding procedure_entry_finding
 procedure_keeps placed word h top globals globals_fit written is =
     let setting = setting_for h top globals written in
     let scope = heads h top globals in

@@ -15,12 +15,12 @@ use Rattle.common.specs.declared.direction.Direction.TheVariants as directions
 use Rattle.syntax.specs.Nodes as tree
 use Rattle.syntax.specs.Tree.{IntegerConstant, TruthConstant, GlobalValueTree, ScalarTree, ArrayTree, GlobalTree, LabelTree, ChannelTree, ItemTree, ChannelItem, ExceptionItem, GlobalItem, ProcedureItem, ProgramTree}
 use Rattle.syntax.specs.Written.{IsInteger, IsWritten, IsWrittenItem}
-use Rattle.resolved.specs.declared.expression.Base.{Base}
-use Rattle.resolved.specs.declared.expression.Base.TheVariants.{Int, Boolean}
+use Rattle.common.specs.declared.base_type.BaseType.{BaseType}
+use Rattle.common.specs.declared.base_type.BaseType.TheVariants.{Int, Boolean}
 use Rattle.resolved.specs.declared.expression.Value.{Value}
 use Rattle.resolved.specs.declared.expression.Value.TheVariants.{Number, Truth}
 use Rattle.resolved.specs.declared.expression.Variable.TheVariants.{Global, Local}
-use Rattle.resolved.specs.Program.{Program, ChannelEntry, GlobalEntry, ProcedureEntry}
+use Rattle.resolved.specs.Program.{SlotEntry, Program, ChannelEntry, GlobalEntry, ProcedureEntry}
 use Rattle.resolved.specs.Value.{base_of as base_of_value, zero_value}
 use Rattle.resolved.specs.WellFormed.{same_base, VariableType, global_type, parameters_of, same_direction, channel_is, label_fits, is_zero_value, first_fits, main_fits, cell_count, node_limit, size_fits, label_nodes, procedure_nodes, program_nodes, procedure_fits, well_formed}
 use Rattle.resolved.proofs.WellFormedParts.{program_from_parts}
@@ -31,9 +31,9 @@ use Rattle.types.specs.declared.fault.TypeRefusalKind.TheVariants as refusals
 use Rattle.types.specs.Finding.{along, found_or, give_if, ◌>>=◌}
 use Rattle.types.specs.Environment.{Environment, declaring, fresh_finding, item_of}
 use Rattle.types.specs.Labels.{label_finding}
-use Rattle.types.specs.Expressions.{base_of}
 use Rattle.types.specs.Statements.{Signature, signature_at, size_finding}
-use Rattle.types.specs.Resolution.{TopLevel, nothing_declared, built_in, item_name, item_meaning, signature_of, counted, next_name, top_finding, heads, channel_finding, first_finding, global_finding, Tables, next_item, no_tables, items_finding, procedure_entry_finding, main_finding, next_global_cells, global_cells_finding, frame_cells, next_frame, frames_finding, program_with, resolution, signed, size_of}
+use Rattle.types.specs.Views.{program_with}
+use Rattle.types.specs.Resolution.{TopLevel, nothing_declared, built_in, item_name, item_meaning, signature_of, counted, next_name, heads, channel_finding, first_finding, global_finding, next_item, procedure_entry_finding, main_finding, next_global_cells, next_frame, resolution, signed, size_of, empty_program}
 use Rattle.types.proofs.Passing.{then_finds, if_finds, require_finds, any_finds}
 use Rattle.types.proofs.WellFormedExpressions.{given_base, slot_base, Signed, Stands}
 use Rattle.types.proofs.WellFormedLabels.{GlobalsFit, label_there, all_pushed}
@@ -81,7 +81,7 @@ abbrev variable_of : GlobalEntry → VariableType
 variable_of entry = record { base = entry.base; size = entry.size }
 
 abbrev declared_variable : GlobalTree → VariableType
-declared_variable global = record { base = base_of global.base; size = size_of global.value }
+declared_variable global = record { base = global.base; size = size_of global.value }
 
 -- the channels, how many exceptions there are, the globals and the procedures
 record Shape : Type 0 where
@@ -254,16 +254,16 @@ channel_there h top globals written known channel =
     (λ label there. (there, refl))
 
 -- the first value is of the type, and that of an array is zero
-abbrev IsWellFormedFirst : Base → GlobalValueTree → Option ℕ × Value → Type 0
+abbrev IsWellFormedFirst : BaseType → GlobalValueTree → Option ℕ × Value → Type 0
 IsWellFormedFirst base value found =
     (size_fits found.0 ≡ true)
     × ((same_base (base_of_value found.1) base && (is_none found.0 || is_zero_value found.1)) ≡ true) × (found.0 ≡ size_of value)
 
-zero_fits : (base : Base) → (same_base (base_of_value (zero_value base)) base && is_zero_value (zero_value base)) ≡ true
+zero_fits : (base : BaseType) → (same_base (base_of_value (zero_value base)) base && is_zero_value (zero_value base)) ≡ true
 zero_fits Int = refl
 zero_fits Boolean = refl
 
-first_there : (base : Base) (value : GlobalValueTree) → IfOk (first_finding base value) (IsWellFormedFirst base value)
+first_there : (base : BaseType) (value : GlobalValueTree) → IfOk (first_finding base value) (IsWellFormedFirst base value)
 unfolding first_finding size_finding
 first_there base (ScalarTree (IntegerConstant at negative value)) =
     if_finds (same_base Int base) (None, Number (signed negative value)) _ at
@@ -287,7 +287,7 @@ global_there : (h : PrincipalHierarchy) (top : TopLevel) (globals : List GlobalE
     (λ (entry : GlobalEntry). (global_fits h entry ≡ true) × (variable_of entry ≡ declared_variable global) × LabelThere h written global.label entry.label)
 unfolding global_finding
 global_there h top globals written known global =
-    let base = base_of global.base in
+    let base = global.base in
     then_finds (label_finding (heads h top globals) global.label) _ (LabelThere h written global.label) _
     (head_label h top globals written known global.label) (λ label there.
     then_finds (first_finding base global.value) _ (IsWellFormedFirst base global.value) _ (first_there base global.value) (λ value kept. (
@@ -303,7 +303,7 @@ abbrev channel_fits : PrincipalHierarchy → ChannelEntry → Bool
 channel_fits h entry = label_fits h entry.label
 
 abbrev frame_fits : ProcedureEntry → Bool
-frame_fits entry = nat_le (frame_cells entry.slots) MAX_CELLS
+frame_fits entry = nat_le (sum_by (λ (slot : SlotEntry). cell_count slot.size) entry.slots) MAX_CELLS
 
 -- a procedure that fits each program of the hierarchy, if its frame has few enough cells
 abbrev ProcedureFits : PrincipalHierarchy → TopLevel → ProcedureEntry → Type 0
@@ -332,11 +332,11 @@ globals_of_more written more [] each = tt
 globals_of_more written more (entry ∷ globals) each = (is_of_more written more entry.label each.0, globals_of_more written more globals each.1)
 
 -- what is counted of the tables: their entries, which the text has too
-abbrev table_nodes : Tables → ℕ
+abbrev table_nodes : Program → ℕ
 table_nodes tables =
     length tables.channels + length tables.exceptions + length tables.globals + sum_by procedure_nodes tables.procedures
 
-record AreWellFormedTables (h : PrincipalHierarchy) (top : TopLevel) (shape : Shape) (nodes : ℕ) (tables : Tables) : Type 0 where
+record AreWellFormedTables (h : PrincipalHierarchy) (top : TopLevel) (shape : Shape) (nodes : ℕ) (tables : Program) : Type 0 where
   pub directions : map way_of tables.channels ≡ shape.directions
   pub exceptions : 3 + length tables.exceptions ≡ shape.exceptions
   pub variables : map variable_of tables.globals ≡ shape.variables
@@ -350,7 +350,7 @@ record AreWellFormedTables (h : PrincipalHierarchy) (top : TopLevel) (shape : Sh
   pub channels_of : Each (ChannelOf written) tables.channels
   pub globals_of : Each (GlobalOf written) tables.globals
 
-known_globals : (h : PrincipalHierarchy) (top : TopLevel) (shape : Shape) (nodes : ℕ) (tables : Tables) (kept : AreWellFormedTables h top shape nodes tables)
+known_globals : (h : PrincipalHierarchy) (top : TopLevel) (shape : Shape) (nodes : ℕ) (tables : Program) (kept : AreWellFormedTables h top shape nodes tables)
     → KnownGlobals h kept.written tables.globals
 known_globals h top shape nodes tables kept = record {
   fit = all_labels_fit tables.globals kept.globals_fit;
@@ -376,7 +376,7 @@ module _ (placed : ℕ → Type 0) (word : List ℕ → Type 0) (h : PrincipalHi
   abbrev weight : ReaderPolicy → ℕ
   weight policy = 1 + length policy.readers
 
-  item_kept : (shape : Shape) (nodes : ℕ) (tables : Tables) (item : ItemTree) → IsWrittenItem placed word IsInteger item → AreWellFormedTables h top shape nodes tables
+  item_kept : (shape : Shape) (nodes : ℕ) (tables : Program) (item : ItemTree) → IsWrittenItem placed word IsInteger item → AreWellFormedTables h top shape nodes tables
       → IfOk (next_item h top tables item) (AreWellFormedTables h top (shape_with shape item) (nodes + tree.item_nodes item))
   unfolding next_item
   item_kept shape nodes tables (ChannelItem channel) is kept =
@@ -449,7 +449,7 @@ module _ (placed : ℕ → Type 0) (word : List ℕ → Type 0) (h : PrincipalHi
         globals_of = kept.globals_of;
       })
 
-  items_kept : (shape : Shape) (before nodes : ℕ) (tables : Tables) (items : List ItemTree) → nodes ≡ before + sum_by tree.item_nodes items
+  items_kept : (shape : Shape) (before nodes : ℕ) (tables : Program) (items : List ItemTree) → nodes ≡ before + sum_by tree.item_nodes items
       → All (IsWrittenItem placed word IsInteger) items → AreWellFormedTables h top shape before tables
       → IfOk (along (next_item h top) tables items) (AreWellFormedTables h top (shape_all shape items) nodes)
   items_kept shape before nodes tables [] e all kept = record {
@@ -553,7 +553,7 @@ type_there : (found : Option GlobalEntry) → global_type found ≡ option_map v
 type_there None = refl
 type_there (Some entry) = refl
 
-module _ (h : PrincipalHierarchy) (top : TopLevel) (shape : Shape) (nodes : ℕ) (tables : Tables) (main : ℕ) (top_kept : IsWellFormedTop shape top) (kept : AreWellFormedTables h top shape nodes tables) where
+module _ (h : PrincipalHierarchy) (top : TopLevel) (shape : Shape) (nodes : ℕ) (tables : Program) (main : ℕ) (top_kept : IsWellFormedTop shape top) (kept : AreWellFormedTables h top shape nodes tables) where
   abbrev program : Program
   program = program_with h tables main
 
@@ -614,13 +614,13 @@ module _ (h : PrincipalHierarchy) (top : TopLevel) (shape : Shape) (nodes : ℕ)
 
 pub resolution_keeps : (placed : ℕ → Type 0) (word : List ℕ → Type 0) (h : PrincipalHierarchy) (written : ProgramTree) → IsHierarchy h → IsWritten placed word IsInteger written
     → tree.program_nodes written ≤ 1048577 → IfOk (resolution h written) (λ found. IsTrue (well_formed found))
-unfolding resolution top_finding items_finding global_cells_finding frames_finding
+unfolding resolution
 resolution_keeps placed word h written hierarchy is few =
     let shape = shape_all no_items written.items in
     let nodes = sum_by tree.item_nodes written.items in
     then_finds (along next_name built_in written.items) _ (IsWellFormedTop shape) _ (names_kept no_items built_in written.items built_in_kept) (λ top top_kept.
-    then_finds (along (next_item h top) no_tables written.items) _ (AreWellFormedTables h top shape nodes) _
-    (items_kept placed word h top no_items 0 nodes no_tables written.items (omega arith) is (record {
+    then_finds (along (next_item h top) empty_program written.items) _ (AreWellFormedTables h top shape nodes) _
+    (items_kept placed word h top no_items 0 nodes empty_program written.items (omega arith) is (record {
       directions = refl;
       exceptions = refl;
       variables = refl;

@@ -13,8 +13,8 @@ use Rattle.std.proofs.lemmas.Option.{same_Some}
 use Rattle.syntax.specs.Nodes as tree
 use Rattle.syntax.specs.Tree.{NameTree, LabelTree, ExpressionTree, CallTree, RightTree, ReceivedTree, CalledTree, ValueTree, SizeTree, StatementTree, DeclareTree, DeclareArrayTree, AssignTree, AssignElementTree, CallTree', ReceiveTree, SendTree, IfTree, IfElseTree, WhileTree, BreakTree, ContinueTree, ThrowTree, ReturnTree, TryTree, NestedTree, BlockTree, BlockOf, StatementTrees, NoStatement, StatementThen, CatchTrees, NoCatch, CatchThen, expression_at}
 use Rattle.syntax.specs.Written.{IsWrittenExpression, IsWrittenOptionalExpression, IsWrittenCall, IsWrittenRight, IsWrittenStatement, IsWrittenBlock, AreWrittenStatements, AreWrittenCatches, IsInteger}
-use Rattle.resolved.specs.declared.expression.Base.{Base}
-use Rattle.resolved.specs.declared.expression.Base.TheVariants.{Int, Boolean}
+use Rattle.common.specs.declared.base_type.BaseType.{BaseType}
+use Rattle.common.specs.declared.base_type.BaseType.TheVariants.{Int, Boolean}
 use Rattle.resolved.specs.declared.expression.Variable.{Variable}
 use Rattle.resolved.specs.declared.expression.Variable.TheVariants.{Local}
 use Rattle.common.specs.declared.direction.Direction.TheVariants as directions
@@ -28,12 +28,13 @@ use Rattle.types.specs.declared.scope.Meaning.TheVariants as meanings
 use Rattle.types.specs.Finding.{require, along}
 use Rattle.types.specs.Environment.{Environment, fresh_finding, use_as, scalar_of, array_of, item_of}
 use Rattle.types.specs.Labels.{optional_label_finding}
-use Rattle.types.specs.Expressions.{Typed, base_of, expression_finding, typed_finding}
-use Rattle.types.specs.Statements.{Setting, Point, label_scope, signature_at, next_argument, CallUse, call_finding, gives_base, assigned_finding, declare_finding, size_finding, declare_array_finding, returned_finding, return_finding, in_loop, after_block, statement_finding, block_finding, statements_finding, catches_finding, slot_of, arguments_finding}
+use Rattle.types.specs.Expressions.{Typed, expression_finding, typed_finding}
+use Rattle.types.specs.Statements.{arguments_finding, Setting, Point, label_scope, signature_at, next_argument, call_finding, gives_base, assigned_finding, declare_finding, size_finding, declare_array_finding, returned_finding, return_finding, after_block, statement_finding, block_finding, statements_finding, catches_finding, slot_of}
 use Rattle.types.proofs.Passing.{then_finds, if_finds, require_finds, any_finds, finds_for_all}
 use Rattle.types.proofs.WellFormedExpressions.{given_base, slot_base, scalar_type, array_type, Stands, Means, means_declaring, scalar_found, array_found, input_found, output_found, exception_found, procedure_found, IsWellFormedTyped, IsWellFormedExpression, expression_keeps, typed_keeps}
 use Rattle.types.proofs.WellFormedLabels.{GlobalsFit, SlotsFit, optional_label_there}
 use Rattle.common.specs.declared.limits.TheConstants.{MAX_ELEMENTS}
+use Rattle.types.specs.Views.{CallUse}
 
 -- ---- lists
 
@@ -59,21 +60,21 @@ index_end {X = X} xs x rest n d e = subst (λ one. slice_index_or (xs ++ x ∷ r
     go (y ∷ xs) = go xs
 
 abbrev pub slot_fits : (setting : Setting) → SlotEntry → Bool
-slot_fits setting slot = size_fits slot.size && written_fits setting.hierarchy slot.written
+slot_fits setting slot = size_fits slot.size && written_fits setting.outer.hierarchy slot.written
 
 module _ (program : Program) (procedure : ProcedureEntry) (setting : Setting) where
-  pub written_fit : (slots : List SlotEntry) → list_all (slot_fits setting) slots ≡ true → SlotsFit setting.hierarchy slots
+  pub written_fit : (slots : List SlotEntry) → list_all (slot_fits setting) slots ≡ true → SlotsFit setting.outer.hierarchy slots
   written_fit [] fit = refl
   written_fit (slot ∷ slots) fit =
       let parts = and_parts (slot_fits setting slot) (list_all (slot_fits setting) slots) fit in
-      let own = and_parts (size_fits slot.size) (written_fits setting.hierarchy slot.written) parts.0 in
-      and_from (written_fits setting.hierarchy slot.written) (list_all (λ (other : SlotEntry). written_fits setting.hierarchy other.written) slots) own.1
+      let own = and_parts (size_fits slot.size) (written_fits setting.outer.hierarchy slot.written) parts.0 in
+      and_from (written_fits setting.outer.hierarchy slot.written) (list_all (λ (other : SlotEntry). written_fits setting.outer.hierarchy other.written) slots) own.1
       (written_fit slots parts.1)
 
   abbrev MeansHere : Environment → Type 0
   MeansHere names = Means program procedure setting.signatures names
 
-  abbrev HasBase : Environment → Base → ℕ → Expression → Type 0
+  abbrev HasBase : Environment → BaseType → ℕ → Expression → Type 0
   HasBase names base nodes e = IsWellFormedTyped program procedure setting.signatures names base nodes e
 
   -- ---- points
@@ -84,7 +85,7 @@ module _ (program : Program) (procedure : ProcedureEntry) (setting : Setting) wh
 
   -- the globals that are declared before fit, and the slots so far do
   abbrev pub FitBefore : Point → Type 0
-  FitBefore point = GlobalsFit setting.hierarchy setting.globals × (list_all (slot_fits setting) point.slots ≡ true)
+  FitBefore point = GlobalsFit setting.outer.hierarchy setting.outer.globals × (list_all (slot_fits setting) point.slots ≡ true)
 
   -- From one point to another: the slots that were taken fit where those before do, the loops count up, and there are few enough nodes; and if those slots
   -- are the procedure's and what is in scope before stands for entries, then what was found fits, and what is in scope after does.
@@ -182,7 +183,7 @@ module _ (program : Program) (procedure : ProcedureEntry) (setting : Setting) wh
   -- ---- arguments
 
   -- arguments of these types, in their order
-  abbrev match_bases : List Base → List Expression → Bool
+  abbrev match_bases : List BaseType → List Expression → Bool
   match_bases [] [] = true
   match_bases [] (e ∷ rest) = false
   match_bases (base ∷ bases) [] = false
@@ -198,7 +199,7 @@ module _ (program : Program) (procedure : ProcedureEntry) (setting : Setting) wh
       and_from (has_base program procedure parameter.base argument) (arguments_match program procedure parameters rest) parts.0
       (matches_parameters parameters rest parts.1)
 
-  match_push : (bases : List Base) (found : List Expression) (base : Base) (e : Expression) → match_bases bases found ≡ true
+  match_push : (bases : List BaseType) (found : List Expression) (base : BaseType) (e : Expression) → match_bases bases found ≡ true
       → has_base program procedure base e ≡ true → match_bases (bases ++ base ∷ []) (found ++ e ∷ []) ≡ true
   match_push [] [] base e matched has = and_from (has_base program procedure base e) true has refl
   match_push [] (x ∷ found) base e matched has = cc
@@ -208,13 +209,13 @@ module _ (program : Program) (procedure : ProcedureEntry) (setting : Setting) wh
       and_from (has_base program procedure b x) (match_bases (bases ++ base ∷ []) (found ++ e ∷ [])) parts.0
       (match_push bases found base e parts.1 has)
 
-  record AreWellFormedArguments (names : Environment) (bases : List Base) (written : ℕ) (found : List Expression) : Type 0 where
+  record AreWellFormedArguments (names : Environment) (bases : List BaseType) (written : ℕ) (found : List Expression) : Type 0 where
     pub fit : MeansHere names → match_bases bases found ≡ true
     pub long : length bases ≡ length found
     pub few : sum_by expression_nodes found ≤ written
 
   module _ (placed : ℕ → Type 0) (word : List ℕ → Type 0) where
-    arguments_keep : (names : Environment) (parameters bases rest : List Base) (found : List Expression) (arguments : List ExpressionTree) (before : ℕ)
+    arguments_keep : (names : Environment) (parameters bases rest : List BaseType) (found : List Expression) (arguments : List ExpressionTree) (before : ℕ)
         → parameters ≡ bases ++ rest → AreWellFormedArguments names bases before found → length rest ≡ length arguments
         → All (IsWrittenExpression placed word IsInteger) arguments
         → IfOk (along (next_argument names parameters) found arguments)
@@ -256,12 +257,12 @@ module _ (program : Program) (procedure : ProcedureEntry) (setting : Setting) wh
     -- the procedure is there, and takes these arguments
     abbrev CalledThere : CallUse → Type 0
     CalledThere made =
-        (callee : ProcedureEntry) × (slice_get program.procedures made.procedure ≡ Some callee)
-        × (arguments_match program procedure (parameters_of callee) made.arguments ≡ true) × (given_base callee.result ≡ made.result)
+        (callee : ProcedureEntry) × (slice_get program.procedures made.0 ≡ Some callee)
+        × (arguments_match program procedure (parameters_of callee) made.1 ≡ true) × (given_base callee.result ≡ made.2)
 
     record IsWellFormedCall (names : Environment) (written : ℕ) (made : CallUse) : Type 0 where
       pub there : MeansHere names → CalledThere made
-      pub few : 2 + sum_by expression_nodes made.arguments ≤ written
+      pub few : 2 + sum_by expression_nodes made.1 ≤ written
 
     call_keeps : (names : Environment) (call : CallTree) → IsWrittenCall placed word IsInteger call
         → IfOk (call_finding setting.signatures names call) (IsWellFormedCall names (tree.call_nodes call))
@@ -299,35 +300,35 @@ module _ (program : Program) (procedure : ProcedureEntry) (setting : Setting) wh
       pub few : statement_nodes statement ≤ nodes
 
     -- the same of one with a target of a base type
-    record IsWellFormedAssigned (names : Environment) (target : Variable) (base : Base) (nodes : ℕ) (statement : Statement) : Type 0 where
+    record IsWellFormedAssigned (names : Environment) (target : Variable) (base : BaseType) (nodes : ℕ) (statement : Statement) : Type 0 where
       pub fits : MeansHere names → variable_type program procedure target ≡ scalar_type base → statement_fits program procedure statement ≡ true
       pub no_loops : statement_loops statement ≡ []
       pub few : statement_nodes statement ≤ nodes
 
-    scalar_passes : (x : Variable) (base : Base) (test : Base → Bool) → variable_type program procedure x ≡ scalar_type base → test base ≡ true
+    scalar_passes : (x : Variable) (base : BaseType) (test : BaseType → Bool) → variable_type program procedure x ≡ scalar_type base → test base ≡ true
         → scalar_by (variable_type program procedure x) test ≡ true
     scalar_passes x base test e passed = subst (λ one. scalar_by one test ≡ true) (sym e) passed
 
-    array_passes : (x : Variable) (base : Base) (size : ℕ) (test : Base → Bool) → variable_type program procedure x ≡ array_type base size → test base ≡ true
+    array_passes : (x : Variable) (base : BaseType) (size : ℕ) (test : BaseType → Bool) → variable_type program procedure x ≡ array_type base size → test base ≡ true
         → array_by (variable_type program procedure x) size test ≡ true
     array_passes x base size test e passed =
         subst (λ one. array_by one size test ≡ true) (sym e) (and_from (size == size) (test base) (eq-eqb size size refl) passed)
 
-    gives_value : (given : Option ResultEntry) (base : Base) → gives_base base (given_base given) ≡ true → has_result given (same_base base) ≡ true
+    gives_value : (given : Option ResultEntry) (base : BaseType) → gives_base base (given_base given) ≡ true → has_result given (same_base base) ≡ true
     gives_value None base e = e
     gives_value (Some entry) base e =
         subst (λ one. same_base base one ≡ true) (sym (same_base_is entry.base base e)) (same_base_itself base)
 
     call_passes : (made : CallUse) (target : Option Variable) → CalledThere made
-        → ((callee : ProcedureEntry) → given_base callee.result ≡ made.result → target_by program procedure target (λ base. has_result callee.result (same_base base)) ≡ true)
-        → call_matches program procedure (slice_get program.procedures made.procedure) made.arguments target ≡ true
+        → ((callee : ProcedureEntry) → given_base callee.result ≡ made.2 → target_by program procedure target (λ base. has_result callee.result (same_base base)) ≡ true)
+        → call_matches program procedure (slice_get program.procedures made.0) made.1 target ≡ true
     call_passes made target there takes =
         let (callee, found, matched, given) = there in
-        subst (λ one. call_matches program procedure one made.arguments target ≡ true) (sym found)
-        (and_from (arguments_match program procedure (parameters_of callee) made.arguments)
+        subst (λ one. call_matches program procedure one made.1 target ≡ true) (sym found)
+        (and_from (arguments_match program procedure (parameters_of callee) made.1)
         (target_by program procedure target (λ base. has_result callee.result (same_base base))) matched (takes callee given))
 
-    assigned_keeps : (names : Environment) (at : ℕ) (target : Variable) (base : Base) (right : RightTree) → IsWrittenRight placed word IsInteger right
+    assigned_keeps : (names : Environment) (at : ℕ) (target : Variable) (base : BaseType) (right : RightTree) → IsWrittenRight placed word IsInteger right
         → IfOk (assigned_finding setting.signatures names at target base right) (IsWellFormedAssigned names target base (1 + tree.right_nodes right))
     unfolding assigned_finding
     assigned_keeps names at target base (ReceivedTree receive_at channel) written =
@@ -343,7 +344,7 @@ module _ (program : Program) (procedure : ProcedureEntry) (setting : Setting) wh
         }))
     assigned_keeps names at target base (CalledTree call) written =
         then_finds (call_finding setting.signatures names call) _ (IsWellFormedCall names (tree.call_nodes call)) _ (call_keeps names call written) (λ made kept.
-        if_finds (gives_base base made.result) (Call at made.procedure made.arguments (Some target)) _ call.procedure.at _ (λ given. record {
+        if_finds (gives_base base made.2) (Call at made.0 made.1 (Some target)) _ call.procedure.at _ (λ given. record {
           fits =
               λ means e. call_passes made (Some target) (kept.there means) (λ callee same.
               scalar_passes target base (λ base. has_result callee.result (same_base base)) e
@@ -378,7 +379,7 @@ module _ (program : Program) (procedure : ProcedureEntry) (setting : Setting) wh
     unfolding statement_finding
     assign_keeps point target right written =
         then_finds (use_as scalar_of (point.names target.text) target.at) _
-        (λ (x : Variable × Base). MeansHere point.names → variable_type program procedure x.0 ≡ scalar_type x.1) _
+        (λ (x : Variable × BaseType). MeansHere point.names → variable_type program procedure x.0 ≡ scalar_type x.1) _
         (scalar_found program procedure setting.signatures point.names target) (λ x stands.
         then_finds (assigned_finding setting.signatures point.names target.at x.0 x.1 right) _
         (IsWellFormedAssigned point.names x.0 x.1 (1 + tree.right_nodes right)) _
@@ -396,7 +397,7 @@ module _ (program : Program) (procedure : ProcedureEntry) (setting : Setting) wh
     unfolding statement_finding
     store_keeps point array index right index_written right_written =
         then_finds (use_as array_of (point.names array.text) array.at) _
-        (λ (a : Variable × Base × ℕ). MeansHere point.names → variable_type program procedure a.0 ≡ array_type a.1 a.2) _
+        (λ (a : Variable × BaseType × ℕ). MeansHere point.names → variable_type program procedure a.0 ≡ array_type a.1 a.2) _
         (array_found program procedure setting.signatures point.names array) (λ a stands.
         then_finds (typed_finding point.names Int index) _ (HasBase point.names Int (tree.expression_nodes index)) _
         (typed_keeps program procedure setting.signatures placed word point.names Int index index_written) (λ i kept_i.
@@ -416,7 +417,7 @@ module _ (program : Program) (procedure : ProcedureEntry) (setting : Setting) wh
     call_statement_keeps point call written =
         then_finds (call_finding setting.signatures point.names call) _ (IsWellFormedCall point.names (tree.call_nodes call)) _
         (call_keeps point.names call written) (λ made kept.
-        plain_keeps point (1 + tree.call_nodes call) (Call call.procedure.at made.procedure made.arguments None) (record {
+        plain_keeps point (1 + tree.call_nodes call) (Call call.procedure.at made.0 made.1 None) (record {
           fits = λ means. call_passes made None (kept.there means) (λ callee same. refl);
           no_loops = refl;
           few = omega (arith, kept.few);
@@ -472,7 +473,7 @@ module _ (program : Program) (procedure : ProcedureEntry) (setting : Setting) wh
       returned_keeps names at value_at nodes found kept =
           go procedure.result refl setting.result value
         where
-          go : (entry : Option ResultEntry) → procedure.result ≡ entry → (result : Option Base) → given_base procedure.result ≡ result
+          go : (entry : Option ResultEntry) → procedure.result ≡ entry → (result : Option BaseType) → given_base procedure.result ≡ result
               → IfOk (returned_finding result at value_at found) (IsWellFormedPlain names (1 + nodes))
           go entry e None given = tt
           go None e (Some base) given = absurd (cc)
@@ -503,17 +504,17 @@ module _ (program : Program) (procedure : ProcedureEntry) (setting : Setting) wh
       -- ---- declarations
 
       local_label_there : (point : Point) (label : Option LabelTree)
-          → IfOk (optional_label_finding (label_scope setting point) label) (λ found. FitBefore point → written_fits setting.hierarchy found ≡ true)
+          → IfOk (optional_label_finding (label_scope setting point) label) (λ found. FitBefore point → written_fits setting.outer.hierarchy found ≡ true)
       local_label_there point label =
-          finds_for_all (optional_label_finding (label_scope setting point) label) (λ (before : FitBefore point) found. written_fits setting.hierarchy found ≡ true)
+          finds_for_all (optional_label_finding (label_scope setting point) label) (λ (before : FitBefore point) found. written_fits setting.outer.hierarchy found ≡ true)
           (λ before. optional_label_there (label_scope setting point) before.0 (written_fit point.slots before.1) label)
 
-      declare_keeps : (point : Point) (at : ℕ) (base : Base) (label : Option LabelTree) (name : NameTree) (right : RightTree) → IsWrittenRight placed word IsInteger right
+      declare_keeps : (point : Point) (at : ℕ) (base : BaseType) (label : Option LabelTree) (name : NameTree) (right : RightTree) → IsWrittenRight placed word IsInteger right
           → IfOk (declare_finding setting point at base label name right) (IsWellFormedStatement point (2 + (tree.optional_label_nodes label + tree.right_nodes right)))
       unfolding declare_finding
       declare_keeps point at base label name right written_right =
           let target = Local (length point.slots) in
-          then_finds (optional_label_finding (label_scope setting point) label) _ (λ found. FitBefore point → written_fits setting.hierarchy found ≡ true) _
+          then_finds (optional_label_finding (label_scope setting point) label) _ (λ found. FitBefore point → written_fits setting.outer.hierarchy found ≡ true) _
           (local_label_there point label) (λ written there.
           then_finds (fresh_finding (point.names name.text) name.at) _ (λ one. Unit {0}) _ (any_finds (fresh_finding (point.names name.text) name.at)) (λ one nothing.
           then_finds (assigned_finding setting.signatures point.names at target base right) _ (IsWellFormedAssigned point.names target base (1 + tree.right_nodes right)) _
@@ -534,12 +535,12 @@ module _ (program : Program) (procedure : ProcedureEntry) (setting : Setting) wh
                 (local_there point.slots slot is) means;
           })))
 
-      declare_array_keeps : (point : Point) (at : ℕ) (base : Base) (label : Option LabelTree) (name : NameTree) (size : SizeTree)
+      declare_array_keeps : (point : Point) (at : ℕ) (base : BaseType) (label : Option LabelTree) (name : NameTree) (size : SizeTree)
           → IfOk (declare_array_finding setting point at base label name size) (IsWellFormedStatement point (3 + tree.optional_label_nodes label))
       unfolding declare_array_finding size_finding
       declare_array_keeps point at base label name size =
           let target = Local (length point.slots) in
-          then_finds (optional_label_finding (label_scope setting point) label) _ (λ found. FitBefore point → written_fits setting.hierarchy found ≡ true) _
+          then_finds (optional_label_finding (label_scope setting point) label) _ (λ found. FitBefore point → written_fits setting.outer.hierarchy found ≡ true) _
           (local_label_there point label) (λ written there.
           then_finds (fresh_finding (point.names name.text) name.at) _ (λ one. Unit {0}) _ (any_finds (fresh_finding (point.names name.text) name.at)) (λ one nothing.
           then_finds (size_finding size) _ (λ length_of. size_fits (Some length_of) ≡ true) _
@@ -549,7 +550,7 @@ module _ (program : Program) (procedure : ProcedureEntry) (setting : Setting) wh
             more = slot ∷ [];
             slots = refl;
             slots_fit =
-                λ before. and_from (slot_fits setting slot) true (and_from (size_fits (Some length_of)) (written_fits setting.hierarchy written) fit (there before)) refl;
+                λ before. and_from (slot_fits setting slot) true (and_from (size_fits (Some length_of)) (written_fits setting.outer.hierarchy written) fit (there before)) refl;
             loops_count = refl;
             loops_all = omega arith;
             few = omega arith;
@@ -575,7 +576,7 @@ module _ (program : Program) (procedure : ProcedureEntry) (setting : Setting) wh
           (then_keeps (test_keeps (has_base program procedure Boolean e) kept_e.fits kept) kept_other)
 
       while_keeps : (point : Point) (at nodes : ℕ) (e : Expression) (condition : ℕ) → HasBase point.names Boolean condition e
-          → (done : Point × Block) → IsWellFormedBlock (in_loop point) nodes done → IsWellFormedStatement point (1 + (condition + nodes)) (done.0, While at point.loops e done.1)
+          → (done : Point × Block) → IsWellFormedBlock (record point { loops = point.loops + 1 }) nodes done → IsWellFormedStatement point (1 + (condition + nodes)) (done.0, While at point.loops e done.1)
       while_keeps point at nodes e condition kept_e done kept =
           let next : point.loops + 1 ≡ suc point.loops = omega arith in
           record {
@@ -627,8 +628,8 @@ module _ (program : Program) (procedure : ProcedureEntry) (setting : Setting) wh
 
         pub statement_keeps : (point : Point) (written : StatementTree) → IsWrittenStatement placed word IsInteger written
             → IfOk (statement_finding setting point written) (IsWellFormedStatement point (tree.statement_nodes written))
-        statement_keeps point (DeclareTree at base label name right) is = declare_keeps point at (base_of base) label name right is.3
-        statement_keeps point (DeclareArrayTree at base label name size) is = declare_array_keeps point at (base_of base) label name size
+        statement_keeps point (DeclareTree at base label name right) is = declare_keeps point at base label name right is.3
+        statement_keeps point (DeclareArrayTree at base label name size) is = declare_array_keeps point at base label name size
         statement_keeps point (AssignTree target right) is = assign_keeps point target right is.1
         statement_keeps point (AssignElementTree array index right) is = store_keeps point array index right is.1 is.2
         statement_keeps point (CallTree' call) is = call_statement_keeps point call is
@@ -649,7 +650,7 @@ module _ (program : Program) (procedure : ProcedureEntry) (setting : Setting) wh
         statement_keeps point (WhileTree at condition body) is =
             then_finds (typed_finding point.names Boolean condition) _ (HasBase point.names Boolean (tree.expression_nodes condition)) _
             (typed_keeps program procedure setting.signatures placed word point.names Boolean condition is.1) (λ e kept_e.
-            then_finds (block_finding setting (in_loop point) body) _ (IsWellFormedBlock (in_loop point) (tree.block_nodes body)) _ (block_keeps (in_loop point) body is.2)
+            then_finds (block_finding setting (record point { loops = point.loops + 1 }) body) _ (IsWellFormedBlock (record point { loops = point.loops + 1 }) (tree.block_nodes body)) _ (block_keeps (record point { loops = point.loops + 1 }) body is.2)
             (λ done kept. while_keeps point at (tree.block_nodes body) e (tree.expression_nodes condition) kept_e done kept))
         statement_keeps point (BreakTree at) is = plain_keeps point 1 (Leave at exits.Break) (record { fits = λ means. refl; no_loops = refl; few = omega arith })
         statement_keeps point (ContinueTree at) is = plain_keeps point 1 (Leave at exits.Continue) (record { fits = λ means. refl; no_loops = refl; few = omega arith })

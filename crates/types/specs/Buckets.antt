@@ -11,10 +11,10 @@ use Rattle.types.specs.declared.short_names.TheConstants.{NO_BUCKETS}
 -- a hash of a number, of which the bucket is the upper bits
 abbrev pub mixed : ℕ → ℕ
 mixed number =
-    number % 4294967296 * 506558897
-    + number / 4294967296 % 4294967296 * 902613879
-    + number / 4294967296 / 4294967296 % 4294967296 * 582135357
-    + number / 4294967296 / 4294967296 / 4294967296 * 668265263
+    number % 4294967296 * 1735445665
+    + number / 4294967296 % 4294967296 * 878098363
+    + number / 4294967296 / 4294967296 % 4294967296 * 599068319
+    + number / 4294967296 / 4294967296 / 4294967296 * 943391325
 
 abbrev pub bucket_of : (shift number : ℕ) → ℕ
 bucket_of shift number = mixed number % 4294967296 / 2 ^ shift

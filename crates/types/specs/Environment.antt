@@ -2,7 +2,7 @@
 -- Source: our own, environments in the usual sense. Channels, exceptions, globals and procedures share one space of names, in which
 -- `Arith`, `Bounds` and `End` are declared from the start; the parameters and locals of a procedure join it in its body.
 use Rattle.std.specs.Prelude.{ℕ, List, Option, Some, None, bytes_eq, if◌then◌else◌}
-use Rattle.resolved.specs.declared.expression.Base.{Base}
+use Rattle.common.specs.declared.base_type.BaseType.{BaseType}
 use Rattle.resolved.specs.declared.expression.Variable.{Variable}
 use Rattle.types.specs.declared.fault.TypeRefusalKind.TheVariants as refusals
 use Rattle.types.specs.declared.scope.ItemKind.{ItemKind}
@@ -42,13 +42,13 @@ variable_of (meanings.Item kind number) = None
 variable_of (meanings.Variable variable base size) = Some variable
 
 -- a scalar variable, with the type of its values
-abbrev pub scalar_of : Meaning → Option (Variable × Base)
+abbrev pub scalar_of : Meaning → Option (Variable × BaseType)
 scalar_of (meanings.Item kind number) = None
 scalar_of (meanings.Variable variable base None) = Some (variable, base)
 scalar_of (meanings.Variable variable base (Some size)) = None
 
 -- an array, with the type of its elements and its length
-abbrev pub array_of : Meaning → Option (Variable × Base × ℕ)
+abbrev pub array_of : Meaning → Option (Variable × BaseType × ℕ)
 array_of (meanings.Item kind number) = None
 array_of (meanings.Variable variable base None) = None
 array_of (meanings.Variable variable base (Some size)) = Some (variable, base, size)

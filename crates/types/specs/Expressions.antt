@@ -2,15 +2,14 @@
 -- from the left, and each is tested against the wanted type at once; one of another type is refused at its first token (401).
 -- Source: our own, the usual rules of simple types.
 use Rattle.std.specs.Prelude.{ℕ}
-use Rattle.syntax.specs.declared.tree.BaseType.{BaseType}
-use Rattle.syntax.specs.declared.tree.BaseType.TheVariants as base_types
+use Rattle.common.specs.declared.base_type.BaseType.{BaseType}
+use Rattle.common.specs.declared.base_type.BaseType.TheVariants as base_types
 use Rattle.syntax.specs.declared.tree.UnaryOperator.{UnaryOperator}
 use Rattle.syntax.specs.declared.tree.UnaryOperator.TheVariants as unary
 use Rattle.syntax.specs.declared.tree.BinaryOperator.{BinaryOperator}
 use Rattle.syntax.specs.declared.tree.BinaryOperator.TheVariants as binary
 use Rattle.syntax.specs.Tree.{ExpressionTree, IntegerTree, TruthTree, VariableTree, ElementTree, UnaryTree, BinaryTree, expression_at}
-use Rattle.resolved.specs.declared.expression.Base.{Base}
-use Rattle.resolved.specs.declared.expression.Base.TheVariants.{Int, Boolean}
+use Rattle.common.specs.declared.base_type.BaseType.TheVariants.{Int, Boolean}
 use Rattle.resolved.specs.declared.expression.Prefix.{Prefix}
 use Rattle.resolved.specs.declared.expression.Prefix.TheVariants as prefixes
 use Rattle.resolved.specs.declared.expression.Operator.TheVariants.{Compute, Divide, Bits, Compare, Match}
@@ -27,10 +26,6 @@ use Rattle.types.specs.declared.operator.OperatorUse.{OperatorUse}
 use Rattle.types.specs.declared.operator.OperatorUse.TheVariants.{OfNumbers, OfEither, OfTruths}
 use Rattle.types.specs.Finding.{Finding, give, give_if, ◌>>=◌}
 use Rattle.types.specs.Environment.{Environment, use_as, scalar_of, array_of}
-
-abbrev pub base_of : BaseType → Base
-base_of base_types.Int = Int
-base_of base_types.Boolean = Boolean
 
 abbrev pub prefix_of : UnaryOperator → Prefix
 prefix_of unary.Negate = prefixes.Negate
@@ -62,31 +57,31 @@ use_of binary.Or = OfTruths connectives.Or
 -- an expression with the type of its values
 pub record Typed : Type 0 where
   pub expression : Expression
-  pub base : Base
+  pub base : BaseType
 
-abbrev pub typed : Expression → Base → Finding Typed
+abbrev pub typed : Expression → BaseType → Finding Typed
 typed expression base = give (record { expression = expression; base = base })
 
 -- an expression whose values have to have a type
-unfoldable pub of_base : Base → (at : ℕ) → Typed → Finding Expression
+unfoldable pub of_base : BaseType → (at : ℕ) → Typed → Finding Expression
 of_base base at found = give_if (same_base found.base base) found.expression refusals.WrongType at
 
-abbrev pub wanting : Base → (at : ℕ) → Finding Typed → Finding Expression
+abbrev pub wanting : BaseType → (at : ℕ) → Finding Typed → Finding Expression
 wanting base at looked = looked >>= of_base base at
 
 -- the type that the operands of an operator have to have, by that of the left one, and the type of its value
-abbrev pub operands_base : OperatorUse → (left : Base) → Base
+abbrev pub operands_base : OperatorUse → (left : BaseType) → BaseType
 operands_base (OfNumbers operator) left = Int
 operands_base (OfEither of_numbers of_truths) left = left
 operands_base (OfTruths connective) left = Boolean
 
-abbrev pub value_base : OperatorUse → Base
+abbrev pub value_base : OperatorUse → BaseType
 value_base (OfNumbers operator) = result_base operator
 value_base (OfEither of_numbers of_truths) = Boolean
 value_base (OfTruths connective) = Boolean
 
 -- the operator on its operands, which have this type
-abbrev pub combined : OperatorUse → Base → (left right : Expression) → Expression
+abbrev pub combined : OperatorUse → BaseType → (left right : Expression) → Expression
 combined (OfNumbers operator) base d e = Binary operator d e
 combined (OfEither of_numbers of_truths) Int d e = Binary (Compare of_numbers) d e
 combined (OfEither of_numbers of_truths) Boolean d e = Binary (Match of_truths) d e
@@ -113,5 +108,5 @@ expression_finding names (BinaryTree at operator left right) = do
   typed (combined (use_of operator) l.base d e) (value_base (use_of operator))
 
 -- an expression at a place that wants a type
-unfoldable pub typed_finding : Environment → Base → ExpressionTree → Finding Expression
+unfoldable pub typed_finding : Environment → BaseType → ExpressionTree → Finding Expression
 typed_finding names base tree = wanting base (expression_at tree) (expression_finding names tree)

@@ -13,8 +13,8 @@ use Rattle.resolved.specs.declared.expression.Variable.TheVariants.{Global, Loca
 use Rattle.types.specs.declared.scope.Meaning.{Meaning}
 use Rattle.types.specs.declared.scope.ItemKind.TheVariants.{Channel, Exception, Procedure}
 use Rattle.types.specs.declared.scope.Meaning.TheVariants as meanings
-use Rattle.types.specs.Finding.{give}
-use Rattle.types.specs.Resolution.{TopLevel, item_name, top_finding, resolution}
+use Rattle.types.specs.Finding.{give, along}
+use Rattle.types.specs.Resolution.{TopLevel, item_name, resolution, next_name, built_in}
 use Rattle.common.specs.declared.limits.TheConstants.{MAX_TEXT}
 
 -- the program that the tree of a text stands for is well formed
@@ -90,7 +90,7 @@ MeaningHasName program (meanings.Variable (Local number) base size) name = ⊥
 abbrev pub NumbersReadAsNames : Type 0
 NumbersReadAsNames =
     (h : PrincipalHierarchy) (tree : ProgramTree) (program : Program) → resolution h tree ≡ give program
-    → (top : TopLevel) → top_finding tree.items ≡ give top
+    → (top : TopLevel) → along next_name built_in tree.items ≡ give top
     → (name : List ℕ) (meaning : Meaning) → top.names name ≡ Some meaning → MeaningHasName program meaning name
 
 -- a run begins at the procedure that is called `main`

@@ -5,7 +5,7 @@
 -- Source: our own, lexical scope in the usual sense, by one rule for each form of the text.
 use Rattle.std.specs.Prelude.{◌≡◌, ℕ, List, [], ◌∷◌, ◌++◌, length, map, Bool, Option, Some, None, if◌then◌else◌, bytes_eq, slice_get}
 use Rattle.principals.specs.ActsFor.{PrincipalHierarchy}
-use Rattle.syntax.specs.declared.tree.BaseType.{BaseType}
+use Rattle.common.specs.declared.base_type.BaseType.{BaseType}
 use Rattle.syntax.specs.declared.tree.UnaryOperator.{UnaryOperator}
 use Rattle.syntax.specs.declared.tree.UnaryOperator.TheVariants as unary
 use Rattle.syntax.specs.declared.tree.BinaryOperator.{BinaryOperator}

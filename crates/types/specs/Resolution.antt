@@ -8,8 +8,8 @@ use Rattle.principals.specs.ActsFor.{PrincipalHierarchy}
 use Rattle.labels.specs.Label.{Label}
 use Rattle.labels.specs.Canonical.{joined}
 use Rattle.syntax.specs.Tree.{NameTree, IntegerConstant, TruthConstant, GlobalValueTree, ScalarTree, ArrayTree, GlobalTree, ChannelTree, WrittenResultTree, NothingTree, ResultTree, ParameterTree, ThrownTree, ProcedureTree, ItemTree, ChannelItem, ExceptionItem, GlobalItem, ProcedureItem, ProgramTree}
-use Rattle.resolved.specs.declared.expression.Base.{Base}
-use Rattle.resolved.specs.declared.expression.Base.TheVariants.{Int, Boolean}
+use Rattle.common.specs.declared.base_type.BaseType.{BaseType}
+use Rattle.common.specs.declared.base_type.BaseType.TheVariants.{Int, Boolean}
 use Rattle.resolved.specs.declared.expression.Value.{Value}
 use Rattle.resolved.specs.declared.expression.Value.TheVariants.{Number, Truth}
 use Rattle.resolved.specs.declared.expression.Variable.TheVariants.{Global}
@@ -23,7 +23,6 @@ use Rattle.types.specs.declared.scope.Meaning.TheVariants as meanings
 use Rattle.types.specs.Finding.{Finding, give, found_or, give_if, require, along, ◌>>=◌}
 use Rattle.types.specs.Environment.{Environment, declaring, fresh_finding, use_as, item_of}
 use Rattle.types.specs.Labels.{LabelScope, label_finding, optional_label_finding}
-use Rattle.types.specs.Expressions.{base_of}
 use Rattle.types.specs.Statements.{Signature, Setting, Point, with_local, slot_of, size_finding, block_finding}
 use Rattle.common.specs.declared.limits.TheConstants.{MAX_CELLS}
 
@@ -62,13 +61,13 @@ abbrev pub size_of : GlobalValueTree → Option ℕ
 size_of (ScalarTree constant) = None
 size_of (ArrayTree size) = Some size.size
 
-abbrev pub result_base_of : WrittenResultTree → Option Base
+abbrev pub result_base_of : WrittenResultTree → Option BaseType
 result_base_of NothingTree = None
-result_base_of (ResultTree base label) = Some (base_of base)
+result_base_of (ResultTree base label) = Some base
 
 abbrev pub signature_of : ProcedureTree → Signature
 signature_of procedure = record {
-  parameters = map (λ (parameter : ParameterTree). base_of parameter.base) procedure.parameters;
+  parameters = map (λ (parameter : ParameterTree). parameter.base) procedure.parameters;
   result = result_base_of procedure.result;
 }
 
@@ -76,7 +75,7 @@ signature_of procedure = record {
 abbrev pub item_meaning : TopLevel → ItemTree → Meaning
 item_meaning top (ChannelItem channel) = meanings.Item (Channel channel.direction) top.channels
 item_meaning top (ExceptionItem at name) = meanings.Item Exception top.exceptions
-item_meaning top (GlobalItem global) = meanings.Variable (Global top.globals) (base_of global.base) (size_of global.value)
+item_meaning top (GlobalItem global) = meanings.Variable (Global top.globals) global.base (size_of global.value)
 item_meaning top (ProcedureItem procedure) = meanings.Item Procedure (length top.signatures)
 
 -- one more item of each kind
@@ -87,16 +86,10 @@ counted top (GlobalItem global) = record top { globals = top.globals + 1 }
 counted top (ProcedureItem procedure) = record top { signatures = top.signatures ++ signature_of procedure ∷ [] }
 
 -- the top level with the next item
-abbrev pub with_item : TopLevel → ItemTree → TopLevel
-with_item top item = record (counted top item) { names = declaring (item_name item).text (item_meaning top item) top.names }
-
 unfoldable pub next_name : TopLevel → ItemTree → Finding TopLevel
 next_name top item = do
   _ ← fresh_finding (top.names (item_name item).text) (item_name item).at
-  give (with_item top item)
-
-unfoldable pub top_finding : List ItemTree → Finding TopLevel
-top_finding items = along next_name built_in items
+  give (record (counted top item) { names = declaring (item_name item).text (item_meaning top item) top.names })
 
 -- ---- channels and globals
 
@@ -113,7 +106,7 @@ abbrev pub signed : (negative : Bool) → ℕ → ℤ
 signed negative value = if negative then neg_ℤ (pos value) else pos value
 
 -- the length of a global that is an array, and what its cells hold at first
-unfoldable pub first_finding : Base → GlobalValueTree → Finding (Option ℕ × Value)
+unfoldable pub first_finding : BaseType → GlobalValueTree → Finding (Option ℕ × Value)
 first_finding base (ScalarTree (IntegerConstant at negative value)) =
     give_if (same_base Int base) (None, Number (signed negative value)) refusals.WrongType at
 first_finding base (ScalarTree (TruthConstant at value)) =
@@ -125,10 +118,10 @@ first_finding base (ArrayTree size) = do
 unfoldable pub global_finding : LabelScope → GlobalTree → Finding GlobalEntry
 global_finding scope global = do
   label ← label_finding scope global.label
-  (size, first) ← first_finding (base_of global.base) global.value
+  (size, first) ← first_finding global.base global.value
   give (record {
     name = global.name.text;
-    base = base_of global.base;
+    base = global.base;
     size = size;
     label = label;
     first = first;
@@ -140,17 +133,14 @@ unfoldable pub result_finding : LabelScope → WrittenResultTree → Finding (Op
 result_finding scope NothingTree = give None
 result_finding scope (ResultTree base label) = do
   written ← label_finding scope label
-  give (Some (record { base = base_of base; label = written }))
+  give (Some (record { base = base; label = written }))
 
 -- a parameter, which takes the next slot and is in scope in the body; no label before the body names it
 abbrev pub next_parameter : LabelScope → Point → ParameterTree → Finding Point
 next_parameter scope point parameter = do
   label ← label_finding scope parameter.label
   _ ← fresh_finding (point.names parameter.name.text) parameter.name.at
-  give (with_local point (slot_of parameter.at (base_of parameter.base) (Some label) parameter.name.text None))
-
-unfoldable pub parameters_finding : LabelScope → List ParameterTree → Finding Point
-parameters_finding scope parameters = along (next_parameter scope) (record { names = scope.names; slots = []; loops = 0 }) parameters
+  give (with_local point (slot_of parameter.at parameter.base (Some label) parameter.name.text None))
 
 -- an exception that a procedure may let out, which is none of those that it names before (302)
 abbrev pub is_thrown : List ThrownEntry → ℕ → Bool
@@ -168,25 +158,17 @@ abbrev pub joined_all : Label → List ThrownEntry → Label
 joined_all label [] = label
 joined_all label (thrown ∷ rest) = joined_all (joined label thrown.label) rest
 
--- what does not change within the body of a procedure whose labels before it may name this
-abbrev pub setting_within : LabelScope → List Signature → ProcedureTree → Setting
-setting_within scope signatures procedure = record {
-  hierarchy = scope.hierarchy;
-  globals = scope.globals;
-  signatures = signatures;
-  result = result_base_of procedure.result;
-}
-
 -- a begin label that is left out is the least one; an end label that is left out is the join of the begin label and of those of the
 -- exceptions
 unfoldable pub procedure_entry_finding : LabelScope → List Signature → ProcedureTree → Finding ProcedureEntry
 procedure_entry_finding scope signatures procedure = do
   result ← result_finding scope procedure.result
   begin ← optional_label_finding scope procedure.begin
-  point ← parameters_finding scope procedure.parameters
+  point ← along (next_parameter scope) (record { names = scope.names; slots = []; loops = 0 }) procedure.parameters
   end ← optional_label_finding scope procedure.end
   throws ← along (next_thrown scope) [] procedure.throws
-  inner ← block_finding (setting_within scope signatures procedure) point procedure.body
+  let setting : Setting = record { outer = scope; signatures = signatures; result = result_base_of procedure.result }
+  inner ← block_finding setting point procedure.body
   give (record {
     at = procedure.name.at;
     name = procedure.name.text;
@@ -202,14 +184,13 @@ procedure_entry_finding scope signatures procedure = do
 
 -- ---- programs
 
--- the tables of a program
-pub record Tables : Type 0 where
-  pub channels : List ChannelEntry
-  pub exceptions : List (List ℕ)
-  pub globals : List GlobalEntry
-  pub procedures : List ProcedureEntry
+-- a program without principals and without items
+abbrev pub empty_program : Program
+empty_program =
+    record { hierarchy = record { names = []; pairs = [] }; channels = []; exceptions = []; globals = []; procedures = []; main = 0 }
 
-unfoldable pub next_item : PrincipalHierarchy → TopLevel → Tables → ItemTree → Finding Tables
+-- with the next item
+unfoldable pub next_item : PrincipalHierarchy → TopLevel → Program → ItemTree → Finding Program
 next_item h top tables (ChannelItem channel) = do
   entry ← channel_finding (heads h top tables.globals) channel
   give (record tables { channels = tables.channels ++ entry ∷ [] })
@@ -220,12 +201,6 @@ next_item h top tables (GlobalItem global) = do
 next_item h top tables (ProcedureItem procedure) = do
   entry ← procedure_entry_finding (heads h top tables.globals) top.signatures procedure
   give (record tables { procedures = tables.procedures ++ entry ∷ [] })
-
-abbrev pub no_tables : Tables
-no_tables = record { channels = []; exceptions = []; globals = []; procedures = [] }
-
-unfoldable pub items_finding : PrincipalHierarchy → TopLevel → List ItemTree → Finding Tables
-items_finding h top items = along (next_item h top) no_tables items
 
 -- `main` is a procedure without parameters and a value; where it is none, the refusal stands at the begin of the text
 unfoldable pub main_finding : Option Meaning → List ProcedureEntry → Finding ℕ
@@ -243,35 +218,17 @@ next_global_cells cells (ChannelItem channel) = give cells
 next_global_cells cells (ExceptionItem at name) = give cells
 next_global_cells cells (ProcedureItem procedure) = give cells
 
-unfoldable pub global_cells_finding : List ItemTree → Finding ℕ
-global_cells_finding items = along next_global_cells 0 items
-
 -- the cells of a frame
-abbrev pub frame_cells : List SlotEntry → ℕ
-frame_cells slots = sum_by (λ (slot : SlotEntry). cell_count slot.size) slots
-
 abbrev pub next_frame : Unit {0} → ProcedureEntry → Finding (Unit {0})
-next_frame _ procedure = require (nat_le (frame_cells procedure.slots) MAX_CELLS) refusals.TooManyCells procedure.at
-
-unfoldable pub frames_finding : List ProcedureEntry → Finding (Unit {0})
-frames_finding procedures = along next_frame tt procedures
-
-abbrev pub program_with : PrincipalHierarchy → Tables → (main : ℕ) → Program
-program_with h tables main = record {
-  hierarchy = h;
-  channels = tables.channels;
-  exceptions = tables.exceptions;
-  globals = tables.globals;
-  procedures = tables.procedures;
-  main = main;
-}
+next_frame _ procedure =
+    require (nat_le (sum_by (λ (slot : SlotEntry). cell_count slot.size) procedure.slots) MAX_CELLS) refusals.TooManyCells procedure.at
 
 -- the resolved program, or the first fault
 unfoldable pub resolution : PrincipalHierarchy → ProgramTree → Finding Program
 resolution h program = do
-  top ← top_finding program.items
-  tables ← items_finding h top program.items
+  top ← along next_name built_in program.items
+  tables ← along (next_item h top) empty_program program.items
   main ← main_finding (top.names (codes "main")) tables.procedures
-  _ ← global_cells_finding program.items
-  _ ← frames_finding tables.procedures
-  give (program_with h tables main)
+  _ ← along next_global_cells 0 program.items
+  _ ← along next_frame tt tables.procedures
+  give (record tables { hierarchy = h; main = main })

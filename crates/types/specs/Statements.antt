@@ -3,17 +3,16 @@
 -- none.
 -- Source: our own, block structure in the usual sense: a local's scope runs from the end of its declaration to the end of its block.
 use Rattle.std.specs.Prelude.{ℕ, ◌+◌, List, [], ◌∷◌, ◌++◌, length, Bool, false, ◌==◌, ◌&&◌, nat_lt, nat_le, is_none, Option, Some, None, slice_index_or}
-use Rattle.principals.specs.ActsFor.{PrincipalHierarchy}
 use Rattle.labels.specs.Label.{Label}
 use Rattle.common.specs.declared.direction.Direction.TheVariants.{Input, Output}
 use Rattle.syntax.specs.Tree.{NameTree, LabelTree, ExpressionTree, CallTree, RightTree, ReceivedTree, CalledTree, ValueTree, SizeTree, StatementTree, DeclareTree, DeclareArrayTree, AssignTree, AssignElementTree, CallTree', ReceiveTree, SendTree, IfTree, IfElseTree, WhileTree, BreakTree, ContinueTree, ThrowTree, ReturnTree, TryTree, NestedTree, BlockTree, BlockOf, StatementTrees, NoStatement, StatementThen, CatchTrees, NoCatch, CatchThen, expression_at}
-use Rattle.resolved.specs.declared.expression.Base.{Base}
-use Rattle.resolved.specs.declared.expression.Base.TheVariants.{Int, Boolean}
+use Rattle.common.specs.declared.base_type.BaseType.{BaseType}
+use Rattle.common.specs.declared.base_type.BaseType.TheVariants.{Int, Boolean}
 use Rattle.resolved.specs.declared.expression.Variable.{Variable}
 use Rattle.resolved.specs.declared.expression.Variable.TheVariants.{Local}
 use Rattle.resolved.specs.declared.statement.Exit.TheVariants as exits
 use Rattle.resolved.specs.Tree.{Expression, Statement, Assign, Clear, Store, Receive, Send, Call, If, While, Leave, ReturnWith, Try, Nested, Block, Empty, Then, Handlers, NoMore, Catch}
-use Rattle.resolved.specs.Program.{GlobalEntry, SlotEntry}
+use Rattle.resolved.specs.Program.{SlotEntry}
 use Rattle.resolved.specs.WellFormed.{same_base}
 use Rattle.types.specs.declared.fault.TypeRefusalKind.TheVariants as refusals
 use Rattle.types.specs.declared.scope.ItemKind.TheVariants.{Channel, Exception, Procedure}
@@ -21,21 +20,20 @@ use Rattle.types.specs.declared.scope.Meaning.TheVariants as meanings
 use Rattle.types.specs.Finding.{Finding, give, refuse, give_if, require, along, ◌>>=◌}
 use Rattle.types.specs.Environment.{Environment, declaring, fresh_finding, use_as, item_of, scalar_of, array_of}
 use Rattle.types.specs.Labels.{LabelScope, optional_label_finding}
-use Rattle.types.specs.Expressions.{Typed, base_of, expression_finding, typed_finding}
+use Rattle.types.specs.Expressions.{Typed, expression_finding, typed_finding}
 use Rattle.common.specs.declared.limits.TheConstants.{MAX_ELEMENTS}
 
 -- what a call has to know of a procedure: the types of its parameters, and the type of its value, if it gives one
 pub record Signature : Type 0 where
-  pub parameters : List Base
-  pub result : Option Base
+  pub parameters : List BaseType
+  pub result : Option BaseType
 
--- what does not change within a body: the hierarchy, the globals that are declared before the procedure, the signatures of the
--- procedures by their numbers, and the type of the value that is to be returned, if one is
+-- what does not change within a body: what labels of the procedure before it may name, the signatures of the procedures by their
+-- numbers, and the type of the value that is to be returned, if one is
 pub record Setting : Type 0 where
-  pub hierarchy : PrincipalHierarchy
-  pub globals : List GlobalEntry
+  pub outer : LabelScope
   pub signatures : List Signature
-  pub result : Option Base
+  pub result : Option BaseType
 
 -- a point of a body: what is in scope, the slots that parameters and locals have taken so far, and how many loops have begun
 pub record Point : Type 0 where
@@ -45,19 +43,13 @@ pub record Point : Type 0 where
 
 -- what the label of a local may name at a point: each variable in scope, but for the globals that are declared after the procedure
 abbrev pub label_scope : Setting → Point → LabelScope
-label_scope setting point = record {
-  hierarchy = setting.hierarchy;
-  names = point.names;
-  globals = setting.globals;
-  slots = point.slots;
-}
+label_scope setting point = record setting.outer { names = point.names; slots = point.slots }
 
 -- the point after the declaration of a local, which takes the next slot
 abbrev pub with_local : Point → SlotEntry → Point
-with_local point slot = record {
+with_local point slot = record point {
   names = declaring slot.name (meanings.Variable (Local (length point.slots)) slot.base slot.size) point.names;
   slots = point.slots ++ slot ∷ [];
-  loops = point.loops;
 }
 
 -- ---- calls and right sides
@@ -66,55 +58,50 @@ abbrev pub signature_at : List Signature → ℕ → Signature
 signature_at signatures procedure = slice_index_or signatures procedure (record { parameters = []; result = None })
 
 -- the next argument, at a place that wants the type of its parameter
-abbrev pub next_argument : Environment → List Base → List Expression → ExpressionTree → Finding (List Expression)
+abbrev pub next_argument : Environment → List BaseType → List Expression → ExpressionTree → Finding (List Expression)
 next_argument names parameters found argument = do
   e ← typed_finding names (slice_index_or parameters (length found) Int) argument
   give (found ++ e ∷ [])
 
-unfoldable pub arguments_finding : Environment → List Base → List ExpressionTree → Finding (List Expression)
+unfoldable pub arguments_finding : Environment → List BaseType → List ExpressionTree → Finding (List Expression)
 arguments_finding names parameters arguments = along (next_argument names parameters) [] arguments
 
--- a call: its procedure, the arguments, and the type of its value, if it gives one
-pub record CallUse : Type 0 where
-  pub procedure : ℕ
-  pub arguments : List Expression
-  pub result : Option Base
-
--- the count of the arguments is tested before they are looked at
-unfoldable pub call_finding : List Signature → Environment → CallTree → Finding CallUse
+-- a call: its procedure, the arguments, and the type of its value, if it gives one. The count of the arguments is tested before they
+-- are looked at
+unfoldable pub call_finding : List Signature → Environment → CallTree → Finding (ℕ × List Expression × Option BaseType)
 call_finding signatures names call = do
   procedure ← use_as (item_of Procedure) (names call.procedure.text) call.procedure.at
   let signature = signature_at signatures procedure
   _ ← require (length signature.parameters == length call.arguments) refusals.WrongArgumentCount call.procedure.at
   arguments ← arguments_finding names signature.parameters call.arguments
-  give (record { procedure = procedure; arguments = arguments; result = signature.result })
+  give (procedure, arguments, signature.result)
 
 -- a value of a type, where a call gives one
-abbrev pub gives_base : Base → Option Base → Bool
+abbrev pub gives_base : BaseType → Option BaseType → Bool
 gives_base base None = false
 gives_base base (Some given) = same_base given base
 
 -- what is assigned to a variable of a type, by a statement that begins at a byte. A number is received, so `receive` is refused where
 -- the variable holds another type; the value of a call is tested after its arguments, at the procedure's name
-unfoldable pub assigned_finding : List Signature → Environment → (at : ℕ) → Variable → Base → RightTree → Finding Statement
+unfoldable pub assigned_finding : List Signature → Environment → (at : ℕ) → Variable → BaseType → RightTree → Finding Statement
 assigned_finding signatures names at target base (ReceivedTree receive_at channel) = do
   _ ← require (same_base Int base) refusals.WrongType receive_at
   number ← use_as (item_of (Channel Input)) (names channel.text) channel.at
   give (Receive at number (Some target))
 assigned_finding signatures names at target base (CalledTree call) = do
-  made ← call_finding signatures names call
-  give_if (gives_base base made.result) (Call at made.procedure made.arguments (Some target)) refusals.WrongType call.procedure.at
+  (procedure, arguments, result) ← call_finding signatures names call
+  give_if (gives_base base result) (Call at procedure arguments (Some target)) refusals.WrongType call.procedure.at
 assigned_finding signatures names at target base (ValueTree value) = do
   e ← typed_finding names base value
   give (Assign at target e)
 
 -- ---- declarations
 
-abbrev pub slot_of : (at : ℕ) → Base → Option Label → List ℕ → (size : Option ℕ) → SlotEntry
+abbrev pub slot_of : (at : ℕ) → BaseType → Option Label → List ℕ → (size : Option ℕ) → SlotEntry
 slot_of at base label name size = record { base = base; size = size; written = label; at = at; name = name }
 
 -- the name of a local is tested before its right side, where the local is not in scope yet
-unfoldable pub declare_finding : Setting → Point → (at : ℕ) → Base → Option LabelTree → NameTree → RightTree → Finding (Point × Statement)
+unfoldable pub declare_finding : Setting → Point → (at : ℕ) → BaseType → Option LabelTree → NameTree → RightTree → Finding (Point × Statement)
 declare_finding setting point at base label name value = do
   written ← optional_label_finding (label_scope setting point) label
   _ ← fresh_finding (point.names name.text) name.at
@@ -125,7 +112,7 @@ declare_finding setting point at base label name value = do
 unfoldable pub size_finding : SizeTree → Finding ℕ
 size_finding size = give_if (nat_lt 0 size.size && nat_le size.size MAX_ELEMENTS) size.size refusals.ArraySize size.at
 
-unfoldable pub declare_array_finding : Setting → Point → (at : ℕ) → Base → Option LabelTree → NameTree → SizeTree → Finding (Point × Statement)
+unfoldable pub declare_array_finding : Setting → Point → (at : ℕ) → BaseType → Option LabelTree → NameTree → SizeTree → Finding (Point × Statement)
 declare_array_finding setting point at base label name size = do
   written ← optional_label_finding (label_scope setting point) label
   _ ← fresh_finding (point.names name.text) name.at
@@ -135,20 +122,16 @@ declare_array_finding setting point at base label name size = do
 -- ---- returns
 
 -- a value is looked at before it is refused in a procedure that gives none
-abbrev pub returned_finding : Option Base → (at value_at : ℕ) → Typed → Finding Statement
+abbrev pub returned_finding : Option BaseType → (at value_at : ℕ) → Typed → Finding Statement
 returned_finding None at value_at found = refuse refusals.WrongType value_at
 returned_finding (Some base) at value_at found =
     give_if (same_base found.base base) (ReturnWith at (Some found.expression)) refusals.WrongType value_at
 
-unfoldable pub return_finding : Option Base → Environment → (at : ℕ) → Option ExpressionTree → Finding Statement
+unfoldable pub return_finding : Option BaseType → Environment → (at : ℕ) → Option ExpressionTree → Finding Statement
 return_finding result names at None = give_if (is_none result) (ReturnWith at None) refusals.WrongType at
 return_finding result names at (Some value) = expression_finding names value >>= returned_finding result at (expression_at value)
 
 -- ---- statements, blocks and handlers
-
--- the next loop of a procedure has begun
-abbrev pub in_loop : Point → Point
-in_loop point = record point { loops = point.loops + 1 }
 
 -- after a block what was in scope before it is in scope again; its slots stay taken
 abbrev pub after_block : Point → Point → Point
@@ -157,9 +140,9 @@ after_block before inside = record { names = before.names; slots = inside.slots;
 unfoldable mutual
   pub statement_finding : Setting → Point → StatementTree → Finding (Point × Statement)
   statement_finding setting point (DeclareTree at base label name value) =
-      declare_finding setting point at (base_of base) label name value
+      declare_finding setting point at base label name value
   statement_finding setting point (DeclareArrayTree at base label name size) =
-      declare_array_finding setting point at (base_of base) label name size
+      declare_array_finding setting point at base label name size
   statement_finding setting point (AssignTree target value) = do
     (x, base) ← use_as scalar_of (point.names target.text) target.at
     statement ← assigned_finding setting.signatures point.names target.at x base value
@@ -170,8 +153,8 @@ unfoldable mutual
     e ← typed_finding point.names base value
     give (point, Store array.at a size i e)
   statement_finding setting point (CallTree' call) = do
-    made ← call_finding setting.signatures point.names call
-    give (point, Call call.procedure.at made.procedure made.arguments None)
+    (procedure, arguments, result) ← call_finding setting.signatures point.names call
+    give (point, Call call.procedure.at procedure arguments None)
   statement_finding setting point (ReceiveTree at channel) = do
     number ← use_as (item_of (Channel Input)) (point.names channel.text) channel.at
     give (point, Receive at number None)
@@ -190,7 +173,7 @@ unfoldable mutual
     give (other.0, If at e inner.1 other.1)
   statement_finding setting point (WhileTree at condition body) = do
     e ← typed_finding point.names Boolean condition
-    inner ← block_finding setting (in_loop point) body
+    inner ← block_finding setting (record point { loops = point.loops + 1 }) body
     give (inner.0, While at point.loops e inner.1)
   statement_finding setting point (BreakTree at) = give (point, Leave at exits.Break)
   statement_finding setting point (ContinueTree at) = give (point, Leave at exits.Continue)

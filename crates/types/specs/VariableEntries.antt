@@ -47,8 +47,8 @@ IsResultInside labels (Some type) = IsInside labels type.label
 abbrev pub AreSlotsInside : List Label → List Slot → Type 0
 AreSlotsInside labels slots = All (λ (slot : Slot). IsOptionInside labels slot.written) slots
 
-abbrev pub AreThrownInside : List Label → List Thrown → Type 0
-AreThrownInside labels throws = All (λ (thrown : Thrown). IsInside labels thrown.label) throws
+abbrev pub AreThrownLabelsInside : List Label → List Thrown → Type 0
+AreThrownLabelsInside labels throws = All (λ (thrown : Thrown). IsInside labels thrown.label) throws
 
 -- those of the globals and of the slots
 pub record AreInside (labels : List Label) (globals : List GlobalVariable) (slots : List Slot) : Type 0 where
@@ -60,7 +60,7 @@ pub record IsProcedureInside (labels : List Label) (procedure : Procedure) : Typ
   pub of_result : IsResultInside labels procedure.result
   pub of_begin : IsInside labels procedure.begin_label
   pub of_end : IsInside labels procedure.end_label
-  pub of_throws : AreThrownInside labels procedure.throws.items
+  pub of_throws : AreThrownLabelsInside labels procedure.throws.items
   pub of_slots : AreSlotsInside labels procedure.slots.items
 
 -- ---- more labels

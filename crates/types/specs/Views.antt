@@ -16,12 +16,13 @@ use Rattle.resolved.specs.declared.tables.Slot.{Slot}
 use Rattle.resolved.specs.declared.tables.Thrown.{Thrown}
 use Rattle.resolved.specs.WellFormed.{cell_count}
 use Rattle.resolved.specs.declared.expression.Value.{Value}
-use Rattle.resolved.specs.declared.expression.Base.{Base}
+use Rattle.common.specs.declared.base_type.BaseType.{BaseType}
 use Rattle.resolved.specs.declared.expression.Variable.{Variable}
 use Rattle.resolved.specs.Tree.{Expression, Block, Handlers}
+use Rattle.principals.specs.ActsFor.{PrincipalHierarchy}
 use Rattle.labels.specs.Label.{Label}
 use Rattle.labels.specs.LabelTable.{Extends}
-use Rattle.resolved.specs.Program.{SlotEntry, ThrownEntry}
+use Rattle.resolved.specs.Program.{Program, SlotEntry, ThrownEntry}
 use Rattle.resolved.specs.ProgramOf.{channel_entry, slot_entry, thrown_entry, procedure_entry}
 use Rattle.resolved.specs.TreeOf.{expression_of, block_of, handlers_of}
 use Rattle.types.specs.declared.body.BodyScope.{BodyScope}
@@ -42,12 +43,13 @@ use Rattle.types.specs.declared.scope.FoundScalar.{FoundScalar}
 use Rattle.types.specs.declared.statement.UsedCall.{UsedCall}
 use Rattle.types.specs.declared.top.CodeSignature.{CodeSignature}
 use Rattle.types.specs.declared.top.TopNames.{TopNames}
+use Rattle.syntax.specs.Tree.{ProcedureTree}
 use Rattle.types.specs.Finding.{Finding, IsRefusalOf, ◌>>=◌}
 use Rattle.types.specs.Environment.{Environment}
 use Rattle.types.specs.Labels.{LabelScope}
 use Rattle.types.specs.Expressions.{Typed}
-use Rattle.types.specs.Statements.{Signature, Setting, Point, CallUse}
-use Rattle.types.specs.Resolution.{TopLevel, Tables, heads}
+use Rattle.types.specs.Statements.{Signature, Setting, Point}
+use Rattle.types.specs.Resolution.{TopLevel, empty_program, heads, result_base_of}
 use Rattle.types.specs.VariableEntries.{VariableEntries, IsInside, IsProcedureInside, optional_label_with}
 
 -- what a function gave is what is found: a value or a refusal, unless memory ran out
@@ -84,10 +86,10 @@ abbrev pub or_else : {A : Type 0} → Option A → Option A → Option A
 or_else (Some x) other = Some x
 or_else None other = other
 
-abbrev pub scalar_use : FoundScalar → Variable × Base
+abbrev pub scalar_use : FoundScalar → Variable × BaseType
 scalar_use scalar = (scalar.variable, scalar.base)
 
-abbrev pub array_use : FoundArray → Variable × Base × ℕ
+abbrev pub array_use : FoundArray → Variable × BaseType × ℕ
 array_use array = (array.variable, array.base, array.size)
 
 abbrev pub signature_view : CodeSignature → Signature
@@ -124,7 +126,7 @@ new_slot_entry labels slot = record {
   size = slot.size;
   written = optional_label_with labels slot.label;
   at = slot.at;
-  name = string_bytes slot.name;
+  name = slot.name;
 }
 
 abbrev pub names_of : BodyScope → Environment
@@ -133,20 +135,15 @@ names_of body name = or_else (found_in body.locals name) (found_in body.top.now.
 abbrev pub signatures_of : BodyScope → List Signature
 signatures_of body = map signature_view body.top.now.signatures.items
 
-abbrev pub setting_of : BodyScope → Setting
-setting_of body = record {
-  hierarchy = body.hierarchy.now;
-  globals = body.variables.globals;
-  signatures = signatures_of body;
-  result = body.result;
-}
-
-abbrev pub point_of : BodyScope → Point
-point_of body = record { names = names_of body; slots = body.variables.slots; loops = body.loops }
-
 -- what the labels of the procedure before its body may name
 abbrev pub item_scope_of : BodyScope → LabelScope
 item_scope_of body = heads body.hierarchy.now (top_view body.top.now) body.variables.globals
+
+abbrev pub setting_of : BodyScope → Setting
+setting_of body = record { outer = item_scope_of body; signatures = signatures_of body; result = body.result }
+
+abbrev pub point_of : BodyScope → Point
+point_of body = record { names = names_of body; slots = body.variables.slots; loops = body.loops }
 
 -- a later point of the same body: what was declared there is declared still and stands first, the table of locals says what it said
 -- there, but for the names that were declared since, and labels keep their numbers
@@ -169,8 +166,12 @@ typed_view found = record { expression = expression_of found.expression; base = 
 abbrev pub expressions_of : Vec CodeExpression Global → List Expression
 expressions_of expressions = map expression_of expressions.items
 
+-- a call that is found: its procedure, the arguments, and the type of its value
+abbrev pub CallUse : Type 0
+CallUse = ℕ × List Expression × Option BaseType
+
 abbrev pub call_use : UsedCall → CallUse
-call_use call = record { procedure = call.procedure; arguments = expressions_of call.arguments; result = call.result }
+call_use call = (call.procedure, expressions_of call.arguments, call.result)
 
 abbrev pub block_view : Vec CodeStatement Global → Block
 block_view statements = block_of statements.items
@@ -181,15 +182,23 @@ handlers_view handlers = handlers_of handlers.items
 abbrev pub throws_view : List Label → Vec Thrown Global → List ThrownEntry
 throws_view labels throws = map (thrown_entry labels) throws.items
 
+-- what does not change within the body of a procedure whose labels before it may name this
+abbrev pub setting_within : LabelScope → List Signature → ProcedureTree → Setting
+setting_within scope signatures procedure = record { outer = scope; signatures = signatures; result = result_base_of procedure.result }
+
 -- ---- programs
 
-abbrev pub tables_view : ItemTables → Tables
-tables_view tables = record {
+abbrev pub tables_view : ItemTables → Program
+tables_view tables = record empty_program {
   channels = map (channel_entry tables.variables.labels) tables.channels.items;
   exceptions = map string_bytes tables.exceptions.items;
   globals = tables.variables.globals;
   procedures = map (procedure_entry tables.variables.labels) tables.procedures.items;
 }
+
+-- the program of these tables under a hierarchy
+abbrev pub program_with : PrincipalHierarchy → Program → (main : ℕ) → Program
+program_with h tables main = record tables { hierarchy = h; main = main }
 
 -- how many labels and slots there are and loops have begun: never more than there are nodes, so that their numbers have 32 bits
 abbrev pub taken : BodyScope → ℕ

@@ -10,9 +10,8 @@ ghost use Rattle.syntax.specs.Tree.{NestedTree, TryTree, WhileTree, block_tree, 
 
 use crate::body::BodyScope;
 use crate::fault::TypeFault;
-use crate::operator::base_of;
 use crate::scope::{ItemKind, remove_all, require_item};
-use resolved::expression::Base;
+use common::BaseType;
 use resolved::statement::{Exit, Handler, Statement};
 use syntax::{Block, Catch};
 
@@ -127,14 +126,14 @@ impl<'a, 'n> BodyScope<'a, 'n> {
                 label,
                 name,
                 value,
-            } => self.declare_scalar(*at, base_of(*base), label, name, value),
+            } => self.declare_scalar(*at, *base, label, name, value),
             syntax::Statement::DeclareArray {
                 at,
                 base,
                 label,
                 name,
                 size,
-            } => self.declare_array(*at, base_of(*base), label, name, *size),
+            } => self.declare_array(*at, *base, label, name, *size),
             syntax::Statement::Assign { target, value } => self.resolve_assign(target, value),
             syntax::Statement::AssignElement {
                 array,
@@ -187,7 +186,7 @@ impl<'a, 'n> BodyScope<'a, 'n> {
             taken self.old + statement_nodes (if_tree at (expression_tree condition.now)
             (block_tree accepted.now) (optional_block_tree otherwise.now))) }
     {
-        let condition = self.type_expression(Base::Boolean, condition)?;
+        let condition = self.type_expression(BaseType::Boolean, condition)?;
         let accepted = self.resolve_block(accepted)?;
         match otherwise {
             None => Ok(Statement::If(at, condition, accepted, Vec::new(self.alloc))),
@@ -217,7 +216,7 @@ impl<'a, 'n> BodyScope<'a, 'n> {
             taken self.old + statement_nodes (WhileTree at (expression_tree condition.now)
             (block_tree body.now))) }
     {
-        let condition = self.type_expression(Base::Boolean, condition)?;
+        let condition = self.type_expression(BaseType::Boolean, condition)?;
         let number = self.loops;
         self.loops += 1;
         let body = self.resolve_block(body)?;

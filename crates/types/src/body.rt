@@ -13,8 +13,9 @@ use crate::label::{ItemContext, LabelContext};
 use crate::scope::{ItemKind, Meaning, Names, find_in_either, insert, require_item};
 use crate::top::TopNames;
 use crate::variables::{DeclaredVariables, NewSlot};
+use common::BaseType;
 use principals::Hierarchy;
-use resolved::expression::{Base, Variable};
+use resolved::expression::Variable;
 use std::alloc::Global;
 use syntax::Name;
 
@@ -27,7 +28,7 @@ pub struct BodyScope<'a, 'n> {
     pub hierarchy: &'a Hierarchy,
     pub top: &'a TopNames,
     pub variables: DeclaredVariables,
-    pub result: Option<Base>,
+    pub result: Option<BaseType>,
     pub locals: Names,
     pub declared: Vec<&'n str>,
     pub loops: u32,
@@ -38,12 +39,11 @@ impl<'a, 'n> BodyScope<'a, 'n> {
     pub fn new(
         context: &ItemContext<'a>,
         variables: DeclaredVariables,
-        value: Option<Base>,
+        value: Option<BaseType>,
     ) -> BodyScope<'a, 'n>
         ensures setting { setting_of result ≡
             record {
-              hierarchy = context.now.hierarchy.now;
-              globals = variables.globals;
+              outer = item_scope context.now variables;
               signatures = map signature_view context.now.top.now.signatures.items;
               result = value;
             } }

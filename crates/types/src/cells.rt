@@ -1,8 +1,8 @@
 //! How many cells the globals have, and each frame.
 
 ghost use Rattle.common.specs.declared.limits.TheConstants.{MAX_CELLS};
-ghost use Rattle.types.specs.Finding.{require};
-ghost use Rattle.types.specs.Resolution.{frames_finding, global_cells_finding, next_global_cells};
+ghost use Rattle.types.specs.Finding.{along, require};
+ghost use Rattle.types.specs.Resolution.{next_frame, next_global_cells};
 ghost use Rattle.types.specs.Views.{Resolves, cells_of_slots, itself, tables_view};
 ghost use Rattle.resolved.specs.WellFormed.{cell_count};
 ghost use Rattle.std.specs.Prelude.{IfOk, map, nat_le, ◌≡◌, ◌≤◌};
@@ -49,9 +49,8 @@ fn add_global(cells: u32, item: &Item<'_>) -> Result<u32, TypeFault>
 }
 
 /// How many cells the globals of these items have, which are refused where they are too many.
-#[tactic(auto, unfolding(crate::specs::Resolution::global_cells_finding))]
 pub fn count_global_cells(items: &[Item<'_>]) -> Result<u32, TypeFault>
-    ensures { Resolves itself result (global_cells_finding (map item_tree items.now)) }
+    ensures { Resolves itself result (along next_global_cells 0 (map item_tree items.now)) }
 {
     let mut cells = 0;
     for item in items {
@@ -76,9 +75,8 @@ fn fits(slots: &[Slot]) -> bool
 }
 
 /// Refuses the first procedure whose frame has too many cells.
-#[tactic(auto, unfolding(crate::specs::Resolution::frames_finding))]
 pub fn limit_frames(tables: &ItemTables) -> Result<(), TypeFault>
-    ensures { Resolves (λ _. tt) result (frames_finding (tables_view tables.now).procedures) }
+    ensures { Resolves (λ _. tt) result (along next_frame tt (tables_view tables.now).procedures) }
 {
     for procedure in tables.procedures.as_slice() {
         if !fits(procedure.slots.as_slice()) {

@@ -12,19 +12,19 @@ use crate::operator::{
     base_of_prefix, combine, is_same, operands_base, prefix_of, use_of, value_base,
 };
 use crate::scope::{require_array, require_scalar};
-use common::OrNoMemory;
-use resolved::expression::{Base, Expression};
+use common::{BaseType, OrNoMemory};
+use resolved::expression::Expression;
 use syntax::{BinaryOperator, Name, UnaryOperator};
 
 /// An expression with the type of its values.
 #[derive(Drop)]
 pub struct TypedExpression {
     pub expression: Expression,
-    pub base: Base,
+    pub base: BaseType,
 }
 
 impl TypedExpression {
-    fn new(expression: Expression, base: Base) -> TypedExpression
+    fn new(expression: Expression, base: BaseType) -> TypedExpression
         ensures { typed_view result ≡
             record { expression = expression_of expression; base = base } }
     {
@@ -38,7 +38,7 @@ impl TypedExpression {
     /// 401 where they have another one.
     #[inline(always)]
     #[tactic(auto, unfolding(crate::specs::Expressions::of_base))]
-    pub fn require_base(self, base: Base, at: usize) -> Result<Expression, TypeFault>
+    pub fn require_base(self, base: BaseType, at: usize) -> Result<Expression, TypeFault>
         ensures { Resolves expression_of result (of_base base at (typed_view self)) }
     {
         if is_same(self.base, base) {
@@ -70,10 +70,10 @@ impl<'a, 'n> BodyScope<'a, 'n> {
     {
         match written {
             syntax::Expression::Integer { value, .. } => {
-                Ok(TypedExpression::new(Expression::Integer(*value), Base::Int))
+                Ok(TypedExpression::new(Expression::Integer(*value), BaseType::Int))
             }
             syntax::Expression::Truth { value, .. } => {
-                Ok(TypedExpression::new(Expression::Logical(*value), Base::Boolean))
+                Ok(TypedExpression::new(Expression::Logical(*value), BaseType::Boolean))
             }
             syntax::Expression::Variable(name) => {
                 let found = require_scalar(self.look_up(name), name.at)?;
@@ -107,7 +107,7 @@ impl<'a, 'n> BodyScope<'a, 'n> {
         let found = require_array(self.look_up(name), name.at)?;
         let index = self
             .resolve_expression(index)?
-            .require_base(Base::Int, index.at())?;
+            .require_base(BaseType::Int, index.at())?;
         let index = Box::new(self.alloc, index)?;
         let element = Expression::Element(found.variable, found.size, index);
         Ok(TypedExpression::new(element, found.base))
@@ -165,7 +165,7 @@ impl<'a, 'n> BodyScope<'a, 'n> {
     #[tactic(auto, unfolding(crate::specs::Expressions::typed_finding))]
     pub fn type_expression(
         &self,
-        base: Base,
+        base: BaseType,
         written: &syntax::Expression<'_>,
     ) -> Result<Expression, TypeFault>
         ensures { Resolves expression_of result

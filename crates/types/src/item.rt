@@ -17,11 +17,11 @@ ghost use Rattle.common.specs.declared.limits.TheConstants.{MAX_TEXT};
 
 use crate::fault::{TypeFault, TypeRefusal, TypeRefusalKind};
 use crate::label::ItemContext;
-use crate::operator::{base_of, is_same};
+use crate::operator::is_same;
 use crate::statement::resolve_size;
 use crate::variables::DeclaredVariables;
-use common::OrNoMemory;
-use resolved::expression::{Base, Value};
+use common::{BaseType, OrNoMemory};
+use resolved::expression::Value;
 use resolved::tables::{Channel, GlobalVariable};
 use syntax::{Constant, GlobalValue};
 
@@ -61,8 +61,8 @@ fn signed_of(negative: bool, value: u32) -> i32
 
 /// The first value of a scalar, which has to be of its type.
 fn require_type(
-    given: Base,
-    base: Base,
+    given: BaseType,
+    base: BaseType,
     value: Value,
     at: usize,
 ) -> Result<(Option<u32>, Value), TypeFault>
@@ -80,18 +80,21 @@ fn require_type(
 }
 
 /// What each element of an array holds at first.
-fn zero_of(base: Base) -> Value
+fn zero_of(base: BaseType) -> Value
     ensures { result ≡ zero_value base }
 {
     match base {
-        Base::Int => Value::Number(0),
-        Base::Boolean => Value::Truth(false),
+        BaseType::Int => Value::Number(0),
+        BaseType::Boolean => Value::Truth(false),
     }
 }
 
 /// The length of a global that is an array, and what its cells hold at first.
 #[tactic(auto, unfolding(crate::specs::Resolution::first_finding))]
-fn resolve_first_value(base: Base, value: &GlobalValue) -> Result<(Option<u32>, Value), TypeFault>
+fn resolve_first_value(
+    base: BaseType,
+    value: &GlobalValue,
+) -> Result<(Option<u32>, Value), TypeFault>
     requires small { IsWrittenGlobalValue Anywhere (IsNameWithin MAX_TEXT) IsInteger
         (global_value_tree value.now) }
     ensures { Resolves first_view result (first_finding base (global_value_tree value.now)) }
@@ -104,13 +107,13 @@ fn resolve_first_value(base: Base, value: &GlobalValue) -> Result<(Option<u32>, 
                 value,
             },
         ) => require_type(
-            Base::Int,
+            BaseType::Int,
             base,
             Value::Number(signed_of(*negative, *value)),
             *at,
         ),
         GlobalValue::Scalar(Constant::Truth { at, value }) => {
-            require_type(Base::Boolean, base, Value::Truth(*value), *at)
+            require_type(BaseType::Boolean, base, Value::Truth(*value), *at)
         }
         GlobalValue::Array(size) => Ok((Some(resolve_size(*size)?), zero_of(base))),
     }
@@ -138,7 +141,7 @@ pub fn resolve_global(
     ensures more { OnOk result (HasMoreLabels 1 variables.old variables.new) }
 {
     let label = context.add_label(variables, &written.label)?;
-    let base = base_of(written.base);
+    let base = written.base;
     let (size, first) = resolve_first_value(base, &written.value)?;
     Ok(GlobalVariable {
         name: String::from_str(context.alloc, written.name.text)?,

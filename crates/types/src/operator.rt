@@ -5,13 +5,14 @@ ghost use Rattle.resolved.specs.WellFormed.{prefix_base, result_base, same_base}
 ghost use Rattle.resolved.specs.TreeOf.{expression_of};
 ghost use Rattle.std.specs.Prelude.{IfOk, ◌≡◌};
 
+use common::BaseType;
 use resolved::expression::Operator::{Bits, Compare, Compute, Divide, Match};
 use resolved::expression::{
-    Base, BitOperator, Computation, Connective, Division, Expression, Operator, Prefix, Relation,
+    BitOperator, Computation, Connective, Division, Expression, Operator, Prefix, Relation,
     Sameness,
 };
 use std::alloc::{AllocError, Global};
-use syntax::{BaseType, BinaryOperator, UnaryOperator};
+use syntax::{BinaryOperator, UnaryOperator};
 
 /// What an operator is made to by the types of its operands.
 #[derive(Clone, Copy, Debug, PartialEq, Eq)]
@@ -22,16 +23,6 @@ pub enum OperatorUse {
     OfEither(Relation, Sameness),
     /// An operator on two truth values, which may leave its right operand alone.
     OfTruths(Connective),
-}
-
-/// Finds the type in a resolved program that a written type stands for.
-pub fn base_of(base: BaseType) -> Base
-    ensures { result ≡ spec.base_of base }
-{
-    match base {
-        BaseType::Int => Base::Int,
-        BaseType::Boolean => Base::Boolean,
-    }
 }
 
 /// Finds the operator in a resolved program that a written operator before its operand stands for.
@@ -45,22 +36,22 @@ pub fn prefix_of(operator: UnaryOperator) -> Prefix
 }
 
 /// Finds the type that an operator wants of its one operand, which is that of its value too.
-pub fn base_of_prefix(prefix: Prefix) -> Base
+pub fn base_of_prefix(prefix: Prefix) -> BaseType
     ensures { result ≡ prefix_base prefix }
 {
     match prefix {
-        Prefix::Negate => Base::Int,
-        Prefix::Not => Base::Boolean,
+        Prefix::Negate => BaseType::Int,
+        Prefix::Not => BaseType::Boolean,
     }
 }
 
 /// Finds the type of the values that an operator on two operands gives.
-pub fn base_of_result(operator: Operator) -> Base
+pub fn base_of_result(operator: Operator) -> BaseType
     ensures { result ≡ result_base operator }
 {
     match operator {
-        Compute(_) | Divide(_) | Bits(_) => Base::Int,
-        Compare(_) | Match(_) => Base::Boolean,
+        Compute(_) | Divide(_) | Bits(_) => BaseType::Int,
+        Compare(_) | Match(_) => BaseType::Boolean,
     }
 }
 
@@ -94,33 +85,33 @@ pub fn use_of(operator: BinaryOperator) -> OperatorUse
 }
 
 /// Tests whether two types are the same.
-pub fn is_same(one: Base, other: Base) -> bool
+pub fn is_same(one: BaseType, other: BaseType) -> bool
     ensures { result ≡ same_base one other }
 {
     match (one, other) {
-        (Base::Int, Base::Int) | (Base::Boolean, Base::Boolean) => true,
-        (Base::Int, Base::Boolean) | (Base::Boolean, Base::Int) => false,
+        (BaseType::Int, BaseType::Int) | (BaseType::Boolean, BaseType::Boolean) => true,
+        (BaseType::Int, BaseType::Boolean) | (BaseType::Boolean, BaseType::Int) => false,
     }
 }
 
 /// Finds the type that both operands of an operator have to have, where the left one has the type `left`.
-pub fn operands_base(used: OperatorUse, left: Base) -> Base
+pub fn operands_base(used: OperatorUse, left: BaseType) -> BaseType
     ensures { result ≡ spec.operands_base used left }
 {
     match used {
-        OperatorUse::OfNumbers(_) => Base::Int,
+        OperatorUse::OfNumbers(_) => BaseType::Int,
         OperatorUse::OfEither(_, _) => left,
-        OperatorUse::OfTruths(_) => Base::Boolean,
+        OperatorUse::OfTruths(_) => BaseType::Boolean,
     }
 }
 
 /// Finds the type of the values that a written operator between its operands gives.
-pub fn value_base(used: OperatorUse) -> Base
+pub fn value_base(used: OperatorUse) -> BaseType
     ensures { result ≡ spec.value_base used }
 {
     match used {
         OperatorUse::OfNumbers(operator) => base_of_result(operator),
-        OperatorUse::OfEither(_, _) | OperatorUse::OfTruths(_) => Base::Boolean,
+        OperatorUse::OfEither(_, _) | OperatorUse::OfTruths(_) => BaseType::Boolean,
     }
 }
 
@@ -132,21 +123,20 @@ pub fn value_base(used: OperatorUse) -> Base
 pub fn combine(
     alloc: Global,
     used: OperatorUse,
-    base: Base,
+    base: BaseType,
     left: Expression,
     right: Expression,
 ) -> Result<Expression, AllocError>
     ensures { IfOk result (λ made. expression_of made ≡
         spec.combined used base (expression_of left) (expression_of right)) }
 {
-    let left = Box::new(alloc, left)?;
-    let right = Box::new(alloc, right)?;
+    let operands = Box::new(alloc, (left, right))?;
     Ok(match used {
-        OperatorUse::OfNumbers(operator) => Expression::Binary(operator, left, right),
+        OperatorUse::OfNumbers(operator) => Expression::Binary(operator, operands),
         OperatorUse::OfEither(on_numbers, on_truths) => match base {
-            Base::Int => Expression::Binary(Compare(on_numbers), left, right),
-            Base::Boolean => Expression::Binary(Match(on_truths), left, right),
+            BaseType::Int => Expression::Binary(Compare(on_numbers), operands),
+            BaseType::Boolean => Expression::Binary(Match(on_truths), operands),
         },
-        OperatorUse::OfTruths(connective) => Expression::Short(connective, left, right),
+        OperatorUse::OfTruths(connective) => Expression::Short(connective, operands),
     })
 }

@@ -4,7 +4,7 @@ ghost use Rattle.indexmap.specs.IndexSet.{contains};
 ghost use Rattle.labels.specs.LabelTable.{label_at};
 ghost use Rattle.types.specs.Finding.{along};
 ghost use Rattle.types.specs.Resolution.{is_thrown, joined_all, next_parameter, next_thrown, procedure_entry_finding, result_finding};
-ghost use Rattle.types.specs.VariableEntries.{AreThrownInside, HasMoreLabels, IsInside, IsOptionInside, IsProcedureInside, IsResultInside};
+ghost use Rattle.types.specs.VariableEntries.{AreThrownLabelsInside, HasMoreLabels, IsInside, IsOptionInside, IsProcedureInside, IsResultInside};
 ghost use Rattle.types.specs.Views.{Resolves, IsLater, item_scope, item_scope_of, point_of, taken, throws_view, top_view};
 ghost use Rattle.resolved.specs.ProgramOf.{procedure_entry, result_entry, thrown_entry, written_at};
 ghost use Rattle.std.specs.Prelude.{[], IfOk, OnOk, length, map, nat_eq, unwrap_or, ◌+◌, ◌*◌, ◌<◌, ◌≡◌, ◌≤◌, ℕ};
@@ -15,7 +15,6 @@ ghost use Rattle.syntax.specs.Tree.{written_result_tree, parameter_tree, procedu
 use crate::body::BodyScope;
 use crate::fault::{TypeFault, TypeRefusal, TypeRefusalKind};
 use crate::label::ItemContext;
-use crate::operator::base_of;
 use crate::scope::{ItemKind, find, require_fresh, require_item};
 use crate::top::result_of;
 use crate::variables::{DeclaredVariables, LabelParts};
@@ -46,10 +45,7 @@ fn resolve_result(
             label: written,
         } => {
             let label = context.add_label(variables, written)?;
-            Ok(Some(ResultType {
-                base: base_of(*base),
-                label,
-            }))
+            Ok(Some(ResultType { base: *base, label }))
         }
     }
 }
@@ -66,7 +62,7 @@ impl<'a, 'n> BodyScope<'a, 'n> {
     {
         let label = self.item_label_context().resolve(&written.label)?;
         require_fresh(self.look_up(&written.name), written.name.at)?;
-        let base = base_of(written.base);
+        let base = written.base;
         let slot = self.make_slot(written.at, base, None, Some(label), &written.name)?;
         self.declare(written.name.text, slot)?;
         Ok(())
@@ -99,13 +95,13 @@ fn add_thrown(
     requires room { length variables.old.labels < most_nodes }
     requires same { (number : ℕ) → contains nat_eq seen.old number ≡
         is_thrown (throws_view variables.old.labels throws.old) number }
-    requires inside { AreThrownInside variables.old.labels throws.old.items }
+    requires inside { AreThrownLabelsInside variables.old.labels throws.old.items }
     ensures made { Resolves (λ _. throws_view variables.new.labels throws.new) result
         (next_thrown (item_scope context.now variables.old)
         (throws_view variables.old.labels throws.old) (thrown_tree written.now)) }
     ensures same { OnOk result ((number : ℕ) → contains nat_eq seen.new number ≡
         is_thrown (throws_view variables.new.labels throws.new) number) }
-    ensures inside { OnOk result (AreThrownInside variables.new.labels throws.new.items) }
+    ensures inside { OnOk result (AreThrownLabelsInside variables.new.labels throws.new.items) }
     ensures more { OnOk result (HasMoreLabels 1 variables.old variables.new) }
 {
     let name = &written.name;
@@ -136,7 +132,7 @@ fn resolve_throws(
         (along (next_thrown (item_scope context.now variables.old)) []
         (map thrown_tree written.now)) }
     ensures inside { IfOk result (λ throws.
-        AreThrownInside variables.new.labels throws.items) }
+        AreThrownLabelsInside variables.new.labels throws.items) }
     ensures more { OnOk result (HasMoreLabels (length written.now) variables.old variables.new) }
 {
     let mut seen = IndexSet::new(context.alloc);

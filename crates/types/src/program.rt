@@ -1,9 +1,9 @@
 //! Whole programs: their tables, and the procedure at which a run begins.
 
 ghost use Rattle.common.specs.Answers.{IfRefused};
-ghost use Rattle.types.specs.Finding.{IsRefusalOf, give};
-ghost use Rattle.types.specs.Resolution.{items_finding, main_finding, next_item, no_tables, program_with, resolution};
-ghost use Rattle.types.specs.Views.{Resolves, AreTablesInside, itself, tables_view, top_view};
+ghost use Rattle.types.specs.Finding.{IsRefusalOf, along, give};
+ghost use Rattle.types.specs.Resolution.{empty_program, main_finding, next_item, resolution};
+ghost use Rattle.types.specs.Views.{Resolves, AreTablesInside, itself, program_with, tables_view, top_view};
 ghost use Rattle.resolved.specs.CoreOf.{program_of};
 ghost use Rattle.std.specs.Prelude.{All, IfErr, IfOk, length, map, sum_by, ◌+◌, ◌<◌, ◌≡◌, ◌≤◌};
 ghost use Rattle.syntax.specs.Limits.{IsOfText, most_nodes};
@@ -38,8 +38,9 @@ pub struct ItemTables {
 }
 
 impl ItemTables {
-    fn empty(alloc: Global) -> Result<ItemTables, AllocError>
-        ensures none { IfOk result (λ tables. tables_view tables ≡ no_tables) }
+    // The tables of no items, with room for as many procedures as there may be among this many items.
+    fn empty(alloc: Global, items: usize) -> Result<ItemTables, AllocError>
+        ensures none { IfOk result (λ tables. tables_view tables ≡ empty_program) }
         ensures inside { IfOk result AreTablesInside }
         ensures few { IfOk result (λ tables. length tables.variables.labels ≡ 1) }
     {
@@ -47,7 +48,7 @@ impl ItemTables {
             variables: DeclaredVariables::new(alloc)?,
             channels: Vec::new(alloc),
             exceptions: Vec::new(alloc),
-            procedures: Vec::new(alloc),
+            procedures: Vec::with_capacity(alloc, items)?,
         })
     }
 
@@ -96,16 +97,15 @@ impl ItemTables {
     }
 
     /// The tables of these items, each kind in the order of the text.
-    #[tactic(auto, unfolding(crate::specs::Resolution::items_finding))]
     pub fn of(context: &ItemContext<'_>, items: &[Item<'_>]) -> Result<ItemTables, TypeFault>
         requires written { All (IsWrittenItem Anywhere (IsNameWithin MAX_TEXT) IsInteger)
             (map item_tree items.now) }
         requires room { sum_by item_nodes (map item_tree items.now) < most_nodes }
         ensures { Resolves tables_view result
-            (items_finding context.now.hierarchy.now (top_view context.now.top.now)
-            (map item_tree items.now)) }
+            (along (next_item context.now.hierarchy.now (top_view context.now.top.now))
+            empty_program (map item_tree items.now)) }
     {
-        let mut tables = ItemTables::empty(context.alloc)?;
+        let mut tables = ItemTables::empty(context.alloc, items.len())?;
         for item in items {
             tables = tables.with_item(context, item)?;
         }

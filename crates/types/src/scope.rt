@@ -9,8 +9,8 @@ ghost use Rattle.std.specs.Prelude.{OnOk, List, [], ◌∷◌, ◌≡◌, ◌≤
 
 use crate::fault::{TypeFault, TypeRefusal, TypeRefusalKind};
 use crate::short_names::ShortNames;
-use common::{Direction, OrNoMemory};
-use resolved::expression::{Base, Variable};
+use common::{BaseType, Direction, OrNoMemory};
+use resolved::expression::Variable;
 use std::alloc::Global;
 use std::collections::BTreeMap;
 
@@ -34,21 +34,21 @@ pub enum ItemKind {
 #[derive(Clone, Copy, Debug, PartialEq, Eq)]
 pub enum Meaning {
     Item(ItemKind, u32),
-    Variable(Variable, Base, Option<u32>),
+    Variable(Variable, BaseType, Option<u32>),
 }
 
 /// A scalar that is used.
 #[derive(Clone, Copy, Debug)]
 pub struct FoundScalar {
     pub variable: Variable,
-    pub base: Base,
+    pub base: BaseType,
 }
 
 /// An array that is used.
 #[derive(Clone, Copy, Debug)]
 pub struct FoundArray {
     pub variable: Variable,
-    pub base: Base,
+    pub base: BaseType,
     pub size: u32,
 }
 

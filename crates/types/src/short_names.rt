@@ -10,8 +10,11 @@ use crate::scope::Meaning;
 use std::alloc::{AllocError, Global};
 use std::collections::BTreeMap;
 
-/// How far hashes of 32 bits are shifted where there is no bucket yet, and in the largest table, which has 65,536 buckets.
+/// How far hashes of 32 bits are shifted where there is no bucket yet, in a table of 16,384 buckets, and in the largest table, which
+/// has 65,536.
 pub const NO_BUCKETS: u32 = 29;
+
+const MANY_BUCKETS: u32 = 18;
 
 pub const MOST_BUCKETS: u32 = 16;
 
@@ -48,7 +51,7 @@ fn bucket_of(number: u128, shift: u32) -> usize
     let second = (number / WORD % WORD) as u64;
     let third = (number / WORD / WORD % WORD) as u64;
     let fourth = (number / WORD / WORD / WORD) as u64;
-    let mixed = first * 506558897 + second * 902613879 + third * 582135357 + fourth * 668265263;
+    let mixed = first * 1735445665 + second * 878098363 + third * 599068319 + fourth * 943391325;
     (mixed % 4294967296 >> shift) as usize
 }
 
@@ -90,13 +93,13 @@ impl ShortNames {
     }
 
     // What the bucket of a number knows.
-    fn bucket(&self, number: u128) -> Bucket
-        ensures { result ≡
+    fn bucket(&self, number: u128) -> &Bucket
+        ensures { result.now ≡
             spec.bucket_at self.now.buckets.items (spec.bucket_of self.now.shift number) }
     {
         match self.buckets.get(bucket_of(number, self.shift)) {
-            Some(bucket) => *bucket,
-            None => Bucket::Shared,
+            Some(bucket) => bucket,
+            None => &Bucket::Shared,
         }
     }
 
@@ -114,10 +117,16 @@ impl ShortNames {
     {
         match self.bucket(number) {
             Bucket::Free => None,
-            Bucket::Alone(kept, meaning) => { if kept == number { Some(meaning) } else { None } }
+            Bucket::Alone(kept, meaning) => {
+                if *kept == number {
+                    Some(*meaning)
+                } else {
+                    None
+                }
+            }
             Bucket::First(kept, meaning) => {
-                if kept == number {
-                    Some(meaning)
+                if *kept == number {
+                    Some(*meaning)
                 } else {
                     self.look_up(number)
                 }
@@ -133,7 +142,7 @@ impl ShortNames {
             (found_short self.new.shift self.new.buckets.items self.new.others)) }
     {
         let at = bucket_of(number, self.shift);
-        match self.bucket(number) {
+        match *self.bucket(number) {
             Bucket::Free => {
                 set_bucket(&mut self.buckets, at, Bucket::Alone(number, meaning));
                 Ok(())
@@ -178,14 +187,26 @@ impl ShortNames {
         }
     }
 
-    // The same by a table of twice as many buckets.
+    // How far hashes are shifted in a table of more buckets: of 16 at first, then of four times as many, and of twice as many where
+    // there are many.
+    fn next_shift(&self) -> u32
+        requires { MOST_BUCKETS < self.now.shift }
+        ensures { result ≤ NO_BUCKETS }
+    {
+        if self.buckets.is_empty() || self.shift <= MANY_BUCKETS {
+            return self.shift - 1;
+        }
+        self.shift - 2
+    }
+
+    // The same by a table of more buckets.
     fn spread(&self, alloc: Global) -> Result<ShortNames, AllocError>
         requires { MOST_BUCKETS < self.now.shift }
         ensures { IfOk result (λ names. (number : ℕ) →
             found_short names.shift names.buckets.items names.others number ≡
             found_short self.now.shift self.now.buckets.items self.now.others number) }
     {
-        let mut names = ShortNames::with_buckets(alloc, self.shift - 1)?;
+        let mut names = ShortNames::with_buckets(alloc, self.next_shift())?;
         for bucket in &self.buckets {
             names.take_over(bucket)?;
         }
@@ -195,7 +216,7 @@ impl ShortNames {
         Ok(names)
     }
 
-    /// Lets a number stand for this from now on. There are twice as many buckets where the map has an eighth as many numbers.
+    /// Lets a number stand for this from now on. There are more buckets where the map has an eighth as many numbers.
     ///
     /// # Errors
     ///
@@ -223,7 +244,7 @@ impl ShortNames {
             (found_short self.new.shift self.new.buckets.items self.new.others) }
     {
         let at = bucket_of(number, self.shift);
-        match self.bucket(number) {
+        match *self.bucket(number) {
             Bucket::Free => {}
             Bucket::Alone(kept, _) => {
                 if kept == number {

@@ -15,8 +15,9 @@ use crate::operator::is_same;
 use crate::scope::{ItemKind, require_array, require_fresh, require_scalar};
 use crate::variables::{LabelParts, NewSlot};
 use common::limits::MAX_ELEMENTS;
-use common::{Direction, OrNoMemory};
-use resolved::expression::{Base, Expression, Variable};
+use common::{BaseType, Direction, OrNoMemory};
+use resolved::expression::{Expression, Variable};
+use resolved::slot_name::SlotName;
 use resolved::statement::{Exit, Statement};
 use std::alloc::AllocError;
 use syntax::{Call, Name, RightSide, Size, WrittenLabel};
@@ -26,7 +27,7 @@ use syntax::{Call, Name, RightSide, Size, WrittenLabel};
 pub struct UsedCall {
     pub procedure: u32,
     pub arguments: Vec<Expression>,
-    pub result: Option<Base>,
+    pub result: Option<BaseType>,
 }
 
 /// Requires that the length of an array is 1 to 65,536, and gives it.
@@ -53,7 +54,7 @@ impl<'a, 'n> BodyScope<'a, 'n> {
     #[tactic(auto, unfolding(crate::specs::Statements::arguments_finding))]
     fn resolve_arguments(
         &self,
-        parameters: &[Base],
+        parameters: &[BaseType],
         written: &[syntax::Expression<'_>],
     ) -> Result<Vec<Expression>, TypeFault>
         ensures { Resolves expressions_of result
@@ -64,7 +65,7 @@ impl<'a, 'n> BodyScope<'a, 'n> {
         for argument in written {
             let base = match parameters.get(arguments.len()) {
                 Some(base) => *base,
-                None => Base::Int,
+                None => BaseType::Int,
             };
             arguments.push(self.type_expression(base, argument)?)?;
         }
@@ -100,7 +101,7 @@ impl<'a, 'n> BodyScope<'a, 'n> {
         &self,
         at: usize,
         target: Variable,
-        base: Base,
+        base: BaseType,
         receive_at: usize,
         channel: &Name<'_>,
     ) -> Result<Statement, TypeFault>
@@ -108,7 +109,7 @@ impl<'a, 'n> BodyScope<'a, 'n> {
             (assigned_finding (signatures_of self.now) (names_of self.now) at target base
             (ReceivedTree receive_at (name_tree channel.now))) }
     {
-        if !is_same(Base::Int, base) {
+        if !is_same(BaseType::Int, base) {
             return Err(OrNoMemory::Refused(TypeRefusal {
                 kind: TypeRefusalKind::WrongType,
                 at: receive_at,
@@ -124,7 +125,7 @@ impl<'a, 'n> BodyScope<'a, 'n> {
         &self,
         at: usize,
         target: Variable,
-        base: Base,
+        base: BaseType,
         value: &RightSide<'_>,
     ) -> Result<Statement, TypeFault>
         ensures { Resolves statement_of result
@@ -162,7 +163,7 @@ impl<'a, 'n> BodyScope<'a, 'n> {
     pub fn make_slot(
         &self,
         at: usize,
-        base: Base,
+        base: BaseType,
         size: Option<u32>,
         label: Option<LabelParts>,
         name: &Name<'_>,
@@ -181,7 +182,7 @@ impl<'a, 'n> BodyScope<'a, 'n> {
             size,
             label,
             at,
-            name: String::from_str(self.alloc, name.text)?,
+            name: SlotName::of(self.alloc, name.text)?,
         })
     }
 
@@ -196,7 +197,7 @@ impl<'a, 'n> BodyScope<'a, 'n> {
     pub fn declare_scalar(
         &mut self,
         at: usize,
-        base: Base,
+        base: BaseType,
         label: &Option<WrittenLabel<'_>>,
         name: &Name<'n>,
         value: &RightSide<'_>,
@@ -228,7 +229,7 @@ impl<'a, 'n> BodyScope<'a, 'n> {
     pub fn declare_array(
         &mut self,
         at: usize,
-        base: Base,
+        base: BaseType,
         written: &Option<WrittenLabel<'_>>,
         name: &Name<'n>,
         size: Size,
@@ -288,7 +289,7 @@ impl<'a, 'n> BodyScope<'a, 'n> {
             (expression_tree value.now))) }
     {
         let found = require_array(self.look_up(name), name.at)?;
-        let index = self.type_expression(Base::Int, index)?;
+        let index = self.type_expression(BaseType::Int, index)?;
         let value = self.type_expression(found.base, value)?;
         Ok(Statement::Store(name.at, found.variable, found.size, index, value))
     }
@@ -342,7 +343,7 @@ impl<'a, 'n> BodyScope<'a, 'n> {
             (SendTree at (name_tree channel.now) (expression_tree value.now))) }
     {
         let number = self.find_item(ItemKind::Channel(Direction::Output), channel)?;
-        Ok(Statement::Send(at, number, self.type_expression(Base::Int, value)?))
+        Ok(Statement::Send(at, number, self.type_expression(BaseType::Int, value)?))
     }
 
     /// Resolves a `throw` of an exception.
@@ -408,7 +409,7 @@ impl<'a, 'n> BodyScope<'a, 'n> {
 }
 
 /// Whether a value that a call gives, if it gives one, has a type.
-fn gives(base: Base, given: Option<Base>) -> bool
+fn gives(base: BaseType, given: Option<BaseType>) -> bool
     ensures { result ≡ spec.gives_base base given }
 {
     match given {

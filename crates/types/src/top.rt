@@ -1,8 +1,8 @@
 //! The top level of a program: what the names of its items stand for.
 
 ghost use Rattle.common.specs.declared.exceptions.TheConstants.{BUILT_IN};
-ghost use Rattle.types.specs.Finding.{give};
-ghost use Rattle.types.specs.Resolution.{built_in, size_of, item_meaning, item_name, next_name, result_base_of, signature_of, top_finding};
+ghost use Rattle.types.specs.Finding.{along, give};
+ghost use Rattle.types.specs.Resolution.{built_in, size_of, item_meaning, item_name, next_name, result_base_of, signature_of};
 ghost use Rattle.types.specs.Statements as spec;
 ghost use Rattle.types.specs.Views.{Resolves, signature_view, top_view};
 ghost use Rattle.std.specs.Prelude.{IfOk, OnOk, length, map, ◌+◌, ◌<◌, ◌≡◌};
@@ -10,18 +10,18 @@ ghost use Rattle.syntax.specs.Limits.{most_nodes};
 ghost use Rattle.syntax.specs.Tree.{global_value_tree, item_tree, name_tree, written_result_tree, procedure_tree};
 
 use crate::fault::TypeFault;
-use crate::operator::base_of;
 use crate::scope::{ItemKind, Meaning, Names, find, insert, require_fresh};
+use common::BaseType;
 use common::exceptions::{ARITH, ARITH_NAME, BOUNDS, BOUNDS_NAME, BUILT_IN, END, END_NAME};
-use resolved::expression::{Base, Variable};
+use resolved::expression::Variable;
 use std::alloc::{AllocError, Global};
 use syntax::{GlobalValue, Item, Name, Procedure, WrittenResult};
 
 /// What a call has to know of a procedure: the types of its parameters, and the type of its value, if it gives one.
 #[derive(Drop)]
 pub struct CodeSignature {
-    pub parameters: Vec<Base>,
-    pub result: Option<Base>,
+    pub parameters: Vec<BaseType>,
+    pub result: Option<BaseType>,
 }
 
 /// What the names of the top level stand for, how many items there are of each kind, and the signatures of the procedures.
@@ -45,12 +45,12 @@ pub fn size_of_global(value: &GlobalValue) -> Option<u32>
 }
 
 /// The type of the value that a procedure gives, if it gives one.
-pub fn result_of(written: &WrittenResult<'_>) -> Option<Base>
+pub fn result_of(written: &WrittenResult<'_>) -> Option<BaseType>
     ensures { result ≡ result_base_of (written_result_tree written.now) }
 {
     match written {
         WrittenResult::Nothing => None,
-        WrittenResult::Value { base, .. } => Some(base_of(*base)),
+        WrittenResult::Value { base, .. } => Some(*base),
     }
 }
 
@@ -60,7 +60,7 @@ fn make_signature(alloc: Global, procedure: &Procedure<'_>) -> Result<CodeSignat
 {
     let mut parameters = Vec::new(alloc);
     for parameter in &procedure.parameters {
-        parameters.push(base_of(parameter.base))?;
+        parameters.push(parameter.base)?;
     }
     Ok(CodeSignature {
         parameters,
@@ -82,7 +82,7 @@ fn name_of<'t, 'a>(item: &'t Item<'a>) -> &'t Name<'a>
 
 impl TopNames {
     /// The types of the parameters of a procedure, and the type of its value, if it gives one.
-    pub fn signature(&self, procedure: u32) -> (&[Base], Option<Base>)
+    pub fn signature(&self, procedure: u32) -> (&[BaseType], Option<BaseType>)
         ensures parameters { result.0.now ≡
             (spec.signature_at (map signature_view self.now.signatures.items)
             procedure).parameters }
@@ -139,7 +139,7 @@ impl TopNames {
             Item::Exception { .. } => Meaning::Item(ItemKind::Exception, self.exceptions),
             Item::Global(global) => Meaning::Variable(
                 Variable::Global(self.globals),
-                base_of(global.base),
+                global.base,
                 size_of_global(&global.value),
             ),
             Item::Procedure(_) => {
@@ -175,10 +175,9 @@ impl TopNames {
     }
 
     /// The top level of these items.
-    #[tactic(auto, unfolding(crate::specs::Resolution::top_finding))]
     pub fn of(alloc: Global, items: &[Item<'_>]) -> Result<TopNames, TypeFault>
         requires { length items.now < most_nodes }
-        ensures { Resolves top_view result (top_finding (map item_tree items.now)) }
+        ensures { Resolves top_view result (along next_name built_in (map item_tree items.now)) }
     {
         let mut top = TopNames::declare_built_in(alloc)?;
         for item in items {

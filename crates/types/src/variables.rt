@@ -8,8 +8,9 @@ ghost use Rattle.syntax.specs.Limits.{most_nodes};
 ghost use Rattle.types.specs.VariableEntries.{AreSlotsInside, HasMoreLabels, IsInside, IsOptionInside, IsSlotAdded, label_with, optional_label_with};
 ghost use Rattle.types.specs.Views.{new_slot_entry};
 
+use common::BaseType;
 use labels::{LabelTable, Policy};
-use resolved::expression::Base;
+use resolved::slot_name::SlotName;
 use resolved::tables::{GlobalVariable, Slot};
 use std::alloc::{AllocError, Global};
 use std::marker::Model;
@@ -49,11 +50,11 @@ impl LabelParts {
 /// byte at which its declaration begins, and its name.
 #[derive(Drop)]
 pub struct NewSlot {
-    pub base: Base,
+    pub base: BaseType,
     pub size: Option<u32>,
     pub label: Option<LabelParts>,
     pub at: usize,
-    pub name: String,
+    pub name: SlotName,
 }
 
 /// The globals that are declared so far, the slots of the procedure that is resolved, and the table of labels, in which they name

@@ -2,8 +2,8 @@
 use Rattle.std.proofs.Common.{◌≡◌, ℕ, ◌+◌, ◌<◌, zero, suc, ◌*◌, ◌-◌, ◌≤◌, ◌/◌, List, [], ◌∷◌, ◌++◌, length, map, reverse, take, drop, get_or, min, Some, refl, sym, ap, ◌∙◌, arith, length-append}
 use Rattle.std.proofs.lemmas.List.{length-reverse, length-take, reverse-append, take_min, take_more}
 use Rattle.modules.specs.Machine.{kinds_of}
-use Rattle.modules.specs.declared.value.ValueKind.{ValueKind}
-use Rattle.modules.specs.declared.value.ValueKind.TheVariants.{Int}
+use Rattle.common.specs.declared.base_type.BaseType.{BaseType}
+use Rattle.common.specs.declared.base_type.BaseType.TheVariants.{Int}
 use Rattle.modules.specs.declared.declaration.Slot.{Slot}
 use Rattle.modules.specs.declared.declaration.Slot.TheVariants.{Scalar, Array}
 use Rattle.verifier.specs.Flow.{Effect, Leaves, Misses, all_popped, and_then, popped}
@@ -24,7 +24,7 @@ length-kinds_of (Scalar kind ∷ slots) = ap suc (length-kinds_of slots)
 length-kinds_of (Array kind count ∷ slots) = ap suc (length-kinds_of slots)
 
 -- the kinds of the first this many slots, the last one first
-abbrev pub reversed : ℕ → List Slot → List ValueKind
+abbrev pub reversed : ℕ → List Slot → List BaseType
 reversed count slots = reverse (kinds_of (take count slots))
 
 pub length-reversed : (count : ℕ) (slots : List Slot) → count ≤ length slots → length (reversed count slots) ≡ count
@@ -54,14 +54,14 @@ module _ (slots : List Slot) (k count : ℕ) (d : Slot) (more : count ≡ k + 1)
       let sum : bits * 2 + kind ≡ packed (suc n) (slot_kind (Some (get_or slots k d)) ∷ reversed k slots) = omega (arith, is, same) in
       sum ∙ ap (λ (j : ℕ). packed j (slot_kind (Some (get_or slots k d)) ∷ reversed k slots)) one ∙ ap (packed (n + 1)) (sym (reversed_more slots k count d more inside))
 
-  module _ (kind : ValueKind) (is : kind ≡ slot_kind (Some (get_or slots k d))) (kinds : List ValueKind) where
+  module _ (kind : BaseType) (is : kind ≡ slot_kind (Some (get_or slots k d))) (kinds : List BaseType) where
     first_of : (e : Effect) → popped (Some kind) kinds ≡ e → all_popped (map (λ kind. Some kind) (reverse (kinds_of (take count slots)))) kinds ≡ and_then e (all_popped (map (λ kind. Some kind) (reverse (kinds_of (take k slots)))))
     first_of e popped_is =
         ap (λ wanted. all_popped wanted kinds) wanted_more
         ∙ ap (λ first. and_then (popped (Some first) kinds) (all_popped (map (λ kind. Some kind) (reverse (kinds_of (take k slots)))))) (sym is)
         ∙ ap (λ first. and_then first (all_popped (map (λ kind. Some kind) (reverse (kinds_of (take k slots)))))) popped_is
 
-    pub pop_step : (rest : List ValueKind) → popped (Some kind) kinds ≡ Leaves rest → all_popped (map (λ kind. Some kind) (reverse (kinds_of (take count slots)))) kinds ≡ all_popped (map (λ kind. Some kind) (reverse (kinds_of (take k slots)))) rest
+    pub pop_step : (rest : List BaseType) → popped (Some kind) kinds ≡ Leaves rest → all_popped (map (λ kind. Some kind) (reverse (kinds_of (take count slots)))) kinds ≡ all_popped (map (λ kind. Some kind) (reverse (kinds_of (take k slots)))) rest
     pop_step rest e = first_of (Leaves rest) e
 
     pub pop_fail : (wrong : CodeRefusalKind) → popped (Some kind) kinds ≡ Misses wrong → all_popped (map (λ kind. Some kind) (reverse (kinds_of (take count slots)))) kinds ≡ Misses wrong
@@ -70,13 +70,13 @@ module _ (slots : List Slot) (k count : ℕ) (d : Slot) (more : count ≡ k + 1)
 -- ---- the blocks of parameters
 
 -- the blocks so far, and the slots that are left
-pub record IsPacking (kinds : List ValueKind) (slots : List Slot) (bs : List ℕ) (count : ℕ) : Type 0 where
+pub record IsPacking (kinds : List BaseType) (slots : List Slot) (bs : List ℕ) (count : ℕ) : Type 0 where
   pub inside : count ≤ length slots
   pub many : length bs * 64 + count ≡ length kinds
   pub left : drop (length bs * 64) kinds ≡ reversed count slots
   pub blocks_are : bs ≡ blocks (length bs) kinds
 
-pub packing_more : (kinds : List ValueKind) (slots : List Slot) (bs more : List ℕ) (block count : ℕ) (d : Slot) → IsPacking kinds slots bs count → 64 ≤ count → block ≡ packed 64 (reversed count slots) → more ≡ bs ++ block ∷ [] → IsPacking kinds slots more (count - 64)
+pub packing_more : (kinds : List BaseType) (slots : List Slot) (bs more : List ℕ) (block count : ℕ) (d : Slot) → IsPacking kinds slots bs count → 64 ≤ count → block ≡ packed 64 (reversed count slots) → more ≡ bs ++ block ∷ [] → IsPacking kinds slots more (count - 64)
 packing_more kinds slots bs more block count d p full is e =
     let one : length more ≡ length bs + 1 = omega (arith, ap length e, length-append bs (block ∷ [])) in
     let at : length bs * 64 + 64 ≡ length more * 64 = omega (arith, one) in

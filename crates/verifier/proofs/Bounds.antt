@@ -2,7 +2,7 @@
 use Rattle.std.proofs.Common.{◌≡◌, ℕ, zero, suc, ◌<◌, ◌^◌, true, List, [], ◌∷◌, ◌++◌, length, slice_get, Some, None, subst}
 use Rattle.modules.specs.Code.{code_length}
 use Rattle.modules.specs.Contents.{ProcedureContents, ModuleContents}
-use Rattle.modules.specs.Form.{Fits, FitEach}
+use Rattle.modules.specs.ByteFormat.{Fits, FitEach}
 use Rattle.modules.specs.Format.{may_start, main, handlers, procedure, procedures, program, contents, module_file}
 use Rattle.modules.specs.declared.version.Version.{Version}
 use Rattle.modules.proofs.Widths.{procedure_short}

@@ -12,7 +12,7 @@ use Rattle.labels.specs.Words.{has_bit, word}
 use Rattle.verifier.specs.Numbers.{number_of}
 use Rattle.verifier.specs.Starts.{HasCounts, number_at, numbers_of, starts_before}
 
--- ---- places without numbers
+-- ---- indices without numbers
 
 pub unmarked : (count : ℕ) → map number_of (replicate count 0) ≡ replicate count None
 unmarked zero = refl

@@ -5,12 +5,12 @@ use Rattle.modules.specs.Contents.{ProcedureContents, ModuleContents}
 use Rattle.modules.specs.Code.{width_of}
 use Rattle.modules.specs.Values.{is_same_kind}
 use Rattle.modules.specs.declared.instruction.Instruction.{Instruction}
-use Rattle.modules.specs.declared.instruction.Instruction.TheVariants.{Push, PushBoolean, Pop, Load, Store, LoadGlobal, StoreGlobal, LoadElement, StoreElement, LoadGlobalElement, StoreGlobalElement, Clear, Compute, Negate, Not, Compare, SameBoolean, OtherBoolean, Jump, JumpIfFalse, Call, Return, ReturnValue, Receive, Send, Throw}
-use Rattle.modules.specs.declared.value.ValueKind.{ValueKind}
-use Rattle.modules.specs.declared.value.ValueKind.TheVariants.{Int}
+use Rattle.modules.specs.declared.instruction.Instruction.TheVariants.{Jump, Return, ReturnValue, Throw}
+use Rattle.common.specs.declared.base_type.BaseType.{BaseType}
+use Rattle.common.specs.declared.base_type.BaseType.TheVariants.{Int}
 use Rattle.verifier.specs.Depth.{IsMet, IsGreatestDepth, found, left}
 use Rattle.verifier.specs.Flow.{Effect, Leaves, Misses, all_popped, and_then, exchanged, next, pushed}
-use Rattle.verifier.specs.Signatures.{Signature, signature}
+use Rattle.verifier.specs.Signatures.{InstructionSignature, signature}
 use Rattle.modules.specs.Targets.{goes_on}
 use Rattle.verifier.specs.Operands.{greatest, list_of, IsShared}
 use Rattle.verifier.specs.Index.{index_of}
@@ -42,7 +42,7 @@ greatest_there (x ∷ links) = elim (max_cases x.depth (greatest links)) [
   ]
 ]
 
-module _ (lists : List (List ValueKind)) (links : List Link) (ints booleans : List (Option ℕ)) (s : IsShared lists links ints booleans) where
+module _ (lists : List (List BaseType)) (links : List Link) (ints booleans : List (Option ℕ)) (s : IsShared lists links ints booleans) where
   no_link : Link
   no_link = record { kind = Int; below = 0; depth = 0; bits = 0; skip = 0 }
 
@@ -61,7 +61,7 @@ module _ (lists : List (List ValueKind)) (links : List Link) (ints booleans : Li
 
 -- ---- where nothing is pushed, no more is left than was found
 
-popped_less : (wanted : List (Option ValueKind)) (kinds rest : List ValueKind) → all_popped wanted kinds ≡ Leaves rest → length rest ≤ length kinds
+popped_less : (wanted : List (Option BaseType)) (kinds rest : List BaseType) → all_popped wanted kinds ≡ Leaves rest → length rest ≤ length kinds
 popped_less [] kinds rest e = omega (arith, ap length (leaves_same kinds rest e))
 popped_less (w ∷ wanted) [] rest e = absurd (cc)
 popped_less (None ∷ wanted) (kind ∷ kinds) rest e = omega (arith, popped_less wanted kinds rest e)
@@ -71,56 +71,35 @@ popped_less (Some w ∷ wanted) (kind ∷ kinds) rest e = split (λ more. popped
     split less true e = omega (arith, less e)
     split less false e = absurd (cc)
 
-left_less : (b : Bool) (s : Signature) (kinds after : List ValueKind) → (if b then exchanged s kinds else Misses OperandKind) ≡ Leaves after → s.pushes ≡ None → length after ≤ length kinds
+left_less : (b : Bool) (s : InstructionSignature) (kinds after : List BaseType) → (if b then exchanged s kinds else Misses OperandKind) ≡ Leaves after → s.pushes ≡ None → length after ≤ length kinds
 left_less false s kinds after e none = absurd (cc)
 left_less true s kinds after e none = split (all_popped s.pops kinds) refl e
   where
     split : (popped : Effect) → all_popped s.pops kinds ≡ popped → and_then popped (λ rest. Leaves (pushed s.pushes rest)) ≡ Leaves after → length after ≤ length kinds
     split (Misses wrong) is e = absurd (cc)
-    split (Leaves rest) is e = omega (arith, popped_less s.pops kinds rest is, ap length (leaves_same (pushed s.pushes rest) after e), ap (λ (o : Option ValueKind). length (pushed o rest)) none)
+    split (Leaves rest) is e = omega (arith, popped_less s.pops kinds rest is, ap length (leaves_same (pushed s.pushes rest) after e), ap (λ (o : Option BaseType). length (pushed o rest)) none)
 
 -- an instruction after which control does not go on pushes nothing
 settles : (m : ModuleContents) (p : ProcedureContents) (i : Instruction) → (goes_on i ≡ true) ⊎ ((signature m p i).pushes ≡ None)
-settles m p (Push n) = inl refl
-settles m p (PushBoolean b) = inl refl
-settles m p Pop = inl refl
-settles m p (Load k) = inl refl
-settles m p (Store k) = inl refl
-settles m p (LoadGlobal k) = inl refl
-settles m p (StoreGlobal k) = inl refl
-settles m p (LoadElement k) = inl refl
-settles m p (StoreElement k) = inl refl
-settles m p (LoadGlobalElement k) = inl refl
-settles m p (StoreGlobalElement k) = inl refl
-settles m p (Clear k) = inl refl
-settles m p (Compute operator) = inl refl
-settles m p Negate = inl refl
-settles m p Not = inl refl
-settles m p (Compare comparison) = inl refl
-settles m p SameBoolean = inl refl
-settles m p OtherBoolean = inl refl
 settles m p (Jump target) = inr refl
-settles m p (JumpIfFalse target) = inl refl
-settles m p (Call callee) = inl refl
 settles m p Return = inr refl
 settles m p ReturnValue = inr refl
-settles m p (Receive channel) = inl refl
-settles m p (Send channel) = inl refl
 settles m p (Throw exception) = inr refl
+settles m p i = inl refl
 
 -- ---- the lists of a search that is finished
 
-transition_there : (lists : List (List ValueKind)) (o : Option ℕ) (kinds : List ValueKind) → list_for lists o ≡ Some kinds → ((n : ℕ) → o ≡ Some n → n < length lists) → (k : ℕ) × ((k < length lists) × (length kinds ≤ length (list_of lists k)))
+transition_there : (lists : List (List BaseType)) (o : Option ℕ) (kinds : List BaseType) → list_for lists o ≡ Some kinds → ((n : ℕ) → o ≡ Some n → n < length lists) → (k : ℕ) × ((k < length lists) × (length kinds ≤ length (list_of lists k)))
 transition_there lists None kinds e h = absurd (let no : None ≡ Some kinds = e in cc)
 transition_there lists (Some n) kinds e h = let some : Some (list_of lists n) ≡ Some kinds = e in let same : list_of lists n ≡ kinds = cc in (n, (h n refl, omega (arith, ap length same)))
 
 pub run_longest : (m : ModuleContents) (p : ProcedureContents) (s : ReachedOffsets) → IsSearching m p s [] → length s.work ≡ 0 → HaveLongest m p s.operands
 run_longest m p s g empty = record { met = g.met; longest = along }
   where
-    in_table : (at : ℕ) (kinds : List ValueKind) → table p s at ≡ Some kinds → (k : ℕ) × ((k < length s.operands) × (length kinds ≤ length (list_of s.operands k)))
+    in_table : (at : ℕ) (kinds : List BaseType) → table p s at ≡ Some kinds → (k : ℕ) × ((k < length s.operands) × (length kinds ≤ length (list_of s.operands k)))
     in_table at kinds has = transition_there s.operands (shape_at p s at) kinds has (shape_known s.shapes (length s.operands) g.numbers (get_or (index_of p.code) at None))
 
-    along : (kinds : List ValueKind) → IsMet m p kinds → (k : ℕ) × ((k < length s.operands) × (length kinds ≤ length (list_of s.operands k)))
+    along : (kinds : List BaseType) → IsMet m p kinds → (k : ℕ) × ((k < length s.operands) × (length kinds ≤ length (list_of s.operands k)))
     along _ (found flowing at kinds f has) = in_table at kinds (flow_within m p (table p s) flowing (table_finished m p s g (no_items s.work empty)) f at kinds has)
     along _ (left flowing at kinds i after f has is e) =
         let finished = table_finished m p s g (no_items s.work empty) in
@@ -130,7 +109,7 @@ run_longest m p s g empty = record { met = g.met; longest = along }
           | inr none ↦ let r = in_table at kinds here in (r.0, (r.1.0, omega (arith, r.1.1, left_less (signature m p i).own (signature m p i) kinds after e none)))
         ]
 
-pub is_greatest : (m : ModuleContents) (p : ProcedureContents) (lists : List (List ValueKind)) (depth : ℕ) → HaveLongest m p lists → ((k : ℕ) → k < length lists → length (list_of lists k) ≤ depth) → (k : ℕ) × ((k < length lists) × (length (list_of lists k) ≡ depth)) → IsGreatestDepth m p depth
+pub is_greatest : (m : ModuleContents) (p : ProcedureContents) (lists : List (List BaseType)) (depth : ℕ) → HaveLongest m p lists → ((k : ℕ) → k < length lists → length (list_of lists k) ≤ depth) → (k : ℕ) × ((k < length lists) × (length (list_of lists k) ≡ depth)) → IsGreatestDepth m p depth
 is_greatest m p lists depth h bounds there = record {
   bounds = λ kinds is. let l = h.longest kinds is in omega (arith, l.1.1, bounds l.0 l.1.0);
   met = (list_of lists there.0, (h.met there.0 there.1.0, there.1.1));

@@ -5,8 +5,8 @@ use Rattle.std.specs.Prelude.{nat_lt}
 use Rattle.std.proofs.lemmas.Bool.{eqb-true}
 use Rattle.modules.specs.Machine.{element_at, with_element, scalar_cell, first_cells, first_slot, first_slots, first_global, slot_of, cells_of_global, kinds_of}
 use Rattle.modules.specs.Values.{kind_of, zero_of, is_same_kind}
-use Rattle.modules.specs.declared.value.ValueKind.{ValueKind}
-use Rattle.modules.specs.declared.value.ValueKind.TheVariants as kind
+use Rattle.common.specs.declared.base_type.BaseType.{BaseType}
+use Rattle.common.specs.declared.base_type.BaseType.TheVariants as kind
 use Rattle.modules.specs.declared.value.Cell.{Cell}
 use Rattle.modules.specs.declared.declaration.Slot.{Slot}
 use Rattle.modules.specs.declared.declaration.Slot.TheVariants as slot
@@ -14,39 +14,39 @@ use Rattle.modules.specs.declared.declaration.Global.{Global}
 use Rattle.modules.specs.declared.declaration.Global.TheVariants as global
 use Rattle.verifier.specs.Signatures.{slot_kind}
 
-abbrev pub AllOf : ValueKind → List Cell → Type 0
+abbrev pub AllOf : BaseType → List Cell → Type 0
 AllOf kind [] = Unit {0}
 AllOf kind (x ∷ cells) = (kind_of x ≡ kind) × AllOf kind cells
 
-pub same_of : (a b : ValueKind) → is_same_kind a b ≡ true → a ≡ b
+pub same_of : (a b : BaseType) → is_same_kind a b ≡ true → a ≡ b
 same_of kind.Int kind.Int e = refl
 same_of kind.Int kind.Boolean e = absurd (let no : false ≡ true = e in cc)
 same_of kind.Boolean kind.Int e = absurd (let no : false ≡ true = e in cc)
 same_of kind.Boolean kind.Boolean e = refl
 
-zero_kind : (q : ValueKind) → kind_of (zero_of q) ≡ q
+zero_kind : (q : BaseType) → kind_of (zero_of q) ≡ q
 zero_kind kind.Int = refl
 zero_kind kind.Boolean = refl
 
-pub all_zero : (n : ℕ) (q : ValueKind) → AllOf q (replicate n (zero_of q))
+pub all_zero : (n : ℕ) (q : BaseType) → AllOf q (replicate n (zero_of q))
 all_zero zero q = tt
 all_zero (suc n) q = (zero_kind q, all_zero n q)
 
-all_get : (q : ValueKind) (cells : List Cell) (k : ℕ) (x : Cell) → AllOf q cells → slice_get cells k ≡ Some x → kind_of x ≡ q
+all_get : (q : BaseType) (cells : List Cell) (k : ℕ) (x : Cell) → AllOf q cells → slice_get cells k ≡ Some x → kind_of x ≡ q
 all_get q [] k x h e = absurd (let no : None ≡ Some x = e in cc)
 all_get q (y ∷ cells) zero x h e = let same : y ≡ x = cc in ap kind_of (sym same) ∙ h.0
 all_get q (y ∷ cells) (suc k) x h e = all_get q cells k x h.1 e
 
-all_set : (q : ValueKind) (cells : List Cell) (k : ℕ) (x : Cell) → AllOf q cells → kind_of x ≡ q → AllOf q (slice_set cells k x)
+all_set : (q : BaseType) (cells : List Cell) (k : ℕ) (x : Cell) → AllOf q cells → kind_of x ≡ q → AllOf q (slice_set cells k x)
 all_set q [] k x h e = tt
 all_set q (y ∷ cells) zero x h e = (e, h.1)
 all_set q (y ∷ cells) (suc k) x h e = (h.0, all_set q cells k x h.1 e)
 
-pub element_kind : (q : ValueKind) (cells : List Cell) (i : ℤ) (x : Cell) → AllOf q cells → element_at cells i ≡ Some x → kind_of x ≡ q
+pub element_kind : (q : BaseType) (cells : List Cell) (i : ℤ) (x : Cell) → AllOf q cells → element_at cells i ≡ Some x → kind_of x ≡ q
 element_kind q cells (pos k) x h e = all_get q cells k x h e
 element_kind q cells (negsuc k) x h e = absurd (let no : None ≡ Some x = e in cc)
 
-pub with_element_kind : (q : ValueKind) (cells : List Cell) (i : ℤ) (x : Cell) (new : List Cell) → AllOf q cells → kind_of x ≡ q → with_element cells i x ≡ Some new → AllOf q new
+pub with_element_kind : (q : BaseType) (cells : List Cell) (i : ℤ) (x : Cell) (new : List Cell) → AllOf q cells → kind_of x ≡ q → with_element cells i x ≡ Some new → AllOf q new
 with_element_kind q cells (pos k) x new h e is = split (nat_lt k (length cells)) is
   where
     split : (b : Bool) → (if b then Some (slice_set cells k x) else None) ≡ Some new → AllOf q new
@@ -54,7 +54,7 @@ with_element_kind q cells (pos k) x new h e is = split (nat_lt k (length cells))
     split false is = absurd (let no : None ≡ Some new = is in cc)
 with_element_kind q cells (negsuc k) x new h e is = absurd (let no : None ≡ Some new = is in cc)
 
-pub scalar_kind : (q : ValueKind) (cells : List Cell) → AllOf q cells → kind_of (scalar_cell q cells) ≡ q
+pub scalar_kind : (q : BaseType) (cells : List Cell) → AllOf q cells → kind_of (scalar_cell q cells) ≡ q
 scalar_kind q [] h = zero_kind q
 scalar_kind q (x ∷ cells) h = h.0
 
@@ -78,7 +78,7 @@ first_kind : (s : Slot) → AllOf (slot_kind (Some s)) (first_cells s)
 first_kind (slot.Scalar q) = (zero_kind q, tt)
 first_kind (slot.Array q count) = all_zero count q
 
-parameter_kind : (slots : List Slot) (n k : ℕ) (q : ValueKind) (s : Slot) → slice_get (kinds_of (take n slots)) k ≡ Some q → slice_get slots k ≡ Some s → q ≡ slot_kind (Some s)
+parameter_kind : (slots : List Slot) (n k : ℕ) (q : BaseType) (s : Slot) → slice_get (kinds_of (take n slots)) k ≡ Some q → slice_get slots k ≡ Some s → q ≡ slot_kind (Some s)
 parameter_kind [] n k q s e is = absurd (let no : None ≡ Some s = is in cc)
 parameter_kind (x ∷ slots) zero k q s e is = absurd (let no : None ≡ Some q = e in cc)
 parameter_kind (slot.Scalar r ∷ slots) (suc n) zero q s e is = let same : r ≡ q = cc in let slot_is : slot.Scalar r ≡ s = cc in sym same ∙ ap (λ (x : Slot). slot_kind (Some x)) slot_is

@@ -5,39 +5,39 @@ use Rattle.std.proofs.lemmas.Bool.Decides.{nat_tests}
 use Rattle.std.proofs.lemmas.Bool.{eqb-true, cases_eq}
 use Rattle.modules.specs.Contents.{ProcedureContents, ModuleContents}
 use Rattle.modules.specs.Code.{code_length, instruction_at}
-use Rattle.modules.specs.declared.value.ValueKind.{ValueKind}
+use Rattle.common.specs.declared.base_type.BaseType.{BaseType}
 use Rattle.modules.specs.declared.instruction.Instruction.{Instruction}
 use Rattle.verifier.specs.declared.fault.CodeRefusalKind.{CodeRefusalKind}
 use Rattle.verifier.specs.Flow.{Edge, Flow, starts, grows, nowhere, effect, Misses, IsRefusedForOperands, misses, meets, falls, FlowsWell, between}
-use Rattle.modules.specs.declared.value.ValueKind.TheVariants.{Int, Boolean}
+use Rattle.common.specs.declared.base_type.BaseType.TheVariants.{Int, Boolean}
 use Rattle.verifier.specs.declared.fault.CodeRefusalKind.TheVariants.{FallsOffEnd}
 
 -- a table that is finished: it has the start, keeps every edge, each of its instructions finds its operands, and none is at the end
-pub record IsFinished (m : ModuleContents) (p : ProcedureContents) (table : ℕ → Option (List ValueKind)) : Type 0 where
+pub record IsFinished (m : ModuleContents) (p : ProcedureContents) (table : ℕ → Option (List BaseType)) : Type 0 where
   pub first : table 0 ≡ Some []
-  pub finds : (at : ℕ) (kinds : List ValueKind) (i : Instruction) (wrong : CodeRefusalKind) → table at ≡ Some kinds → instruction_at p.code at ≡ Some i → effect m p i kinds ≡ Misses wrong → ⊥
-  pub keeps : (at : ℕ) (kinds : List ValueKind) (to : ℕ) (after : List ValueKind) → table at ≡ Some kinds → Edge m p at kinds to after → table to ≡ Some after
+  pub finds : (at : ℕ) (kinds : List BaseType) (i : Instruction) (wrong : CodeRefusalKind) → table at ≡ Some kinds → instruction_at p.code at ≡ Some i → effect m p i kinds ≡ Misses wrong → ⊥
+  pub keeps : (at : ℕ) (kinds : List BaseType) (to : ℕ) (after : List BaseType) → table at ≡ Some kinds → Edge m p at kinds to after → table to ≡ Some after
   pub none_at_end : table (code_length p.code) ≡ None
 
 pub same_self : (a : ℕ) → a == a ≡ true
 same_self a = grind (arith, nat_tests)
 
 -- a changed table has the new list or an old one
-pub changed_cases : (table : ℕ → Option (List ValueKind)) (to : ℕ) (after : List ValueKind) (at : ℕ) (kinds : List ValueKind) → updated table to (Some after) at ≡ Some kinds → ((at ≡ to) × (after ≡ kinds)) ⊎ (table at ≡ Some kinds)
+pub changed_cases : (table : ℕ → Option (List BaseType)) (to : ℕ) (after : List BaseType) (at : ℕ) (kinds : List BaseType) → updated table to (Some after) at ≡ Some kinds → ((at ≡ to) × (after ≡ kinds)) ⊎ (table at ≡ Some kinds)
 changed_cases table to after at kinds e = split (at == to) refl e
   where
     split : (b : Bool) → at == to ≡ b → (if b then Some after else table at) ≡ Some kinds → ((at ≡ to) × (after ≡ kinds)) ⊎ (table at ≡ Some kinds)
     split true t e = inl (eqb-true at to t, (cc))
     split false f e = inr e
 
-pub changed_at : (table : ℕ → Option (List ValueKind)) (to : ℕ) (after : List ValueKind) → updated table to (Some after) to ≡ Some after
+pub changed_at : (table : ℕ → Option (List BaseType)) (to : ℕ) (after : List BaseType) → updated table to (Some after) to ≡ Some after
 changed_at table to after = ap (λ (b : Bool). if b then Some after else table to) (same_self to)
 
-pub flow_within : (m : ModuleContents) (p : ProcedureContents) (finished table : ℕ → Option (List ValueKind)) → IsFinished m p finished → Flow m p table → (at : ℕ) (kinds : List ValueKind) → table at ≡ Some kinds → finished at ≡ Some kinds
+pub flow_within : (m : ModuleContents) (p : ProcedureContents) (finished table : ℕ → Option (List BaseType)) → IsFinished m p finished → Flow m p table → (at : ℕ) (kinds : List BaseType) → table at ≡ Some kinds → finished at ≡ Some kinds
 flow_within m p finished _ d starts at kinds e =
     elim (changed_cases nowhere 0 [] at kinds e) [
       | inl h ↦ subst (λ a. finished a ≡ Some kinds) (sym h.0) (d.first ∙ ap Some h.1)
-      | inr h ↦ absurd (let no : ◌≡◌ {A = Option (List ValueKind)} None (Some kinds) = h in cc)
+      | inr h ↦ absurd (let no : ◌≡◌ {A = Option (List BaseType)} None (Some kinds) = h in cc)
     ]
 flow_within m p finished _ d (grows table from before to after f has edge none) at kinds e =
     elim (changed_cases table to after at kinds e) [
@@ -45,7 +45,7 @@ flow_within m p finished _ d (grows table from before to after f has edge none) 
       | inr h ↦ flow_within m p finished table d f at kinds h
     ]
 
-pub flows_well : (m : ModuleContents) (p : ProcedureContents) (finished : ℕ → Option (List ValueKind)) → IsFinished m p finished → FlowsWell m p
+pub flows_well : (m : ModuleContents) (p : ProcedureContents) (finished : ℕ → Option (List BaseType)) → IsFinished m p finished → FlowsWell m p
 flows_well m p finished d offset kind wrong = none offset kind wrong
   where
     none : (offset : ℕ) (kind : CodeRefusalKind) → IsRefusedForOperands m p offset kind → ⊥
@@ -61,27 +61,27 @@ flows_well m p finished d offset kind wrong = none offset kind wrong
 
 -- ---- where no rule refuses, each list that comes along edges stands in a table of the flow
 
-kind_cases : (a b : ValueKind) → (a ≡ b) ⊎ (a ≢ b)
+kind_cases : (a b : BaseType) → (a ≡ b) ⊎ (a ≢ b)
 kind_cases Int Int = inl refl
 kind_cases Int Boolean = inr (λ e. cc)
 kind_cases Boolean Int = inr (λ e. cc)
 kind_cases Boolean Boolean = inl refl
 
-pub same_or_not : (a b : List ValueKind) → (a ≡ b) ⊎ (a ≢ b)
+pub same_or_not : (a b : List BaseType) → (a ≡ b) ⊎ (a ≢ b)
 same_or_not [] [] = inl refl
-same_or_not [] (k ∷ b) = inr (λ e. let no : ◌≡◌ {A = List ValueKind} [] (k ∷ b) = e in cc)
-same_or_not (k ∷ a) [] = inr (λ e. let no : ◌≡◌ {A = List ValueKind} (k ∷ a) [] = e in cc)
+same_or_not [] (k ∷ b) = inr (λ e. let no : ◌≡◌ {A = List BaseType} [] (k ∷ b) = e in cc)
+same_or_not (k ∷ a) [] = inr (λ e. let no : ◌≡◌ {A = List BaseType} (k ∷ a) [] = e in cc)
 same_or_not (k ∷ a) (l ∷ b) =
     elim (kind_cases k l) [
-      | inr ne ↦ inr (λ e. ne (let h : ◌≡◌ {A = List ValueKind} (k ∷ a) (l ∷ b) = e in cc))
+      | inr ne ↦ inr (λ e. ne (let h : ◌≡◌ {A = List BaseType} (k ∷ a) (l ∷ b) = e in cc))
       | inl same ↦ elim (same_or_not a b) [
-        | inr ne ↦ inr (λ e. ne (let h : ◌≡◌ {A = List ValueKind} (k ∷ a) (l ∷ b) = e in cc))
+        | inr ne ↦ inr (λ e. ne (let h : ◌≡◌ {A = List BaseType} (k ∷ a) (l ∷ b) = e in cc))
         | inl rest ↦ inl (cc)
       ]
     ]
 
-pub record IsInFlow (m : ModuleContents) (p : ProcedureContents) (at : ℕ) (kinds : List ValueKind) : Type 0 where
-  pub table : ℕ → Option (List ValueKind)
+pub record IsInFlow (m : ModuleContents) (p : ProcedureContents) (at : ℕ) (kinds : List BaseType) : Type 0 where
+  pub table : ℕ → Option (List BaseType)
   pub flow : Flow m p table
   pub has : table at ≡ Some kinds
 
@@ -90,10 +90,10 @@ pub start_in_flow : (m : ModuleContents) (p : ProcedureContents) → IsInFlow m 
 start_in_flow m p = record { table = updated nowhere 0 (Some []); flow = starts; has = changed_at nowhere 0 [] }
 
 -- and so is what an edge leads to
-pub along_in_flow : (m : ModuleContents) (p : ProcedureContents) → FlowsWell m p → (at : ℕ) (kinds : List ValueKind) (to : ℕ) (after : List ValueKind) → IsInFlow m p at kinds → Edge m p at kinds to after → IsInFlow m p to after
+pub along_in_flow : (m : ModuleContents) (p : ProcedureContents) → FlowsWell m p → (at : ℕ) (kinds : List BaseType) (to : ℕ) (after : List BaseType) → IsInFlow m p at kinds → Edge m p at kinds to after → IsInFlow m p to after
 along_in_flow m p free at kinds to after h edge = cases (h.table to) refl
   where
-    cases : (o : Option (List ValueKind)) → h.table to ≡ o → IsInFlow m p to after
+    cases : (o : Option (List BaseType)) → h.table to ≡ o → IsInFlow m p to after
     cases None e = record { table = updated h.table to (Some after); flow = grows h.table at kinds to after h.flow h.has edge e; has = changed_at h.table to after }
     cases (Some others) e =
         elim (same_or_not after others) [
@@ -105,8 +105,8 @@ along_in_flow m p free at kinds to after h edge = cases (h.table to) refl
         ]
 
 -- so an instruction finds its operands, and control does not come to the end
-pub flow_finds : (m : ModuleContents) (p : ProcedureContents) → FlowsWell m p → (at : ℕ) (kinds : List ValueKind) (i : Instruction) (wrong : CodeRefusalKind) → IsInFlow m p at kinds → instruction_at p.code at ≡ Some i → effect m p i kinds ≡ Misses wrong → ⊥
+pub flow_finds : (m : ModuleContents) (p : ProcedureContents) → FlowsWell m p → (at : ℕ) (kinds : List BaseType) (i : Instruction) (wrong : CodeRefusalKind) → IsInFlow m p at kinds → instruction_at p.code at ≡ Some i → effect m p i kinds ≡ Misses wrong → ⊥
 flow_finds m p free at kinds i wrong h is e = free at wrong (misses h.table at kinds i wrong h.flow h.has is e)
 
-pub flow_stays : (m : ModuleContents) (p : ProcedureContents) → FlowsWell m p → (kinds : List ValueKind) → IsInFlow m p (code_length p.code) kinds → ⊥
+pub flow_stays : (m : ModuleContents) (p : ProcedureContents) → FlowsWell m p → (kinds : List BaseType) → IsInFlow m p (code_length p.code) kinds → ⊥
 flow_stays m p free kinds h = free (code_length p.code) FallsOffEnd (falls h.table kinds h.flow h.has)

@@ -5,19 +5,21 @@ use Rattle.std.proofs.lemmas.Bool.{and_parts}
 use Rattle.modules.specs.Code.{instruction_at}
 use Rattle.modules.specs.Contents.{ProcedureContents, ModuleContents}
 use Rattle.modules.specs.Machine as machine
-use Rattle.modules.specs.Machine.{State, Machine, Running, Ended, Stuck, machine_code, header_of, code_of, slots_of, slot_at, slots_in, with_slot, with_global, first_state, first_slots, act, acts, step, exec, after_steps}
+use Rattle.modules.specs.Machine.{State, Machine, Running, Ended, Stuck, machine_code, header_of, code_of, slots_of, declared_at, cells_at, with_cells_at, slots_in, first_state, first_slots, act, acts, step, exec, after_steps}
 use Rattle.modules.specs.Format.{may_start}
-use Rattle.modules.specs.Values.{kind_of}
+use Rattle.modules.specs.Values.{kind_of, kind_of_slot}
 use Rattle.modules.specs.declared.instruction.Instruction.{Instruction}
-use Rattle.modules.specs.declared.instruction.Instruction.TheVariants.{Push, PushBoolean, Pop, Load, Store, LoadGlobal, StoreGlobal, LoadElement, StoreElement, LoadGlobalElement, StoreGlobalElement, Clear, Compute, Negate, Not, Compare, SameBoolean, OtherBoolean, Jump, JumpIfFalse, Call, Return, ReturnValue, Receive, Send, Throw}
-use Rattle.modules.specs.declared.value.ValueKind.{ValueKind}
+use Rattle.modules.specs.declared.instruction.Storage.{Storage}
+use Rattle.modules.specs.declared.instruction.Storage.TheVariants.{Local, Global}
+use Rattle.modules.specs.declared.instruction.Instruction.TheVariants.{Push, PushBoolean, Pop, Load, Store, LoadElement, StoreElement, Clear, Operate, Jump, JumpIfFalse, Call, Return, ReturnValue, Receive, Send, Throw}
+use Rattle.common.specs.declared.base_type.BaseType.{BaseType}
 use Rattle.modules.specs.declared.value.Cell.{Cell}
 use Rattle.modules.specs.declared.value.Cell.TheVariants as cell
 use Rattle.modules.specs.declared.declaration.Slot.{Slot}
 use Rattle.verifier.specs.Refusals.{IsNotRefused}
 use Rattle.verifier.specs.Fixed.{instruction_refusal}
 use Rattle.verifier.specs.Flow.{Edge, next, jumps, caught, Flow, starts, grows, nowhere, Effect, Leaves, Misses, and_then, effect}
-use Rattle.verifier.specs.Signatures.{is_array, is_input, is_output, is_scalar, slot_kind}
+use Rattle.verifier.specs.Signatures.{declared_in, is_array, is_input, is_output, is_scalar, slot_kind}
 use Rattle.verifier.specs.Safety.{HasTransition, IsNeverStuck}
 use Rattle.verifier.specs.Boundaries.{IsBoundary, KeepsBoundaries}
 use Rattle.verifier.specs.declared.fault.CodeRefusalKind.TheVariants.{SlotOrIndex}
@@ -26,37 +28,36 @@ use Rattle.verifier.proofs.Calls.{get_header, calls_good, returns_good, gives_ba
 use Rattle.verifier.proofs.FixedRefusals.{all_right, boundaries, right_of_unless}
 use Rattle.verifier.proofs.Holds.{AllOf, Holds, holds_changed, holds_empty, holds_globals}
 use Rattle.verifier.proofs.Laws.{IsInFlow, start_in_flow, changed_cases, flow_finds, flow_stays}
-use Rattle.verifier.proofs.Transitions.{loads_good, stores_good, loads_element_good, stores_element_good, clears_good, computes_good, compares_good, matches_good, drops_good, negates_good, inverts_good, branches_good, sends_good, receives_good}
+use Rattle.verifier.proofs.Transitions.{loads_good, stores_good, loads_element_good, stores_element_good, clears_good, operates_good, drops_good, branches_good, sends_good, receives_good}
 use Rattle.verifier.proofs.Runs.{outermost, Stands, Good, GoodState, runs, over, leaves_same, flows, next_good, jump_good, raised_good}
 
 unpushed : (e : Effect) → and_then e (λ rest. Leaves rest) ≡ e
 unpushed (Leaves kinds) = refl
 unpushed (Misses wrong) = refl
 
-scalar_there : (slots : List Slot) (cells : ℕ → List Cell) (k : ℕ) → Holds slots cells → is_scalar (slice_get slots k) ≡ true → AllOf (slot_kind (slice_get slots k)) (cells k)
-scalar_there slots cells k h e = split (slice_get slots k) refl e
-  where
-    split : (o : Option Slot) → slice_get slots k ≡ o → is_scalar o ≡ true → AllOf (slot_kind o) (cells k)
-    split None is e = absurd (let no : false ≡ true = e in cc)
-    split (Some s) is e = h k s is
+scalar_there : (o : Option Slot) (cells : List Cell) → ((slot : Slot) → o ≡ Some slot → AllOf (kind_of_slot slot) cells) → is_scalar o ≡ true → AllOf (slot_kind o) cells
+scalar_there None cells h e = absurd (let no : false ≡ true = e in cc)
+scalar_there (Some slot) cells h e = h slot refl
 
-array_there : (slots : List Slot) (cells : ℕ → List Cell) (k : ℕ) → Holds slots cells → is_array (slice_get slots k) ≡ true → AllOf (slot_kind (slice_get slots k)) (cells k)
-array_there slots cells k h e = split (slice_get slots k) refl e
-  where
-    split : (o : Option Slot) → slice_get slots k ≡ o → is_array o ≡ true → AllOf (slot_kind o) (cells k)
-    split None is e = absurd (let no : false ≡ true = e in cc)
-    split (Some s) is e = h k s is
+array_there : (o : Option Slot) (cells : List Cell) → ((slot : Slot) → o ≡ Some slot → AllOf (kind_of_slot slot) cells) → is_array o ≡ true → AllOf (slot_kind o) cells
+array_there None cells h e = absurd (let no : false ≡ true = e in cc)
+array_there (Some slot) cells h e = h slot refl
 
 procedure_there : (o : Option ProcedureContents) → is_some o ≡ true → (p : ProcedureContents) × (o ≡ Some p)
 procedure_there None e = absurd (let no : false ≡ true = e in cc)
 procedure_there (Some p) e = (p, refl)
 
 module _ (m : ModuleContents) (free : IsNotRefused m) (p : ProcedureContents) (s : State) (i : Instruction) (st : Stands m p s i (map kind_of s.frame.operands)) where
-  slot_here : (k : ℕ) → slot_at (machine_code m) s k ≡ slice_get p.slots k
-  slot_here k = ap (λ o. slice_get (slots_of o) k) (get_header m.procedures s.frame.procedure p st.there)
+  declared_here : (storage : Storage) (k : ℕ) → declared_at (machine_code m) s storage k ≡ declared_in m p storage k
+  declared_here Local k = ap (λ o. slice_get (slots_of o) k) (get_header m.procedures s.frame.procedure p st.there)
+  declared_here Global k = refl
 
-  with_slot_stands : (k : ℕ) (cells : List Cell) → AllOf (slot_kind (slice_get p.slots k)) cells → Stands m p (with_slot s k cells) i (map kind_of s.frame.operands)
-  with_slot_stands k cells all = record {
+  cells_here : (storage : Storage) (k : ℕ) (slot : Slot) → declared_in m p storage k ≡ Some slot → AllOf (kind_of_slot slot) (cells_at s storage k)
+  cells_here Local k slot is = st.slots k slot is
+  cells_here Global k slot is = st.globals k slot is
+
+  changed_stands : (storage : Storage) (k : ℕ) (cells : List Cell) → AllOf (slot_kind (declared_in m p storage k)) cells → Stands m p (with_cells_at s storage k cells) i (map kind_of s.frame.operands)
+  changed_stands Local k cells all = record {
     there = st.there;
     instruction = st.instruction;
     flow = st.flow;
@@ -64,9 +65,7 @@ module _ (m : ModuleContents) (free : IsNotRefused m) (p : ProcedureContents) (s
     globals = st.globals;
     callers = st.callers;
   }
-
-  with_global_stands : (k : ℕ) (cells : List Cell) → AllOf (slot_kind (slice_get (machine_code m).globals k)) cells → Stands m p (with_global s k cells) i (map kind_of s.frame.operands)
-  with_global_stands k cells all = record {
+  changed_stands Global k cells all = record {
     there = st.there;
     instruction = st.instruction;
     flow = st.flow;
@@ -76,48 +75,33 @@ module _ (m : ModuleContents) (free : IsNotRefused m) (p : ProcedureContents) (s
   }
 
 -- an instruction that is not refused acts where its operands are there
-act_good : (m : ModuleContents) → IsNotRefused m → (p : ProcedureContents) (s : State) (i : Instruction) (after : List ValueKind) → Stands m p s i (map kind_of s.frame.operands) → instruction_refusal m p i ≡ None → effect m p i (map kind_of s.frame.operands) ≡ Leaves after → Good m (act (machine_code m) i s)
+act_good : (m : ModuleContents) → IsNotRefused m → (p : ProcedureContents) (s : State) (i : Instruction) (after : List BaseType) → Stands m p s i (map kind_of s.frame.operands) → instruction_refusal m p i ≡ None → effect m p i (map kind_of s.frame.operands) ≡ Leaves after → Good m (act (machine_code m) i s)
 act_good m free p s (Push n) after st d e = next_good m free p s (Push n) _ after (cell.Int n ∷ s.frame.operands) st e refl (leaves_same _ after e)
 act_good m free p s (PushBoolean b) after st d e = next_good m free p s (PushBoolean b) _ after (cell.Bool b ∷ s.frame.operands) st e refl (leaves_same _ after e)
 act_good m free p s Pop after st d e = drops_good m free p Pop s s.frame.operands after st e refl (sym (unpushed _) ∙ e)
-act_good m free p s (Load k) after st d e =
-    let scalar = right_of_unless (is_scalar (slice_get p.slots k)) SlotOrIndex d in
-    subst (λ o. Good m (machine.loads (machine_code m) s o (s.frame.slots k))) (sym (slot_here m free p s (Load k) st k))
-    (loads_good m free p (Load k) s _ after (slice_get p.slots k) (s.frame.slots k) st refl e refl scalar (scalar_there p.slots s.frame.slots k st.slots scalar) (sym (leaves_same _ after e)))
-act_good m free p s (Store k) after st d e =
-    subst (λ o. Good m (machine.stores (machine_code m) s o (with_slot s k) s.frame.operands)) (sym (slot_here m free p s (Store k) st k))
-    (stores_good m free p (Store k) s (with_slot s k) (slice_get p.slots k) s.frame.operands after st (with_slot_stands m free p s (Store k) st k) e refl (right_of_unless (is_scalar (slice_get p.slots k)) SlotOrIndex d) (sym (unpushed _) ∙ e))
-act_good m free p s (LoadGlobal k) after st d e =
-    let globals = (machine_code m).globals in
-    let scalar = right_of_unless (is_scalar (slice_get globals k)) SlotOrIndex d in
-    loads_good m free p (LoadGlobal k) s _ after (slice_get globals k) (s.globals k) st refl e refl scalar (scalar_there globals s.globals k st.globals scalar) (sym (leaves_same _ after e))
-act_good m free p s (StoreGlobal k) after st d e =
-    stores_good m free p (StoreGlobal k) s (with_global s k) (slice_get (machine_code m).globals k) s.frame.operands after st (with_global_stands m free p s (StoreGlobal k) st k) e refl (right_of_unless (is_scalar (slice_get (machine_code m).globals k)) SlotOrIndex d) (sym (unpushed _) ∙ e)
-act_good m free p s (LoadElement k) after st d e =
-    let array = right_of_unless (is_array (slice_get p.slots k)) SlotOrIndex d in
-    subst (λ o. Good m (machine.loads_element (machine_code m) s o (s.frame.slots k) s.frame.operands)) (sym (slot_here m free p s (LoadElement k) st k))
-    (loads_element_good m free p (LoadElement k) s (slice_get p.slots k) (s.frame.slots k) s.frame.operands after st e refl array (array_there p.slots s.frame.slots k st.slots array) e)
-act_good m free p s (StoreElement k) after st d e =
-    let array = right_of_unless (is_array (slice_get p.slots k)) SlotOrIndex d in
-    subst (λ o. Good m (machine.stores_element (machine_code m) s o (with_slot s k) (s.frame.slots k) s.frame.operands)) (sym (slot_here m free p s (StoreElement k) st k))
-    (stores_element_good m free p (StoreElement k) s (with_slot s k) (slice_get p.slots k) (s.frame.slots k) s.frame.operands after st (with_slot_stands m free p s (StoreElement k) st k) e refl array (array_there p.slots s.frame.slots k st.slots array) (sym (unpushed _) ∙ e))
-act_good m free p s (LoadGlobalElement k) after st d e =
-    let globals = (machine_code m).globals in
-    let array = right_of_unless (is_array (slice_get globals k)) SlotOrIndex d in
-    loads_element_good m free p (LoadGlobalElement k) s (slice_get globals k) (s.globals k) s.frame.operands after st e refl array (array_there globals s.globals k st.globals array) e
-act_good m free p s (StoreGlobalElement k) after st d e =
-    let globals = (machine_code m).globals in
-    let array = right_of_unless (is_array (slice_get globals k)) SlotOrIndex d in
-    stores_element_good m free p (StoreGlobalElement k) s (with_global s k) (slice_get globals k) (s.globals k) s.frame.operands after st (with_global_stands m free p s (StoreGlobalElement k) st k) e refl array (array_there globals s.globals k st.globals array) (sym (unpushed _) ∙ e)
+act_good m free p s (Load storage k) after st d e =
+    let here = declared_in m p storage k in
+    let scalar = right_of_unless (is_scalar here) SlotOrIndex d in
+    subst (λ o. Good m (machine.loads (machine_code m) s o (cells_at s storage k))) (sym (declared_here m free p s (Load storage k) st storage k))
+    (loads_good m free p (Load storage k) s _ after here (cells_at s storage k) st refl e refl scalar (scalar_there here (cells_at s storage k) (cells_here m free p s (Load storage k) st storage k) scalar) (sym (leaves_same _ after e)))
+act_good m free p s (Store storage k) after st d e =
+    let here = declared_in m p storage k in
+    subst (λ o. Good m (machine.stores (machine_code m) s o (with_cells_at s storage k) s.frame.operands)) (sym (declared_here m free p s (Store storage k) st storage k))
+    (stores_good m free p (Store storage k) s (with_cells_at s storage k) here s.frame.operands after st (changed_stands m free p s (Store storage k) st storage k) e refl (right_of_unless (is_scalar here) SlotOrIndex d) (sym (unpushed _) ∙ e))
+act_good m free p s (LoadElement storage k) after st d e =
+    let here = declared_in m p storage k in
+    let array = right_of_unless (is_array here) SlotOrIndex d in
+    subst (λ o. Good m (machine.loads_element (machine_code m) s o (cells_at s storage k) s.frame.operands)) (sym (declared_here m free p s (LoadElement storage k) st storage k))
+    (loads_element_good m free p (LoadElement storage k) s here (cells_at s storage k) s.frame.operands after st e refl array (array_there here (cells_at s storage k) (cells_here m free p s (LoadElement storage k) st storage k) array) e)
+act_good m free p s (StoreElement storage k) after st d e =
+    let here = declared_in m p storage k in
+    let array = right_of_unless (is_array here) SlotOrIndex d in
+    subst (λ o. Good m (machine.stores_element (machine_code m) s o (with_cells_at s storage k) (cells_at s storage k) s.frame.operands)) (sym (declared_here m free p s (StoreElement storage k) st storage k))
+    (stores_element_good m free p (StoreElement storage k) s (with_cells_at s storage k) here (cells_at s storage k) s.frame.operands after st (changed_stands m free p s (StoreElement storage k) st storage k) e refl array (array_there here (cells_at s storage k) (cells_here m free p s (StoreElement storage k) st storage k) array) (sym (unpushed _) ∙ e))
 act_good m free p s (Clear k) after st d e =
-    subst (λ o. Good m (machine.clears (machine_code m) s k o)) (sym (slot_here m free p s (Clear k) st k))
-    (clears_good m free p (Clear k) s k (slice_get p.slots k) after st (with_slot_stands m free p s (Clear k) st k) e refl (right_of_unless (is_array (slice_get p.slots k)) SlotOrIndex d) (leaves_same _ after e))
-act_good m free p s (Compute operator) after st d e = computes_good m free p (Compute operator) s operator s.frame.operands after st e refl e
-act_good m free p s Negate after st d e = negates_good m free p Negate s s.frame.operands after st e refl e
-act_good m free p s Not after st d e = inverts_good m free p Not s s.frame.operands after st e refl e
-act_good m free p s (Compare comparison) after st d e = compares_good m free p (Compare comparison) s comparison s.frame.operands after st e refl e
-act_good m free p s SameBoolean after st d e = matches_good m free p SameBoolean s _ s.frame.operands after st e refl e
-act_good m free p s OtherBoolean after st d e = matches_good m free p OtherBoolean s _ s.frame.operands after st e refl e
+    subst (λ o. Good m (machine.clears (machine_code m) s k o)) (sym (declared_here m free p s (Clear k) st Local k))
+    (clears_good m free p (Clear k) s k (slice_get p.slots k) after st (changed_stands m free p s (Clear k) st Local k) e refl (right_of_unless (is_array (slice_get p.slots k)) SlotOrIndex d) (leaves_same _ after e))
+act_good m free p s (Operate operator) after st d e = operates_good m free p (Operate operator) s operator s.frame.operands after st e refl e
 act_good m free p s (Jump target) after st d e = jump_good m free p s (Jump target) _ after s.frame.operands target st e refl (leaves_same _ after e)
 act_good m free p s (JumpIfFalse target) after st d e = branches_good m free p (JumpIfFalse target) s target s.frame.operands after st e refl refl (sym (unpushed _) ∙ e)
 act_good m free p s (Call number) after st d e =
@@ -135,16 +119,16 @@ act_good m free p s (Throw exception) after st d e =
 
 -- ---- where control goes
 
-edge_boundary : (m : ModuleContents) (p : ProcedureContents) → KeepsBoundaries p → (at : ℕ) (kinds : List ValueKind) (to : ℕ) (after : List ValueKind) → Edge m p at kinds to after → IsBoundary p to
+edge_boundary : (m : ModuleContents) (p : ProcedureContents) → KeepsBoundaries p → (at : ℕ) (kinds : List BaseType) (to : ℕ) (after : List BaseType) → Edge m p at kinds to after → IsBoundary p to
 edge_boundary m p boundaries at kinds _ _ (next i to after is e goes to_is) = subst (IsBoundary p) (sym to_is) (boundaries.next at i is)
 edge_boundary m p boundaries at kinds _ _ (jumps i to after is e target) = boundaries.jumps at i to is target
 edge_boundary m p boundaries at kinds _ _ (caught i h is there low high) = boundaries.caught h there
 
-flow_boundary : (m : ModuleContents) (p : ProcedureContents) → KeepsBoundaries p → (table : ℕ → Option (List ValueKind)) → Flow m p table → (at : ℕ) (kinds : List ValueKind) → table at ≡ Some kinds → IsBoundary p at
+flow_boundary : (m : ModuleContents) (p : ProcedureContents) → KeepsBoundaries p → (table : ℕ → Option (List BaseType)) → Flow m p table → (at : ℕ) (kinds : List BaseType) → table at ≡ Some kinds → IsBoundary p at
 flow_boundary m p boundaries _ starts at kinds e =
     elim (changed_cases nowhere 0 [] at kinds e) [
       | inl h ↦ subst (IsBoundary p) (sym h.0) boundaries.first
-      | inr h ↦ absurd (let no : ◌≡◌ {A = Option (List ValueKind)} None (Some kinds) = h in cc)
+      | inr h ↦ absurd (let no : ◌≡◌ {A = Option (List BaseType)} None (Some kinds) = h in cc)
     ]
 flow_boundary m p boundaries _ (grows table from before to after f has edge none) at kinds e =
     elim (changed_cases table to after at kinds e) [
@@ -194,7 +178,7 @@ main_there : (o : Option ProcedureContents) → may_start o ≡ true → (p : Pr
 main_there None e = absurd (let no : false ≡ true = e in cc)
 main_there (Some p) e = (p, (refl, none p.returned (and_parts (p.parameters == 0) (is_none p.returned) e).1))
   where
-    none : (o : Option ValueKind) → is_none o ≡ true → o ≡ None
+    none : (o : Option BaseType) → is_none o ≡ true → o ≡ None
     none None e = refl
     none (Some q) e = absurd (let no : false ≡ true = e in cc)
 

@@ -12,7 +12,7 @@ use Rattle.modules.specs.Code.{width_of, code_length, instruction_at, offset_at}
 use Rattle.modules.specs.declared.instruction.Instruction.TheVariants.{Push}
 use Rattle.std.proofs.lemmas.Option.{slice_get-get_or}
 use Rattle.verifier.specs.Index.{index_of}
-use Rattle.modules.specs.declared.value.ValueKind.{ValueKind}
+use Rattle.common.specs.declared.base_type.BaseType.{BaseType}
 use Rattle.modules.specs.declared.declaration.Handler.{Handler}
 use Rattle.modules.specs.declared.instruction.Instruction.{Instruction}
 use Rattle.verifier.specs.declared.fault.CodeRefusalKind.{CodeRefusalKind}
@@ -24,7 +24,7 @@ use Rattle.verifier.specs.Boundaries.{IsBoundary, KeepsBoundaries}
 use Rattle.verifier.specs.Coverage.{IsCoverage, Waits}
 use Rattle.verifier.specs.Depth as Depth
 use Rattle.verifier.specs.Depth.{IsMet, found}
-use Rattle.verifier.specs.Search.{list_for, shape_at, shape_for, table, AreMet, IsWaiting, StandsAt, IsFollowed, IsSearching, IsAtEdge, Flowed, KeepsSearching, IsApplied, HasEffect, HasInstruction, StartsWithEmpty, left, unset}
+use Rattle.verifier.specs.Search.{list_for, shape_at, shape_for, table, AreMet, IsWaiting, StandsAt, HasFollowedEdges, IsSearching, IsAtEdge, Flowed, KeepsSearching, IsApplied, HasEffect, HasInstruction, StartsWithEmpty, left, unset}
 use Rattle.verifier.specs.declared.fault.CodeRefusalKind.TheVariants.{OperandKind, FallsOffEnd}
 use Rattle.verifier.specs.declared.coverage.Coverage.{Coverage}
 use Rattle.verifier.specs.declared.search.ReachedOffsets.{ReachedOffsets}
@@ -32,7 +32,7 @@ use Rattle.verifier.proofs.Offsets.{code_length_least}
 use Rattle.verifier.proofs.Indices.{begins_at, by_index, first_offset, last_offset, length-indices, number_found, numbered_at}
 use Rattle.verifier.proofs.Laws.{IsFinished, flows_well, changed_at}
 
-fun_ext : {f g : ℕ → Option (List ValueKind)} → ((x : ℕ) → f x ≡ g x) → f ≡ g
+fun_ext : {f g : ℕ → Option (List BaseType)} → ((x : ℕ) → f x ≡ g x) → f ≡ g
 fun_ext h = λ i x. h x i
 
 past_end : {A : Type 0} (xs : List A) (k : ℕ) (d : A) → length xs ≤ k → get_or xs k d ≡ d
@@ -73,13 +73,13 @@ stands_last p index to number is e boundary last =
     ]
 
 -- an edge to the end is refused
-pub falls_at : (m : ModuleContents) (p : ProcedureContents) (s : ReachedOffsets) (busy : List ℕ) (at to : ℕ) (after : List ValueKind) → IsSearching m p s busy → IsAtEdge m p s at to after → to ≡ code_length p.code → IsRefusedForOperands m p to FallsOffEnd
+pub falls_at : (m : ModuleContents) (p : ProcedureContents) (s : ReachedOffsets) (busy : List ℕ) (at to : ℕ) (after : List BaseType) → IsSearching m p s busy → IsAtEdge m p s at to after → to ≡ code_length p.code → IsRefusedForOperands m p to FallsOffEnd
 falls_at m p s busy at to after g e is =
     subst (λ t. IsRefusedForOperands m p t FallsOffEnd) (sym is)
     (falls (updated (table p s) (code_length p.code) (Some after)) after (grows (table p s) at e.kinds (code_length p.code) after g.flow e.has (subst (λ t. Edge m p at e.kinds t after) is e.edge) (none_at_end m p s busy g)) (changed_at (table p s) (code_length p.code) after))
 
 -- an edge that brings another list is refused
-pub meets_at : (m : ModuleContents) (p : ProcedureContents) (s : ReachedOffsets) (busy : List ℕ) (at to : ℕ) (after others : List ValueKind) (kind : CodeRefusalKind) → IsSearching m p s busy → IsAtEdge m p s at to after → to ≢ code_length p.code → table p s to ≡ Some others → after ≢ others → kind ≡ between after others → IsRefusedForOperands m p to kind
+pub meets_at : (m : ModuleContents) (p : ProcedureContents) (s : ReachedOffsets) (busy : List ℕ) (at to : ℕ) (after others : List BaseType) (kind : CodeRefusalKind) → IsSearching m p s busy → IsAtEdge m p s at to after → to ≢ code_length p.code → table p s to ≡ Some others → after ≢ others → kind ≡ between after others → IsRefusedForOperands m p to kind
 meets_at m p s busy at to after others kind g e inside there ne is =
     subst (IsRefusedForOperands m p to) (sym is) (meets (table p s) at e.kinds to after others g.flow e.has e.edge inside there ne)
 
@@ -127,14 +127,14 @@ module _ (m : ModuleContents) (p : ProcedureContents) (s new : ReachedOffsets) (
   was_none : table p s to ≡ None
   was_none = ap (list_for s.operands) (stands_for p s number to place within ∙ unset_there)
 
-  keeps : (offset : ℕ) (kinds : List ValueKind) → table p s offset ≡ Some kinds → table p new offset ≡ Some kinds
+  keeps : (offset : ℕ) (kinds : List BaseType) → table p s offset ≡ Some kinds → table p new offset ≡ Some kinds
   keeps offset kinds h =
       elim (cases_eq offset to) [
         | inl same ↦ absurd (let f : None ≡ Some kinds = sym was_none ∙ ap (table p s) (sym same) ∙ h in cc)
         | inr ne ↦ others offset ne ∙ h
       ]
 
-  kept : (offset : ℕ) (kinds : List ValueKind) → IsFollowed m p s offset kinds → IsFollowed m p new offset kinds
+  kept : (offset : ℕ) (kinds : List BaseType) → HasFollowedEdges m p s offset kinds → HasFollowedEdges m p new offset kinds
   kept offset kinds k = record {
     instruction = k.instruction;
     there = k.there;
@@ -202,7 +202,7 @@ table_finished m p s g empty = record {
   none_at_end = none_at_end m p s [] g;
 }
   where
-    every : (at : ℕ) (kinds : List ValueKind) → table p s at ≡ Some kinds → IsFollowed m p s at kinds
+    every : (at : ℕ) (kinds : List BaseType) → table p s at ≡ Some kinds → HasFollowedEdges m p s at kinds
     every at kinds h =
         elim (g.pending at kinds h) [
           | inl w ↦ absurd (nothing at (subst (λ l. Contains l at) empty w))
@@ -212,7 +212,7 @@ table_finished m p s g empty = record {
         nothing : (at : ℕ) → Contains [] at → ⊥
         nothing at c = omega (arith, c.1)
 
-    along : (at : ℕ) (kinds : List ValueKind) → IsFollowed m p s at kinds → (to : ℕ) (after : List ValueKind) → Edge m p at kinds to after → table p s to ≡ Some after
+    along : (at : ℕ) (kinds : List BaseType) → HasFollowedEdges m p s at kinds → (to : ℕ) (after : List BaseType) → Edge m p at kinds to after → table p s to ≡ Some after
     along at kinds k _ _ (next i to after is e goes to_is) =
         let f : Some k.instruction ≡ Some i = sym k.there ∙ is in let same : k.instruction ≡ i = cc in
         let t : Leaves k.after ≡ Leaves after = sym k.finds ∙ ap (λ j. effect m p j kinds) same ∙ e in let after_is : k.after ≡ after = cc in
@@ -229,7 +229,7 @@ search_finished m p s g empty = flows_well m p (table p s) (table_finished m p s
 -- ---- a offset is looked at
 
 -- what was looked at is kept
-pub looked_at : (m : ModuleContents) (p : ProcedureContents) (s : ReachedOffsets) (at : ℕ) → IsSearching m p s (at ∷ []) → ((kinds : List ValueKind) → table p s at ≡ Some kinds → IsFollowed m p s at kinds) → IsSearching m p s []
+pub looked_at : (m : ModuleContents) (p : ProcedureContents) (s : ReachedOffsets) (at : ℕ) → IsSearching m p s (at ∷ []) → ((kinds : List BaseType) → table p s at ≡ Some kinds → HasFollowedEdges m p s at kinds) → IsSearching m p s []
 looked_at m p s at g kept = record {
   root = g.root;
   sized = g.sized;
@@ -252,12 +252,12 @@ looked_at m p s at g kept = record {
         single zero h e = e
         single (suc k) h e = absurd (omega arith)
 
-    here : (offset : ℕ) (kinds : List ValueKind) → table p s offset ≡ Some kinds → at ≡ offset → IsFollowed m p s offset kinds
-    here offset kinds h e = subst (λ a. IsFollowed m p s a kinds) e (kept kinds (ap (table p s) e ∙ h))
+    here : (offset : ℕ) (kinds : List BaseType) → table p s offset ≡ Some kinds → at ≡ offset → HasFollowedEdges m p s offset kinds
+    here offset kinds h e = subst (λ a. HasFollowedEdges m p s a kinds) e (kept kinds (ap (table p s) e ∙ h))
 
 -- ---- more lists
 
-longer_list : (lists more : List (List ValueKind)) (o : Option ℕ) → ((n : ℕ) → o ≡ Some n → n < length lists) → IsLonger lists more → list_for more o ≡ list_for lists o
+longer_list : (lists more : List (List BaseType)) (o : Option ℕ) → ((n : ℕ) → o ≡ Some n → n < length lists) → IsLonger lists more → list_for more o ≡ list_for lists o
 longer_list lists more None h l = refl
 longer_list lists more (Some n) h l = ap Some (ap (λ ls. get_or ls n []) l.1 ∙ get_or_append_left lists l.0 [] n (h n refl))
 
@@ -293,7 +293,7 @@ module _ (m : ModuleContents) (p : ProcedureContents) (s new : ReachedOffsets) (
             | inr added ↦ met k added inside
           ]
 
-      kept : (offset : ℕ) (kinds : List ValueKind) → IsFollowed m p s offset kinds → IsFollowed m p new offset kinds
+      kept : (offset : ℕ) (kinds : List BaseType) → HasFollowedEdges m p s offset kinds → HasFollowedEdges m p new offset kinds
       kept offset kinds k = record {
         instruction = k.instruction;
         there = k.there;
@@ -312,29 +312,29 @@ module _ (m : ModuleContents) (p : ProcedureContents) (s new : ReachedOffsets) (
 pub steps_of : (m : ModuleContents) (p : ProcedureContents) (old new : ReachedOffsets) (at to list : ℕ) → Flowed m p old new at to list → KeepsSearching m p old new at
 steps_of m p old new at to list f = record { searching = f.searching; keeps = f.keeps; same = f.same; left = f.left }
 
-pub edge_next : (m : ModuleContents) (p : ProcedureContents) (s : ReachedOffsets) (at to : ℕ) (i : Instruction) (after : List ValueKind) → HasEffect m p s at i after → goes_on i ≡ true → to ≡ at + width_of i → IsAtEdge m p s at to after
+pub edge_next : (m : ModuleContents) (p : ProcedureContents) (s : ReachedOffsets) (at to : ℕ) (i : Instruction) (after : List BaseType) → HasEffect m p s at i after → goes_on i ≡ true → to ≡ at + width_of i → IsAtEdge m p s at to after
 edge_next m p s at to i after h goes is = record { kinds = h.kinds; has = h.has; edge = next i to after h.there h.effect goes is }
 
-pub edge_jump : (m : ModuleContents) (p : ProcedureContents) (s : ReachedOffsets) (at to : ℕ) (i : Instruction) (after : List ValueKind) → HasEffect m p s at i after → target_of i ≡ Some to → IsAtEdge m p s at to after
+pub edge_jump : (m : ModuleContents) (p : ProcedureContents) (s : ReachedOffsets) (at to : ℕ) (i : Instruction) (after : List BaseType) → HasEffect m p s at i after → target_of i ≡ Some to → IsAtEdge m p s at to after
 edge_jump m p s at to i after h is = record { kinds = h.kinds; has = h.has; edge = jumps i to after h.there h.effect is }
 
-pub edge_caught : (m : ModuleContents) (p : ProcedureContents) (s : ReachedOffsets) (at : ℕ) (kinds : List ValueKind) (i : Instruction) (h : Handler) → table p s at ≡ Some kinds → instruction_at p.code at ≡ Some i → Contains p.handlers h → h.start ≤ at → at < h.end → IsAtEdge m p s at h.target []
+pub edge_caught : (m : ModuleContents) (p : ProcedureContents) (s : ReachedOffsets) (at : ℕ) (kinds : List BaseType) (i : Instruction) (h : Handler) → table p s at ≡ Some kinds → instruction_at p.code at ≡ Some i → Contains p.handlers h → h.start ≤ at → at < h.end → IsAtEdge m p s at h.target []
 edge_caught m p s at kinds i h has is inside low high = record { kinds = kinds; has = has; edge = caught i h is inside low high }
 
 -- what an instruction of this procedure makes of kinds
-effect_own : (m : ModuleContents) (p : ProcedureContents) (i : Instruction) (kinds : List ValueKind) → (signature m p i).own ≡ true → effect m p i kinds ≡ exchanged (signature m p i) kinds
+effect_own : (m : ModuleContents) (p : ProcedureContents) (i : Instruction) (kinds : List BaseType) → (signature m p i).own ≡ true → effect m p i kinds ≡ exchanged (signature m p i) kinds
 effect_own m p i kinds own = ap (λ (b : Bool). if b then exchanged (signature m p i) kinds else Misses OperandKind) own
 
-pub misses_at : (m : ModuleContents) (p : ProcedureContents) (s : ReachedOffsets) (busy : List ℕ) (at : ℕ) (kinds : List ValueKind) (i : Instruction) (wrong : CodeRefusalKind) → IsSearching m p s busy → table p s at ≡ Some kinds → instruction_at p.code at ≡ Some i → (signature m p i).own ≡ true → all_popped (signature m p i).pops kinds ≡ Misses wrong → IsRefusedForOperands m p at wrong
+pub misses_at : (m : ModuleContents) (p : ProcedureContents) (s : ReachedOffsets) (busy : List ℕ) (at : ℕ) (kinds : List BaseType) (i : Instruction) (wrong : CodeRefusalKind) → IsSearching m p s busy → table p s at ≡ Some kinds → instruction_at p.code at ≡ Some i → (signature m p i).own ≡ true → all_popped (signature m p i).pops kinds ≡ Misses wrong → IsRefusedForOperands m p at wrong
 misses_at m p s busy at kinds i wrong g has is own e =
     misses (table p s) at kinds i wrong g.flow has is (effect_own m p i kinds own ∙ ap (λ o. and_then o (λ rest. Leaves (pushed (signature m p i).pushes rest))) e)
 
-pub misses_own : (m : ModuleContents) (p : ProcedureContents) (s : ReachedOffsets) (busy : List ℕ) (at : ℕ) (kinds : List ValueKind) (i : Instruction) → IsSearching m p s busy → table p s at ≡ Some kinds → instruction_at p.code at ≡ Some i → (signature m p i).own ≡ false → IsRefusedForOperands m p at OperandKind
+pub misses_own : (m : ModuleContents) (p : ProcedureContents) (s : ReachedOffsets) (busy : List ℕ) (at : ℕ) (kinds : List BaseType) (i : Instruction) → IsSearching m p s busy → table p s at ≡ Some kinds → instruction_at p.code at ≡ Some i → (signature m p i).own ≡ false → IsRefusedForOperands m p at OperandKind
 misses_own m p s busy at kinds i g has is own =
     misses (table p s) at kinds i OperandKind g.flow has is (ap (λ (b : Bool). if b then exchanged (signature m p i) kinds else Misses OperandKind) own)
 
 -- what an instruction pushes is met, and where it pushes nothing there is no new list
-pub pushed_met : (m : ModuleContents) (p : ProcedureContents) (s : ReachedOffsets) (busy : List ℕ) (more : List (List ValueKind)) (at : ℕ) (kinds rest after : List ValueKind) (i : Instruction) → IsSearching m p s busy → table p s at ≡ Some kinds → instruction_at p.code at ≡ Some i → (signature m p i).own ≡ true → all_popped (signature m p i).pops kinds ≡ Leaves rest → pushed (signature m p i).pushes rest ≡ after → ((k : ℕ) → length s.operands ≤ k → k < length more → list_of more k ≡ after) → (k : ℕ) → length s.operands ≤ k → k < length more → IsMet m p (list_of more k)
+pub pushed_met : (m : ModuleContents) (p : ProcedureContents) (s : ReachedOffsets) (busy : List ℕ) (more : List (List BaseType)) (at : ℕ) (kinds rest after : List BaseType) (i : Instruction) → IsSearching m p s busy → table p s at ≡ Some kinds → instruction_at p.code at ≡ Some i → (signature m p i).own ≡ true → all_popped (signature m p i).pops kinds ≡ Leaves rest → pushed (signature m p i).pushes rest ≡ after → ((k : ℕ) → length s.operands ≤ k → k < length more → list_of more k ≡ after) → (k : ℕ) → length s.operands ≤ k → k < length more → IsMet m p (list_of more k)
 pushed_met m p s busy more at kinds rest after i g has is own e is_after new k low high =
     subst (IsMet m p) (sym (new k low high))
     (Depth.left (table p s) at kinds i after g.flow has is (effect_own m p i kinds own ∙ ap (λ o. and_then o (λ rest. Leaves (pushed (signature m p i).pushes rest))) e ∙ ap Leaves is_after))
@@ -348,7 +348,7 @@ applied m p s new at g longer few shapes work met = record {
   left = omega (arith, same_left m p s new (at ∷ []) g longer shapes work met);
 }
 
-pub has_effect : (m : ModuleContents) (p : ProcedureContents) (s new : ReachedOffsets) (at : ℕ) (kinds rest after : List ValueKind) (i : Instruction) → IsApplied m p s new at → table p s at ≡ Some kinds → instruction_at p.code at ≡ Some i → (signature m p i).own ≡ true → all_popped (signature m p i).pops kinds ≡ Leaves rest → pushed (signature m p i).pushes rest ≡ after → HasEffect m p new at i after
+pub has_effect : (m : ModuleContents) (p : ProcedureContents) (s new : ReachedOffsets) (at : ℕ) (kinds rest after : List BaseType) (i : Instruction) → IsApplied m p s new at → table p s at ≡ Some kinds → instruction_at p.code at ≡ Some i → (signature m p i).own ≡ true → all_popped (signature m p i).pops kinds ≡ Leaves rest → pushed (signature m p i).pushes rest ≡ after → HasEffect m p new at i after
 has_effect m p s new at kinds rest after i a has is own e is_after = record {
   there = is;
   kinds = kinds;
@@ -357,7 +357,7 @@ has_effect m p s new at kinds rest after i a has is own e is_after = record {
 }
 
 -- an offset from which each edge was followed is kept
-pub all_followed : (m : ModuleContents) (p : ProcedureContents) (s new : ReachedOffsets) (at : ℕ) (i : Instruction) (after : List ValueKind) → HasEffect m p s at i after → ((to : ℕ) → target_of i ≡ Some to → table p s to ≡ Some after) → ((h : Handler) → Contains p.handlers h → h.start ≤ at → at < h.end → table p s h.target ≡ Some []) → ((offset : ℕ) (kinds : List ValueKind) → table p s offset ≡ Some kinds → table p new offset ≡ Some kinds) → (goes_on i ≡ true → table p new (at + width_of i) ≡ Some after) → IsSearching m p new (at ∷ []) → IsSearching m p new []
+pub all_followed : (m : ModuleContents) (p : ProcedureContents) (s new : ReachedOffsets) (at : ℕ) (i : Instruction) (after : List BaseType) → HasEffect m p s at i after → ((to : ℕ) → target_of i ≡ Some to → table p s to ≡ Some after) → ((h : Handler) → Contains p.handlers h → h.start ≤ at → at < h.end → table p s h.target ≡ Some []) → ((offset : ℕ) (kinds : List BaseType) → table p s offset ≡ Some kinds → table p new offset ≡ Some kinds) → (goes_on i ≡ true → table p new (at + width_of i) ≡ Some after) → IsSearching m p new (at ∷ []) → IsSearching m p new []
 all_followed m p s new at i after e to_targets to_handlers still to_next g =
     looked_at m p new at g (λ kinds has.
     let some : Some e.kinds ≡ Some kinds = sym (still at e.kinds e.has) ∙ has in
@@ -381,7 +381,7 @@ steps_more m p old between new at to list f h = record {
 }
 
 -- handlers that wait still do where lists were kept
-pub waiting_kept : (p : ProcedureContents) (c : Coverage) (s new : ReachedOffsets) → ((offset : ℕ) (kinds : List ValueKind) → table p s offset ≡ Some kinds → table p new offset ≡ Some kinds) → IsWaiting p c s → IsWaiting p c new
+pub waiting_kept : (p : ProcedureContents) (c : Coverage) (s new : ReachedOffsets) → ((offset : ℕ) (kinds : List BaseType) → table p s offset ≡ Some kinds → table p new offset ≡ Some kinds) → IsWaiting p c s → IsWaiting p c new
 waiting_kept p c s new keeps w = record {
   coverage = w.coverage;
   real = w.real;
@@ -389,7 +389,7 @@ waiting_kept p c s new keeps w = record {
 }
 
 -- control went to one that waited, and that waits no more
-pub waiting_less : (p : ProcedureContents) (c rest : Coverage) (s new : ReachedOffsets) (h : Handler) → IsWaiting p c s → IsCoverage rest → ((x : Handler) → Waits rest x → Waits c x) → ((x : Handler) → Waits c x → (x ≡ h) ⊎ Waits rest x) → ((offset : ℕ) (kinds : List ValueKind) → table p s offset ≡ Some kinds → table p new offset ≡ Some kinds) → table p new h.target ≡ Some [] → IsWaiting p rest new
+pub waiting_less : (p : ProcedureContents) (c rest : Coverage) (s new : ReachedOffsets) (h : Handler) → IsWaiting p c s → IsCoverage rest → ((x : Handler) → Waits rest x → Waits c x) → ((x : Handler) → Waits c x → (x ≡ h) ⊎ Waits rest x) → ((offset : ℕ) (kinds : List BaseType) → table p s offset ≡ Some kinds → table p new offset ≡ Some kinds) → table p new h.target ≡ Some [] → IsWaiting p rest new
 waiting_less p c rest s new h w good within others keeps arrives = record {
   coverage = good;
   real = λ x waits. w.real x (within x waits);
@@ -432,7 +432,7 @@ module _ (m : ModuleContents) (p : ProcedureContents) (s new : ReachedOffsets) (
   taken_table : (offset : ℕ) → table p new offset ≡ table p s offset
   taken_table offset = ap (λ (v : List (Option ℕ)). list_for new.operands (shape_for v (get_or (index_of p.code) offset None))) shapes ∙ ap (λ ls. list_for ls (shape_at p s offset)) operands
 
-  taken_kept : (offset : ℕ) (kinds : List ValueKind) → IsFollowed m p s offset kinds → IsFollowed m p new offset kinds
+  taken_kept : (offset : ℕ) (kinds : List BaseType) → HasFollowedEdges m p s offset kinds → HasFollowedEdges m p new offset kinds
   taken_kept offset kinds k = record {
     instruction = k.instruction;
     there = k.there;
@@ -504,7 +504,7 @@ module _ (m : ModuleContents) (p : ProcedureContents) (s : ReachedOffsets) (n : 
   start_shape zero = ap (λ o. list_for ([] ∷ []) (shape_for (Some 0 ∷ replicate n None) o)) index_first
   start_shape (suc k) = none_later k (get_or (index_of p.code) (suc k) None) refl ∙ ap (λ (b : Bool). if b then Some [] else None) (sym (not_zero k))
 
-  only_first : (offset : ℕ) (kinds : List ValueKind) → table p s offset ≡ Some kinds → offset ≡ 0
+  only_first : (offset : ℕ) (kinds : List BaseType) → table p s offset ≡ Some kinds → offset ≡ 0
   only_first zero kinds h = refl
   only_first (suc k) kinds h = absurd (let f : None ≡ Some kinds = sym (start_table (suc k) ∙ none_later k (get_or (index_of p.code) (suc k) None) refl) ∙ h in cc)
 

@@ -10,7 +10,7 @@ use Rattle.std.proofs.lemmas.Option.{slice_get-get_or}
 use Rattle.std.proofs.Math.Seq.{get_or-append_seam}
 use Rattle.verifier.specs.Depth.{IsGreatestDepth}
 use Rattle.verifier.specs.Positions.{VerifiedCode}
-use Rattle.verifier.specs.Verified.{IsRefusalOf, IsVerified}
+use Rattle.verifier.specs.Verified.{IsOperandRefusalOf, IsVerified}
 use Rattle.verifier.proofs.Bounds.{IsBounded}
 use Rattle.verifier.proofs.NeverStuck.{never_stuck}
 use Rattle.common.proofs.Cases.{last_cases}
@@ -54,7 +54,7 @@ module _ (m : ModuleContents) (procedures : List ProcedureContents) (are : proce
   pub item_there : slice_get m.procedures index ≡ Some body
   item_there = ap (λ all. slice_get all index) (sym are) ∙ slice_get-get_or procedures index item inside ∙ ap Some (sym is ∙ sym same)
 
-  pub item_refusal : (q : ModuleContents) (number : ℕ) (refusal : CodeRefusal) → q ≡ m → number ≡ index → IsRefusalOf q number body refusal → IsOperandRefusal m refusal
+  pub item_refusal : (q : ModuleContents) (number : ℕ) (refusal : CodeRefusal) → q ≡ m → number ≡ index → IsOperandRefusalOf q number body refusal → IsOperandRefusal m refusal
   item_refusal q number refusal same_module number_is e = record {
     procedure = body;
     there = ap (slice_get m.procedures) (e.procedure ∙ number_is) ∙ item_there;

@@ -12,7 +12,7 @@ use Rattle.modules.specs.Machine.{State, Frame, Caller, Machine, Running, Ended,
 use Rattle.modules.specs.Values.{kind_of}
 use Rattle.modules.specs.declared.instruction.Instruction.{Instruction}
 use Rattle.modules.specs.declared.instruction.Instruction.TheVariants.{Call}
-use Rattle.modules.specs.declared.value.ValueKind.{ValueKind}
+use Rattle.common.specs.declared.base_type.BaseType.{BaseType}
 use Rattle.modules.specs.declared.value.Cell.{Cell}
 use Rattle.modules.specs.declared.declaration.Handler.{Handler}
 use Rattle.verifier.specs.Refusals.{IsNotRefused}
@@ -30,7 +30,7 @@ flows m free k p there offset kind wrong =
 pub record Waits (m : ModuleContents) (p callee : ProcedureContents) (c : Caller) : Type 0 where
   pub there : slice_get m.procedures c.frame.procedure ≡ Some p
   pub slots : Holds p.slots c.frame.slots
-  pub kinds : List ValueKind
+  pub kinds : List BaseType
   pub flow : IsInFlow m p c.frame.position kinds
   pub number : ℕ
   pub calls : instruction_at p.code c.frame.position ≡ Some (Call number)
@@ -43,7 +43,7 @@ pub data Callers (m : ModuleContents) : ProcedureContents → List Caller → Ty
   inner : (callee p : ProcedureContents) (c : Caller) (callers : List Caller) → Waits m p callee c → Callers m p callers → Callers m callee (c ∷ callers)
 
 -- a state at an instruction, before it acts, whose operands are of these kinds
-pub record Stands (m : ModuleContents) (p : ProcedureContents) (s : State) (i : Instruction) (kinds : List ValueKind) : Type 0 where
+pub record Stands (m : ModuleContents) (p : ProcedureContents) (s : State) (i : Instruction) (kinds : List BaseType) : Type 0 where
   pub there : slice_get m.procedures s.frame.procedure ≡ Some p
   pub instruction : instruction_at p.code s.frame.position ≡ Some i
   pub flow : IsInFlow m p s.frame.position kinds
@@ -64,12 +64,12 @@ pub data Good (m : ModuleContents) : Machine → Type 0 where
   runs : (s : State) → GoodState m s → Good m (Running s)
   over : (ending : machine.Ending) (sent : List _) → Good m (Ended ending sent)
 
-pub leaves_same : (a b : List ValueKind) → Leaves a ≡ Leaves b → a ≡ b
+pub leaves_same : (a b : List BaseType) → Leaves a ≡ Leaves b → a ≡ b
 leaves_same a b e = cc
 
 module _ (m : ModuleContents) (free : IsNotRefused m) where
   -- on to the next instruction
-  pub next_good : (p : ProcedureContents) (s : State) (i : Instruction) (kinds after : List ValueKind) (operands : List Cell) → Stands m p s i kinds → effect m p i kinds ≡ Leaves after → goes_on i ≡ true → map kind_of operands ≡ after → Good m (machine.goes_on (machine_code m) s operands)
+  pub next_good : (p : ProcedureContents) (s : State) (i : Instruction) (kinds after : List BaseType) (operands : List Cell) → Stands m p s i kinds → effect m p i kinds ≡ Leaves after → goes_on i ≡ true → map kind_of operands ≡ after → Good m (machine.goes_on (machine_code m) s operands)
   next_good p s i kinds after operands st e goes is =
       let after_is : position_after (instruction_at (code_of (slice_get m.procedures s.frame.procedure)) s.frame.position) s.frame.position ≡ s.frame.position + width_of i =
       ap (λ o. position_after (instruction_at (code_of o) s.frame.position) s.frame.position) st.there ∙ ap (λ o. position_after o s.frame.position) st.instruction in
@@ -85,7 +85,7 @@ module _ (m : ModuleContents) (free : IsNotRefused m) where
       })
 
   -- on to a target
-  pub jump_good : (p : ProcedureContents) (s : State) (i : Instruction) (kinds after : List ValueKind) (operands : List Cell) (to : ℕ) → Stands m p s i kinds → effect m p i kinds ≡ Leaves after → target_of i ≡ Some to → map kind_of operands ≡ after → Good m (machine.goes_to s operands to)
+  pub jump_good : (p : ProcedureContents) (s : State) (i : Instruction) (kinds after : List BaseType) (operands : List Cell) (to : ℕ) → Stands m p s i kinds → effect m p i kinds ≡ Leaves after → target_of i ≡ Some to → map kind_of operands ≡ after → Good m (machine.goes_to s operands to)
   jump_good p s i kinds after operands to st e target is =
       runs _ (record {
         procedure = p;
@@ -126,7 +126,7 @@ module _ (m : ModuleContents) (free : IsNotRefused m) where
       split false b e more = catches_more x handlers at target (more e)
 
   -- control goes to a handler of a frame at an instruction, or the search goes on
-  handled_good : (p : ProcedureContents) (s : State) (f : Frame) (callers : List Caller) (exception : ℕ) (i : Instruction) (kinds : List ValueKind) (otherwise : Machine) → slice_get m.procedures f.procedure ≡ Some p → instruction_at p.code f.position ≡ Some i → IsInFlow m p f.position kinds → Holds p.slots f.slots → Holds (machine_code m).globals s.globals → Callers m p callers → Good m otherwise → Good m (handled s f callers ((machine_code m).find f.procedure f.position exception) otherwise)
+  handled_good : (p : ProcedureContents) (s : State) (f : Frame) (callers : List Caller) (exception : ℕ) (i : Instruction) (kinds : List BaseType) (otherwise : Machine) → slice_get m.procedures f.procedure ≡ Some p → instruction_at p.code f.position ≡ Some i → IsInFlow m p f.position kinds → Holds p.slots f.slots → Holds (machine_code m).globals s.globals → Callers m p callers → Good m otherwise → Good m (handled s f callers ((machine_code m).find f.procedure f.position exception) otherwise)
   handled_good p s f callers exception i kinds otherwise there is flow slots globals waiting more =
       split ((machine_code m).find f.procedure f.position exception) refl
     where
@@ -149,7 +149,7 @@ module _ (m : ModuleContents) (free : IsNotRefused m) where
   unwound_good s exception globals _ _ (inner callee p c callers w more) =
       handled_good p s c.frame callers exception (Call w.number) w.kinds _ w.there w.calls w.flow w.slots globals more (unwound_good s exception globals p callers more)
 
-  pub raised_good : (p : ProcedureContents) (s : State) (i : Instruction) (kinds : List ValueKind) (exception : ℕ) → Stands m p s i kinds → Good m (raised (machine_code m) s exception)
+  pub raised_good : (p : ProcedureContents) (s : State) (i : Instruction) (kinds : List BaseType) (exception : ℕ) → Stands m p s i kinds → Good m (raised (machine_code m) s exception)
   raised_good p s i kinds exception st =
       handled_good p s s.frame s.callers exception i kinds _ st.there st.instruction st.flow st.slots st.globals st.callers (unwound_good s exception st.globals p s.callers st.callers)
 

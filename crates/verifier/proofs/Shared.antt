@@ -7,30 +7,30 @@ use Rattle.std.proofs.lemmas.Bool.{cases_eq}
 use Rattle.std.specs.Prelude.{IfSome}
 use Rattle.verifier.specs.Operands.{list_of, packed, spelled, HasAbove, IsLink, IsShared}
 use Rattle.verifier.specs.declared.operands.Link.{Link}
-use Rattle.modules.specs.declared.value.ValueKind.{ValueKind}
-use Rattle.modules.specs.declared.value.ValueKind.TheVariants.{Int, Boolean}
+use Rattle.common.specs.declared.base_type.BaseType.{BaseType}
+use Rattle.common.specs.declared.base_type.BaseType.TheVariants.{Int, Boolean}
 use Rattle.common.proofs.Cases.{last_cases}
 
-pub spelled_push : (lists : List (List ValueKind)) (links : List Link) (link : Link) → spelled lists (links ++ link ∷ []) ≡ spelled lists links ++ (link.kind ∷ list_of (spelled lists links) link.below) ∷ []
+pub spelled_push : (lists : List (List BaseType)) (links : List Link) (link : Link) → spelled lists (links ++ link ∷ []) ≡ spelled lists links ++ (link.kind ∷ list_of (spelled lists links) link.below) ∷ []
 spelled_push lists [] link = refl
 spelled_push lists (x ∷ links) link = spelled_push (lists ++ (x.kind ∷ list_of lists x.below) ∷ []) links link
 
-longer_one : (lists : List (List ValueKind)) (n : List ValueKind) → length (lists ++ n ∷ []) ≡ length lists + 1
+longer_one : (lists : List (List BaseType)) (n : List BaseType) → length (lists ++ n ∷ []) ≡ length lists + 1
 longer_one lists n = omega (arith, length-append lists (n ∷ []))
 
-old : (lists : List (List ValueKind)) (n : List ValueKind) (k : ℕ) → k < length lists → list_of (lists ++ n ∷ []) k ≡ list_of lists k
+old : (lists : List (List BaseType)) (n : List BaseType) (k : ℕ) → k < length lists → list_of (lists ++ n ∷ []) k ≡ list_of lists k
 old lists n k h = get_or_append_left lists (n ∷ []) [] k h
 
-new : (lists : List (List ValueKind)) (n : List ValueKind) → list_of (lists ++ n ∷ []) (length lists) ≡ n
+new : (lists : List (List BaseType)) (n : List BaseType) → list_of (lists ++ n ∷ []) (length lists) ≡ n
 new lists n = get_or-append_seam lists n [] []
 
 -- the tail of a list that is there is there
-abbrev pub HasTails : List (List ValueKind) → Type 0
-HasTails lists = (r : ℕ) (kind : ValueKind) (tail : List ValueKind) → r < length lists → list_of lists r ≡ kind ∷ tail → (b : ℕ) × (b < length lists) × (list_of lists b ≡ tail)
+abbrev pub HasTails : List (List BaseType) → Type 0
+HasTails lists = (r : ℕ) (kind : BaseType) (tail : List BaseType) → r < length lists → list_of lists r ≡ kind ∷ tail → (b : ℕ) × (b < length lists) × (list_of lists b ≡ tail)
 
-module _ (lists : List (List ValueKind)) (kind : ValueKind) (below : ℕ) (there : below < length lists) (fresh : (k : ℕ) → k < length lists → list_of lists k ≢ kind ∷ list_of lists below) where
+module _ (lists : List (List BaseType)) (kind : BaseType) (below : ℕ) (there : below < length lists) (fresh : (k : ℕ) → k < length lists → list_of lists k ≢ kind ∷ list_of lists below) where
   -- no list has the new one as its tail
-  not_on_new : ((r : ℕ) (q : ValueKind) (tail : List ValueKind) → r < length lists → list_of lists r ≡ q ∷ tail → (b : ℕ) × (b < length lists) × (list_of lists b ≡ tail)) → (q : ValueKind) (r : ℕ) → r < length lists + 1 → list_of (lists ++ (kind ∷ list_of lists below) ∷ []) r ≢ q ∷ (kind ∷ list_of lists below)
+  not_on_new : ((r : ℕ) (q : BaseType) (tail : List BaseType) → r < length lists → list_of lists r ≡ q ∷ tail → (b : ℕ) × (b < length lists) × (list_of lists b ≡ tail)) → (q : BaseType) (r : ℕ) → r < length lists + 1 → list_of (lists ++ (kind ∷ list_of lists below) ∷ []) r ≢ q ∷ (kind ∷ list_of lists below)
   not_on_new tails q r h e =
       elim (last_cases r (length lists) h) [
         | inl l ↦ let t = tails r q (kind ∷ list_of lists below) l (sym (old lists (kind ∷ list_of lists below) r l) ∙ e) in fresh t.0 t.1 t.2
@@ -43,26 +43,26 @@ module _ (lists : List (List ValueKind)) (kind : ValueKind) (below : ℕ) (there
   is_new : (r : ℕ) → r ≡ length lists → kind ∷ list_of lists below ≡ list_of (lists ++ (kind ∷ list_of lists below) ∷ []) r
   is_new r e = sym (new lists (kind ∷ list_of lists below)) ∙ ap (list_of (lists ++ (kind ∷ list_of lists below) ∷ [])) (sym e)
 
-  some_old : (q : ValueKind) (above : List (Option ℕ)) → HasAbove q lists above → (k r : ℕ) → k < length lists → get_or (above ++ None ∷ []) k None ≡ Some r → (r < length (lists ++ (kind ∷ list_of lists below) ∷ [])) × (list_of (lists ++ (kind ∷ list_of lists below) ∷ []) r ≡ q ∷ list_of (lists ++ (kind ∷ list_of lists below) ∷ []) k)
+  some_old : (q : BaseType) (above : List (Option ℕ)) → HasAbove q lists above → (k r : ℕ) → k < length lists → get_or (above ++ None ∷ []) k None ≡ Some r → (r < length (lists ++ (kind ∷ list_of lists below) ∷ [])) × (list_of (lists ++ (kind ∷ list_of lists below) ∷ []) r ≡ q ∷ list_of (lists ++ (kind ∷ list_of lists below) ∷ []) k)
   some_old q above h k r lk e =
       let s = h.some k r lk (sym (get_or_append_left above (None ∷ []) None k (omega (arith, h.long))) ∙ e) in (
         omega (arith, s.0, longer_one lists (kind ∷ list_of lists below)),
         old lists (kind ∷ list_of lists below) r s.0 ∙ s.1 ∙ ap (λ t. q ∷ t) (sym (old lists (kind ∷ list_of lists below) k lk)),
       )
 
-  some_none : {A : Type 0} (q : ValueKind) (above : List (Option ℕ)) → HasAbove q lists above → (k r : ℕ) → k ≡ length lists → get_or (above ++ None ∷ []) k None ≡ Some r → A
+  some_none : {A : Type 0} (q : BaseType) (above : List (Option ℕ)) → HasAbove q lists above → (k r : ℕ) → k ≡ length lists → get_or (above ++ None ∷ []) k None ≡ Some r → A
   some_none q above h k r ek e =
       let k_is : k ≡ length above = ek ∙ sym h.long in
       absurd (let f : None ≡ Some r = sym (get_or-append_seam above None [] None) ∙ ap (λ j. get_or (above ++ None ∷ []) j None) (sym k_is) ∙ e in cc)
 
-  none_old : (q : ValueKind) (above : List (Option ℕ)) → HasAbove q lists above → (k r : ℕ) → k < length lists → r < length lists → get_or (above ++ None ∷ []) k None ≡ None → list_of (lists ++ (kind ∷ list_of lists below) ∷ []) r ≡ q ∷ list_of (lists ++ (kind ∷ list_of lists below) ∷ []) k → ⊥
+  none_old : (q : BaseType) (above : List (Option ℕ)) → HasAbove q lists above → (k r : ℕ) → k < length lists → r < length lists → get_or (above ++ None ∷ []) k None ≡ None → list_of (lists ++ (kind ∷ list_of lists below) ∷ []) r ≡ q ∷ list_of (lists ++ (kind ∷ list_of lists below) ∷ []) k → ⊥
   none_old q above h k r lk lr e same =
       h.none k lk (sym (get_or_append_left above (None ∷ []) None k (omega (arith, h.long))) ∙ e) r lr (sym (old lists (kind ∷ list_of lists below) r lr) ∙ same ∙ ap (λ t. q ∷ t) (old lists (kind ∷ list_of lists below) k lk))
 
   at_below : (above : List (Option ℕ)) → HasAbove kind lists above → (k : ℕ) → k ≡ below → get_or (set (above ++ None ∷ []) below (Some (length lists))) k None ≡ Some (length lists)
   at_below above h k e = ap (λ j. get_or (set (above ++ None ∷ []) below (Some (length lists))) j None) e ∙ get_or-set_same (above ++ None ∷ []) below (Some (length lists)) None (omega (arith, h.long, length-append above (None ∷ [])))
 
-  pub above_other : (q : ValueKind) (above : List (Option ℕ)) → kind ≢ q → HasTails lists → HasAbove q lists above → HasAbove q (lists ++ (kind ∷ list_of lists below) ∷ []) (above ++ None ∷ [])
+  pub above_other : (q : BaseType) (above : List (Option ℕ)) → kind ≢ q → HasTails lists → HasAbove q lists above → HasAbove q (lists ++ (kind ∷ list_of lists below) ∷ []) (above ++ None ∷ [])
   above_other q above ne tails h = record {
     long = omega (arith, length-append lists ((kind ∷ list_of lists below) ∷ []), length-append above (None ∷ []), h.long);
     some = λ k r l e. elim (last_cases k (length lists) (omega (arith, l, longer_one lists (kind ∷ list_of lists below)))) [
@@ -125,8 +125,8 @@ module _ (lists : List (List ValueKind)) (kind : ValueKind) (below : ℕ) (there
       ]
 
 -- the tails of lists that are kept once
-pub tails_of : (lists : List (List ValueKind)) (links : List Link) (ints booleans : List (Option ℕ)) → IsShared lists links ints booleans → HasTails lists
-tails_of lists links ints booleans s zero q tail l e = absurd (let f : ◌≡◌ {A = List ValueKind} [] (q ∷ tail) = sym s.root ∙ e in cc)
+pub tails_of : (lists : List (List BaseType)) (links : List Link) (ints booleans : List (Option ℕ)) → IsShared lists links ints booleans → HasTails lists
+tails_of lists links ints booleans s zero q tail l e = absurd (let f : ◌≡◌ {A = List BaseType} [] (q ∷ tail) = sym s.root ∙ e in cc)
 tails_of lists links ints booleans s (suc r) q tail l e =
     let d : Link = record { kind = Int; below = 0; depth = 0; bits = 0; skip = 0 } in
     let h = s.link r d (omega (arith, s.long)) in
@@ -135,7 +135,7 @@ tails_of lists links ints booleans s (suc r) q tail l e =
     ((get_or links r d).below, omega (arith, h.below), cc)
 
 -- the same links with one more
-pub link_more : (lists : List (List ValueKind)) (links : List Link) (n : List ValueKind) (link : Link) → length lists ≡ length links + 1 → ((k : ℕ) (d : Link) → k < length links → IsLink lists (k + 1) (get_or links k d)) → link.below < length lists → n ≡ link.kind ∷ list_of lists link.below → link.depth ≡ length n → link.depth ≤ length lists → link.bits ≡ packed 64 n → list_of lists link.skip ≡ drop 64 n → link.skip < length lists → (k : ℕ) (d : Link) → k < length links + 1 → IsLink (lists ++ n ∷ []) (k + 1) (get_or (links ++ link ∷ []) k d)
+pub link_more : (lists : List (List BaseType)) (links : List Link) (n : List BaseType) (link : Link) → length lists ≡ length links + 1 → ((k : ℕ) (d : Link) → k < length links → IsLink lists (k + 1) (get_or links k d)) → link.below < length lists → n ≡ link.kind ∷ list_of lists link.below → link.depth ≡ length n → link.depth ≤ length lists → link.bits ≡ packed 64 n → list_of lists link.skip ≡ drop 64 n → link.skip < length lists → (k : ℕ) (d : Link) → k < length links + 1 → IsLink (lists ++ n ∷ []) (k + 1) (get_or (links ++ link ∷ []) k d)
 link_more lists links n link long h below list depth few bits skip skips k d l =
     elim (last_cases k (length links) l) [
       | inl lk ↦
@@ -169,10 +169,10 @@ differ_int e = cc
 differ_boolean : Boolean ≢ Int
 differ_boolean e = cc
 
-module _ (first : List (List ValueKind)) (links more_links : List Link) (ints more_ints booleans more_booleans : List (Option ℕ)) (below depth bits skip number : ℕ) where
-  pub shared_int : IsShared (spelled first links) links ints booleans → (kind : ValueKind) → kind ≡ Int → below < length (spelled first links) → ((k : ℕ) → k < length (spelled first links) → list_of (spelled first links) k ≢ kind ∷ list_of (spelled first links) below) → depth ≡ length (list_of (spelled first links) below) + 1 → depth ≤ below + 1 → bits ≡ packed 64 (kind ∷ list_of (spelled first links) below) → list_of (spelled first links) skip ≡ drop 63 (list_of (spelled first links) below) → skip < length (spelled first links) → number ≡ length links → more_links ≡ links ++ record { kind = kind; below = below; depth = depth; bits = bits; skip = skip } ∷ [] → more_ints ≡ ints ++ None ∷ [] → more_booleans ≡ booleans ++ None ∷ [] → IsShared (spelled first more_links) more_links (set more_ints below (Some (number + 1))) more_booleans
+module _ (first : List (List BaseType)) (links more_links : List Link) (ints more_ints booleans more_booleans : List (Option ℕ)) (below depth bits skip number : ℕ) where
+  pub shared_int : IsShared (spelled first links) links ints booleans → (kind : BaseType) → kind ≡ Int → below < length (spelled first links) → ((k : ℕ) → k < length (spelled first links) → list_of (spelled first links) k ≢ kind ∷ list_of (spelled first links) below) → depth ≡ length (list_of (spelled first links) below) + 1 → depth ≤ below + 1 → bits ≡ packed 64 (kind ∷ list_of (spelled first links) below) → list_of (spelled first links) skip ≡ drop 63 (list_of (spelled first links) below) → skip < length (spelled first links) → number ≡ length links → more_links ≡ links ++ record { kind = kind; below = below; depth = depth; bits = bits; skip = skip } ∷ [] → more_ints ≡ ints ++ None ∷ [] → more_booleans ≡ booleans ++ None ∷ [] → IsShared (spelled first more_links) more_links (set more_ints below (Some (number + 1))) more_booleans
   shared_int s kind is there fresh deep few bits_are skip_is skip_there count el ei eb =
-      let n : List ValueKind = kind ∷ list_of (spelled first links) below in
+      let n : List BaseType = kind ∷ list_of (spelled first links) below in
       let link : Link = record { kind = kind; below = below; depth = depth; bits = bits; skip = skip } in
       let number_is : length (spelled first links) ≡ number + 1 = omega (arith, s.long) in
       let lists_are : spelled first links ++ n ∷ [] ≡ spelled first more_links = sym (ap (spelled first) el ∙ spelled_push first links link) in
@@ -190,9 +190,9 @@ module _ (first : List (List ValueKind)) (links more_links : List Link) (ints mo
       (subst (λ l. IsShared l (links ++ link ∷ []) (set (ints ++ None ∷ []) below (Some (number + 1))) (booleans ++ None ∷ [])) lists_are
       (subst (λ l. IsShared (spelled first links ++ n ∷ []) (links ++ link ∷ []) (set (ints ++ None ∷ []) below (Some l)) (booleans ++ None ∷ [])) number_is shared))))
 
-  pub shared_boolean : IsShared (spelled first links) links ints booleans → (kind : ValueKind) → kind ≡ Boolean → below < length (spelled first links) → ((k : ℕ) → k < length (spelled first links) → list_of (spelled first links) k ≢ kind ∷ list_of (spelled first links) below) → depth ≡ length (list_of (spelled first links) below) + 1 → depth ≤ below + 1 → bits ≡ packed 64 (kind ∷ list_of (spelled first links) below) → list_of (spelled first links) skip ≡ drop 63 (list_of (spelled first links) below) → skip < length (spelled first links) → number ≡ length links → more_links ≡ links ++ record { kind = kind; below = below; depth = depth; bits = bits; skip = skip } ∷ [] → more_ints ≡ ints ++ None ∷ [] → more_booleans ≡ booleans ++ None ∷ [] → IsShared (spelled first more_links) more_links more_ints (set more_booleans below (Some (number + 1)))
+  pub shared_boolean : IsShared (spelled first links) links ints booleans → (kind : BaseType) → kind ≡ Boolean → below < length (spelled first links) → ((k : ℕ) → k < length (spelled first links) → list_of (spelled first links) k ≢ kind ∷ list_of (spelled first links) below) → depth ≡ length (list_of (spelled first links) below) + 1 → depth ≤ below + 1 → bits ≡ packed 64 (kind ∷ list_of (spelled first links) below) → list_of (spelled first links) skip ≡ drop 63 (list_of (spelled first links) below) → skip < length (spelled first links) → number ≡ length links → more_links ≡ links ++ record { kind = kind; below = below; depth = depth; bits = bits; skip = skip } ∷ [] → more_ints ≡ ints ++ None ∷ [] → more_booleans ≡ booleans ++ None ∷ [] → IsShared (spelled first more_links) more_links more_ints (set more_booleans below (Some (number + 1)))
   shared_boolean s kind is there fresh deep few bits_are skip_is skip_there count el ei eb =
-      let n : List ValueKind = kind ∷ list_of (spelled first links) below in
+      let n : List BaseType = kind ∷ list_of (spelled first links) below in
       let link : Link = record { kind = kind; below = below; depth = depth; bits = bits; skip = skip } in
       let number_is : length (spelled first links) ≡ number + 1 = omega (arith, s.long) in
       let lists_are : spelled first links ++ n ∷ [] ≡ spelled first more_links = sym (ap (spelled first) el ∙ spelled_push first links link) in
@@ -211,7 +211,7 @@ module _ (first : List (List ValueKind)) (links more_links : List Link) (ints mo
       (subst (λ l. IsShared (spelled first links ++ n ∷ []) (links ++ link ∷ []) (ints ++ None ∷ []) (set (booleans ++ None ∷ []) below (Some l))) number_is shared))))
 
 -- the lists after a push
-pub pushed : (first lists : List (List ValueKind)) (links more_links : List Link) (kind : ValueKind) (below depth bits skip number : ℕ) → spelled first links ≡ lists → length lists ≡ length links + 1 → number ≡ length links → more_links ≡ links ++ record { kind = kind; below = below; depth = depth; bits = bits; skip = skip } ∷ [] → (spelled first more_links ≡ lists ++ (kind ∷ list_of lists below) ∷ []) × (length (spelled first more_links) ≡ length lists + 1) × (list_of (spelled first more_links) (number + 1) ≡ kind ∷ list_of lists below) × ((k : ℕ) → length lists ≤ k → k < length (spelled first more_links) → list_of (spelled first more_links) k ≡ kind ∷ list_of lists below)
+pub pushed : (first lists : List (List BaseType)) (links more_links : List Link) (kind : BaseType) (below depth bits skip number : ℕ) → spelled first links ≡ lists → length lists ≡ length links + 1 → number ≡ length links → more_links ≡ links ++ record { kind = kind; below = below; depth = depth; bits = bits; skip = skip } ∷ [] → (spelled first more_links ≡ lists ++ (kind ∷ list_of lists below) ∷ []) × (length (spelled first more_links) ≡ length lists + 1) × (list_of (spelled first more_links) (number + 1) ≡ kind ∷ list_of lists below) × ((k : ℕ) → length lists ≤ k → k < length (spelled first more_links) → list_of (spelled first more_links) k ≡ kind ∷ list_of lists below)
 pushed first lists links more_links kind below depth bits skip number view long count el =
     let e : spelled first more_links ≡ lists ++ (kind ∷ list_of lists below) ∷ [] = ap (spelled first) el ∙ spelled_push first links (record { kind = kind; below = below; depth = depth; bits = bits; skip = skip }) ∙ ap (λ l. l ++ (kind ∷ list_of l below) ∷ []) view in
     let n : number + 1 ≡ length lists = omega arith in (
@@ -228,7 +228,7 @@ any_default [] k d e h = absurd (omega arith)
 any_default (x ∷ xs) zero d e h = refl
 any_default (x ∷ xs) (suc k) d e h = any_default xs k d e (omega arith)
 
-pub above_there : (kind : ValueKind) (inside lists : List (List ValueKind)) (above : List (Option ℕ)) (k : ℕ) (found : Option ℕ) → inside ≡ lists → HasAbove kind inside above → k < length lists → found ≡ get_or above k found → IfSome found (λ r. r < length lists)
+pub above_there : (kind : BaseType) (inside lists : List (List BaseType)) (above : List (Option ℕ)) (k : ℕ) (found : Option ℕ) → inside ≡ lists → HasAbove kind inside above → k < length lists → found ≡ get_or above k found → IfSome found (λ r. r < length lists)
 above_there kind inside lists above k None same h l e = tt
 above_there kind inside lists above k (Some r) same h l e =
     let k_in : k < length inside = omega (arith, ap length same) in
@@ -237,15 +237,15 @@ above_there kind inside lists above k (Some r) same h l e =
 -- ---- the list below the topmost 64
 
 -- what is below this many operands is there
-pub tails_drop : (lists : List (List ValueKind)) → HasTails lists → (n r : ℕ) → r < length lists → n ≤ length (list_of lists r) → (b : ℕ) × (b < length lists) × (list_of lists b ≡ drop n (list_of lists r))
+pub tails_drop : (lists : List (List BaseType)) → HasTails lists → (n r : ℕ) → r < length lists → n ≤ length (list_of lists r) → (b : ℕ) × (b < length lists) × (list_of lists b ≡ drop n (list_of lists r))
 tails_drop lists tails n r l long = along n r (list_of lists r) l refl long
   where
-    along : (n r : ℕ) (kinds : List ValueKind) → r < length lists → list_of lists r ≡ kinds → n ≤ length kinds → (b : ℕ) × (b < length lists) × (list_of lists b ≡ drop n kinds)
+    along : (n r : ℕ) (kinds : List BaseType) → r < length lists → list_of lists r ≡ kinds → n ≤ length kinds → (b : ℕ) × (b < length lists) × (list_of lists b ≡ drop n kinds)
     along zero r kinds l is h = (r, l, is)
     along (suc n) r [] l is h = absurd (omega arith)
     along (suc n) r (q ∷ kinds) l is h = let t = tails r q kinds l is in along n t.0 kinds t.1 t.2 (omega arith)
 
-module _ (lists : List (List ValueKind)) (links : List Link) (ints booleans : List (Option ℕ)) (s : IsShared lists links ints booleans) where
+module _ (lists : List (List BaseType)) (links : List Link) (ints booleans : List (Option ℕ)) (s : IsShared lists links ints booleans) where
   pub link_at : (list : ℕ) (link : Link) → list ≢ 0 → list < length lists → link ≡ get_or links (list - 1) link → IsLink lists list link
   link_at zero link ne l is = absurd (ne refl)
   link_at (suc k) link ne l is =
@@ -256,7 +256,7 @@ module _ (lists : List (List ValueKind)) (links : List Link) (ints booleans : Li
   pub skip_short : (list : ℕ) (link : Link) → IsLink lists list link → link.depth < 64 → list_of lists 0 ≡ drop 63 (list_of lists list)
   skip_short list link h short = s.root ∙ sym (drop_all 63 (list_of lists list) (omega (arith, h.depth)))
 
-  pub skip_missing : (list : ℕ) (link : Link) (kind : ValueKind) → IsLink lists list link → list < length lists → 64 ≤ link.depth → drop 63 (list_of lists list) ≡ kind ∷ drop 64 (list_of lists list) → ((k : ℕ) → k < length lists → list_of lists k ≢ kind ∷ list_of lists link.skip) → ⊥
+  pub skip_missing : (list : ℕ) (link : Link) (kind : BaseType) → IsLink lists list link → list < length lists → 64 ≤ link.depth → drop 63 (list_of lists list) ≡ kind ∷ drop 64 (list_of lists list) → ((k : ℕ) → k < length lists → list_of lists k ≢ kind ∷ list_of lists link.skip) → ⊥
   skip_missing list link kind h l long last none =
       let t = tails_drop lists (tails_of lists links ints booleans s) 63 list l (omega (arith, h.depth)) in
       none t.0 t.1 (t.2 ∙ last ∙ ap (λ ks. kind ∷ ks) (sym h.skip))

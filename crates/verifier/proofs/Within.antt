@@ -5,7 +5,7 @@ use Rattle.modules.specs.Contents.{ProcedureContents, ModuleContents}
 use Rattle.modules.specs.Machine.{Caller, Frame, Machine}
 use Rattle.modules.specs.Values.{kind_of}
 use Rattle.modules.specs.declared.instruction.Instruction.TheVariants.{Call}
-use Rattle.modules.specs.declared.value.ValueKind.{ValueKind}
+use Rattle.common.specs.declared.base_type.BaseType.{BaseType}
 use Rattle.verifier.specs.Depth.{IsMet, IsWithinDepth, FramesAreWithin, IsNeverDeeper, found, left}
 use Rattle.verifier.specs.Refusals.{IsNotRefused}
 use Rattle.verifier.specs.Flow.{pushed}
@@ -14,13 +14,13 @@ use Rattle.verifier.proofs.NeverStuck.{good_after}
 use Rattle.verifier.proofs.Runs.{Callers, outermost, inner, Good, runs, over, Waits}
 
 -- kinds of the operands of a frame that are met, or more
-within : (m : ModuleContents) (frame : Frame) (p : ProcedureContents) (kinds : List ValueKind) → slice_get m.procedures frame.procedure ≡ Some p → IsMet m p kinds → length frame.operands ≤ length kinds → IsWithinDepth m frame
+within : (m : ModuleContents) (frame : Frame) (p : ProcedureContents) (kinds : List BaseType) → slice_get m.procedures frame.procedure ≡ Some p → IsMet m p kinds → length frame.operands ≤ length kinds → IsWithinDepth m frame
 within m frame p kinds there met enough = λ q depth q_there greatest.
     let some : Some p ≡ Some q = sym there ∙ q_there in
     let same : p ≡ q = cc in
     omega (arith, enough, greatest.bounds kinds (subst (λ (x : ProcedureContents). IsMet m x kinds) same met))
 
-longer_pushed : (o : Option ValueKind) (kinds : List ValueKind) → length kinds ≤ length (pushed o kinds)
+longer_pushed : (o : Option BaseType) (kinds : List BaseType) → length kinds ≤ length (pushed o kinds)
 longer_pushed None kinds = omega arith
 longer_pushed (Some kind) kinds = omega arith
 

@@ -6,18 +6,18 @@ use Rattle.modules.specs.Contents.{ProcedureContents, ModuleContents}
 use Rattle.modules.specs.Code.{instruction_at}
 use Rattle.modules.specs.Machine.{Caller, Frame, Machine, Running, Ended, Stuck, after_steps}
 use Rattle.modules.specs.declared.instruction.Instruction.{Instruction}
-use Rattle.modules.specs.declared.value.ValueKind.{ValueKind}
+use Rattle.common.specs.declared.base_type.BaseType.{BaseType}
 use Rattle.verifier.specs.Flow.{Flow, Leaves, effect}
 
 -- the kinds of operands that an instruction finds or leaves, by the tables that the flow may give
-pub data IsMet (m : ModuleContents) (procedure : ProcedureContents) : List ValueKind → Type 0 where
-  found : (table : ℕ → Option (List ValueKind)) (at : ℕ) (kinds : List ValueKind) → Flow m procedure table → table at ≡ Some kinds → IsMet m procedure kinds
-  left : (table : ℕ → Option (List ValueKind)) (at : ℕ) (kinds : List ValueKind) (i : Instruction) (after : List ValueKind) → Flow m procedure table → table at ≡ Some kinds → instruction_at procedure.code at ≡ Some i → effect m procedure i kinds ≡ Leaves after → IsMet m procedure after
+pub data IsMet (m : ModuleContents) (procedure : ProcedureContents) : List BaseType → Type 0 where
+  found : (table : ℕ → Option (List BaseType)) (at : ℕ) (kinds : List BaseType) → Flow m procedure table → table at ≡ Some kinds → IsMet m procedure kinds
+  left : (table : ℕ → Option (List BaseType)) (at : ℕ) (kinds : List BaseType) (i : Instruction) (after : List BaseType) → Flow m procedure table → table at ≡ Some kinds → instruction_at procedure.code at ≡ Some i → effect m procedure i kinds ≡ Leaves after → IsMet m procedure after
 
 -- the greatest number of operands that an instruction finds or leaves
 pub record IsGreatestDepth (m : ModuleContents) (procedure : ProcedureContents) (depth : ℕ) : Type 0 where
-  pub bounds : (kinds : List ValueKind) → IsMet m procedure kinds → length kinds ≤ depth
-  pub met : (kinds : List ValueKind) × (IsMet m procedure kinds × (length kinds ≡ depth))
+  pub bounds : (kinds : List BaseType) → IsMet m procedure kinds → length kinds ≤ depth
+  pub met : (kinds : List BaseType) × (IsMet m procedure kinds × (length kinds ≡ depth))
 
 -- a frame does not have more
 abbrev pub IsWithinDepth : ModuleContents → Frame → Type 0

@@ -1,4 +1,4 @@
--- Private: numbers for places, where a place may have none: how they are kept.
+-- Private: a number for each index, or none: how they are kept.
 -- Source: our own.
 use Rattle.std.specs.Prelude.{ℕ, zero, suc, Option, Some, None}
 

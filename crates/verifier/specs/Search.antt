@@ -5,7 +5,7 @@ use Rattle.std.specs.List.{Contains}
 use Rattle.modules.specs.Contents.{ProcedureContents, ModuleContents}
 use Rattle.modules.specs.Code.{width_of, code_length, instruction_at, offset_at}
 use Rattle.modules.specs.declared.instruction.Instruction.{Instruction}
-use Rattle.modules.specs.declared.value.ValueKind.{ValueKind}
+use Rattle.common.specs.declared.base_type.BaseType.{BaseType}
 use Rattle.modules.specs.declared.declaration.Handler.{Handler}
 use Rattle.modules.specs.Targets.{goes_on, target_of}
 use Rattle.verifier.specs.Flow.{Edge, Flow, Leaves, effect, IsRefusedForOperands}
@@ -26,7 +26,7 @@ pub record IsSearchableBody (b : IndexedProcedure) : Type 0 where
 
 -- ---- the table that was found so far
 
-abbrev pub list_for : List (List ValueKind) → Option ℕ → Option (List ValueKind)
+abbrev pub list_for : List (List BaseType) → Option ℕ → Option (List BaseType)
 list_for lists None = None
 list_for lists (Some list) = Some (list_of lists list)
 
@@ -39,14 +39,14 @@ abbrev pub shape_at : ProcedureContents → ReachedOffsets → ℕ → Option �
 shape_at p s offset = shape_for s.shapes (slice_index_or (index_of p.code) offset None)
 
 -- the list of the offset where an instruction begins
-abbrev pub table : ProcedureContents → ReachedOffsets → ℕ → Option (List ValueKind)
+abbrev pub table : ProcedureContents → ReachedOffsets → ℕ → Option (List BaseType)
 table p s offset = list_for s.operands (shape_at p s offset)
 
 -- a offset whose instruction finds its operands, and from which each edge was followed
-pub record IsFollowed (m : ModuleContents) (p : ProcedureContents) (s : ReachedOffsets) (at : ℕ) (kinds : List ValueKind) : Type 0 where
+pub record HasFollowedEdges (m : ModuleContents) (p : ProcedureContents) (s : ReachedOffsets) (at : ℕ) (kinds : List BaseType) : Type 0 where
   pub instruction : Instruction
   pub there : instruction_at p.code at ≡ Some instruction
-  pub after : List ValueKind
+  pub after : List BaseType
   pub finds : effect m p instruction kinds ≡ Leaves after
   pub next : goes_on instruction ≡ true → table p s (at + width_of instruction) ≡ Some after
   pub jumps : (to : ℕ) → target_of instruction ≡ Some to → table p s to ≡ Some after
@@ -63,16 +63,16 @@ abbrev pub left : ReachedOffsets → ℕ
 left s = unset s.shapes + length s.work
 
 -- the list 0 is there and empty
-abbrev pub StartsWithEmpty : List (List ValueKind) → Type 0
+abbrev pub StartsWithEmpty : List (List BaseType) → Type 0
 StartsWithEmpty lists = (0 < length lists) × (list_of lists 0 ≡ [])
 
 -- each list is one that an instruction finds or leaves, and none that is so is longer than all of them
-abbrev pub AreMet : ModuleContents → ProcedureContents → List (List ValueKind) → Type 0
+abbrev pub AreMet : ModuleContents → ProcedureContents → List (List BaseType) → Type 0
 AreMet m p lists = (k : ℕ) → k < length lists → IsMet m p (list_of lists k)
 
-pub record HaveLongest (m : ModuleContents) (p : ProcedureContents) (lists : List (List ValueKind)) : Type 0 where
+pub record HaveLongest (m : ModuleContents) (p : ProcedureContents) (lists : List (List BaseType)) : Type 0 where
   pub met : AreMet m p lists
-  pub longest : (kinds : List ValueKind) → IsMet m p kinds → (k : ℕ) × ((k < length lists) × (length kinds ≤ length (list_of lists k)))
+  pub longest : (kinds : List BaseType) → IsMet m p kinds → (k : ℕ) × ((k < length lists) × (length kinds ≤ length (list_of lists k)))
 
 -- a search at work: its table is one of the flow, its lists are met, and each offset that has a list waits, is being looked at, or
 -- is kept
@@ -80,12 +80,12 @@ pub record IsSearching (m : ModuleContents) (p : ProcedureContents) (s : Reached
   pub root : StartsWithEmpty s.operands
   pub sized : length s.shapes ≡ length p.code
   pub numbers : (number list : ℕ) → slice_index_or s.shapes number None ≡ Some list → list < length s.operands
-  pub begins : (offset : ℕ) (kinds : List ValueKind) → table p s offset ≡ Some kinds → (i : Instruction) × (instruction_at p.code offset ≡ Some i)
+  pub begins : (offset : ℕ) (kinds : List BaseType) → table p s offset ≡ Some kinds → (i : Instruction) × (instruction_at p.code offset ≡ Some i)
   pub first : table p s 0 ≡ Some []
   pub flow : Flow m p (table p s)
   pub met : AreMet m p s.operands
-  pub pending : (at : ℕ) (kinds : List ValueKind) → table p s at ≡ Some kinds → Contains s.work at ⊎ (Contains busy at ⊎ IsFollowed m p s at kinds)
-  pub waits : (at : ℕ) → Contains s.work at → (kinds : List ValueKind) × (table p s at ≡ Some kinds)
+  pub pending : (at : ℕ) (kinds : List BaseType) → table p s at ≡ Some kinds → Contains s.work at ⊎ (Contains busy at ⊎ HasFollowedEdges m p s at kinds)
+  pub waits : (at : ℕ) → Contains s.work at → (kinds : List BaseType) × (table p s at ≡ Some kinds)
 
 -- the instruction of a number stands at an offset; where there is none more, the code ends there
 pub record StandsAt (p : ProcedureContents) (number offset : ℕ) : Type 0 where
@@ -99,15 +99,15 @@ abbrev pub waiting : ReachedOffsets → ℕ → ReachedOffsets
 waiting s at = record { operands = s.operands; shapes = s.shapes; work = s.work ++ at ∷ [] }
 
 -- an edge from a offset that has a list
-pub record IsAtEdge (m : ModuleContents) (p : ProcedureContents) (s : ReachedOffsets) (at to : ℕ) (after : List ValueKind) : Type 0 where
-  pub kinds : List ValueKind
+pub record IsAtEdge (m : ModuleContents) (p : ProcedureContents) (s : ReachedOffsets) (at to : ℕ) (after : List BaseType) : Type 0 where
+  pub kinds : List BaseType
   pub has : table p s at ≡ Some kinds
   pub edge : Edge m p at kinds to after
 
 -- control went to a offset with a list
 pub record Flowed (m : ModuleContents) (p : ProcedureContents) (old new : ReachedOffsets) (at to list : ℕ) : Type 0 where
   pub searching : IsSearching m p new (at ∷ [])
-  pub keeps : (offset : ℕ) (kinds : List ValueKind) → table p old offset ≡ Some kinds → table p new offset ≡ Some kinds
+  pub keeps : (offset : ℕ) (kinds : List BaseType) → table p old offset ≡ Some kinds → table p new offset ≡ Some kinds
   pub arrives : table p new to ≡ Some (list_of old.operands list)
   pub same : new.operands ≡ old.operands
   pub left : left new ≤ left old
@@ -115,21 +115,21 @@ pub record Flowed (m : ModuleContents) (p : ProcedureContents) (old new : Reache
 -- control went on from a offset: lists were kept, and none was made
 pub record KeepsSearching (m : ModuleContents) (p : ProcedureContents) (old new : ReachedOffsets) (at : ℕ) : Type 0 where
   pub searching : IsSearching m p new (at ∷ [])
-  pub keeps : (offset : ℕ) (kinds : List ValueKind) → table p old offset ≡ Some kinds → table p new offset ≡ Some kinds
+  pub keeps : (offset : ℕ) (kinds : List BaseType) → table p old offset ≡ Some kinds → table p new offset ≡ Some kinds
   pub same : new.operands ≡ old.operands
   pub left : left new ≤ left old
 
 -- an instruction changed the list of its offset
 pub record IsApplied (m : ModuleContents) (p : ProcedureContents) (old new : ReachedOffsets) (at : ℕ) : Type 0 where
   pub searching : IsSearching m p new (at ∷ [])
-  pub keeps : (offset : ℕ) (kinds : List ValueKind) → table p old offset ≡ Some kinds → table p new offset ≡ Some kinds
+  pub keeps : (offset : ℕ) (kinds : List BaseType) → table p old offset ≡ Some kinds → table p new offset ≡ Some kinds
   pub few : length new.operands ≤ length old.operands + 1
   pub left : left new ≤ left old
 
 -- a offset whose instruction leaves a list
-pub record HasEffect (m : ModuleContents) (p : ProcedureContents) (s : ReachedOffsets) (at : ℕ) (i : Instruction) (after : List ValueKind) : Type 0 where
+pub record HasEffect (m : ModuleContents) (p : ProcedureContents) (s : ReachedOffsets) (at : ℕ) (i : Instruction) (after : List BaseType) : Type 0 where
   pub there : instruction_at p.code at ≡ Some i
-  pub kinds : List ValueKind
+  pub kinds : List BaseType
   pub has : table p s at ≡ Some kinds
   pub effect : effect m p i kinds ≡ Leaves after
 
@@ -137,24 +137,24 @@ pub record HasEffect (m : ModuleContents) (p : ProcedureContents) (s : ReachedOf
 pub record HasInstruction (p : ProcedureContents) (s : ReachedOffsets) (at : ℕ) : Type 0 where
   pub instruction : Instruction
   pub there : instruction_at p.code at ≡ Some instruction
-  pub kinds : List ValueKind
+  pub kinds : List BaseType
   pub has : table p s at ≡ Some kinds
 
--- a place is that of an offset with its instruction and its list
-pub record IsListed (p : ProcedureContents) (s : ReachedOffsets) (place : ListedOffset) : Type 0 where
-  pub number : offset_at p.code place.number ≡ place.at
-  pub list : table p s place.at ≡ Some (list_of s.operands place.list)
-  pub inside : place.list < length s.operands
+-- a listed offset has the number of its instruction and its list
+pub record IsListed (p : ProcedureContents) (s : ReachedOffsets) (listed : ListedOffset) : Type 0 where
+  pub number : offset_at p.code listed.number ≡ listed.at
+  pub list : table p s listed.at ≡ Some (list_of s.operands listed.list)
+  pub inside : listed.list < length s.operands
 
--- a search at work that goes straight on to a place, or to none
+-- a search at work that goes straight on to an offset, or to none
 abbrev pub IsSearchingNext : ModuleContents → ProcedureContents → ReachedOffsets → Option ListedOffset → Type 0
 IsSearchingNext m p s None = IsSearching m p s []
-IsSearchingNext m p s (Some place) = (IsSearching m p s (place.at ∷ [])) × (HasInstruction p s place.at × IsListed p s place)
+IsSearchingNext m p s (Some listed) = (IsSearching m p s (listed.at ∷ [])) × (HasInstruction p s listed.at × IsListed p s listed)
 
--- 1 where there is a place to go straight on to
+-- 1 where there is an offset to go straight on to
 abbrev pub count : Option ListedOffset → ℕ
 count None = 0
-count (Some place) = 1
+count (Some listed) = 1
 
 -- the handlers that wait are the procedure's, and control went to each other one that covers an offset
 pub record IsWaiting (p : ProcedureContents) (c : Coverage) (s : ReachedOffsets) : Type 0 where

@@ -1,14 +1,17 @@
 -- The signature of an instruction in a procedure: whether what it names is there, whether the procedure may have it, and what it pops
 -- and pushes; one entry for each.
 -- Source: our own; the rules are those of a bytecode verifier, as that of the Java virtual machine.
-use Rattle.std.specs.Prelude.{nat_lt, Bool, true, false, List, [], ◌∷◌, map, reverse, slice_get, Option, Some, None, is_none, is_some}
+use Rattle.std.specs.Prelude.{ℕ, nat_lt, Bool, true, false, List, [], ◌∷◌, map, reverse, slice_get, Option, Some, None, is_none, is_some}
 use Rattle.modules.specs.Contents.{ProcedureContents, ModuleContents}
 use Rattle.modules.specs.Machine.{header_of, machine_code}
+use Rattle.modules.specs.Operators.{rule_of}
 use Rattle.modules.specs.Values.{kind_of_slot}
 use Rattle.modules.specs.declared.instruction.Instruction.{Instruction}
-use Rattle.modules.specs.declared.instruction.Instruction.TheVariants.{Push, PushBoolean, Pop, Load, Store, LoadGlobal, StoreGlobal, LoadElement, StoreElement, LoadGlobalElement, StoreGlobalElement, Clear, Compute, Negate, Not, Compare, SameBoolean, OtherBoolean, Jump, JumpIfFalse, Call, Return, ReturnValue, Receive, Send, Throw}
-use Rattle.modules.specs.declared.value.ValueKind.{ValueKind}
-use Rattle.modules.specs.declared.value.ValueKind.TheVariants.{Int, Boolean}
+use Rattle.modules.specs.declared.instruction.Storage.{Storage}
+use Rattle.modules.specs.declared.instruction.Storage.TheVariants.{Local, Global}
+use Rattle.modules.specs.declared.instruction.Instruction.TheVariants.{Push, PushBoolean, Pop, Load, Store, LoadElement, StoreElement, Clear, Operate, Jump, JumpIfFalse, Call, Return, ReturnValue, Receive, Send, Throw}
+use Rattle.common.specs.declared.base_type.BaseType.{BaseType}
+use Rattle.common.specs.declared.base_type.BaseType.TheVariants.{Int, Boolean}
 use Rattle.modules.specs.declared.declaration.Slot.{Slot}
 use Rattle.modules.specs.declared.declaration.Slot.TheVariants as slot
 use Rattle.common.specs.declared.direction.Direction.{Direction}
@@ -17,20 +20,20 @@ use Rattle.common.specs.declared.direction.Direction.TheVariants.{Input, Output}
 -- whether the slot, global, array, procedure, channel or exception that the instruction names is there and of the right sort, where
 -- it names one; whether it is one of its procedure, as a return has a value exactly where one is due; the kinds that it pops, the first
 -- one from the top, where none is any kind; and the kind that it then pushes
-pub record Signature : Type 0 where
+pub record InstructionSignature : Type 0 where
   pub there : Bool
   pub own : Bool
-  pub pops : List (Option ValueKind)
-  pub pushes : Option ValueKind
+  pub pops : List (Option BaseType)
+  pub pushes : Option BaseType
 
 -- ---- the pieces of an entry
 
 -- pop these kinds, and push one
-abbrev pub exchange : List ValueKind → Option ValueKind → Signature
+abbrev pub exchange : List BaseType → Option BaseType → InstructionSignature
 exchange kinds pushes = record { there = true; own = true; pops = map (λ kind. Some kind) kinds; pushes = pushes }
 
 -- the same, of what is there or not
-abbrev pub naming : Bool → Signature → Signature
+abbrev pub naming : Bool → InstructionSignature → InstructionSignature
 naming there signature = record signature { there = there }
 
 -- whether a slot or a global is there and a scalar, or an array
@@ -52,48 +55,44 @@ is_output (Some Output) = true
 is_output _ = false
 
 -- the kind of a slot or a global
-abbrev pub slot_kind : Option Slot → ValueKind
+abbrev pub slot_kind : Option Slot → BaseType
 slot_kind None = Int
 slot_kind (Some slot) = kind_of_slot slot
 
+-- a slot of the procedure or a global, as it is declared
+abbrev pub declared_in : ModuleContents → ProcedureContents → Storage → ℕ → Option Slot
+declared_in m procedure Local k = slice_get procedure.slots k
+declared_in m procedure Global k = slice_get (machine_code m).globals k
+
 -- what goes by the kind of a scalar, or of an array
-abbrev scalar : Option Slot → (ValueKind → Signature) → Signature
+abbrev scalar : Option Slot → (BaseType → InstructionSignature) → InstructionSignature
 scalar slot signature = naming (is_scalar slot) (signature (slot_kind slot))
 
-abbrev array : Option Slot → (ValueKind → Signature) → Signature
+abbrev array : Option Slot → (BaseType → InstructionSignature) → InstructionSignature
 array slot signature = naming (is_array slot) (signature (slot_kind slot))
 
 -- a call pops the arguments, the last one first, and its return pushes the value, if there is one
-abbrev pub called : Option ProcedureContents → Signature
+abbrev pub called : Option ProcedureContents → InstructionSignature
 called None = exchange [] None
 called (Some callee) = exchange (reverse (header_of callee).parameters) callee.returned
 
 -- a return pops the value that is due
-abbrev pub value_kinds : Option ValueKind → List ValueKind
+abbrev pub value_kinds : Option BaseType → List BaseType
 value_kinds None = []
 value_kinds (Some kind) = kind ∷ []
 
 -- ---- the entries
 
-abbrev pub signature : ModuleContents → ProcedureContents → Instruction → Signature
+abbrev pub signature : ModuleContents → ProcedureContents → Instruction → InstructionSignature
 signature m procedure (Push n) = exchange [] (Some Int)
 signature m procedure (PushBoolean b) = exchange [] (Some Boolean)
 signature m procedure Pop = record (exchange [] None) { pops = None ∷ [] }
-signature m procedure (Load k) = scalar (slice_get procedure.slots k) (λ kind. exchange [] (Some kind))
-signature m procedure (Store k) = scalar (slice_get procedure.slots k) (λ kind. exchange (kind ∷ []) None)
-signature m procedure (LoadGlobal k) = scalar (slice_get (machine_code m).globals k) (λ kind. exchange [] (Some kind))
-signature m procedure (StoreGlobal k) = scalar (slice_get (machine_code m).globals k) (λ kind. exchange (kind ∷ []) None)
-signature m procedure (LoadElement k) = array (slice_get procedure.slots k) (λ kind. exchange (Int ∷ []) (Some kind))
-signature m procedure (StoreElement k) = array (slice_get procedure.slots k) (λ kind. exchange (kind ∷ Int ∷ []) None)
-signature m procedure (LoadGlobalElement k) = array (slice_get (machine_code m).globals k) (λ kind. exchange (Int ∷ []) (Some kind))
-signature m procedure (StoreGlobalElement k) = array (slice_get (machine_code m).globals k) (λ kind. exchange (kind ∷ Int ∷ []) None)
+signature m procedure (Load storage k) = scalar (declared_in m procedure storage k) (λ kind. exchange [] (Some kind))
+signature m procedure (Store storage k) = scalar (declared_in m procedure storage k) (λ kind. exchange (kind ∷ []) None)
+signature m procedure (LoadElement storage k) = array (declared_in m procedure storage k) (λ kind. exchange (Int ∷ []) (Some kind))
+signature m procedure (StoreElement storage k) = array (declared_in m procedure storage k) (λ kind. exchange (kind ∷ Int ∷ []) None)
 signature m procedure (Clear k) = array (slice_get procedure.slots k) (λ kind. exchange [] None)
-signature m procedure (Compute operator) = exchange (Int ∷ Int ∷ []) (Some Int)
-signature m procedure Negate = exchange (Int ∷ []) (Some Int)
-signature m procedure Not = exchange (Boolean ∷ []) (Some Boolean)
-signature m procedure (Compare comparison) = exchange (Int ∷ Int ∷ []) (Some Boolean)
-signature m procedure SameBoolean = exchange (Boolean ∷ Boolean ∷ []) (Some Boolean)
-signature m procedure OtherBoolean = exchange (Boolean ∷ Boolean ∷ []) (Some Boolean)
+signature m procedure (Operate operator) = exchange (rule_of operator).operands (Some (rule_of operator).value_kind)
 signature m procedure (Jump target) = exchange [] None
 signature m procedure (JumpIfFalse target) = exchange (Boolean ∷ []) None
 signature m procedure (Call callee) = naming (is_some (slice_get m.procedures callee)) (called (slice_get m.procedures callee))

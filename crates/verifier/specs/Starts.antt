@@ -22,7 +22,7 @@ numbers_of starts from zero = []
 numbers_of starts from (suc count) = number_at starts from ∷ numbers_of starts (suc from) count
 
 -- the bits of code, where no other one is set
-pub record AreStarts (code : List Instruction) (starts : List ℕ) : Type 0 where
+pub record AreCodeStarts (code : List Instruction) (starts : List ℕ) : Type 0 where
   pub enough : length starts ≡ code_length code / 64 + 1
   pub numbers : numbers_of starts 0 (code_length code) ≡ index_of code
   pub clear : (at : ℕ) → code_length code ≤ at → has_bit starts at ≡ false

@@ -29,7 +29,7 @@ own_refusals m number procedure =
     instruction_refusals m number procedure 0 procedure.code ++ handler_refusals m number procedure procedure.handlers
 
 -- a refusal of a procedure with a number for its flow
-pub record IsRefusalOf (m : ModuleContents) (number : ℕ) (p : ProcedureContents) (refusal : CodeRefusal) : Type 0 where
+pub record IsOperandRefusalOf (m : ModuleContents) (number : ℕ) (p : ProcedureContents) (refusal : CodeRefusal) : Type 0 where
   pub procedure : refusal.procedure ≡ number
   pub kind : IsRefusedForOperands m p refusal.offset refusal.kind
 

@@ -1,6 +1,6 @@
 //! From the bytes of a module file to a verified module.
 ghost use Rattle.modules.specs.Contents.{ModuleContents};
-ghost use Rattle.modules.specs.Form.{Spells};
+ghost use Rattle.modules.specs.ByteFormat.{Spells};
 ghost use Rattle.modules.specs.Format.{module_file};
 ghost use Rattle.common.specs.Answers.{Answers, IfRefused};
 ghost use Rattle.std.specs.Prelude.{◌≡◌, IfErr, IfOk, Some};

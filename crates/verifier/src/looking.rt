@@ -7,7 +7,7 @@ ghost use Rattle.verifier.specs.Boundaries.{KeepsBoundaries};
 ghost use Rattle.verifier.specs.Positions.{positioned};
 ghost use Rattle.verifier.specs.Refusals.{IsCodeRefusal};
 ghost use Rattle.verifier.specs.Search.{IsSearchableBody};
-ghost use Rattle.verifier.specs.Verified.{HasCodes, AddsVerifiedCode, IsRefusalOf};
+ghost use Rattle.verifier.specs.Verified.{HasCodes, AddsVerifiedCode, IsOperandRefusalOf};
 
 use crate::body::IndexedProcedure;
 use crate::fault::{CodeRefusal, VerifyFault};
@@ -77,7 +77,7 @@ fn look_for_flow_refusal(
         codes.old.items codes.new.items)) }
     ensures some { IfOk result (λ found_now. IfSome found_now (λ refusal.
         (found ≡ Some refusal)
-        ⊎ IsRefusalOf body.now.program.now number body.now.procedure.now refusal)) }
+        ⊎ IsOperandRefusalOf body.now.program.now number body.now.procedure.now refusal)) }
     ensures no_memory { IfErr result (λ fault. fault ≡ NoMemory) }
 {
     if found.is_some() {

@@ -3,10 +3,10 @@
 ghost use Rattle.verifier.specs.Flow.{Leaves, Misses, all_popped, between, popped};
 ghost use Rattle.verifier.specs.Operands.{bit, full_blocks, greatest, list_of, packed, IsLonger};
 ghost use Rattle.std.specs.Prelude.{◌≡◌, ◌≢◌, ◌+◌, ◌*◌, ◌<◌, ◌≤◌, ◌^◌, ℕ, List, Some, ◌∷◌, [], IfOk, IfErr, IfNone, IfSome, OnOk, drop, length, map};
-ghost use Rattle.modules.specs.declared.value.ValueKind.{ValueKind};
+ghost use Rattle.common.specs.declared.base_type.BaseType.{BaseType};
 
 use crate::fault::CodeRefusalKind;
-use modules::ValueKind;
+use common::BaseType;
 use std::alloc::{AllocError, Global};
 use std::marker::Model;
 
@@ -20,7 +20,7 @@ const FEW: usize = 16;
 // popped at once, also the kinds of the topmost 64 as bits, the top the lowest, and the number of the list below those.
 #[derive(Clone, Copy, Debug)]
 struct Link {
-    kind: ValueKind,
+    kind: BaseType,
     below: u32,
     depth: u32,
     bits: u64,
@@ -28,32 +28,32 @@ struct Link {
 }
 
 /// A kind as a bit.
-pub fn bit_of(kind: ValueKind) -> u64
+pub fn bit_of(kind: BaseType) -> u64
     ensures { result ≡ bit kind }
 {
     match kind {
-        ValueKind::Int => 0,
-        ValueKind::Boolean => 1,
+        BaseType::Int => 0,
+        BaseType::Boolean => 1,
     }
 }
 
 // The kinds as bits, where one more kind stands before them.
-fn bits_with(bits: u64, kind: ValueKind) -> u64
-    ensures { (kinds : List ValueKind) → bits ≡ packed 64 kinds → result ≡ packed 64
+fn bits_with(bits: u64, kind: BaseType) -> u64
+    ensures { (kinds : List BaseType) → bits ≡ packed 64 kinds → result ≡ packed 64
         (kind ∷ kinds) }
 {
     bits % HIGHEST * 2 + bit_of(kind)
 }
 
 // The last one of 64 kinds.
-fn last_kind(bits: u64) -> ValueKind
-    ensures { (kinds : List ValueKind) → 64 ≤ length kinds → bits ≡ packed 64 kinds →
+fn last_kind(bits: u64) -> BaseType
+    ensures { (kinds : List BaseType) → 64 ≤ length kinds → bits ≡ packed 64 kinds →
         drop 63 kinds ≡ result ∷ drop 64 kinds }
 {
     if bits < HIGHEST {
-        ValueKind::Int
+        BaseType::Int
     } else {
-        ValueKind::Boolean
+        BaseType::Boolean
     }
 }
 
@@ -80,10 +80,10 @@ pub struct Operands {
 
 impl Model for Operands {
     ghost use Rattle.verifier.specs.Operands.{IsShared, spelled};
-    ghost use Rattle.modules.specs.declared.value.ValueKind.{ValueKind};
+    ghost use Rattle.common.specs.declared.base_type.BaseType.{BaseType};
     ghost use Rattle.std.specs.Prelude.{List, [], ◌∷◌};
 
-    ghost Value = { List (List ValueKind) };
+    ghost Value = { List (List BaseType) };
 
     ghost view = { λ o. spelled ([] ∷ []) o.links.items };
 
@@ -120,7 +120,7 @@ impl Operands {
     }
 
     /// The list with one more operand on it.
-    pub fn push(&mut self, list: u32, kind: ValueKind) -> Result<u32, AllocError>
+    pub fn push(&mut self, list: u32, kind: BaseType) -> Result<u32, AllocError>
         requires there { list < length self.old }
         requires room { length self.old < 2 ^ 32 }
         ensures longer { IsLonger self.old self.new }
@@ -137,7 +137,7 @@ impl Operands {
     }
 
     // Where the list with one more operand on it is, if it is there.
-    fn find_longer(&self, list: u32, kind: ValueKind) -> Option<u32>
+    fn find_longer(&self, list: u32, kind: BaseType) -> Option<u32>
         requires { list < length self.now }
         ensures there { IfSome result (λ r. r < length self.now) }
         ensures some { IfSome result (λ r. list_of self.now r ≡ kind ∷ list_of self.now list) }
@@ -145,14 +145,14 @@ impl Operands {
             ≢ kind ∷ list_of self.now list) }
     {
         match kind {
-            ValueKind::Int => self.ints[list as usize],
-            ValueKind::Boolean => self.booleans[list as usize],
+            BaseType::Int => self.ints[list as usize],
+            BaseType::Boolean => self.booleans[list as usize],
         }
     }
 
     // Makes the list with one more operand on it, which is not there. It is not inlined: there are few lists.
     #[inline(never)]
-    fn add(&mut self, list: u32, kind: ValueKind) -> Result<u32, AllocError>
+    fn add(&mut self, list: u32, kind: BaseType) -> Result<u32, AllocError>
         requires there { list < length self.old }
         requires room { length self.old < 2 ^ 32 }
         requires fresh { (k : ℕ) → k < length self.old → list_of self.old k
@@ -185,8 +185,8 @@ impl Operands {
             return Err(fault.into());
         }
         match kind {
-            ValueKind::Int => self.ints[list as usize] = Some(above),
-            ValueKind::Boolean => self.booleans[list as usize] = Some(above),
+            BaseType::Int => self.ints[list as usize] = Some(above),
+            BaseType::Boolean => self.booleans[list as usize] = Some(above),
         }
         Ok(above)
     }
@@ -225,7 +225,7 @@ impl Operands {
     }
 
     /// Takes an operand of a kind off a list, or of any kind.
-    pub fn pop(&self, list: u32, wanted: Option<ValueKind>) -> Result<u32, CodeRefusalKind>
+    pub fn pop(&self, list: u32, wanted: Option<BaseType>) -> Result<u32, CodeRefusalKind>
         requires { list < length self.now }
         ensures there { IfOk result (λ r. r < length self.now) }
         ensures accepted { IfOk result (λ r.
@@ -251,7 +251,7 @@ impl Operands {
     }
 
     /// Takes operands of some kinds off a list, the first one from the top.
-    pub fn pop_all(&self, list: u32, kinds: &[Option<ValueKind>]) -> Result<u32, CodeRefusalKind>
+    pub fn pop_all(&self, list: u32, kinds: &[Option<BaseType>]) -> Result<u32, CodeRefusalKind>
         requires { list < length self.now }
         ensures there { IfOk result (λ r. r < length self.now) }
         ensures accepted { IfOk result (λ r.
@@ -291,7 +291,7 @@ impl Operands {
         requires { list < length self.now }
         ensures there { result.0 < length self.now }
         ensures few { result.1 ≤ length blocks.now }
-        ensures same { (kinds : List ValueKind) → blocks.now ≡ full_blocks kinds →
+        ensures same { (kinds : List BaseType) → blocks.now ≡ full_blocks kinds →
             all_popped (map (λ kind. Some kind) kinds) (list_of self.now list)
             ≡ all_popped (map (λ kind. Some kind) (drop (result.1 * 64) kinds))
             (list_of self.now result.0) }

@@ -1,7 +1,7 @@
 //! The parameters of procedures, as calls pop them.
 
 ghost use Rattle.modules.specs.Contents.{ProcedureContents};
-ghost use Rattle.modules.specs.Form.{Fits};
+ghost use Rattle.modules.specs.ByteFormat.{Fits};
 ghost use Rattle.modules.specs.Format.{module_file};
 ghost use Rattle.modules.specs.Machine.{kinds_of};
 ghost use Rattle.std.specs.Prelude.{Some, ◌<◌, ◌≤◌, ◌≡◌, IfOk, length, map, reverse, slice_get, string_bytes, take};
@@ -9,7 +9,8 @@ ghost use Rattle.verifier.specs.Operands.{packed};
 ghost use Rattle.verifier.specs.Parameters.{parameter_blocks};
 
 use crate::operands::bit_of;
-use modules::{Channel, Global as Variable, Module, Procedure, Slot, ValueKind};
+use common::BaseType;
+use modules::{Channel, Global as Variable, Module, Procedure, Slot};
 use std::alloc::{AllocError, Global};
 use std::marker::Model;
 

@@ -1,7 +1,7 @@
 //! Laws: what it means that a module's code is refused, or not.
 
 ghost use Rattle.modules.specs.Contents.{ModuleContents};
-ghost use Rattle.modules.specs.Form.{Fits};
+ghost use Rattle.modules.specs.ByteFormat.{Fits};
 ghost use Rattle.modules.specs.Format.{module_file};
 ghost use Rattle.verifier.specs.Depth.{IsNeverDeeper};
 ghost use Rattle.verifier.specs.Refusals.{IsNotRefused, IsCodeRefusal};

@@ -3,7 +3,7 @@
 ghost use Rattle.modules.specs.Code.{code_length, instruction_at, offset_at, width_of};
 ghost use Rattle.modules.specs.Contents.{ModuleContents, ProcedureContents};
 ghost use Rattle.modules.specs.declared.declaration.Handler.{Handler};
-ghost use Rattle.modules.specs.declared.value.ValueKind.{ValueKind};
+ghost use Rattle.common.specs.declared.base_type.BaseType.{BaseType};
 ghost use Rattle.common.specs.Answers.{IfRefused};
 ghost use Rattle.common.specs.declared.fault.OrNoMemory.TheVariants.{Refused};
 ghost use Rattle.std.specs.List.{Contains};
@@ -22,7 +22,7 @@ use crate::fault::CodeRefusalKind;
 use crate::numbers::Numbers;
 use crate::operands::Operands;
 use crate::work::Work;
-use common::OrNoMemory;
+use common::{BaseType, OrNoMemory};
 use modules::Instruction;
 use std::alloc::{AllocError, Global};
 
@@ -271,7 +271,7 @@ impl ReachedOffsets {
         Ok(())
     }
 
-    // Control goes on to the next instruction, where it may. All other edges were followed. Answers the place of the next
+    // Control goes on to the next instruction, where it may. All other edges were followed. Answers the offset of the next
     // instruction where control is the first there: it is to be looked at next.
     fn go_on(
         &mut self,
@@ -297,7 +297,7 @@ impl ReachedOffsets {
         requires room { length self.old.operands + left self.old ≤ 2 ^ 32 }
         ensures next { IfOk result (IsSearchingNext body.now.program.now body.now.procedure.now
             self.new) }
-        ensures keeps { OnOk result ((offset : ℕ) (kinds : List ValueKind) → table
+        ensures keeps { OnOk result ((offset : ℕ) (kinds : List BaseType) → table
             body.now.procedure.now self.old offset
             ≡ Some kinds → table body.now.procedure.now self.new offset ≡ Some kinds) }
         ensures same { OnOk result (self.new.operands ≡ self.old.operands) }
@@ -321,7 +321,7 @@ impl ReachedOffsets {
         }
     }
 
-    // Looks at a place: control goes on from it along each edge.
+    // Looks at an offset: control goes on from it along each edge.
     fn visit(
         &mut self,
         body: &IndexedProcedure,
@@ -354,7 +354,7 @@ impl ReachedOffsets {
         Ok(next)
     }
 
-    // Looks at a place of the procedure's code.
+    // Looks at an offset of the procedure's code.
     fn look(
         &mut self,
         body: &IndexedProcedure,
@@ -383,7 +383,7 @@ impl ReachedOffsets {
         self.visit(body, coverage, listed, instruction)
     }
 
-    // The place of an offset that has a list.
+    // An offset that has a list, with its instruction's number and its list.
     fn listed_at(&self, body: &IndexedProcedure, at: u32) -> ListedOffset
         requires searching { IsSearching body.now.program.now body.now.procedure.now self.now
             (at ∷ []) }

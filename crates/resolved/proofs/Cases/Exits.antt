@@ -2,7 +2,7 @@
 use Rattle.std.proofs.Common.{◌≡◌, refl, ℕ, List, [], ◌∷◌, ◌++◌, true, map}
 use Rattle.std.specs.Prelude.{Some, None}
 use Rattle.std.specs.Int.{int_wrap}
-use Rattle.resolved.specs.declared.expression.Base.TheVariants.{Int}
+use Rattle.common.specs.declared.base_type.BaseType.TheVariants.{Int}
 use Rattle.resolved.specs.declared.expression.Variable.TheVariants.{Local}
 use Rattle.resolved.specs.declared.expression.Operator.TheVariants.{Compute, Divide}
 use Rattle.resolved.specs.declared.expression.Computation.TheVariants.{Subtract, Multiply}

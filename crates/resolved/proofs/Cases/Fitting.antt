@@ -2,7 +2,7 @@
 use Rattle.std.proofs.Common.{◌≡◌, refl, ℕ, List, [], ◌∷◌, ◌++◌, Bool, true, false, replicate}
 use Rattle.std.specs.Prelude.{pos, Some, None}
 use Rattle.labels.specs.Label.{Label}
-use Rattle.resolved.specs.declared.expression.Base.TheVariants.{Int, Boolean}
+use Rattle.common.specs.declared.base_type.BaseType.TheVariants.{Int, Boolean}
 use Rattle.resolved.specs.declared.expression.Variable.TheVariants.{Local}
 use Rattle.resolved.specs.declared.expression.Operator.TheVariants.{Compute, Compare, Match}
 use Rattle.resolved.specs.declared.expression.Computation.TheVariants.{Add}

@@ -8,7 +8,7 @@ use Rattle.labels.specs.Label.{Label}
 use Rattle.lattices.specs.Constraints.{holds}
 use Rattle.labels.specs.LabelLattice.{label_lattice}
 use Rattle.common.specs.declared.sent.Pair.{Pair}
-use Rattle.resolved.specs.declared.expression.Base.TheVariants.{Int}
+use Rattle.common.specs.declared.base_type.BaseType.TheVariants.{Int}
 use Rattle.resolved.specs.declared.expression.Variable.TheVariants.{Local}
 use Rattle.resolved.specs.declared.expression.Operator.TheVariants.{Compare}
 use Rattle.resolved.specs.declared.expression.Relation.TheVariants.{GreaterThan}

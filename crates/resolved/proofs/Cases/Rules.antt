@@ -5,7 +5,7 @@ use Rattle.std.proofs.Math.Bool.{and-false}
 use Rattle.std.specs.Prelude.{Some, None}
 use Rattle.std.specs.Int.{int_wrap}
 use Rattle.labels.specs.Label.{Label}
-use Rattle.resolved.specs.declared.expression.Base.TheVariants.{Int}
+use Rattle.common.specs.declared.base_type.BaseType.TheVariants.{Int}
 use Rattle.resolved.specs.declared.expression.Variable.TheVariants.{Local}
 use Rattle.resolved.specs.declared.expression.Operator.TheVariants.{Compute, Divide, Compare}
 use Rattle.resolved.specs.declared.expression.Computation.TheVariants.{Add}

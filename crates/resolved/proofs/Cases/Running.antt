@@ -2,7 +2,7 @@
 use Rattle.std.proofs.Common.{◌≡◌, refl, ℕ, List, [], ◌∷◌, true, false}
 use Rattle.std.specs.Prelude.{ℤ, pos, negsuc, Some, None}
 use Rattle.std.specs.Int.{int_wrap}
-use Rattle.resolved.specs.declared.expression.Base.TheVariants.{Int}
+use Rattle.common.specs.declared.base_type.BaseType.TheVariants.{Int}
 use Rattle.resolved.specs.declared.expression.Variable.TheVariants.{Global, Local}
 use Rattle.resolved.specs.declared.expression.Operator.TheVariants.{Compute, Divide, Compare}
 use Rattle.resolved.specs.declared.expression.Computation.TheVariants.{Add, Subtract, Multiply}

@@ -3,8 +3,8 @@ use Rattle.common.specs.Functions.{updated}
 use Rattle.std.proofs.Common.{◌≡◌, refl, sym, ◌∙◌, ap, subst, ℕ, zero, suc, List, [], ◌∷◌, length, Bool, true, false, ◌&&◌}
 use Rattle.std.proofs.lemmas.Bool.{and_parts, false≢true}
 use Rattle.std.specs.Prelude.{Option, Some, None, is_none, if◌then◌else◌, ◌==◌, slice_get, ℤ}
-use Rattle.resolved.specs.declared.expression.Base.{Base}
-use Rattle.resolved.specs.declared.expression.Base.TheVariants.{Int, Boolean}
+use Rattle.common.specs.declared.base_type.BaseType.{BaseType}
+use Rattle.common.specs.declared.base_type.BaseType.TheVariants.{Int, Boolean}
 use Rattle.resolved.specs.declared.expression.Value.{Value}
 use Rattle.resolved.specs.declared.expression.Value.TheVariants.{Number}
 use Rattle.resolved.specs.declared.expression.Variable.{Variable}
@@ -16,7 +16,7 @@ use Rattle.resolved.specs.Tree.{Expression, Statement, Assign, Clear, Store, Rec
 use Rattle.resolved.specs.Program.{Program, ProcedureEntry, ResultEntry, SlotEntry}
 use Rattle.resolved.specs.Value.{Evaluated, Yields, Raises, base_of, checked_index, truth_in}
 use Rattle.resolved.specs.SourceState.{SourceState, cells, assigned, stored, value_of, values_of}
-use Rattle.resolved.specs.Meaning.{Outcome, Ended, Stopped, Calls, normally, after, evaluated, looped, fuel, caught, received, kept_in, sending, leaving, returned_to, entering, calls_with, statement_meaning, block_meaning, handlers_meaning}
+use Rattle.resolved.specs.Meaning.{Outcome, Ended, Stopped, Calls, normally, after, evaluated, looped, fuel, caught, received, given_to, sending, leaving, returned_to, entering, calls_with, statement_meaning, block_meaning, handlers_meaning}
 use Rattle.resolved.specs.WellFormed.{VariableType, variable_type, scalar_by, array_by, has_length, has_base, has_result, same_base, target_by, statement_fits, block_fits, handlers_fit, channel_is, is_exception, call_matches, arguments_match, parameters_of, well_formed}
 use Rattle.resolved.specs.Kinds.{StateFits, GivesBase, OutcomeFits, MeaningKeepsTypes, ValuesHaveTheirTypes, ArgumentsFit}
 use Rattle.resolved.proofs.WellFormedParts.{ProcedureParts, procedure_there, procedure_at_is}
@@ -24,7 +24,7 @@ use Rattle.resolved.proofs.Sound.Values.{same_base_is, same_base_itself, value_f
 use Rattle.resolved.proofs.Sound.States.{some_same, same_variables, assigned_fits, stored_fits, cleared_fits, entering_fits, back_fits}
 
 -- two base types that both are that of a result
-one_result : (result : Option ResultEntry) (a b : Base) → has_result result (same_base a) ≡ true → has_result result (same_base b) ≡ true
+one_result : (result : Option ResultEntry) (a b : BaseType) → has_result result (same_base a) ≡ true → has_result result (same_base b) ≡ true
     → a ≡ b
 one_result None a b h k = cc
 one_result (Some entry) a b h k = same_base_is a entry.base h ∙ sym (same_base_is b entry.base k)
@@ -90,7 +90,7 @@ module _ (program : Program) (procedure : ProcedureEntry) (place : Exit) (result
 
 -- ---- targets
 -- a scalar found by its type
-scalar_found : (test : Base → Bool) (found : Option VariableType) (type : VariableType) → scalar_by found test ≡ true → found ≡ Some type
+scalar_found : (test : BaseType → Bool) (found : Option VariableType) (type : VariableType) → scalar_by found test ≡ true → found ≡ Some type
     → (is_none type.size ≡ true) × (test type.base ≡ true)
 scalar_found test None type h e = cc
 scalar_found test (Some found) type h e =
@@ -99,7 +99,7 @@ scalar_found test (Some found) type h e =
     let parts : (is_none found.size ≡ true) × (test found.base ≡ true) = and_parts (is_none found.size) _ h in
     subst P same parts
 
-array_found : (length : ℕ) (test : Base → Bool) (found : Option VariableType) (type : VariableType)
+array_found : (length : ℕ) (test : BaseType → Bool) (found : Option VariableType) (type : VariableType)
     → array_by found length test ≡ true → found ≡ Some type → test type.base ≡ true
 array_found length test None type h e = cc
 array_found length test (Some found) type h e =
@@ -108,7 +108,7 @@ array_found length test (Some found) type h e =
 
 module _ (program : Program) (procedure : ProcedureEntry) where
   kept_fits : (target : Option Variable) (v : Value) (s : SourceState) → StateFits program procedure s
-      → target_by program procedure target (same_base (base_of v)) ≡ true → StateFits program procedure (kept_in target v s)
+      → target_by program procedure target (same_base (base_of v)) ≡ true → StateFits program procedure (given_to target (Some v) s)
   kept_fits None v s state h = state
   kept_fits (Some x) v s state h =
       assigned_fits program procedure s x v state (λ type e.
@@ -163,7 +163,7 @@ module _ (program : Program) (procedure : ProcedureEntry) where
   returned_to_fits callee target (Stopped stop s) h k result = record { state = h.state; returned = tt }
 
 -- ---- the tree
-pub base_given : (base : Base) (result : Evaluated Value) (v : Value) → result ≡ Yields v → GivesBase base result → base_of v ≡ base
+pub base_given : (base : BaseType) (result : Evaluated Value) (v : Value) → result ≡ Yields v → GivesBase base result → base_of v ≡ base
 base_given base (Yields w) v e h = ap base_of (sym (same_value w v e)) ∙ h
   where
     same_value : (w v : Value) → ◌≡◌ {A = Evaluated Value} (Yields w) (Yields v) → w ≡ v

@@ -3,7 +3,7 @@ use Rattle.std.proofs.Common.{◌≡◌, sym, ap, ◌∙◌, ℕ, zero, suc, Lis
 use Rattle.std.specs.Prelude.{Option, Some, None, is_none, if◌then◌else◌, ℤ}
 use Rattle.std.proofs.lemmas.Bool.{and_parts}
 use Rattle.resolved.specs.declared.expression.Value.{Value}
-use Rattle.resolved.specs.declared.expression.Base.TheVariants.{Boolean}
+use Rattle.common.specs.declared.base_type.BaseType.TheVariants.{Boolean}
 use Rattle.resolved.specs.declared.expression.Variable.{Variable}
 use Rattle.resolved.specs.declared.statement.Exit.TheVariants.{Normal, Return, Break, Continue, Throw}
 use Rattle.resolved.specs.Tree.{Statement, Assign, Clear, Store, Receive, Send, Call, If, While, Leave, ReturnWith, Try, Nested, Block, Empty, Then, Handlers, NoMore, Catch}

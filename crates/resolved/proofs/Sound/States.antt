@@ -5,8 +5,8 @@ use Rattle.std.specs.Prelude.{Option, Some, None, is_none, if◌then◌else◌, 
 use Rattle.std.specs.List.{list_all}
 use Rattle.std.proofs.lemmas.Bool.{eqb-true, and_parts}
 use Rattle.std.proofs.lemmas.List.Elements.{All-nil, All-cons, All-set, All-map, All-replicate, All-weaker}
-use Rattle.resolved.specs.declared.expression.Base.{Base}
-use Rattle.resolved.specs.declared.expression.Base.TheVariants.{Int, Boolean}
+use Rattle.common.specs.declared.base_type.BaseType.{BaseType}
+use Rattle.common.specs.declared.base_type.BaseType.TheVariants.{Int, Boolean}
 use Rattle.resolved.specs.declared.expression.Value.{Value}
 use Rattle.resolved.specs.declared.expression.Variable.{Variable}
 use Rattle.resolved.specs.declared.expression.Variable.TheVariants.{Global, Local}
@@ -37,7 +37,7 @@ one_cell_fits type v h e = record { count = one type.size h; kinds = All-cons (�
     one None h = refl
     one (Some length) h = cc
 
-zero_base : (base : Base) → base_of (zero_value base) ≡ base
+zero_base : (base : BaseType) → base_of (zero_value base) ≡ base
 zero_base Int = refl
 zero_base Boolean = refl
 
@@ -95,7 +95,7 @@ module _ (program : Program) (procedure : ProcedureEntry) where
       })
 
 -- cells that all hold one value
-pub cells_of_fit : (base : Base) (size : Option ℕ) (v : Value) → base_of v ≡ base
+pub cells_of_fit : (base : BaseType) (size : Option ℕ) (v : Value) → base_of v ≡ base
     → CellsFit (record { base = base; size = size }) (cells_of size v)
 cells_of_fit base None v e = record { count = refl; kinds = All-cons (λ w. base_of w ≡ base) v [] e (All-nil (λ w. base_of w ≡ base)) }
 cells_of_fit base (Some length) v e = record { count = length-replicate length v; kinds = All-replicate (λ w. base_of w ≡ base) length v e }

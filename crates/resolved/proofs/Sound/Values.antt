@@ -4,8 +4,8 @@ use Rattle.std.specs.Prelude.{Option, Some, None, is_none, ℤ, pos, negsuc, nat
 use Rattle.std.proofs.lemmas.Bool.{eqb-true, and_parts}
 use Rattle.std.proofs.lemmas.List.Elements.{All-get_or}
 use Rattle.std.proofs.lemmas.Bool.Decides.{nat_tests}
-use Rattle.resolved.specs.declared.expression.Base.{Base}
-use Rattle.resolved.specs.declared.expression.Base.TheVariants.{Int, Boolean}
+use Rattle.common.specs.declared.base_type.BaseType.{BaseType}
+use Rattle.common.specs.declared.base_type.BaseType.TheVariants.{Int, Boolean}
 use Rattle.resolved.specs.declared.expression.Value.{Value}
 use Rattle.resolved.specs.declared.expression.Value.TheVariants.{Number}
 use Rattle.resolved.specs.declared.expression.Variable.{Variable}
@@ -13,6 +13,11 @@ use Rattle.resolved.specs.declared.expression.Prefix.{Prefix}
 use Rattle.resolved.specs.declared.expression.Prefix.TheVariants.{Negate, Not}
 use Rattle.resolved.specs.declared.expression.Operator.{Operator}
 use Rattle.resolved.specs.declared.expression.Operator.TheVariants.{Compute, Divide, Bits, Compare, Match}
+use Rattle.resolved.specs.declared.expression.Computation.TheVariants.{Add, Subtract, Multiply}
+use Rattle.resolved.specs.declared.expression.Division.TheVariants.{Quotient, Remainder}
+use Rattle.resolved.specs.declared.expression.BitOperator.TheVariants.{BitAnd, BitOr, BitXor, ShiftLeft, ShiftRight, ShiftRightUnsigned}
+use Rattle.resolved.specs.declared.expression.Relation.TheVariants.{LessThan, AtMost, GreaterThan, AtLeast, Equal, Unequal}
+use Rattle.resolved.specs.declared.expression.Sameness.TheVariants.{Same, Different}
 use Rattle.resolved.specs.declared.expression.Connective.{Connective}
 use Rattle.resolved.specs.Tree.{Expression, Integer, Logical, Read, Element, Unary, Binary, Short}
 use Rattle.resolved.specs.Program.{Program, ProcedureEntry, SlotEntry}
@@ -25,13 +30,13 @@ use Rattle.common.specs.declared.exceptions.TheConstants.{BOUNDS}
 
 -- ---- tests
 
-pub same_base_is : (a b : Base) → same_base a b ≡ true → a ≡ b
+pub same_base_is : (a b : BaseType) → same_base a b ≡ true → a ≡ b
 same_base_is Int Int h = refl
 same_base_is Boolean Boolean h = refl
 same_base_is Int Boolean h = cc
 same_base_is Boolean Int h = cc
 
-pub same_base_itself : (a : Base) → same_base a a ≡ true
+pub same_base_itself : (a : BaseType) → same_base a a ≡ true
 same_base_itself Int = refl
 same_base_itself Boolean = refl
 
@@ -45,18 +50,32 @@ unless_zero_gives true z = tt
 unless_zero_gives false z = refl
 
 operator_gives : (operator : Operator) (v w : Value) → GivesBase (result_base operator) (operator_value operator v w)
-operator_gives (Compute computation) v w = refl
-operator_gives (Divide division) v w = unless_zero_gives (is_zero (number_in w)) _
-operator_gives (Bits operator) v w = refl
-operator_gives (Compare relation) v w = refl
-operator_gives (Match sameness) v w = refl
+operator_gives (Compute Add) v w = refl
+operator_gives (Compute Subtract) v w = refl
+operator_gives (Compute Multiply) v w = refl
+operator_gives (Divide Quotient) v w = unless_zero_gives (is_zero (number_in w)) _
+operator_gives (Divide Remainder) v w = unless_zero_gives (is_zero (number_in w)) _
+operator_gives (Bits BitAnd) v w = refl
+operator_gives (Bits BitOr) v w = refl
+operator_gives (Bits BitXor) v w = refl
+operator_gives (Bits ShiftLeft) v w = refl
+operator_gives (Bits ShiftRight) v w = refl
+operator_gives (Bits ShiftRightUnsigned) v w = refl
+operator_gives (Compare LessThan) v w = refl
+operator_gives (Compare AtMost) v w = refl
+operator_gives (Compare GreaterThan) v w = refl
+operator_gives (Compare AtLeast) v w = refl
+operator_gives (Compare Equal) v w = refl
+operator_gives (Compare Unequal) v w = refl
+operator_gives (Match Same) v w = refl
+operator_gives (Match Different) v w = refl
 
 -- ---- evaluation
-gives_at : (a b : Base) (result : Evaluated Value) → a ≡ b → GivesBase a result → GivesBase b result
+gives_at : (a b : BaseType) (result : Evaluated Value) → a ≡ b → GivesBase a result → GivesBase b result
 gives_at a b result e h = subst (λ base. GivesBase base result) e h
 
 -- what goes on with a value gives a base type if it does for each value of the first one's base type
-then_gives : {A : Type 0} (base : Base) (first : Evaluated A) (next : A → Evaluated Value)
+then_gives : {A : Type 0} (base : BaseType) (first : Evaluated A) (next : A → Evaluated Value)
     → ((v : A) → first ≡ Yields v → GivesBase base (next v)) → GivesBase base (then_with first next)
 then_gives base (Yields v) next h = h v refl
 then_gives base (Raises exception) next h = tt
@@ -82,12 +101,12 @@ checked_below v length i h = go (number_in v) h
     go (negsuc n) h = cc
 
 -- the right operand of a connective where the left one does not decide
-right_gives : (base : Base) (test : Bool) (v : Value) (right : Evaluated Value)
+right_gives : (base : BaseType) (test : Bool) (v : Value) (right : Evaluated Value)
     → base_of v ≡ base → GivesBase base right → GivesBase base (if test then Yields v else right)
 right_gives base true v right left h = left
 right_gives base false v right left h = h
 
-connective_gives : (base : Base) (connective : Connective) (left right : Evaluated Value) → Boolean ≡ base
+connective_gives : (base : BaseType) (connective : Connective) (left right : Evaluated Value) → Boolean ≡ base
     → GivesBase Boolean left → GivesBase Boolean right
     → GivesBase base (then_with left (λ v. if decides connective v then Yields v else right))
 connective_gives base connective (Yields v) right same h k =
@@ -95,7 +114,7 @@ connective_gives base connective (Yields v) right same h k =
 connective_gives base connective (Raises exception) right same h k = tt
 
 module _ (program : Program) (procedure : ProcedureEntry) (s : SourceState) (state : StateFits program procedure s) where
-  scalar_read : (base : Base) (x : Variable) → scalar_by (variable_type program procedure x) (same_base base) ≡ true
+  scalar_read : (base : BaseType) (x : Variable) → scalar_by (variable_type program procedure x) (same_base base) ≡ true
       → base_of (cell_at (cells s x) 0) ≡ base
   scalar_read base x h = go (variable_type program procedure x) refl h
     where
@@ -110,7 +129,7 @@ module _ (program : Program) (procedure : ProcedureEntry) (s : SourceState) (sta
           one_cell None h = omega arith
           one_cell (Some length) h = cc
 
-  element_read : (base : Base) (array : Variable) (length : ℕ) (i : ℕ)
+  element_read : (base : BaseType) (array : Variable) (length : ℕ) (i : ℕ)
       → array_by (variable_type program procedure array) length (same_base base) ≡ true → i < length
       → base_of (cell_at (cells s array) i) ≡ base
   element_read base array length i h below = go (variable_type program procedure array) refl h
@@ -128,7 +147,7 @@ module _ (program : Program) (procedure : ProcedureEntry) (s : SourceState) (sta
           all_cells (Some size) h = rw (eqb-true size length h) below
 
   -- the value of a well-formed expression has its base type
-  pub value_fits : (base : Base) (e : Expression) → has_base program procedure base e ≡ true → GivesBase base (value_of s e)
+  pub value_fits : (base : BaseType) (e : Expression) → has_base program procedure base e ≡ true → GivesBase base (value_of s e)
   value_fits base (Integer n) h = same_base_is Int base (and_parts (same_base Int base) _ h).0
   value_fits base (Logical b) h = same_base_is Boolean base h
   value_fits base (Read x) h = scalar_read base x h

@@ -1,6 +1,6 @@
 use Rattle.std.proofs.Common.{[], List, ℕ, ◌-◌, ◌||◌, ◌≡◌}
 use Rattle.std.specs.BTreeSet.{contains_text}
-use Rattle.modules.specs.Form.{each_at, read}
+use Rattle.modules.specs.ByteFormat.{each_at, read}
 use Rattle.modules.specs.Format.{channel_after, channel_names, is_among}
 use Rattle.bytecode.proofs.channels.read_channels.Given as goal
 

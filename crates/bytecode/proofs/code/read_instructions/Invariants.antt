@@ -1,5 +1,5 @@
 use Rattle.std.proofs.Common.{[], length, ◌+◌, ◌-◌, ◌≡◌, ◌≤◌}
-use Rattle.modules.specs.Form.{code_at}
+use Rattle.modules.specs.ByteFormat.{code_at}
 use Rattle.modules.specs.Opcodes.{instructions}
 use Rattle.bytecode.proofs.code.read_instructions.Given as goal
 

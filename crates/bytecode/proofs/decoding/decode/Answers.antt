@@ -1,5 +1,5 @@
 use Rattle.std.proofs.Common.{Err, arith, sym, ◌∙◌, ◌≡◌}
-use Rattle.modules.specs.Form.{read_all}
+use Rattle.modules.specs.ByteFormat.{read_all}
 use Rattle.modules.specs.Format.{module_file}
 use Rattle.modules.specs.ContentsOf.{contents_of}
 use Rattle.bytecode.proofs.Both.{module_again, module_taken}

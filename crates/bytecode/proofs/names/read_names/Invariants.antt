@@ -1,6 +1,6 @@
 use Rattle.std.proofs.Common.{[], List, ℕ, ◌-◌, ◌||◌, ◌≡◌}
 use Rattle.std.specs.BTreeSet.{contains_text}
-use Rattle.modules.specs.Form.{each_at, read}
+use Rattle.modules.specs.ByteFormat.{each_at, read}
 use Rattle.modules.specs.Format.{is_among, name_after}
 use Rattle.bytecode.specs.Reading.{texts}
 use Rattle.bytecode.proofs.names.read_names.Given as goal

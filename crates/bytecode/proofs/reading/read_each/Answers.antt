@@ -4,7 +4,7 @@ use Rattle.bytecode.proofs.reading.read_each.Goals as goal
 
 pub returns-in_err-item : goal.returns-in_err-item
 returns-in_err-item g c =
-    let p = err_from_is_err_and c.from_residual.result c.from_residual.ensures.1 in
+    let p = err_from_is_err_and c.from_residual-in_err-item.result c.from_residual-in_err-item.ensures.1 in
     rw (p.1, p.2) (each_fails c.in_err-item.field-0.0 (g.E.Element.reads c.args.element.now) c.args.count c.loop.counter c.loop.items.items c.loop.rest.now _ c.loop-test.true (rw c.deref.ensures.value at c.in_err-item.ensures.gives) c.loop.invariant.goes_on)
 
 pub loop-preserved : goal.loop-preserved

@@ -1,5 +1,5 @@
 use Rattle.std.proofs.Common.{[], ◌-◌, ◌≡◌}
-use Rattle.modules.specs.Form.{each_at}
+use Rattle.modules.specs.ByteFormat.{each_at}
 use Rattle.bytecode.proofs.reading.read_each.Given as goal
 
 -- what is left to read goes on to what reading gives from the start, and the state is that of the items

@@ -16,7 +16,7 @@ use Rattle.syntax.specs.Tree.{program_tree}
 use Rattle.types.specs.Finding.{IsRefusalOf, give}
 use Rattle.types.specs.Resolution.{resolution}
 use Rattle.checker.proofs.Faults.{named, ended}
-use Rattle.checker.specs.Found.{IsFound}
+use Rattle.checker.specs.Found.{IsFoundRefusal}
 use Rattle.checker.proofs.analysing.analyse.Goals as goal
 
 pub returns-then-source-gt-MAX_TEXT-clause-first_fault : goal.returns-then-source-gt-MAX_TEXT-clause-first_fault
@@ -44,8 +44,8 @@ returns-in_err-core-clause-first_fault c =
     let h = c.args.hierarchy.now in
     let source = c.args.source.now in
     let tree = program_tree c.in_ok-tree.tree in
-    rw (p.1, p.2) (IfErr-at_err (IfRefused (IsFound h source)) c.in_err-core.was
-    (cast-answer (IsRefusalOf (resolution h tree)) (IsFound h source) (λ r s is found. rw is (named h source tree r c.in_ok-tree.ensures.spelled found))
+    rw (p.1, p.2) (IfErr-at_err (IfRefused (IsFoundRefusal h source)) c.in_err-core.was
+    (cast-answer (IsRefusalOf (resolution h tree)) (IsFoundRefusal h source) (λ r s is found. rw is (named h source tree r c.in_ok-tree.ensures.spelled found))
     c.resolve.result c.map_err.result c.map_err.ensures.cases c.resolve.ensures.first_fault))
 
 pub returns-in_err-ends-clause-first_fault : goal.returns-in_err-ends-clause-first_fault
@@ -61,6 +61,6 @@ returns-in_err-ends-clause-first_fault c =
       resolved = mapped-ok c.resolve.result (Ok c.in_ok-core.core) c.in_ok-core.core (λ core. resolution h tree ≡ give (program_of core)) refl
           c.in_ok-core.ensures.cases (λ fault no. no) c.resolve.ensures.accepted;
     } in
-    rw (p.1, p.2) (IfErr-at_err (IfRefused (IsFound h source)) c.in_err-ends.was
-    (cast-answer (IsFirstEndFault (exit_faults program)) (IsFound h source) (λ r s is first. rw is (ended h source program r from first))
+    rw (p.1, p.2) (IfErr-at_err (IfRefused (IsFoundRefusal h source)) c.in_err-ends.was
+    (cast-answer (IsFirstEndFault (exit_faults program)) (IsFoundRefusal h source) (λ r s is first. rw is (ended h source program r from first))
     c.ends.result c.map_err-2.result c.map_err-2.ensures.cases c.ends.ensures.first_fault))

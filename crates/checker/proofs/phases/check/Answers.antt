@@ -4,7 +4,7 @@ use Rattle.principals.specs.ActsFor.{IsHierarchy}
 use Rattle.resolved.specs.CoreOf.{program_of}
 use Rattle.acceptance.proofs.Phases.{accepted_refused}
 use Rattle.acceptance.specs.Accepted.{IsAccepted}
-use Rattle.checker.specs.Found.{IsFound}
+use Rattle.checker.specs.Found.{IsFoundRefusal}
 use Rattle.checker.specs.Steps.{RefusesProgram}
 use Rattle.checker.proofs.Verdicts.{accepted-from, flow-fault, refused-not-accepted}
 use Rattle.checker.proofs.phases.check.Goals as goal
@@ -12,7 +12,7 @@ use Rattle.checker.proofs.phases.check.Goals as goal
 pub returns-in-Err-Refused-clause-rejected : goal.returns-in-Err-Refused-clause-rejected
 returns-in-Err-Refused-clause-rejected c = λ program accepted.
     accepted_refused c.args.hierarchy.now c.args.source.now program c.in-Err-Refused.field-0-0.kind c.in-Err-Refused.field-0-0.at accepted
-    (subst (IfRefused (IsFound c.args.hierarchy.now c.args.source.now)) c.in-Err-Refused.field-0-is c.in-Err-Refused.ensures.first_fault)
+    (subst (IfRefused (IsFoundRefusal c.args.hierarchy.now c.args.source.now)) c.in-Err-Refused.field-0-is c.in-Err-Refused.ensures.first_fault)
 
 pub find_labels-requires-clause-names : goal.find_labels-requires-clause-names
 find_labels-requires-clause-names c =

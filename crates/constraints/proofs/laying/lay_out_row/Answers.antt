@@ -22,5 +22,5 @@ returns-clause-laid c = λ first old so_far.
     let of_row : IsPieceOf rows number unknowns = λ p h. subst (λ list. Contains list p) (sym is) (Contains-append_left unknowns written p h) in
     let begun = c.in_ok-left.ensures.left rows number first old of_row so_far in
     let laid : IsLaidOut number (c.in_ok-left.left.items ++ written) c.left_of.new.made.constraints.items c.lay_out_one.new.constraints.items =
-    subst (λ xs. IsLaidOut number xs c.left_of.new.made.constraints.items c.lay_out_one.new.constraints.items) c.in_ok-extend_from_slice.ensures.ok c.in_ok-lay_out_one.ensures in
+    subst (λ xs. IsLaidOut number xs c.left_of.new.made.constraints.items c.lay_out_one.new.constraints.items) c.in_ok-add_written.ensures c.in_ok-lay_out_one.ensures in
     row-laid rows number first c.left_of.new.made.number c.left_of.new.held.items old c.left_of.new.made.constraints.items c.lay_out_one.new.constraints.items unknowns c.in_ok-left.left.items written is begun laid

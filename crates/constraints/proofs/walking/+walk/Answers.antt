@@ -6,14 +6,14 @@ use Rattle.resolved.specs.WellFormed.{statement_nodes}
 use Rattle.resolved.specs.TreeOf.{expression_of, some_expression_of, statement_of, block_of, handlers_of}
 use Rattle.solver.specs.declared.constraints.Atom.TheVariants as stored
 use Rattle.constraints.proofs.Along.{Along, Handling, along-start, along-step, along-end, handling-start, handling-step, handling-end}
-use Rattle.constraints.proofs.Formed.{form-at, block-walked, statement-walked, if-walked, while-walked, try-walked}
+use Rattle.constraints.proofs.Formed.{form-at, form-by, block-walked, statement-walked, if-walked, while-walked, try-walked}
 use Rattle.constraints.proofs.Ready.{along-first, along-room, along-second, block-goes, form-ready-at, form-room, handling-first, handling-second, if-first, if-second, nested-goes, statement-goes, there-is-next, try-first, try-inside, try-room, try-second, while-goes}
 use Rattle.constraints.specs.Ready.{entries_of, AreHandlersReady, AreStatementsReady}
 use Rattle.constraints.specs.declared.forms.ArrayStore.{ArrayStore}
 use Rattle.constraints.specs.declared.forms.CallSite.{CallSite}
 use Rattle.constraints.specs.declared.forms.LoopSite.{LoopSite}
 use Rattle.constraints.specs.declared.progress.Progress.{Progress}
-use Rattle.constraints.proofs.Measured.{statement-within, handler-within}
+use Rattle.resolved.proofs.Measured.{statement-within, handler-within}
 use Rattle.constraints.proofs.Taken.{number-at}
 use Rattle.constraints.proofs.walking.+walk.Goals as goal
 use Rattle.resolved.proofs.Views.{next-statement, next-handler, tree-if, tree-while, tree-try, tree-nested}
@@ -38,69 +38,45 @@ walk_statement-returns-clause-added t c =
 -- statements without blocks
 pub walk_form-returns-in-Assign : goal.walk_form-returns-in-Assign
 walk_form-returns-in-Assign t c =
-    on_ok_weaker c.walk_assign.result
-    (λ walked. form-at c.args.walk.now.table.now.core.now c.args.walk.now.table.now.core.now.labels (entries_of c.args.walk.now.map.now) c.args.walk.now.procedure
-    c.args.statement.now (T.Assign c.in-Assign.at c.in-Assign.variable (expression_of c.in-Assign.value)) c.args.context.pc c.args.context.exit_unknowns c.args.progress.now _
-    (ap statement_of c.in-Assign.is) walked)
-    c.walk_assign.ensures
+    form-by c.args.walk.now c.args.context c.args.statement.now (T.Assign c.in-Assign.at c.in-Assign.variable (expression_of c.in-Assign.value)) c.args.progress.now _
+    c.walk_assign.result (ap statement_of c.in-Assign.is) c.walk_assign.ensures
 
 pub walk_form-returns-in-Clear : goal.walk_form-returns-in-Clear
 walk_form-returns-in-Clear t c =
-    on_ok_weaker c.walk_clear.result
-    (λ walked. form-at c.args.walk.now.table.now.core.now c.args.walk.now.table.now.core.now.labels (entries_of c.args.walk.now.map.now) c.args.walk.now.procedure
-    c.args.statement.now (T.Clear c.in-Clear.at c.in-Clear.slot) c.args.context.pc c.args.context.exit_unknowns c.args.progress.now _
-    (ap statement_of c.in-Clear.is) walked)
-    c.walk_clear.ensures
+    form-by c.args.walk.now c.args.context c.args.statement.now (T.Clear c.in-Clear.at c.in-Clear.slot) c.args.progress.now _
+    c.walk_clear.result (ap statement_of c.in-Clear.is) c.walk_clear.ensures
 
 pub walk_form-returns-in-Store : goal.walk_form-returns-in-Store
 walk_form-returns-in-Store t c =
-    on_ok_weaker c.walk_store.result
-    (λ walked. form-at c.args.walk.now.table.now.core.now c.args.walk.now.table.now.core.now.labels (entries_of c.args.walk.now.map.now) c.args.walk.now.procedure
-    c.args.statement.now (T.Store c.new-store.result.at c.new-store.result.array c.new-store.result.length (expression_of c.in-Store.index) (expression_of c.in-Store.value)) c.args.context.pc c.args.context.exit_unknowns c.args.progress.now _
-    (ap statement_of c.in-Store.is ∙ ap (λ (x : ArrayStore). T.Store x.at x.array x.length (expression_of c.in-Store.index) (expression_of c.in-Store.value)) (sym c.new-store.ensures)) walked)
-    c.walk_store.ensures
+    form-by c.args.walk.now c.args.context c.args.statement.now (T.Store c.new-store.result.at c.new-store.result.array c.new-store.result.length (expression_of c.in-Store.index) (expression_of c.in-Store.value)) c.args.progress.now _
+    c.walk_store.result (ap statement_of c.in-Store.is ∙ ap (λ (x : ArrayStore). T.Store x.at x.array x.length (expression_of c.in-Store.index) (expression_of c.in-Store.value)) (sym c.new-store.ensures)) c.walk_store.ensures
 
 pub walk_form-returns-in-Receive : goal.walk_form-returns-in-Receive
 walk_form-returns-in-Receive t c =
-    on_ok_weaker c.walk_receive.result
-    (λ walked. form-at c.args.walk.now.table.now.core.now c.args.walk.now.table.now.core.now.labels (entries_of c.args.walk.now.map.now) c.args.walk.now.procedure
-    c.args.statement.now (T.Receive c.in-Receive.at c.in-Receive.channel c.in-Receive.target) c.args.context.pc c.args.context.exit_unknowns c.args.progress.now _
-    (ap statement_of c.in-Receive.is) walked)
-    c.walk_receive.ensures
+    form-by c.args.walk.now c.args.context c.args.statement.now (T.Receive c.in-Receive.at c.in-Receive.channel c.in-Receive.target) c.args.progress.now _
+    c.walk_receive.result (ap statement_of c.in-Receive.is) c.walk_receive.ensures
 
 pub walk_form-returns-in-Send : goal.walk_form-returns-in-Send
 walk_form-returns-in-Send t c =
-    on_ok_weaker c.walk_send.result
-    (λ walked. form-at c.args.walk.now.table.now.core.now c.args.walk.now.table.now.core.now.labels (entries_of c.args.walk.now.map.now) c.args.walk.now.procedure
-    c.args.statement.now (T.Send c.in-Send.at c.in-Send.channel (expression_of c.in-Send.value)) c.args.context.pc c.args.context.exit_unknowns c.args.progress.now _
-    (ap statement_of c.in-Send.is) walked)
-    c.walk_send.ensures
+    form-by c.args.walk.now c.args.context c.args.statement.now (T.Send c.in-Send.at c.in-Send.channel (expression_of c.in-Send.value)) c.args.progress.now _
+    c.walk_send.result (ap statement_of c.in-Send.is) c.walk_send.ensures
 
 pub walk_form-returns-in-Leave : goal.walk_form-returns-in-Leave
 walk_form-returns-in-Leave t c =
-    on_ok_weaker c.walk_leave.result
-    (λ walked. form-at c.args.walk.now.table.now.core.now c.args.walk.now.table.now.core.now.labels (entries_of c.args.walk.now.map.now) c.args.walk.now.procedure
-    c.args.statement.now (T.Leave c.in-Leave.at c.in-Leave.exit) c.args.context.pc c.args.context.exit_unknowns c.args.progress.now _
-    (ap statement_of c.in-Leave.is) walked)
-    c.walk_leave.ensures
+    form-by c.args.walk.now c.args.context c.args.statement.now (T.Leave c.in-Leave.at c.in-Leave.exit) c.args.progress.now _
+    c.walk_leave.result (ap statement_of c.in-Leave.is) c.walk_leave.ensures
 
 pub walk_form-returns-in-Return : goal.walk_form-returns-in-Return
 walk_form-returns-in-Return t c =
-    on_ok_weaker c.walk_return.result
-    (λ walked. form-at c.args.walk.now.table.now.core.now c.args.walk.now.table.now.core.now.labels (entries_of c.args.walk.now.map.now) c.args.walk.now.procedure
-    c.args.statement.now (T.ReturnWith c.in-Return.at (some_expression_of c.in-Return.value)) c.args.context.pc c.args.context.exit_unknowns c.args.progress.now _
-    (ap statement_of c.in-Return.is) walked)
-    c.walk_return.ensures
+    form-by c.args.walk.now c.args.context c.args.statement.now (T.ReturnWith c.in-Return.at (some_expression_of c.in-Return.value)) c.args.progress.now _
+    c.walk_return.result (ap statement_of c.in-Return.is) c.walk_return.ensures
 
 -- a call
 pub walk_form-returns-in-Call : goal.walk_form-returns-in-Call
 walk_form-returns-in-Call t c =
-    on_ok_weaker c.walk_call.result
-    (λ walked. form-at c.args.walk.now.table.now.core.now c.args.walk.now.table.now.core.now.labels (entries_of c.args.walk.now.map.now) c.args.walk.now.procedure
-    c.args.statement.now (T.Call c.new-site.result.at c.new-site.result.callee (map expression_of c.deref.result.now) c.new-site.result.target) c.args.context.pc c.args.context.exit_unknowns c.args.progress.now _
-    (ap statement_of c.in-Call.is ∙ ap (λ xs. T.Call c.in-Call.at c.in-Call.callee (map expression_of xs) c.in-Call.target) (sym c.deref.ensures.value)
-    ∙ ap (λ (x : CallSite). T.Call x.at x.callee (map expression_of c.deref.result.now) x.target) (sym c.new-site.ensures)) walked)
-    c.walk_call.ensures
+    form-by c.args.walk.now c.args.context c.args.statement.now (T.Call c.new-site.result.at c.new-site.result.callee (map expression_of c.deref.result.now) c.new-site.result.target) c.args.progress.now _
+    c.walk_call.result (ap statement_of c.in-Call.is ∙ ap (λ xs. T.Call c.in-Call.at c.in-Call.callee (map expression_of xs) c.in-Call.target) (sym c.deref.ensures.value)
+    ∙ ap (λ (x : CallSite). T.Call x.at x.callee (map expression_of c.deref.result.now) x.target) (sym c.new-site.ensures)) c.walk_call.ensures
 
 -- forms with blocks
 pub walk_form-returns-in-If : goal.walk_form-returns-in-If
@@ -113,12 +89,9 @@ walk_form-returns-in-If t c =
 
 pub walk_form-returns-in-While : goal.walk_form-returns-in-While
 walk_form-returns-in-While t c =
-    on_ok_weaker c.walk_while.result
-    (λ walked. form-at c.args.walk.now.table.now.core.now c.args.walk.now.table.now.core.now.labels (entries_of c.args.walk.now.map.now) c.args.walk.now.procedure
-    c.args.statement.now (T.While c.new-site-in-While.result.at c.new-site-in-While.result.number (expression_of c.in-While.condition) (block_of c.deref-in-While.result.now)) c.args.context.pc c.args.context.exit_unknowns c.args.progress.now _
-    (tree-while c.args.statement.now c.in-While.at c.in-While.number c.in-While.condition c.in-While.body c.deref-in-While.result.now c.in-While.is c.deref-in-While.ensures.value
-    ∙ ap (λ (x : LoopSite). T.While x.at x.number (expression_of c.in-While.condition) (block_of c.deref-in-While.result.now)) (sym c.new-site-in-While.ensures)) walked)
-    c.walk_while.ensures
+    form-by c.args.walk.now c.args.context c.args.statement.now (T.While c.new-site-in-While.result.at c.new-site-in-While.result.number (expression_of c.in-While.condition) (block_of c.deref-in-While.result.now)) c.args.progress.now _
+    c.walk_while.result (tree-while c.args.statement.now c.in-While.at c.in-While.number c.in-While.condition c.in-While.body c.deref-in-While.result.now c.in-While.is c.deref-in-While.ensures.value
+    ∙ ap (λ (x : LoopSite). T.While x.at x.number (expression_of c.in-While.condition) (block_of c.deref-in-While.result.now)) (sym c.new-site-in-While.ensures)) c.walk_while.ensures
 
 pub walk_form-returns-in-Try : goal.walk_form-returns-in-Try
 walk_form-returns-in-Try t c =
@@ -130,11 +103,8 @@ walk_form-returns-in-Try t c =
 
 pub walk_form-returns-in-Nested : goal.walk_form-returns-in-Nested
 walk_form-returns-in-Nested t c =
-    on_ok_weaker c.walk_block.result
-    (λ walked. form-at c.args.walk.now.table.now.core.now c.args.walk.now.table.now.core.now.labels (entries_of c.args.walk.now.map.now) c.args.walk.now.procedure
-    c.args.statement.now (T.Nested c.in-Nested.field-0 (block_of c.deref-in-Nested.result.now)) c.args.context.pc c.args.context.exit_unknowns c.args.progress.now _
-    (tree-nested c.args.statement.now c.in-Nested.field-0 c.in-Nested.block c.deref-in-Nested.result.now c.in-Nested.is c.deref-in-Nested.ensures.value) walked)
-    c.walk_block.ensures
+    form-by c.args.walk.now c.args.context c.args.statement.now (T.Nested c.in-Nested.field-0 (block_of c.deref-in-Nested.result.now)) c.args.progress.now _
+    c.walk_block.result (tree-nested c.args.statement.now c.in-Nested.field-0 c.in-Nested.block c.deref-in-Nested.result.now c.in-Nested.is c.deref-in-Nested.ensures.value) c.walk_block.ensures
 
 pub walk_if-returns : goal.walk_if-returns
 walk_if-returns t c = λ at.

@@ -3,11 +3,11 @@ use Rattle.std.specs.String.{string_bytes}
 use Rattle.flowc.specs.Lines.{IsPerformFault}
 use Rattle.modules.specs.Contents.{ModuleContents}
 use Rattle.host.specs.Meaning.{IsContained, hierarchy_under}
-use Rattle.flowc.proofs.Cut.{appended_all, can_run_lent, cut_off, ends_so, shows_run}
+use Rattle.flowc.proofs.Cut.{appended_all, can_run_lent, cut_off, ends_so, shows_run, sound_by}
 use Rattle.flowc.proofs.Reporting.{memory_message, memory_status, observer_message, start_message, under_message, unwritten_message, unwritten_status}
 use Rattle.flowc.specs.Compiled.{bytes_of}
 use Rattle.flowc.specs.Given.{text_of}
-use Rattle.flowc.specs.Messages.{AreSound, IsObserverLine, IsRefusedLine, reported_line}
+use Rattle.flowc.specs.Messages.{IsObserverLine, IsRefusedLine, reported_line}
 use Rattle.flowc.specs.Stdout.{IsViewedUnder}
 use Rattle.flowc.proofs.Refusals.{observed_by_none, viewed_by_none}
 use Rattle.flowc.proofs.running.run.Goals as goal
@@ -25,12 +25,7 @@ returns-in_err-machine-clause-message g c =
 pub returns-in_err-larger-clause-message : goal.returns-in_err-larger-clause-message
 returns-in_err-larger-clause-message g c =
     let m = c.in_ok-machine.machine.program in
-    let sound : AreSound c.args.files.code.bytes.now c.args.files.world.bytes.now m = record {
-      spelled = c.in_ok-machine.ensures.accepted.spelled;
-      not_refused = c.in_ok-machine.ensures.accepted.not_refused;
-      encoded = c.in_ok-machine.ensures.encoded;
-      right = c.in_ok-machine.ensures.right;
-    } in
+    let sound = sound_by c.args.files.code.bytes.now c.args.files.world.bytes.now m c.in_ok-machine.ensures.accepted.spelled c.in_ok-machine.ensures.accepted.not_refused c.in_ok-machine.ensures.encoded c.in_ok-machine.ensures.right in
     under_message c.from_residual-in_err-larger.result m c.module.result.now (text_of c.args.files.code) (text_of c.args.files.world) _ _ _ _ sound c.module.ensures
     c.from_residual-in_err-larger.ensures.1 c.in_err-larger.ensures.message
 
@@ -42,12 +37,7 @@ returns-in_err-larger-clause-rejected g c =
 pub returns-in_err-principal-clause-message : goal.returns-in_err-principal-clause-message
 returns-in_err-principal-clause-message g c =
     let m = c.in_ok-machine.machine.program in
-    let sound : AreSound c.args.files.code.bytes.now c.args.files.world.bytes.now m = record {
-      spelled = c.in_ok-machine.ensures.accepted.spelled;
-      not_refused = c.in_ok-machine.ensures.accepted.not_refused;
-      encoded = c.in_ok-machine.ensures.encoded;
-      right = c.in_ok-machine.ensures.right;
-    } in
+    let sound = sound_by c.args.files.code.bytes.now c.args.files.world.bytes.now m c.in_ok-machine.ensures.accepted.spelled c.in_ok-machine.ensures.accepted.not_refused c.in_ok-machine.ensures.encoded c.in_ok-machine.ensures.right in
     let larger = c.in_ok-larger.larger in
     let viewed : IsViewedUnder m (bytes_of (option_map text_of c.args.files.under)) (hierarchy_under larger m) =
     subst (λ (w : ModuleContents). IsViewedUnder w (bytes_of (option_map text_of c.args.files.under)) (hierarchy_under larger w)) c.module.ensures c.in_ok-larger.ensures.accepted in
@@ -58,12 +48,7 @@ returns-in_err-principal-clause-message g c =
 pub returns-in_err-principal-clause-rejected : goal.returns-in_err-principal-clause-rejected
 returns-in_err-principal-clause-rejected g c =
     let m = c.in_ok-machine.machine.program in
-    let sound : AreSound c.args.files.code.bytes.now c.args.files.world.bytes.now m = record {
-      spelled = c.in_ok-machine.ensures.accepted.spelled;
-      not_refused = c.in_ok-machine.ensures.accepted.not_refused;
-      encoded = c.in_ok-machine.ensures.encoded;
-      right = c.in_ok-machine.ensures.right;
-    } in
+    let sound = sound_by c.args.files.code.bytes.now c.args.files.world.bytes.now m c.in_ok-machine.ensures.accepted.spelled c.in_ok-machine.ensures.accepted.not_refused c.in_ok-machine.ensures.encoded c.in_ok-machine.ensures.right in
     let larger = c.in_ok-larger.larger in
     let viewed : IsViewedUnder m (bytes_of (option_map text_of c.args.files.under)) (hierarchy_under larger m) =
     subst (λ (w : ModuleContents). IsViewedUnder w (bytes_of (option_map text_of c.args.files.under)) (hierarchy_under larger w)) c.module.ensures c.in_ok-larger.ensures.accepted in
@@ -88,12 +73,7 @@ returns-in_err-show-clause-message g c =
 pub returns-in_err-show-clause-prefix : goal.returns-in_err-show-clause-prefix
 returns-in_err-show-clause-prefix g c =
     let m = c.in_ok-machine.machine.program in
-    let sound : AreSound c.args.files.code.bytes.now c.args.files.world.bytes.now m = record {
-      spelled = c.in_ok-machine.ensures.accepted.spelled;
-      not_refused = c.in_ok-machine.ensures.accepted.not_refused;
-      encoded = c.in_ok-machine.ensures.encoded;
-      right = c.in_ok-machine.ensures.right;
-    } in
+    let sound = sound_by c.args.files.code.bytes.now c.args.files.world.bytes.now m c.in_ok-machine.ensures.accepted.spelled c.in_ok-machine.ensures.accepted.not_refused c.in_ok-machine.ensures.encoded c.in_ok-machine.ensures.right in
     let larger = c.in_ok-larger.larger in
     let principal = c.in_ok-principal.principal in
     let can = can_run_lent _ _ (bytes_of (option_map text_of c.args.files.under)) (option_map (λ name. name.now) c.args.observer) m _ _ larger principal sound c.module.ensures c.in_ok-larger.ensures.accepted c.module-2.ensures c.in_ok-principal.ensures.found in
@@ -102,12 +82,7 @@ returns-in_err-show-clause-prefix g c =
 pub returns-clause-prefix : goal.returns-clause-prefix
 returns-clause-prefix g c =
     let m = c.in_ok-machine.machine.program in
-    let sound : AreSound c.args.files.code.bytes.now c.args.files.world.bytes.now m = record {
-      spelled = c.in_ok-machine.ensures.accepted.spelled;
-      not_refused = c.in_ok-machine.ensures.accepted.not_refused;
-      encoded = c.in_ok-machine.ensures.encoded;
-      right = c.in_ok-machine.ensures.right;
-    } in
+    let sound = sound_by c.args.files.code.bytes.now c.args.files.world.bytes.now m c.in_ok-machine.ensures.accepted.spelled c.in_ok-machine.ensures.accepted.not_refused c.in_ok-machine.ensures.encoded c.in_ok-machine.ensures.right in
     let larger = c.in_ok-larger.larger in
     let principal = c.in_ok-principal.principal in
     let can = can_run_lent _ _ (bytes_of (option_map text_of c.args.files.under)) (option_map (λ name. name.now) c.args.observer) m _ _ larger principal sound c.module.ensures c.in_ok-larger.ensures.accepted c.module-2.ensures c.in_ok-principal.ensures.found in
@@ -116,12 +91,7 @@ returns-clause-prefix g c =
 pub returns-clause-stdout : goal.returns-clause-stdout
 returns-clause-stdout g c =
     let m = c.in_ok-machine.machine.program in
-    let sound : AreSound c.args.files.code.bytes.now c.args.files.world.bytes.now m = record {
-      spelled = c.in_ok-machine.ensures.accepted.spelled;
-      not_refused = c.in_ok-machine.ensures.accepted.not_refused;
-      encoded = c.in_ok-machine.ensures.encoded;
-      right = c.in_ok-machine.ensures.right;
-    } in
+    let sound = sound_by c.args.files.code.bytes.now c.args.files.world.bytes.now m c.in_ok-machine.ensures.accepted.spelled c.in_ok-machine.ensures.accepted.not_refused c.in_ok-machine.ensures.encoded c.in_ok-machine.ensures.right in
     let larger = c.in_ok-larger.larger in
     let principal = c.in_ok-principal.principal in
     let can = can_run_lent _ _ (bytes_of (option_map text_of c.args.files.under)) (option_map (λ name. name.now) c.args.observer) m _ _ larger principal sound c.module.ensures c.in_ok-larger.ensures.accepted c.module-2.ensures c.in_ok-principal.ensures.found in
@@ -130,12 +100,7 @@ returns-clause-stdout g c =
 pub returns-clause-end : goal.returns-clause-end
 returns-clause-end g c =
     let m = c.in_ok-machine.machine.program in
-    let sound : AreSound c.args.files.code.bytes.now c.args.files.world.bytes.now m = record {
-      spelled = c.in_ok-machine.ensures.accepted.spelled;
-      not_refused = c.in_ok-machine.ensures.accepted.not_refused;
-      encoded = c.in_ok-machine.ensures.encoded;
-      right = c.in_ok-machine.ensures.right;
-    } in
+    let sound = sound_by c.args.files.code.bytes.now c.args.files.world.bytes.now m c.in_ok-machine.ensures.accepted.spelled c.in_ok-machine.ensures.accepted.not_refused c.in_ok-machine.ensures.encoded c.in_ok-machine.ensures.right in
     let larger = c.in_ok-larger.larger in
     let principal = c.in_ok-principal.principal in
     let can = can_run_lent _ _ (bytes_of (option_map text_of c.args.files.under)) (option_map (λ name. name.now) c.args.observer) m _ _ larger principal sound c.module.ensures c.in_ok-larger.ensures.accepted c.module-2.ensures c.in_ok-principal.ensures.found in

@@ -1,5 +1,5 @@
 use Rattle.std.proofs.Common.{◌≡◌, sym, ap, ◌∙◌, ◌++◌, ◌+◌, subst, List, arith}
-use Rattle.labels.specs.Entries.{AreGathered, own_at}
+use Rattle.labels.specs.Entries.{ArePoliciesGathered, own_at}
 use Rattle.labels.specs.Label.{ReaderPolicy}
 use Rattle.labels.proofs.Held.{gathered-all, gathered-more, gathered-none, next-fits}
 use Rattle.labels.proofs.entries.policies_of.Goals as goal
@@ -7,7 +7,7 @@ use Rattle.labels.proofs.entries.policies_of.Goals as goal
 pub loop-part-init : goal.loop-part-init
 loop-part-init c = record {
   inside = omega arith;
-  gathered = subst (λ (policies : List ReaderPolicy). AreGathered c.args.entries.now c.args.row.now 0 policies) (sym c.new-policies.ensures.items) (gathered-none c.args.entries.now c.args.row.now);
+  gathered = subst (λ (policies : List ReaderPolicy). ArePoliciesGathered c.args.entries.now c.args.row.now 0 policies) (sym c.new-policies.ensures.items) (gathered-none c.args.entries.now c.args.row.now);
 }
 
 pub own_at-requires : goal.own_at-requires
@@ -27,7 +27,7 @@ loop-part-preserved c =
     c.in_ok-append.ensures ∙ ap (λ (own : List ReaderPolicy). c.loop-part.policies.items ++ own) c.own_at.ensures in
     record {
       inside = let inside = c.in-Some.ensures.inside in omega (arith, inside);
-      gathered = subst (λ (policies : List ReaderPolicy). AreGathered es row (part + 1) policies) (sym more)
+      gathered = subst (λ (policies : List ReaderPolicy). ArePoliciesGathered es row (part + 1) policies) (sym more)
           (gathered-more es row c.loop-part.from part c.loop-part.policies.items c.requires.entries c.in-Some.ensures c.loop-part.invariant.gathered);
     }
 

@@ -5,7 +5,7 @@ use Rattle.principals.specs.ActsFor.{PrincipalHierarchy}
 use Rattle.modules.specs.Contents.{ChannelContents, ProcedureContents, ModuleContents}
 use Rattle.modules.specs.declared.declaration.Global.{Global}
 use Rattle.modules.specs.Code.{code_length}
-use Rattle.modules.specs.Form.{Fits}
+use Rattle.modules.specs.ByteFormat.{Fits}
 use Rattle.modules.specs.Format.{module_file}
 use Rattle.layout.specs.Graph.{HasPositions}
 use Rattle.layout.specs.Offsets.{laid_out, laid_out_procedure}

@@ -4,9 +4,9 @@ use Rattle.std.specs.Str.{chars, IsUtf8}
 use Rattle.lexer.specs.declared.token.Kind.{Kind}
 use Rattle.common.proofs.Casting.{refuse-answer, refused-weaker}
 use Rattle.common.specs.Answers.{IfRefused}
-use Rattle.lexer.specs.Cut.{IsCut, IsStuck, IsTextRefused}
+use Rattle.lexer.specs.Cut.{IsCut, IsTextRefused}
 use Rattle.lexer.specs.Listing.{IsRefusedAtCharacter}
-use Rattle.lexer.specs.Scan.{Reads}
+use Rattle.lexer.specs.Scan.{Reads, IsStuck}
 use Rattle.lexer.specs.Terminal.{terminal_of, terminals_of}
 use Rattle.lexer.specs.Words.{is_white_space}
 use Rattle.lexer.proofs.Runs.{Stops}

@@ -8,8 +8,8 @@ use Rattle.lowering.proofs.conditions.+push_branch.Goals as goal
 
 pub returns-in_ok-push_branch-in-Short : goal.returns-in_ok-push_branch-in-Short
 returns-in_ok-push_branch-in-Short t c =
-    let left = expression_of c.deref-in-Short-2.result.now in
-    let right = expression_of c.deref-in-Short-3.result.now in
+    let left = expression_of c.deref-in-Short-2.result.now.0 in
+    let right = expression_of c.deref-in-Short-3.result.now.1 in
     let tree : expression_of c.args.condition.now ≡ Short c.in-Short.connective left right = search rules in
     let position : c.args.beyond ≡ length c.args.code.now.items + branch_size c.decides_at-decides.result left + branch_size c.args.wanted right = search rules in
     on_ok_weaker c.push_branch-in-Short-2.result

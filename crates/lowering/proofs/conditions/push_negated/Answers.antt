@@ -8,8 +8,8 @@ use Rattle.lowering.proofs.conditions.push_negated.Goals as goal
 
 pub returns-in-Binary : goal.returns-in-Binary
 returns-in-Binary c =
-    let left = expression_of c.deref.result.now in
-    let right = expression_of c.deref-in-Binary.result.now in
+    let left = expression_of c.deref.result.now.0 in
+    let right = expression_of c.deref-in-Binary.result.now.1 in
     let tree : negated (expression_of c.args.condition.now) ≡ Binary (negated_operator c.in-Binary.operator) left right = search rules in
     on_ok_weaker c.push-in-Binary.result
     (λ made. binary-pushed c.args.code.now.items c.push_value.new.code.items c.push_value-in-Binary.new.code.items _ left right (negated_operator c.in-Binary.operator) _ _

@@ -21,8 +21,8 @@ push_value-returns-in-Integer t c =
 pub push_value-returns-in_ok-push_value-in-Binary-2 :
     goal.push_value-returns-in_ok-push_value-in-Binary-2
 push_value-returns-in_ok-push_value-in-Binary-2 t c =
-    let left = expression_of c.deref-in-Binary.result.now in
-    let right = expression_of c.deref-in-Binary-2.result.now in
+    let left = expression_of c.deref-in-Binary.result.now.0 in
+    let right = expression_of c.deref-in-Binary-2.result.now.1 in
     let before = c.args.code.now.items in
     let tree : expression_of c.args.expression.now ≡ Binary c.in-Binary.operator left right = search rules in
     on_ok_weaker c.push-in-Binary.result
@@ -32,8 +32,8 @@ push_value-returns-in_ok-push_value-in-Binary-2 t c =
 
 pub push_value-returns-in-And : goal.push_value-returns-in-And
 push_value-returns-in-And t c =
-    let left = expression_of c.deref-in-Short.result.now in
-    let right = expression_of c.deref-in-And.result.now in
+    let left = expression_of c.deref-in-Short.result.now.0 in
+    let right = expression_of c.deref-in-And.result.now.1 in
     let tree : expression_of c.args.expression.now ≡ Short And left right = search rules in
     on_ok_weaker c.push_rest_of_and.result
     (λ made. short-pushed c.args.code.now.items c.push_value-in-Short.new.code.items _ left right And _ c.in_ok-push_value-in-Short.ensures made tree)
@@ -41,8 +41,8 @@ push_value-returns-in-And t c =
 
 pub push_value-returns-in-Or : goal.push_value-returns-in-Or
 push_value-returns-in-Or t c =
-    let left = expression_of c.deref-in-Short.result.now in
-    let right = expression_of c.deref-in-Or.result.now in
+    let left = expression_of c.deref-in-Short.result.now.0 in
+    let right = expression_of c.deref-in-Or.result.now.1 in
     let tree : expression_of c.args.expression.now ≡ Short Or left right = search rules in
     on_ok_weaker c.push_rest_of_or.result
     (λ made. short-pushed c.args.code.now.items c.push_value-in-Short.new.code.items _ left right Or _ c.in_ok-push_value-in-Short.ensures made tree)

@@ -1,6 +1,6 @@
 use Rattle.std.proofs.Common.{arith, ◌≡◌, ◌∙◌, ap, sym}
-use Rattle.resolved.specs.TreeOf.{expression_of, block_of, handlers_of}
-use Rattle.resolved.specs.BitUse.{expression_uses_bits, block_uses_bits, handlers_use_bits}
+use Rattle.resolved.specs.TreeOf.{block_of, handlers_of}
+use Rattle.resolved.specs.BitUse.{block_uses_bits, handlers_use_bits}
 use Rattle.resolved.specs.WellFormed.{block_nodes, handlers_nodes}
 use Rattle.lowering.proofs.BitForms.{bits_if, bits_while, bits_try}
 use Rattle.lowering.proofs.Falling.{first-decides, second-decides}

@@ -7,7 +7,7 @@ use Rattle.resolved.specs.CoreOf.{program_of}
 use Rattle.resolved.specs.ExitFaults.{exit_faults, procedure_faults}
 use Rattle.resolved.specs.ProgramOf.{procedure_entry}
 use Rattle.path_map.specs.FirstFault.{IsFirstEndFault}
-use Rattle.path_map.specs.Paths.{AreAlike, block_paths}
+use Rattle.path_map.specs.Paths.{HaveSameExits, block_paths}
 use Rattle.path_map.proofs.Procedures.{WithEnds, beside-begin, beside-first, beside-step, beside-end, beside-clean, next-procedure, last-procedure}
 use Rattle.path_map.proofs.Pieces.{ends-found}
 use Rattle.path_map.proofs.map.ends.Goals as goal
@@ -28,7 +28,7 @@ loop-procedure-preserved c =
     beside-step program all procedure tail c.loop-procedure.table c.walk_procedure.new.table
     (subst (λ list. WithEnds program all list c.loop-procedure.table)
     (next-procedure (procedure_entry c.args.core.now.labels) c.deref-procedure-items.result.now c.loop-procedure.procedure-index c.procedure-item.result c.loop-procedure-test.true c.procedure-item.is) c.loop-procedure.invariant)
-    (subst (λ core. AreAlike c.walk_procedure.new.table (c.loop-procedure.table ++ block_paths (program_of core) (procedure_entry core.labels c.procedure-item.result).body)) c.in_ok-walk.ensures c.in_ok-walk_procedure.ensures.found)
+    (subst (λ core. HaveSameExits c.walk_procedure.new.table (c.loop-procedure.table ++ block_paths (program_of core) (procedure_entry core.labels c.procedure-item.result).body)) c.in_ok-walk.ensures c.in_ok-walk_procedure.ensures.found)
     (subst (λ core. procedure_faults (program_of core) (procedure_entry core.labels c.procedure-item.result) ≡ []) c.in_ok-walk.ensures c.in_ok-walk_procedure.ensures.accepted)
 
 pub returns-in_err-walk_procedure-clause-first_fault : goal.returns-in_err-walk_procedure-clause-first_fault

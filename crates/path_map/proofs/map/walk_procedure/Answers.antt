@@ -6,7 +6,7 @@ use Rattle.resolved.specs.TreeOf.{block_of}
 use Rattle.resolved.specs.ExitFaults.{procedure_faults}
 use Rattle.resolved.specs.ProgramOf.{procedure_entry}
 use Rattle.path_map.specs.FirstFault.{IsFirstEndFault}
-use Rattle.path_map.specs.Paths.{AreAlike, block_paths}
+use Rattle.path_map.specs.Paths.{HaveSameExits, block_paths}
 use Rattle.path_map.specs.Walks.{faults_of_block}
 use Rattle.path_map.specs.Sets.{members}
 use Rattle.path_map.proofs.Procedures.{walked, all-may-end, body-first, no-value-first, some-value, undeclared-first, no-faults}
@@ -15,7 +15,7 @@ use Rattle.path_map.proofs.map.walk_procedure.Goals as goal
 
 pub returns-clause-found : goal.returns-clause-found
 returns-clause-found c =
-    subst (λ list. AreAlike c.walk_block.new.table (c.args.table.now ++ block_paths (program_of c.args.walk.now.core.now) (block_of list))) c.deref.ensures.value
+    subst (λ list. HaveSameExits c.walk_block.new.table (c.args.table.now ++ block_paths (program_of c.args.walk.now.core.now) (block_of list))) c.deref.ensures.value
     c.in_ok-exits.ensures.found.entries
 
 pub returns-clause-accepted : goal.returns-clause-accepted

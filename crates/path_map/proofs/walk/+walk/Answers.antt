@@ -1,9 +1,10 @@
+use Rattle.std.specs.Prelude.{flat_map}
 use Rattle.common.specs.Answers.{IfRefused}
 use Rattle.std.proofs.Common.{◌≡◌, refl, sym, ap, ◌∙◌, subst, ◌+◌, arith, List, [], true, map, drop, rules, ◌++◌}
 use Rattle.std.proofs.lemmas.Bool.{not-false}
 use Rattle.std.proofs.lemmas.Result.{IfOk-weaker, IfErr-weaker, on_ok_weaker}
 use Rattle.resolved.specs.CoreOf.{program_of}
-use Rattle.resolved.specs.Exits.{block_exits, raises, raises_all, index_raises, statement_exits}
+use Rattle.resolved.specs.Exits.{block_exits, raises, index_raises, statement_exits}
 use Rattle.resolved.specs.ExitFaults.{block_faults, handlers_faults, inner_faults}
 use Rattle.resolved.specs.Tree as T
 use Rattle.resolved.specs.TreeOf.{expression_of, some_expression_of, statement_of, block_of, handlers_of}
@@ -19,7 +20,7 @@ use Rattle.path_map.specs.Walks.{IsFound, AreThrown}
 use Rattle.path_map.proofs.Walking.{along-begin, handling-begin, has-room, reserved, outside, inside, along-step, never-raised, in-handler, handling-step, first-left, first-right, none-both, Along, Handling}
 use Rattle.path_map.proofs.Forms.{found-at, faults-at, first-at, return-found, store-same, if-found, while-found, try-is-found, tried-throws}
 use Rattle.resolved.specs.WellFormed.{statement_nodes}
-use Rattle.path_map.proofs.Measured.{handler-within, statement-within}
+use Rattle.resolved.proofs.Measured.{handler-within, statement-within}
 use Rattle.path_map.proofs.Fitting.{body-fits, handler-fits, handlers-fit, nested-fits, no-fits, statement-fits, tried-fits, yes-fits}
 use Rattle.path_map.proofs.walk.+walk.Goals as goal
 use Rattle.resolved.proofs.Views.{next-statement, next-handler, tree-if, tree-while, tree-try, tree-nested}
@@ -101,7 +102,7 @@ walk_form-returns-in_ok-call-in-Call-clause-found t c =
     found-at (program_of c.args.walk.now.core.now) c.args.statement.now (T.Call c.in-Call.field-0 c.in-Call.callee arguments c.in-Call.field-3)
     (ap statement_of c.in-Call.is ∙ ap (λ list. T.Call c.in-Call.field-0 c.in-Call.callee (map expression_of list) c.in-Call.field-3) (sym c.deref.ensures.value))
     c.args.table.now c.args.table.now (members c.args.raised.now) (members c.call.new.raised) c.in_ok-call-in-Call.field-0
-    (c.in_ok-call-in-Call.ensures.found (raises_all arguments) c.raises_of_all.ensures c.args.table.now)
+    (c.in_ok-call-in-Call.ensures.found (flat_map raises arguments) c.raises_of_all.ensures c.args.table.now)
 
 pub walk_form-returns-in_ok-leave-in-Leave-clause-found : goal.walk_form-returns-in_ok-leave-in-Leave-clause-found
 walk_form-returns-in_ok-leave-in-Leave-clause-found t c =

@@ -5,7 +5,7 @@ use Rattle.std.specs.String.{string_eq}
 use Rattle.std.proofs.lemmas.Bool.{cond-false}
 use Rattle.std.proofs.lemmas.List.{length-map, map_push}
 use Rattle.lexer.specs.Terminal.{terminal_of}
-use Rattle.principals.specs.HierarchyText.{Twice, Crowded}
+use Rattle.principals.specs.Reading.{Twice, Crowded}
 use Rattle.principals.specs.Table.{names_of}
 use Rattle.principals.proofs.Names.{listed_iff, not_listed}
 use Rattle.principals.proofs.declaring.declare.Goals as goal

@@ -1,7 +1,7 @@
 use Rattle.std.proofs.lemmas.Result.{err_from_is_err_and}
 use Rattle.common.proofs.Cases.{contained_at}
 use Rattle.lexer.specs.Terminal.{terminal_of}
-use Rattle.principals.specs.HierarchyText.{UnknownLeft, UnknownRight}
+use Rattle.principals.specs.Reading.{UnknownLeft, UnknownRight}
 use Rattle.principals.specs.Table.{names_of}
 use Rattle.principals.proofs.declaring.find_pair.Goals as goal
 

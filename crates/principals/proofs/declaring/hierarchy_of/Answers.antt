@@ -7,9 +7,9 @@ use Rattle.principals.specs.ActsFor.{AllBelow, AllDifferent}
 use Rattle.common.specs.Answers.{IfRefused}
 use Rattle.common.specs.declared.fault.OrNoMemory.TheVariants.{Refused}
 use Rattle.common.proofs.Casting.{map-answer, mapped-ok, refused-weaker}
-use Rattle.principals.specs.HierarchyText.{Declares, IsEntryRefusal, IsFirstRefusal, Relates, declared}
+use Rattle.principals.specs.HierarchyText.{Declares, Relates, declared}
 use Rattle.principals.specs.Named.{IsKeptName}
-use Rattle.principals.specs.Reading.{entry_of, entries_of}
+use Rattle.principals.specs.Reading.{entry_of, entries_of, IsEntryRefusal, IsFirstRefusal}
 use Rattle.principals.specs.Table.{names_of}
 use Rattle.principals.specs.declared.reading.HierarchyStatement.{HierarchyStatement}
 use Rattle.principals.proofs.Building.{built_name, built_pair, built_described, built_refused, built_same, entries_around, entries_more}

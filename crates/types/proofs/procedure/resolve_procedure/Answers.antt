@@ -10,13 +10,13 @@ use Rattle.resolved.specs.TreeOf.{block_of}
 use Rattle.common.specs.Answers.{IfRefused}
 use Rattle.types.specs.Finding.{IsRefusalOf, along}
 use Rattle.types.specs.Labels.{optional_label_finding}
-use Rattle.types.specs.Resolution.{next_parameter, parameters_finding, setting_within, joined_all, next_thrown}
+use Rattle.types.specs.Resolution.{next_parameter, joined_all, next_thrown}
 use Rattle.types.specs.Statements.{after_block, block_finding}
 use Rattle.types.specs.VariableEntries.{VariableEntries}
-use Rattle.types.specs.Views.{item_scope, item_scope_of, point_of, setting_of, taken, throws_view, top_view}
+use Rattle.types.specs.Views.{setting_within, item_scope, item_scope_of, point_of, setting_of, taken, throws_view, top_view}
 use Rattle.types.proofs.LabelNumbers.{extends_through, still_inside, same_label, same_written, result_still_inside, same_result, thrown_still_inside, same_thrown}
 use Rattle.types.proofs.Later.{setting_same}
-use Rattle.types.proofs.Procedures.{same_scope, optional_in_scope, optional_wrong_in_scope, parameters_in_scope, parameters_few, parameters_need, throws_need, parameters_wrong, end_wrong, throws_wrong, block_wrong, procedure_found}
+use Rattle.types.proofs.Procedures.{same_scope, optional_in_scope, optional_wrong_in_scope, parameters_in_scope, parameters_few, parameters_need, throws_need, parameters_wrong, end_wrong, throws_wrong, block_wrong, procedure_found, parameters_finding}
 use Rattle.types.proofs.procedure.resolve_procedure.Goals as goal
 use Rattle.types.proofs.procedure.resolve_procedure.Goals.{After-deref, After-deref-2, After-deref-3, After-resolve_body, After-len}
 
@@ -140,8 +140,8 @@ block_is c globals =
     let third = c.declare_parameters.new.self in
     let entered = record third { variables = c.make_end_label.new.variables } in
     let setting : setting_of entered ≡ setting_within scope signatures tree =
-    (λ i. record (setting_of third) { globals = entered_globals c i }) ∙ setting_same c.new-body.result third c.in_ok-declare_parameters.ensures.later ∙ c.new-body.ensures.setting
-    ∙ (λ i. record { hierarchy = scope.hierarchy; globals = globals i; signatures = signatures; result = c.result_of.ensures i }) in
+    (λ i. record (setting_of third) { outer = record (item_scope_of third) { globals = entered_globals c i } }) ∙ setting_same c.new-body.result third c.in_ok-declare_parameters.ensures.later ∙ c.new-body.ensures.setting
+    ∙ (λ i. record { outer = record scope { globals = globals i }; signatures = signatures; result = c.result_of.ensures i }) in
     let point : point_of entered ≡ point_of third = λ i. record (point_of third) { slots = entered_slots c i } in
     λ i. block_finding (setting i) (point i) tree.body
 

@@ -7,8 +7,7 @@ use Rattle.syntax.specs.Written.{Anywhere, IsNameWithin}
 use Rattle.resolved.specs.Program.{Program}
 use Rattle.resolved.specs.ProgramOf.{program_from}
 use Rattle.resolved.specs.WellFormed.{well_formed}
-use Rattle.types.specs.Resolution.{program_with}
-use Rattle.types.specs.Views.{tables_view}
+use Rattle.types.specs.Views.{program_with, tables_view}
 use Rattle.types.proofs.WellFormedPrograms.{resolution_keeps}
 use Rattle.types.proofs.program.resolve.Goals as goal
 

@@ -9,7 +9,7 @@ use Rattle.std.proofs.Common.{◌≡◌, ◌<◌, ◌^◌, refl, get_or, drop, [
 use Rattle.std.specs.Prelude.{IfNone, IfSome}
 use Rattle.modules.specs.Contents.{ProcedureContents}
 use Rattle.verifier.specs.Fixed.{fixed_refusals, procedure_refusals}
-use Rattle.verifier.specs.Verified.{AddsVerifiedCode, IsRefusalOf}
+use Rattle.verifier.specs.Verified.{AddsVerifiedCode, IsOperandRefusalOf}
 use Rattle.verifier.specs.declared.fault.CodeRefusal.{CodeRefusal}
 use Rattle.verifier.proofs.Reported.{item_at, item_refusal, flow_more, depth_more, there_inside, all_flow, is_verified, reported_first, reported_flow}
 use Rattle.verifier.proofs.Bounds.{bounded}
@@ -67,7 +67,7 @@ loop-procedure-preserved c =
       same =
           sym (procedure_none m b.body.program.now l.number l.procedure-index procedures c.procedure-item.result b.body.procedure.now b.ensures.program b.ensures.procedure c.procedure-item.is c.loop-procedure-test.true None (sym c.in_ok-placed.ensures.right) refl)
           ∙ l.invariant.same;
-      found = λ refusal e. elim (subst (λ (o : Option CodeRefusal). IfSome o (λ f. (l.found ≡ Some f) ⊎ IsRefusalOf b.body.program.now l.number b.body.procedure.now f)) e now.ensures.some) [
+      found = λ refusal e. elim (subst (λ (o : Option CodeRefusal). IfSome o (λ f. (l.found ≡ Some f) ⊎ IsOperandRefusalOf b.body.program.now l.number b.body.procedure.now f)) e now.ensures.some) [
         | inl before ↦ l.invariant.found refusal before
         | inr here ↦ item_refusal m procedures are l.procedure-index c.procedure-item.result b.body.procedure.now c.procedure-item.is b.ensures.procedure c.loop-procedure-test.true b.body.program.now l.number refusal b.ensures.program l.invariant.number_is here
       ];

@@ -1,5 +1,5 @@
 use Rattle.std.proofs.Common.{◌≡◌, ◌+◌, ◌-◌, ◌*◌, ℕ, arith, ap, sym, ◌∙◌}
-use Rattle.modules.specs.declared.value.ValueKind.TheVariants.{Int}
+use Rattle.common.specs.declared.base_type.BaseType.TheVariants.{Int}
 use Rattle.modules.specs.declared.declaration.Slot.TheVariants.{Scalar}
 use Rattle.verifier.specs.Operands.{bit, packed}
 use Rattle.verifier.proofs.Arguments.{packed_step, reversed}

@@ -1,6 +1,6 @@
 use Rattle.std.proofs.Common.{arith, ap, sym, subst, ◌∙◌, ◌≡◌, ◌*◌, ◌+◌, ◌/◌, length}
 use Rattle.labels.specs.Row.{has}
-use Rattle.labels.specs.Words.{IsCut}
+use Rattle.labels.specs.Words.{IsWordPiece}
 use Rattle.labels.proofs.PieceBits.{cut-bits}
 use Rattle.labels.proofs.RowBits.{bits-all, length-bits}
 use Rattle.labels.proofs.rows.Row.cut.Goals as goal
@@ -9,7 +9,7 @@ pub returns-clause-bits : goal.returns-clause-bits
 returns-clause-bits c = λ i h.
     let words = c.self.inside.words.items in
     let n = c.self.inside.n in
-    let is : IsCut words c.args.number c.cut.result.now = subst (λ xs. IsCut xs c.args.number c.cut.result.now) c.as_slice.ensures c.cut.ensures in
+    let is : IsWordPiece words c.args.number c.cut.result.now = subst (λ xs. IsWordPiece xs c.args.number c.cut.result.now) c.as_slice.ensures c.cut.ensures in
     cut-bits words c.cut.result.now c.args.number is i h
     ∙ (sym (bits-all words n c.self.invariant.clear (2048 * c.args.number + i)) ∙ ap (λ row. has row (2048 * c.args.number + i)) c.self.view_is)
 

@@ -2,7 +2,7 @@ use Rattle.std.proofs.Common.{ap, sym, ◌∙◌, subst, ◌≡◌, ◌≤◌, �
 use Rattle.smallvec.proofs.SmallVecLemmas.{items-with_items}
 use Rattle.smallvec.specs.SmallVec.{with_items}
 use Rattle.labels.specs.Row.{has}
-use Rattle.labels.specs.Words.{AreMet, bits_of, has_bit}
+use Rattle.labels.specs.Words.{AreWordsMet, bits_of, has_bit}
 use Rattle.labels.proofs.RowBits.{bits-all, bounds-same, length-bits, met-bits}
 use Rattle.labels.proofs.rows.Row.meet.Goals as goal
 
@@ -19,9 +19,9 @@ invariant_of-self c =
     let n = c.self.inside.n in
     let same : c.other.inside.n ≡ n = bounds-same words others n c.other.inside.n c.args.self.now c.args.other.now c.self.view_is c.other.view_is c.requires in
     let count : length others ≡ length words = c.other.invariant.enough ∙ (ap (λ k. k / 64 + 1) same ∙ sym c.self.invariant.enough) in
-    let met : AreMet words others c.meet_words.new.words (length words) =
-    subst (λ xs. AreMet xs others c.meet_words.new.words (length xs)) c.as_mut_slice.ensures.value
-    (subst (λ xs. AreMet c.as_mut_slice.result.now xs c.meet_words.new.words (length c.as_mut_slice.result.now)) c.as_slice.ensures c.meet_words.ensures) in
+    let met : AreWordsMet words others c.meet_words.new.words (length words) =
+    subst (λ xs. AreWordsMet xs others c.meet_words.new.words (length xs)) c.as_mut_slice.ensures.value
+    (subst (λ xs. AreWordsMet c.as_mut_slice.result.now xs c.meet_words.new.words (length c.as_mut_slice.result.now)) c.as_slice.ensures c.meet_words.ensures) in
     let stored : (with_items c.self.inside.words c.meet_words.new.words).items ≡ c.meet_words.new.words =
     items-with_items c.self.inside.words c.meet_words.new.words met.count in
     record {
@@ -39,9 +39,9 @@ returns-clause-members c = λ i.
     let n = c.self.inside.n in
     let same : c.other.inside.n ≡ n = bounds-same words others n c.other.inside.n c.args.self.now c.args.other.now c.self.view_is c.other.view_is c.requires in
     let count : length others ≡ length words = c.other.invariant.enough ∙ (ap (λ k. k / 64 + 1) same ∙ sym c.self.invariant.enough) in
-    let met : AreMet words others c.meet_words.new.words (length words) =
-    subst (λ xs. AreMet xs others c.meet_words.new.words (length xs)) c.as_mut_slice.ensures.value
-    (subst (λ xs. AreMet c.as_mut_slice.result.now xs c.meet_words.new.words (length c.as_mut_slice.result.now)) c.as_slice.ensures c.meet_words.ensures) in
+    let met : AreWordsMet words others c.meet_words.new.words (length words) =
+    subst (λ xs. AreWordsMet xs others c.meet_words.new.words (length xs)) c.as_mut_slice.ensures.value
+    (subst (λ xs. AreWordsMet c.as_mut_slice.result.now xs c.meet_words.new.words (length c.as_mut_slice.result.now)) c.as_slice.ensures c.meet_words.ensures) in
     let stored : (with_items c.self.inside.words c.meet_words.new.words).items ≡ c.meet_words.new.words =
     items-with_items c.self.inside.words c.meet_words.new.words met.count in
     let clear : (k : ℕ) → n ≤ k → has_bit c.meet_words.new.words k ≡ false = λ k ge.

@@ -3,19 +3,17 @@ use Rattle.std.proofs.lemmas.List.{length-set}
 use Rattle.std.proofs.lemmas.Bool.{ne_eqb}
 use Rattle.smallvec.proofs.SmallVecLemmas.{items-with_items}
 use Rattle.labels.specs.Words.{word}
-use Rattle.labels.proofs.RowBits.{below-bound, bits-set}
+use Rattle.labels.proofs.RowBits.{below-bound, word-there, bits-set}
 use Rattle.labels.proofs.WordBits.{set-bit}
 use Rattle.labels.proofs.rows.Row.set.Goals as goal
 
 pub bounds-deref_mut-i : goal.bounds-deref_mut-i
 bounds-deref_mut-i c =
-    let h : c.args.i < c.self.inside.n = below-bound c.self.inside.words.items c.self.inside.n c.args.i c.args.self.now c.self.view_is c.requires in
-    omega (arith, h, c.self.invariant.enough, ap length c.deref_mut.ensures.value)
+    omega (arith, word-there c.self.inside.words.items c.self.inside.n c.args.i c.args.self.now c.self.view_is c.requires c.self.invariant.enough, ap length c.deref_mut.ensures.value)
 
 pub bounds-deref_mut-i-2 : goal.bounds-deref_mut-i-2
 bounds-deref_mut-i-2 c =
-    let h : c.args.i < c.self.inside.n = below-bound c.self.inside.words.items c.self.inside.n c.args.i c.args.self.now c.self.view_is c.requires in
-    omega (arith, h, c.self.invariant.enough, ap length c.deref_mut.ensures.value)
+    omega (arith, word-there c.self.inside.words.items c.self.inside.n c.args.i c.args.self.now c.self.view_is c.requires c.self.invariant.enough, ap length c.deref_mut.ensures.value)
 
 pub invariant_of-self : goal.invariant_of-self
 invariant_of-self c =
@@ -23,7 +21,7 @@ invariant_of-self c =
     let n = c.self.inside.n in
     let i = c.args.i in
     let h : i < n = below-bound words n i c.args.self.now c.self.view_is c.requires in
-    let inside : i / 64 < length words = omega (arith, h, c.self.invariant.enough) in
+    let inside = word-there words n i c.args.self.now c.self.view_is c.requires c.self.invariant.enough in
     let new : ℕ = bit_or (word words (i / 64)) (1 * 2 ^ (i % 64) % 2 ^ 64) in
     rw (c.deref_mut.ensures.value, items-with_items c.self.inside.words (set words (i / 64) new) (length-set words (i / 64) new)) (record {
       enough = length-set words (i / 64) _ ∙ c.self.invariant.enough;
@@ -38,6 +36,6 @@ returns c =
     let n = c.self.inside.n in
     let i = c.args.i in
     let h : i < n = below-bound words n i c.args.self.now c.self.view_is c.requires in
-    let inside : i / 64 < length words = omega (arith, h, c.self.invariant.enough) in
+    let inside = word-there words n i c.args.self.now c.self.view_is c.requires c.self.invariant.enough in
     let new : ℕ = bit_or (word words (i / 64)) (1 * 2 ^ (i % 64) % 2 ^ 64) in
     rw (c.deref_mut.ensures.value, items-with_items c.self.inside.words (set words (i / 64) new) (length-set words (i / 64) new)) (bits-set words _ n i h (λ k. set-bit words i (word words (i / 64)) k inside refl) ∙ ap (λ xs. set xs i true) c.self.view_is)

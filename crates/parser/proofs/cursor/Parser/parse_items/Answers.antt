@@ -9,11 +9,11 @@ use Rattle.parser.proofs.Loops.{starts, one_more, is_over, fails_on, falls}
 use Rattle.parser.proofs.cursor.Parser.parse_items.Goals as goal
 
 pub loop-self-init : goal.loop-self-init
-loop-self-init c = rw c.new-items.ensures.items (starts 64 item item_takes (terminals_of c.args.self.now.rest.now))
+loop-self-init c = rw c.in_ok-items.ensures.items (starts 64 item item_takes (terminals_of c.args.self.now.rest.now))
 
 pub returns-in_err-item : goal.returns-in_err-item
 returns-in_err-item c =
-    let p = err_from_is_err_and c.from_residual.result c.from_residual.ensures.1 in
+    let p = err_from_is_err_and c.from_residual-in_err-item.result c.from_residual-in_err-item.ensures.1 in
     rw (p.1, p.2) (fails_on 64 item item_takes c.loop-self.invariant c.in_err-item.field-0.0 (begins_an_item (terminals_of c.loop-self.self.rest.now) ∙ sym c.is_at_item.ensures ∙ c.loop-self-test.true) c.in_err-item.ensures)
 
 pub loop-self-smaller : goal.loop-self-smaller

@@ -1,5 +1,5 @@
 use Rattle.std.proofs.Common.{rules}
-use Rattle.syntax.specs.Grammar.{throw_statement}
+use Rattle.parser.specs.Parts.{throw_statement}
 use Rattle.parser.specs.Reading.{read}
 use Rattle.parser.proofs.cursor.Parser.parse_throw.Goals as goal
 

@@ -3,7 +3,8 @@ use Rattle.std.proofs.lemmas.Result.{err_from_is_err_and}
 use Rattle.std.proofs.lemmas.List.{map_push}
 use Rattle.lexer.specs.declared.token.Kind.TheVariants.{Comma}
 use Rattle.syntax.specs.Tree.{thrown_tree}
-use Rattle.syntax.specs.Grammar.{thrown, thrown_list}
+use Rattle.syntax.specs.Grammar.{thrown}
+use Rattle.parser.specs.Parts.{thrown_list}
 use Rattle.parser.proofs.Loops.{starts_after, fails_after, parted_more, parted_over, parted_fails, parted_falls}
 use Rattle.parser.proofs.cursor.Parser.parse_thrown_list.Goals as goal
 

@@ -2,7 +2,8 @@ use Rattle.std.proofs.Common.{ℕ, length, map}
 use Rattle.lexer.specs.Terminal.{terminals_of}
 use Rattle.lexer.specs.declared.token.Kind.TheVariants.{Comma}
 use Rattle.syntax.specs.Tree.{thrown_tree}
-use Rattle.syntax.specs.Grammar.{thrown, thrown_list, ◌▸◌}
+use Rattle.syntax.specs.Grammar.{thrown, ◌▸◌}
+use Rattle.parser.specs.Parts.{thrown_list}
 use Rattle.parser.specs.Reading.{read}
 use Rattle.parser.proofs.Loops.{ReadsOn}
 use Rattle.parser.proofs.cursor.Parser.parse_thrown_list.Given as goal

@@ -1,5 +1,4 @@
 use Rattle.std.proofs.Common.{◌≡◌, [], ◌∷◌, None, length, take, Ok, ap, sym, ◌∙◌, refl, arith, length-append}
-use Rattle.std.specs.Prelude.{string_bytes}
 use Rattle.std.proofs.Math.Seq.{take-append_seam}
 use Rattle.resolved.specs.declared.expression.Variable.TheVariants.{Local}
 use Rattle.types.specs.declared.scope.Meaning.TheVariants as meanings
@@ -12,7 +11,7 @@ use Rattle.types.proofs.body.BodyScope.declare.Goals as goal
 pub returns-clause-made : goal.returns-clause-made
 returns-clause-made c =
     let before = c.args.self.now in
-    let name = string_bytes c.args.slot.name in
+    let name = c.args.slot.name in
     let number = length c.slots.result.now in
     let next : number ≡ length before.variables.slots = next_slot before.variables.labels c.slots.result.now before.variables.slots number c.slots.ensures refl in
     let named : declaring name (meanings.Variable (Local (length before.variables.slots)) c.args.slot.base c.args.slot.size) (names_of before) ≡ (λ other. or_else (found_in c.insert.new.table other) (found_in before.top.now.names other)) =

@@ -1,13 +1,12 @@
 use Rattle.std.proofs.Common.{◌≡◌, length, map, sym, ap, arith}
 use Rattle.std.proofs.lemmas.List.{length-map}
-use Rattle.types.specs.Resolution.{built_in, top_finding}
+use Rattle.types.specs.Resolution.{built_in}
 use Rattle.types.specs.Views.{signature_view, top_view}
 use Rattle.types.proofs.Loops.{starts}
 use Rattle.types.proofs.Tables.{ok_inside}
 use Rattle.types.proofs.top.TopNames.of.Goals as goal
 
 pub loop-item-init : goal.loop-item-init
-unfolding top_finding
 loop-item-init c =
     let e : built_in ≡ top_view c.in_ok-top.top = ok_inside _ _ c.in_ok-top.ensures in
     let no_channels : 0 ≡ c.in_ok-top.top.channels = ap (λ top. top.channels) e in

@@ -1,4 +1,4 @@
-use Rattle.modules.specs.declared.value.ValueKind.TheVariants.{Int, Boolean}
+use Rattle.common.specs.declared.base_type.BaseType.TheVariants.{Int, Boolean}
 use Rattle.verifier.proofs.Shared.{above_there}
 use Rattle.verifier.proofs.operands.Operands.find_longer.Goals as goal
 

@@ -1,5 +1,5 @@
 use Rattle.std.proofs.Common.{◌≡◌, ◌*◌, ◌<◌, List, Some, drop, length, map}
-use Rattle.modules.specs.declared.value.ValueKind.{ValueKind}
+use Rattle.common.specs.declared.base_type.BaseType.{BaseType}
 use Rattle.verifier.specs.Flow.{all_popped}
 use Rattle.verifier.specs.Operands.{full_blocks, list_of}
 use Rattle.verifier.proofs.operands.Operands.pop_blocks.Given as goal
@@ -8,5 +8,5 @@ abbrev pub invariant-loop-block : goal.invariant-loop-block
 invariant-loop-block l = record {
   there : l.rest < length l.self;
   count_is : l.count ≡ l.block-index;
-  same : (kinds : List ValueKind) → l.blocks ≡ full_blocks kinds → all_popped (map (λ kind. Some kind) kinds) (list_of l.self l.list) ≡ all_popped (map (λ kind. Some kind) (drop (l.count * 64) kinds)) (list_of l.self l.rest);
+  same : (kinds : List BaseType) → l.blocks ≡ full_blocks kinds → all_popped (map (λ kind. Some kind) kinds) (list_of l.self l.list) ≡ all_popped (map (λ kind. Some kind) (drop (l.count * 64) kinds)) (list_of l.self l.rest);
 }

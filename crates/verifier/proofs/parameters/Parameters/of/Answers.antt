@@ -1,5 +1,5 @@
 use Rattle.std.proofs.Common.{rules, ◌∙◌, min, length, ap, subst}
-use Rattle.modules.specs.declared.value.ValueKind.TheVariants.{Int}
+use Rattle.common.specs.declared.base_type.BaseType.TheVariants.{Int}
 use Rattle.modules.specs.declared.declaration.Slot.TheVariants.{Scalar}
 use Rattle.verifier.proofs.Arguments.{IsPacking, reversed, packing_start, packing_more}
 use Rattle.verifier.proofs.parameters.Parameters.of.Goals as goal
